@@ -1,0 +1,27 @@
+-- How a list stays a trace while records are added.
+use Rattle.std.proofs.Common.{◌≡◌, ℕ, ◌+◌, ◌<◌, ◌≤◌, ◌^◌, List, length, take, get_or, arith, rules, true, false}
+use Rattle.std.specs.Prelude.{is_some}
+use Rattle.std.proofs.lemmas.List.{length-take}
+use Rattle.std.proofs.lemmas.List.Sums.{count_by_more_yes, count_by_more_no}
+use Rattle.std.proofs.lemmas.List.Elements.{All-more}
+use Rattle.ompt_events.specs.declared.records.Record.{Record}
+use Rattle.ompt_events.specs.Records.{made}
+use Rattle.ompt_events.specs.Traces.{IsSound, IsTrace, tasks_in}
+
+-- one more sound record, where there is room
+pub IsTrace-more : (rs : List Record) (i : ℕ) (r : Record) → i < length rs → r ≡ get_or rs i r → IsTrace (take i rs) → i < 2 ^ 22 → IsSound r.body → tasks_in (take (i + 1) rs) ≤ 2 ^ 20 → IsTrace (take (i + 1) rs)
+IsTrace-more rs i r within read before room sound few = record {
+  few_records = omega (arith, length-take (i + 1) rs);
+  few_tasks = few;
+  sound = let P : Record → Type 0 = λ x. IsSound x.body in All-more P rs i r within before.sound (rw (← read) sound);
+}
+
+-- a record that makes a task is one more of them
+pub tasks_in-made : (rs : List Record) (i : ℕ) (r : Record) → i < length rs → r ≡ get_or rs i r → is_some (made r.body) ≡ true → tasks_in (take (i + 1) rs) ≡ tasks_in (take i rs) + 1
+tasks_in-made rs i r within read makes =
+    count_by_more_yes (λ x. is_some (made x.body)) rs i r within (rw (← read) makes)
+
+-- and any other record is none
+pub tasks_in-other : (rs : List Record) (i : ℕ) (r : Record) → i < length rs → r ≡ get_or rs i r → is_some (made r.body) ≡ false → tasks_in (take (i + 1) rs) ≡ tasks_in (take i rs)
+tasks_in-other rs i r within read makes =
+    count_by_more_no (λ x. is_some (made x.body)) rs i r within (rw (← read) makes)

@@ -1,0 +1,15 @@
+pub mod Names
+pub mod CauseNames
+pub mod Flags
+pub mod Records
+pub mod Traces
+pub mod Places
+pub mod Tree
+pub mod Threads
+pub mod Regions
+pub mod HappensBefore
+pub mod Linearization
+pub mod Completion
+pub mod Coverage
+pub mod Violations
+pub mod Causes

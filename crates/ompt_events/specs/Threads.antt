@@ -1,0 +1,50 @@
+-- The walk along a thread: which tasks it runs (OpenMP 5.2, 12.9: task scheduling).
+use Rattle.std.specs.Prelude.{ℕ, ◌≡◌, ◌≢◌, ◌<◌, ◌==◌, Bool, List, [], ◌∷◌, Option, Some, None, filter, fold, take, drop, slice_get}
+use Rattle.std.specs.Option.{option_map_or}
+use Rattle.ompt_events.specs.declared.records.Record.{Record}
+use Rattle.ompt_events.specs.declared.records.Body.{Body}
+use Rattle.ompt_events.specs.declared.records.Body.TheVariants.{ImplicitTask, TaskSchedule}
+use Rattle.ompt_events.specs.declared.names.Endpoint.TheVariants.{Begin, End}
+use Rattle.ompt_events.specs.Records.{running, ended_root, started}
+use Rattle.ompt_events.specs.Places.{at, thread_at}
+use Rattle.ompt_events.specs.Tree.{IsRoot}
+
+-- where a thread stands: its open roots, the innermost first, and the task that it runs
+pub record Walk : Type 0 where
+  pub roots : List ℕ
+  pub current : Option ℕ
+
+-- before its first record a thread has no root and runs no task
+abbrev pub at_start : Walk
+at_start = record { roots = []; current = None }
+
+-- a root begins and runs, or ends, so that the root below runs; a schedule runs its next task
+abbrev pub after_body : Walk → Body → Walk
+after_body walk (ImplicitTask Begin actual index flags parallel task) = record { roots = task ∷ walk.roots; current = Some task }
+after_body walk (ImplicitTask End actual index flags parallel task) = record { roots = drop 1 walk.roots; current = slice_get walk.roots 1 }
+after_body walk (TaskSchedule status prior next share) = record { roots = walk.roots; current = next }
+after_body walk _ = walk
+
+abbrev pub after_record : Walk → Record → Walk
+after_record walk r = after_body walk r.body
+
+-- where the thread stands after its part of the records
+abbrev pub walk_of : ℕ → List Record → Walk
+walk_of thread rs = fold after_record at_start (filter (λ r. r.thread == thread) rs)
+
+-- where the record's thread stands just before the record
+abbrev pub walk_before : List Record → ℕ → Walk
+walk_before rs i = option_map_or (λ (r : Record). walk_of r.thread (take i rs)) (slice_get rs i) at_start
+
+-- the innermost open root of the record's thread
+abbrev pub innermost_root : List Record → ℕ → Option ℕ
+innermost_root rs i = slice_get (walk_before rs i).roots 0
+
+-- the record speaks for a task that its thread does not run there
+pub data Misfits (rs : List Record) (i : ℕ) : Type 0 where
+  -- the record is of a task that isn't the current one
+  not_running : (task : ℕ) → at running rs i ≡ Some task → (walk_before rs i).current ≢ Some task → Misfits rs i
+  -- a root ends that isn't the innermost open one
+  not_innermost : (task : ℕ) → at ended_root rs i ≡ Some task → innermost_root rs i ≢ Some task → Misfits rs i
+  -- a root runs next that isn't the innermost open one
+  other_root : (task : ℕ) → at started rs i ≡ Some task → IsRoot rs task → innermost_root rs i ≢ Some task → Misfits rs i

@@ -1,0 +1,28 @@
+-- What must be complete where, and where it isn't.
+use Rattle.std.specs.Prelude.{ℕ, ◌≡◌, ◌<◌, List, Some}
+use Rattle.ompt_events.specs.declared.records.Record.{Record}
+use Rattle.ompt_events.specs.Records.{created}
+use Rattle.ompt_events.specs.Places.{at}
+use Rattle.ompt_events.specs.Completion.{IsCompleteIn, IsCompleteAt}
+use Rattle.ompt_events.specs.Coverage.{Covers}
+
+-- the task must be complete at i
+pub data IsRequired (rs : List Record) (i task : ℕ) : Type 0 where
+  covered : Covers rs i task → IsRequired rs i task
+
+-- in this order a task that must be complete at i isn't
+abbrev pub IsViolation : List Record → List ℕ → ℕ → Type 0
+IsViolation rs order i = (task : ℕ) × IsRequired rs i task × (IsCompleteIn rs order task i → ⊥)
+
+-- a task that must be complete at i isn't, by what the record there has seen
+pub record IsUnfinished (rs : List Record) (i task : ℕ) : Type 0 where
+  pub required : IsRequired rs i task
+  pub incomplete : IsCompleteAt rs task i → ⊥
+
+-- the first record in file order at which a required task is unfinished, and the one of them that was created first in file order
+pub record IsFirstUnfinished (rs : List Record) (i task : ℕ) : Type 0 where
+  pub unfinished : IsUnfinished rs i task
+  pub first : (k other : ℕ) → k < i → IsUnfinished rs k other → ⊥
+  pub creation : ℕ
+  pub is_created : at created rs creation ≡ Some task
+  pub created_first : (k other : ℕ) → k < creation → at created rs k ≡ Some other → IsUnfinished rs i other → ⊥

@@ -1,0 +1,113 @@
+//! The causes for which a list of records is no account of a run.
+ghost use Rattle.std.specs.Prelude.{◌≡◌, ◌↔◌, Some};
+ghost use Rattle.ompt_events.specs.CauseNames.{cause_name, cause_number};
+
+/// Why a list of records is malformed. Of several causes the one with the least number counts.
+#[derive(Clone, Copy, Debug, PartialEq, Eq)]
+pub enum Cause {
+    /// The record's `seq` is not the number of earlier records of its thread.
+    SeqGap,
+    /// A task or a parallel region is made a second time.
+    CreatedTwice,
+    /// A task is named that no record makes, or whose chain of parents reaches no root.
+    Rootless,
+    /// A record speaks for a task that its thread is not running.
+    NotCurrent,
+    /// An explicit task runs on a second thread.
+    Moved,
+    /// A status that the task's state does not allow.
+    StatusOrder,
+    /// A region's end without its begin, or a barrier of an explicit task.
+    RegionOrder,
+    /// A team lacks a member, or a member a barrier.
+    TeamShort,
+    /// A parallel region inside another.
+    NestedParallel,
+    /// A list of dependences that does not follow its creation, or is missing there.
+    DepsPlace,
+    /// A finishing record claims a share that is not its task's.
+    ShareWrong,
+    /// Two finishing records name one ledger entry.
+    EntryTwice,
+    /// A ledger length is named that the ledger never had.
+    LengthAhead,
+    /// A ledger length is less than one that was known before.
+    LengthBack,
+    /// The record happens before itself, or after one that does.
+    NoOrder,
+    /// A target task, which runs on a device.
+    TargetTask,
+}
+
+// The table of numbers and names; the first word names the shape that its rows are put into.
+macro_rules! causes {
+    ($shape:ident $value:expr) => {
+        $shape! {
+            $value,
+            SeqGap = 1 "SeqGap",
+            CreatedTwice = 2 "CreatedTwice",
+            Rootless = 3 "Rootless",
+            NotCurrent = 4 "NotCurrent",
+            Moved = 5 "Moved",
+            StatusOrder = 6 "StatusOrder",
+            RegionOrder = 7 "RegionOrder",
+            TeamShort = 8 "TeamShort",
+            NestedParallel = 9 "NestedParallel",
+            DepsPlace = 10 "DepsPlace",
+            ShareWrong = 11 "ShareWrong",
+            EntryTwice = 12 "EntryTwice",
+            LengthAhead = 13 "LengthAhead",
+            LengthBack = 14 "LengthBack",
+            NoOrder = 15 "NoOrder",
+            TargetTask = 16 "TargetTask"
+        }
+    };
+}
+
+macro_rules! number_of {
+    ($value:expr, $($variant:ident = $number:literal $name:literal),*) => {
+        match $value {
+            $(Cause::$variant => $number,)*
+        }
+    };
+}
+
+macro_rules! name_of {
+    ($value:expr, $($variant:ident = $number:literal $name:literal),*) => {
+        match $value {
+            $(Cause::$variant => $name,)*
+        }
+    };
+}
+
+macro_rules! value_of {
+    ($value:expr, $($variant:ident = $number:literal $name:literal),*) => {
+        match $value {
+            $($name => Some(Cause::$variant),)*
+            _ => None,
+        }
+    };
+}
+
+impl Cause {
+    /// The number, from 1 to 16. The least one of those that occur is told.
+    pub fn number(self) -> u8
+        ensures { result ≡ cause_number self }
+    {
+        causes!(number_of self)
+    }
+
+    /// The name in a report.
+    pub fn name(self) -> &'static str
+        ensures { result.now ≡ cause_name self }
+    {
+        causes!(name_of self)
+    }
+
+    /// The cause of this name, if one has it.
+    pub fn from_name(name: &str) -> Option<Self>
+        ensures { (cause : Cause) → (result ≡ Some cause) ↔ (cause_name cause ≡ name.now) }
+    {
+        causes!(value_of name)
+    }
+}

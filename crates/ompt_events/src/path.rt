@@ -1,0 +1,55 @@
+//! A list of numbers that contracts see as such.
+ghost use Rattle.std.specs.Prelude.{◌≡◌};
+
+use std::marker::Model;
+
+/// Where a task stands below its root: at each step the number of the child, from the root down.
+#[derive(Debug, Drop)]
+pub struct Path {
+    numbers: Vec<u32>,
+}
+
+impl Model for Path {
+    ghost use Rattle.std.specs.Prelude.{List, ℕ};
+
+    ghost Value = { List ℕ };
+
+    ghost view = { λ path. path.numbers.items };
+}
+
+impl PartialEq for Path {
+    ghost use Rattle.std.specs.Cmp.Lexicographic.{nat_list_eq_equiv, pointwise};
+    ghost use Rattle.std.specs.Cmp as Cmp;
+    ghost use Rattle.std.specs.Prelude.{nat_eq};
+
+    ghost eq = { pointwise nat_eq };
+
+    ghost laws = { Cmp.partial_equiv_from_equiv nat_list_eq_equiv };
+
+    fn eq(&self, other: &Self) -> bool {
+        self.as_slice() == other.as_slice()
+    }
+}
+
+impl Path {
+    /// The path of these numbers. Takes no memory.
+    pub fn from_vec(numbers: Vec<u32>) -> Path
+        ensures { result ≡ numbers.items }
+    {
+        Path { numbers }
+    }
+
+    /// The numbers, from the root down.
+    pub fn as_slice(&self) -> &[u32]
+        ensures { result.now ≡ self.now }
+    {
+        self.numbers.as_slice()
+    }
+
+    /// The numbers, given back. Takes no memory.
+    pub fn into_vec(self) -> Vec<u32>
+        ensures { result.items ≡ self }
+    {
+        self.numbers
+    }
+}

@@ -1,0 +1,126 @@
+//! A list of records that keeps within the limits of a file.
+ghost use Rattle.std.specs.Prelude.{◌≡◌, ◌↔◌, IsTrue, IfOk, IfErr, MatchOption, is_some, IfSome, length, ◌≤◌};
+ghost use Rattle.ompt_events.specs.Records.{made};
+ghost use Rattle.ompt_events.specs.Traces.{AreNamed, IsSound, IsTrace, IsFirstRefused};
+
+use crate::flags::TaskFlags;
+use crate::names::{Endpoint, Status};
+use crate::records::{Body, Claim, Record, finish};
+use bitflags::Flags;
+use std::marker::Model;
+
+/// The most records that a trace has.
+pub const MAX_RECORDS: usize = 1 << 22;
+
+/// The most tasks that a trace makes, by creation or as initial or implicit tasks.
+pub const MAX_TASKS: usize = 1 << 20;
+
+/// The most numbers that a path has: how deep below its root a finished task may stand.
+pub const MAX_DEPTH: usize = 1024;
+
+/// Records in file order, each sound by itself, within the limits on their number.
+#[derive(Debug, Drop)]
+pub struct Trace {
+    records: Vec<Record>,
+}
+
+impl Model for Trace {
+    ghost use Rattle.ompt_events.specs.Traces.{TraceView, IsTrace};
+
+    ghost Value = { TraceView };
+
+    ghost view = { λ trace. record { records = trace.records.items } };
+
+    ghost invariant = { λ trace. IsTrace trace.records.items };
+}
+
+impl Trace {
+    /// The trace of these records. Refused are the records, given back, and the place of the first one
+    /// that cannot stand in a trace: one past the limit on records or tasks, with a flag bit that has no name,
+    /// with a claim though it does not finish a task or with none though it does,
+    /// without the next task that its status demands, or with a path that is too long. Takes no memory.
+    pub fn from_records(records: Vec<Record>) -> Result<Trace, (Vec<Record>, usize)>
+        ensures accepted { IfOk result (λ trace. (trace.records ≡ records.items) × IsTrace records.items) }
+        ensures refused { IfErr result (λ refusal. (refusal.0.items ≡ records.items) × IsFirstRefused records.items refusal.1) }
+    {
+        match first_refused(records.as_slice()) {
+            Some(at) => Err((records, at)),
+            None => Ok(Trace { records }),
+        }
+    }
+
+    /// The records in file order. Takes no memory.
+    pub fn records(&self) -> &[Record]
+        ensures value { result.now ≡ self.now.records }
+        ensures is_trace { IsTrace result.now }
+    {
+        self.records.as_slice()
+    }
+}
+
+/// The first record that cannot stand where it does.
+fn first_refused(records: &[Record]) -> Option<usize>
+    ensures { MatchOption result (IsTrace records.now) (IsFirstRefused records.now) }
+{
+    let mut tasks: usize = 0;
+    for (at, event) in records.iter().enumerate() {
+        if at >= MAX_RECORDS || !is_sound(&event.body) {
+            return Some(at);
+        }
+        if makes_task(&event.body) {
+            if tasks >= MAX_TASKS {
+                return Some(at);
+            }
+            tasks += 1;
+        }
+    }
+    None
+}
+
+/// Whether the record makes a task: one that is created, or an initial or implicit one that begins.
+fn makes_task(body: &Body) -> bool
+    ensures { result ≡ is_some (made body.now) }
+{
+    match body {
+        Body::TaskCreate { .. } => true,
+        Body::ImplicitTask { endpoint, .. } => *endpoint == Endpoint::Begin,
+        _ => false,
+    }
+}
+
+/// Whether the record can stand in a trace, as far as it alone shows.
+fn is_sound(body: &Body) -> bool
+    ensures { IsTrue result ↔ IsSound body.now }
+{
+    match body {
+        Body::ImplicitTask { flags, .. } => are_named(*flags),
+        Body::TaskCreate { flags, .. } => are_named(*flags),
+        Body::TaskSchedule {
+            status,
+            next,
+            share,
+            ..
+        } => {
+            let finishes = *status == Status::Complete;
+            next.is_some() && share.is_some() == finishes && is_short(share)
+        }
+        Body::SyncRegion { .. } => true,
+    }
+}
+
+/// Whether each bit has a name.
+fn are_named(flags: TaskFlags) -> bool
+    ensures { IsTrue result ↔ AreNamed flags.0 }
+{
+    TaskFlags::from_bits(flags.bits()).is_some()
+}
+
+/// Whether the claimed path, if there is one, is within the limit.
+fn is_short(share: &Option<Claim>) -> bool
+    ensures { IsTrue result ↔ IfSome share.now (λ claim. length claim.path ≤ MAX_DEPTH) }
+{
+    match share {
+        Some(claim) => claim.path.as_slice().len() <= MAX_DEPTH,
+        None => true,
+    }
+}
