@@ -1,8 +1,7 @@
 -- The causes for which a list of records is no account of a run. Each is a fact about the list alone.
 -- What is said of a cause matters where no cause with a smaller number occurs.
-use Rattle.std.specs.Prelude.{ℕ, ◌≡◌, ◌≢◌, ◌<◌, ◌≤◌, ◌+◌, ◌⊎◌, ◌==◌, Bool, true, false, List, length, take, Option, Some, Contains, count_by, option_map, slice_get, is_some, if◌then◌else◌}
+use Rattle.std.specs.Prelude.{ℕ, ◌≡◌, ◌≢◌, ◌<◌, ◌≤◌, ◌+◌, ◌==◌, List, length, take, Some, Contains, count_by, slice_get, is_some, if◌then◌else◌}
 use Rattle.std.specs.Int.RustNames.{bit_and}
-use Rattle.std.specs.Option.{option_map_or}
 use Rattle.ompt_events.specs.declared.records.Record.{Record}
 use Rattle.ompt_events.specs.declared.records.Claim.{Claim}
 use Rattle.ompt_events.specs.declared.records.Part.{Part}
@@ -10,7 +9,7 @@ use Rattle.ompt_events.specs.declared.cause.Cause.{Cause}
 use Rattle.ompt_events.specs.declared.cause.Cause.TheVariants.{SeqGap, CreatedTwice, Rootless, NotCurrent, Moved, RegionOrder, ShareWrong, EntryTwice, LengthAhead, LengthBack, NoOrder, TargetTask}
 use Rattle.ompt_events.specs.declared.names.SyncKind.{SyncKind}
 use Rattle.ompt_events.specs.CauseNames.{cause_number}
-use Rattle.ompt_events.specs.Records.{made, created, creation, started, finish, claim, flags, named, begun_root}
+use Rattle.ompt_events.specs.Records.{made, created, started, finish, claim, flags, named, begun_root}
 use Rattle.ompt_events.specs.Places.{at, thread_at, seen_at, places}
 use Rattle.ompt_events.specs.Tree.{IsExplicit, IsRooted, HasPath, creates_for}
 use Rattle.ompt_events.specs.Threads.{Misfits}

@@ -1,13 +1,11 @@
 -- What single records say.
-use Rattle.std.specs.Prelude.{ℕ, Bool, true, false, List, [], ◌∷◌, Option, Some, None, ◌==◌, nat_eq, option_to_list, option_map, ◌++◌}
-use Rattle.std.specs.Int.RustNames.{bit_and}
+use Rattle.std.specs.Prelude.{ℕ, List, [], ◌∷◌, Option, Some, None, option_to_list, option_map, ◌++◌}
 use Rattle.ompt_events.specs.declared.records.Body.{Body}
 use Rattle.ompt_events.specs.declared.records.Body.TheVariants.{ImplicitTask, TaskCreate, TaskSchedule, SyncRegion}
 use Rattle.ompt_events.specs.declared.records.Claim.{Claim}
 use Rattle.ompt_events.specs.declared.records.Part.{Part}
 use Rattle.ompt_events.specs.declared.records.Part.TheVariants.{Whole}
-use Rattle.ompt_events.specs.declared.names.Status.{Status}
-use Rattle.ompt_events.specs.declared.names.Status.TheVariants.{Complete, Switch}
+use Rattle.ompt_events.specs.declared.names.Status.TheVariants.{Complete}
 use Rattle.ompt_events.specs.declared.names.Endpoint.{Endpoint}
 use Rattle.ompt_events.specs.declared.names.Endpoint.TheVariants.{Begin, End}
 use Rattle.ompt_events.specs.declared.names.SyncKind.{SyncKind}

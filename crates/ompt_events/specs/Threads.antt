@@ -1,12 +1,12 @@
 -- The walk along a thread: which tasks it runs (OpenMP 5.2, 12.9: task scheduling).
-use Rattle.std.specs.Prelude.{ℕ, ◌≡◌, ◌≢◌, ◌<◌, ◌==◌, Bool, List, [], ◌∷◌, Option, Some, None, filter, fold, take, drop, slice_get}
+use Rattle.std.specs.Prelude.{ℕ, ◌≡◌, ◌≢◌, ◌==◌, List, [], ◌∷◌, Option, Some, None, filter, fold, take, drop, slice_get}
 use Rattle.std.specs.Option.{option_map_or}
 use Rattle.ompt_events.specs.declared.records.Record.{Record}
 use Rattle.ompt_events.specs.declared.records.Body.{Body}
 use Rattle.ompt_events.specs.declared.records.Body.TheVariants.{ImplicitTask, TaskSchedule}
 use Rattle.ompt_events.specs.declared.names.Endpoint.TheVariants.{Begin, End}
 use Rattle.ompt_events.specs.Records.{running, ended_root, started}
-use Rattle.ompt_events.specs.Places.{at, thread_at}
+use Rattle.ompt_events.specs.Places.{at}
 use Rattle.ompt_events.specs.Tree.{IsRoot}
 
 -- where a thread stands: its open roots, the innermost first, and the task that it runs

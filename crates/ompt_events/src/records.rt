@@ -1,6 +1,6 @@
 //! One recorded event.
 ghost use Rattle.std.specs.Prelude.{◌≡◌};
-ghost use Rattle.ompt_events.specs.Records.{finish};
+ghost use Rattle.ompt_events.specs.Records.{begun_root, ended_root, creation, made, started, running, region, finish};
 
 use crate::flags::TaskFlags;
 use crate::names::{Endpoint, Status, SyncKind};
@@ -61,6 +61,106 @@ pub enum Body {
         parallel: Option<u64>,
         task: u64,
     },
+}
+
+impl Body {
+    /// The initial or implicit task that begins.
+    pub fn begun_root(&self) -> Option<u64>
+        ensures { result ≡ begun_root self.now }
+    {
+        match self {
+            Body::ImplicitTask {
+                endpoint: Endpoint::Begin,
+                task,
+                ..
+            } => Some(*task),
+            _ => None,
+        }
+    }
+
+    /// The initial or implicit task that ends.
+    pub fn ended_root(&self) -> Option<u64>
+        ensures { result ≡ ended_root self.now }
+    {
+        match self {
+            Body::ImplicitTask {
+                endpoint: Endpoint::End,
+                task,
+                ..
+            } => Some(*task),
+            _ => None,
+        }
+    }
+
+    /// The task that creates, and the explicit task that it creates.
+    pub fn creation(&self) -> Option<(u64, u64)>
+        ensures { result ≡ creation self.now }
+    {
+        match self {
+            Body::TaskCreate { task, child, .. } => Some((*task, *child)),
+            _ => None,
+        }
+    }
+
+    /// The task that the record makes: one that is created, or an initial or implicit one that begins.
+    pub fn made(&self) -> Option<u64>
+        ensures { result ≡ made self.now }
+    {
+        match self {
+            Body::ImplicitTask {
+                endpoint: Endpoint::Begin,
+                task,
+                ..
+            } => Some(*task),
+            Body::TaskCreate { child, .. } => Some(*child),
+            _ => None,
+        }
+    }
+
+    /// The task that runs next.
+    pub fn started(&self) -> Option<u64>
+        ensures { result ≡ started self.now }
+    {
+        match self {
+            Body::TaskSchedule { next, .. } => *next,
+            _ => None,
+        }
+    }
+
+    /// The task that must be running on the thread: the one that the record is of.
+    pub fn running(&self) -> Option<u64>
+        ensures { result ≡ running self.now }
+    {
+        match self {
+            Body::ImplicitTask {
+                endpoint: Endpoint::Begin,
+                ..
+            } => None,
+            Body::ImplicitTask {
+                endpoint: Endpoint::End,
+                task,
+                ..
+            } => Some(*task),
+            Body::TaskCreate { task, .. } => Some(*task),
+            Body::TaskSchedule { prior, .. } => Some(*prior),
+            Body::SyncRegion { task, .. } => Some(*task),
+        }
+    }
+
+    /// The task that begins or ends a synchronisation region, with the region's kind.
+    pub fn region(&self) -> Option<(u64, SyncKind, Endpoint)>
+        ensures { result ≡ region self.now }
+    {
+        match self {
+            Body::SyncRegion {
+                kind,
+                endpoint,
+                task,
+                ..
+            } => Some((*task, *kind, *endpoint)),
+            _ => None,
+        }
+    }
 }
 
 /// One event, as its thread recorded it.

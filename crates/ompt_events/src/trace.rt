@@ -1,11 +1,10 @@
 //! A list of records that keeps within the limits of a file.
 ghost use Rattle.std.specs.Prelude.{◌≡◌, ◌↔◌, IsTrue, IfOk, IfErr, MatchOption, is_some, IfSome, length, ◌≤◌};
-ghost use Rattle.ompt_events.specs.Records.{made};
 ghost use Rattle.ompt_events.specs.Traces.{AreNamed, IsSound, IsTrace, IsFirstRefused};
 
 use crate::flags::TaskFlags;
-use crate::names::{Endpoint, Status};
-use crate::records::{Body, Claim, Record, finish};
+use crate::names::Status;
+use crate::records::{Body, Claim, Record};
 use bitflags::Flags;
 use std::marker::Model;
 
@@ -67,7 +66,7 @@ fn first_refused(records: &[Record]) -> Option<usize>
         if at >= MAX_RECORDS || !is_sound(&event.body) {
             return Some(at);
         }
-        if makes_task(&event.body) {
+        if event.body.made().is_some() {
             if tasks >= MAX_TASKS {
                 return Some(at);
             }
@@ -75,17 +74,6 @@ fn first_refused(records: &[Record]) -> Option<usize>
         }
     }
     None
-}
-
-/// Whether the record makes a task: one that is created, or an initial or implicit one that begins.
-fn makes_task(body: &Body) -> bool
-    ensures { result ≡ is_some (made body.now) }
-{
-    match body {
-        Body::TaskCreate { .. } => true,
-        Body::ImplicitTask { endpoint, .. } => *endpoint == Endpoint::Begin,
-        _ => false,
-    }
 }
 
 /// Whether the record can stand in a trace, as far as it alone shows.

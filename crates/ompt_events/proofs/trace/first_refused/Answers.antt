@@ -1,10 +1,9 @@
-use Rattle.std.proofs.Common.{◌≡◌, ◌+◌, ◌≤◌, ◌^◌, ◌∙◌, ◌<◌, take, length, arith, sym, true, false, refl}
+use Rattle.std.proofs.Common.{◌≡◌, ◌+◌, ◌≤◌, ◌^◌, ◌∙◌, ◌<◌, take, length, arith, sym, ap}
 use Rattle.std.specs.Prelude.{is_some}
-use Rattle.ompt_events.specs.Records.{made}
 use Rattle.ompt_events.specs.Traces.{IsSound, tasks_in}
 use Rattle.ompt_events.proofs.TraceLemmas.{IsTrace-more, tasks_in-made, tasks_in-other}
 use Rattle.ompt_events.proofs.trace.first_refused.Goals as goal
-use Rattle.ompt_events.proofs.trace.first_refused.Goals.{then-makes_task+else-tasks-ge-MAX_TASKS, else-makes_task}
+use Rattle.ompt_events.proofs.trace.first_refused.Goals.{then-is_some+else-tasks-ge-MAX_TASKS, else-is_some}
 
 pub loop-at-preserved : goal.loop-at-preserved
 loop-at-preserved c =
@@ -13,16 +12,16 @@ loop-at-preserved c =
     let read = c.index-records-at.is in
     let within : at < length rs = c.loop-at-test.true in
     let sound : IsSound c.index-records-at.result.body = c.is_sound.ensures.0 c.if-not-is_sound.false in
-    elim c.if-makes_task.branch [
-      | then-makes_task+else-tasks-ge-MAX_TASKS w ↦
-          let more : tasks_in (take (at + 1) rs) ≡ tasks_in (take at rs) + 1 = tasks_in-made rs at c.index-records-at.result within read (sym c.makes_task.ensures ∙ w.if-makes_task.true) in
+    elim c.if-is_some.branch [
+      | then-is_some+else-tasks-ge-MAX_TASKS w ↦
+          let more : tasks_in (take (at + 1) rs) ≡ tasks_in (take at rs) + 1 = tasks_in-made rs at c.index-records-at.result within read (ap is_some (sym c.made.ensures) ∙ sym c.is_some.ensures ∙ w.if-is_some.true) in
           let few : tasks_in (take (at + 1) rs) ≤ 2 ^ 20 = omega arith in
           record {
             counted = omega arith;
             sound = IsTrace-more rs at c.index-records-at.result within read c.loop-at.invariant.sound c.if-at-ge-MAX_RECORDS.false sound few;
           }
-      | else-makes_task w ↦
-          let same : tasks_in (take (at + 1) rs) ≡ tasks_in (take at rs) = tasks_in-other rs at c.index-records-at.result within read (sym c.makes_task.ensures ∙ w.if-makes_task.false) in
+      | else-is_some w ↦
+          let same : tasks_in (take (at + 1) rs) ≡ tasks_in (take at rs) = tasks_in-other rs at c.index-records-at.result within read (ap is_some (sym c.made.ensures) ∙ sym c.is_some.ensures ∙ w.if-is_some.false) in
           let few : tasks_in (take (at + 1) rs) ≤ 2 ^ 20 = rw same c.loop-at.invariant.sound.few_tasks in
           record {
             counted = omega arith;
