@@ -1,7 +1,6 @@
 -- The causes for which a list of records is no account of a run. Each is a fact about the list alone.
 -- What is said of a cause matters where no cause with a smaller number occurs.
-use Rattle.std.specs.Prelude.{ℕ, ◌≡◌, ◌≢◌, ◌<◌, ◌≤◌, ◌+◌, ◌==◌, List, length, take, Some, Contains, count_by, slice_get, is_some, if◌then◌else◌}
-use Rattle.std.specs.Int.RustNames.{bit_and}
+use Rattle.std.specs.Prelude.{false, true, ℕ, ◌≡◌, ◌≢◌, ◌<◌, ◌≤◌, ◌+◌, ◌==◌, List, length, take, Some, Contains, count_by, slice_get, is_some, if◌then◌else◌}
 use Rattle.ompt_events.specs.declared.records.Record.{Record}
 use Rattle.ompt_events.specs.declared.records.Claim.{Claim}
 use Rattle.ompt_events.specs.declared.records.Part.{Part}
@@ -9,10 +8,11 @@ use Rattle.ompt_events.specs.declared.cause.Cause.{Cause}
 use Rattle.ompt_events.specs.declared.cause.Cause.TheVariants.{SeqGap, CreatedTwice, Rootless, NotCurrent, Moved, RegionOrder, ShareWrong, EntryTwice, LengthAhead, LengthBack, NoOrder, TargetTask}
 use Rattle.ompt_events.specs.declared.names.SyncKind.{SyncKind}
 use Rattle.ompt_events.specs.CauseNames.{cause_number}
+use Rattle.ompt_events.specs.Flags.{has_flag}
 use Rattle.ompt_events.specs.Records.{made, created, started, finish, claim, flags, named, begun_root}
 use Rattle.ompt_events.specs.Places.{at, thread_at, seen_at, places}
 use Rattle.ompt_events.specs.Tree.{IsExplicit, IsRooted, HasPath, creates_for}
-use Rattle.ompt_events.specs.Threads.{Misfits}
+use Rattle.ompt_events.specs.Threads.{MisfitsAt}
 use Rattle.ompt_events.specs.Regions.{EndsNoRegion}
 use Rattle.ompt_events.specs.HappensBefore.{IsProgramStep, IsFinishing}
 use Rattle.ompt_events.specs.Linearization.{IsGrounded}
@@ -35,7 +35,7 @@ IsMade rs task = (k : ℕ) × (at made rs k ≡ Some task)
 
 -- a member of a team begins; with the flag `initial` the task is none (OpenMP 5.2, 19.5.2.11)
 abbrev pub BeginsMember : List Record → ℕ → Type 0
-BeginsMember rs i = (task bits : ℕ) × (at begun_root rs i ≡ Some task) × (at flags rs i ≡ Some bits) × (bit_and bits 1 ≡ 0)
+BeginsMember rs i = (task bits : ℕ) × (at begun_root rs i ≡ Some task) × (at flags rs i ≡ Some bits) × (has_flag bits 0x1 ≡ false)
 
 -- a task without a root
 pub data HasNoRoot (rs : List Record) (i : ℕ) : Type 0 where
@@ -48,8 +48,8 @@ pub data HasNoRoot (rs : List Record) (i : ℕ) : Type 0 where
 
 -- the first record of its thread that speaks for a task which the thread does not run
 pub record IsNotCurrent (rs : List Record) (i : ℕ) : Type 0 where
-  pub misfits : Misfits rs i
-  pub first : (k : ℕ) → k < i → thread_at rs k ≡ thread_at rs i → Misfits rs k → ⊥
+  pub misfits : MisfitsAt rs i
+  pub first : (k : ℕ) → k < i → thread_at rs k ≡ thread_at rs i → MisfitsAt rs k → ⊥
 
 -- an explicit task runs next that ran next earlier in file order on another thread
 abbrev pub IsMoved : List Record → ℕ → Type 0
@@ -100,7 +100,7 @@ pub record HasNoOrder (rs : List Record) (i : ℕ) : Type 0 where
 
 -- a task is made that is to run on a device (OpenMP 5.2, 13.8)
 abbrev pub MakesTarget : List Record → ℕ → Type 0
-MakesTarget rs i = (task bits : ℕ) × (at made rs i ≡ Some task) × (at flags rs i ≡ Some bits) × (bit_and bits 8 ≡ 8)
+MakesTarget rs i = (task bits : ℕ) × (at made rs i ≡ Some task) × (at flags rs i ≡ Some bits) × (has_flag bits 0x8 ≡ true)
 
 -- The record has the cause. The statuses, the parallel regions, the barriers and the lists of dependences
 -- that StatusOrder, TeamShort, NestedParallel and DepsPlace speak of can't be recorded yet.

@@ -1,5 +1,6 @@
 -- The named bits of a set of flags.
-use Rattle.std.specs.Prelude.{ℕ, List, [], ◌∷◌, codes}
+use Rattle.std.specs.Prelude.{ℕ, ◌==◌, Bool, List, [], ◌∷◌, codes}
+use Rattle.std.specs.Int.RustNames.{bit_and}
 
 -- OpenMP 5.2, ompt_task_flag_t: the name in a file, and the bit
 abbrev pub task_flags : List (List ℕ × ℕ)
@@ -7,3 +8,7 @@ task_flags =
     (codes "initial", 0x1) ∷ (codes "implicit", 0x2) ∷ (codes "explicit", 0x4) ∷ (codes "target", 0x8)
     ∷ (codes "taskwait", 0x10) ∷ (codes "undeferred", 0x0800_0000) ∷ (codes "untied", 0x1000_0000)
     ∷ (codes "final", 0x2000_0000) ∷ (codes "mergeable", 0x4000_0000) ∷ (codes "merged", 0x8000_0000) ∷ []
+
+-- whether the flag is among the bits
+abbrev pub has_flag : ℕ → ℕ → Bool
+has_flag bits flag = bit_and bits flag == flag

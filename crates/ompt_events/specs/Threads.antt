@@ -1,12 +1,10 @@
 -- The walk along a thread: which tasks it runs (OpenMP 5.2, 12.9: task scheduling).
 use Rattle.std.specs.Prelude.{ℕ, ◌≡◌, ◌≢◌, ◌==◌, List, [], ◌∷◌, Option, Some, None, filter, fold, take, drop, slice_get}
-use Rattle.std.specs.Option.{option_map_or}
 use Rattle.ompt_events.specs.declared.records.Record.{Record}
 use Rattle.ompt_events.specs.declared.records.Body.{Body}
 use Rattle.ompt_events.specs.declared.records.Body.TheVariants.{ImplicitTask, TaskSchedule}
 use Rattle.ompt_events.specs.declared.names.Endpoint.TheVariants.{Begin, End}
 use Rattle.ompt_events.specs.Records.{running, ended_root, started}
-use Rattle.ompt_events.specs.Places.{at}
 use Rattle.ompt_events.specs.Tree.{IsRoot}
 
 -- where a thread stands: its open roots, the innermost first, and the task that it runs
@@ -32,19 +30,17 @@ after_record walk r = after_body walk r.body
 abbrev pub walk_of : ℕ → List Record → Walk
 walk_of thread rs = fold after_record at_start (filter (λ r. r.thread == thread) rs)
 
--- where the record's thread stands just before the record
-abbrev pub walk_before : List Record → ℕ → Walk
-walk_before rs i = option_map_or (λ (r : Record). walk_of r.thread (take i rs)) (slice_get rs i) at_start
-
--- the innermost open root of the record's thread
-abbrev pub innermost_root : List Record → ℕ → Option ℕ
-innermost_root rs i = slice_get (walk_before rs i).roots 0
-
--- the record speaks for a task that its thread does not run there
-pub data Misfits (rs : List Record) (i : ℕ) : Type 0 where
+-- a record with this body speaks for a task that a thread which stands there doesn't run
+pub data Misfits (rs : List Record) (walk : Walk) (body : Body) : Type 0 where
   -- the record is of a task that isn't the current one
-  not_running : (task : ℕ) → at running rs i ≡ Some task → (walk_before rs i).current ≢ Some task → Misfits rs i
+  not_running : (task : ℕ) → running body ≡ Some task → walk.current ≢ Some task → Misfits rs walk body
   -- a root ends that isn't the innermost open one
-  not_innermost : (task : ℕ) → at ended_root rs i ≡ Some task → innermost_root rs i ≢ Some task → Misfits rs i
+  not_innermost : (task : ℕ) → ended_root body ≡ Some task → slice_get walk.roots 0 ≢ Some task → Misfits rs walk body
   -- a root runs next that isn't the innermost open one
-  other_root : (task : ℕ) → at started rs i ≡ Some task → IsRoot rs task → innermost_root rs i ≢ Some task → Misfits rs i
+  other_root : (task : ℕ) → started body ≡ Some task → IsRoot rs task → slice_get walk.roots 0 ≢ Some task → Misfits rs walk body
+
+-- the record at i speaks for a task that its thread doesn't run there
+pub record MisfitsAt (rs : List Record) (i : ℕ) : Type 0 where
+  pub the_record : Record
+  pub stands : slice_get rs i ≡ Some the_record
+  pub misfits : Misfits rs (walk_of the_record.thread (take i rs)) the_record.body

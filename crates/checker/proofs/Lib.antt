@@ -1,0 +1,9 @@
+mod Reading
+mod Bodies
+mod NumberMaps
+mod MakerLemmas
+mod HomeLemmas
+mod WalkLemmas
+mod MarkLemmas
+mod SettleLemmas
+mod RootlessLemmas

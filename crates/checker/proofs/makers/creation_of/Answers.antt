@@ -1,0 +1,36 @@
+use Rattle.std.proofs.Common.{◌≡◌, ◌<◌, ◌∙◌, Some, length, sym, ap, rules}
+use Rattle.std.specs.Prelude.{is_some}
+use Rattle.std.specs.Ordering.{nat_cmp}
+use Rattle.std.specs.BTreeMap.{get}
+use Rattle.ompt_events.specs.Records.{creation}
+use Rattle.ompt_events.specs.Places.{at}
+use Rattle.checker.proofs.Reading.{at_index}
+use Rattle.checker.proofs.MakerLemmas.{created_from_maker, not_explicit, no_explicit}
+use Rattle.checker.proofs.makers.creation_of.Goals as goal
+
+pub offset_bounds-records-place : goal.offset_bounds-records-place
+offset_bounds-records-place c = let within = (c.requires.only c.args.task c.in-Some.place.now (sym c.in-Some.ensures.value)).0 in search rules
+
+pub bounds-records-place : goal.bounds-records-place
+bounds-records-place c = (c.requires.only c.args.task c.in-Some.place.now (sym c.in-Some.ensures.value)).0
+
+pub returns-then-is_some : goal.returns-then-is_some
+returns-then-is_some c =
+    let rs = c.args.records.now in
+    let k = c.in-Some.place.now in
+    let found : get nat_cmp c.args.makers.now c.args.task ≡ Some k = sym c.in-Some.ensures.value in
+    let within : k < length rs = (c.requires.only c.args.task k found).0 in
+    let says : c.is_some.result ≡ is_some (at creation rs k) = c.is_some.ensures ∙ ap is_some (c.creation.ensures ∙ sym (at_index creation rs k c.index-records-place.result within)) in
+    created_from_maker rs c.args.makers.now c.args.task k c.requires found (sym says ∙ c.if-is_some.true)
+
+pub returns-else-is_some : goal.returns-else-is_some
+returns-else-is_some c =
+    let rs = c.args.records.now in
+    let k = c.in-Some.place.now in
+    let found : get nat_cmp c.args.makers.now c.args.task ≡ Some k = sym c.in-Some.ensures.value in
+    let within : k < length rs = (c.requires.only c.args.task k found).0 in
+    let says : c.is_some.result ≡ is_some (at creation rs k) = c.is_some.ensures ∙ ap is_some (c.creation.ensures ∙ sym (at_index creation rs k c.index-records-place.result within)) in
+    not_explicit rs c.args.makers.now c.args.task k c.requires found (sym says ∙ c.if-is_some.false)
+
+pub returns-in-None : goal.returns-in-None
+returns-in-None c = no_explicit c.args.records.now c.args.makers.now c.args.task c.requires (sym c.in-None.ensures.value)

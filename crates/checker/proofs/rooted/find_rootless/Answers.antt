@@ -1,0 +1,38 @@
+use Rattle.std.proofs.Common.{◌≡◌, ◌∙◌, ◌<◌, ◌⊎◌, length, get_or, refl, sym, inl, inr, below_more}
+use Rattle.std.proofs.lemmas.Bool.{false≢true}
+use Rattle.ompt_events.specs.Records.{named}
+use Rattle.checker.specs.declared.rooted.Mark.TheVariants.{Unrooted}
+use Rattle.checker.specs.Marks.{mark_at, AnyUnmade, IsMember}
+use Rattle.checker.proofs.MarkLemmas.{mark_read}
+use Rattle.checker.proofs.RootlessLemmas.{free_of_rootless, first_rootless, from_unmade, from_mark, from_member, has_root}
+use Rattle.checker.proofs.rooted.find_rootless.Goals as goal
+
+pub returns-then-is_rootless-clause-found : goal.returns-then-is_rootless-clause-found
+returns-then-is_rootless-clause-found c =
+    let rs = c.args.records.now in
+    let i = c.loop-at.at in
+    let makers = c.args.makers.now in
+    let marks = c.in_ok-marks.marks.items in
+    let r = c.index-records-at.result in
+    let here : mark_at marks i ≡ c.index.result.now = mark_read marks i c.index.result.now (rw c.in_ok-marks.ensures.marks.all c.loop-at-test.true) c.index.ensures in
+    let found : AnyUnmade makers (named r.body) ⊎ ((c.index.result.now ≡ Unrooted) ⊎ IsMember r.body) = c.is_rootless.ensures.0 c.if-is_rootless.true in
+    let first = first_rootless rs i c.loop-at-test.true c.loop-at.invariant in
+    (refl, elim found [
+      | inl any ↦ first (from_unmade rs makers i r c.requires c.loop-at-test.true c.index-records-at.is any)
+      | inr (inl is) ↦ first (from_mark rs makers marks i c.requires c.in_ok-marks.ensures.marks (here ∙ is))
+      | inr (inr member) ↦ first (from_member rs i r member.0 c.loop-at-test.true c.index-records-at.is member.1 member.2 member.3)
+    ])
+
+pub loop-at-preserved : goal.loop-at-preserved
+loop-at-preserved c =
+    let rs = c.args.records.now in
+    let i = c.loop-at.at in
+    let makers = c.args.makers.now in
+    let marks = c.in_ok-marks.marks.items in
+    let r = c.index-records-at.result in
+    let here : mark_at marks i ≡ c.index.result.now = mark_read marks i c.index.result.now (rw c.in_ok-marks.ensures.marks.all c.loop-at-test.true) c.index.ensures in
+    let none = λ (h : AnyUnmade makers (named r.body) ⊎ ((c.index.result.now ≡ Unrooted) ⊎ IsMember r.body)). false≢true (sym c.if-is_rootless.false ∙ c.is_rootless.ensures.1 h) in
+    below_more _ _ c.loop-at.invariant (has_root rs makers marks i r c.requires c.in_ok-marks.ensures.marks c.in_ok-marks.ensures.known c.loop-at-test.true c.index-records-at.is (λ any. none (inl any)) (λ is. none (inr (inl (sym here ∙ is)))) (λ bits begins given flag. none (inr (inr (bits, begins, given, flag)))))
+
+pub returns-clause-free : goal.returns-clause-free
+returns-clause-free c = free_of_rootless c.args.records.now c.loop-at.at c.loop-at.invariant c.loop-at-test.false

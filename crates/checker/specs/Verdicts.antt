@@ -1,0 +1,39 @@
+-- What each verdict says of the records.
+use Rattle.std.specs.Prelude.{ℕ, List, [], ◌∷◌}
+use Rattle.ompt_events.specs.declared.records.Record.{Record}
+use Rattle.ompt_events.specs.declared.cause.Cause.{Cause}
+use Rattle.ompt_events.specs.declared.cause.Cause.TheVariants.{CreatedTwice, Rootless, NotCurrent, Moved, RegionOrder, NoOrder}
+use Rattle.ompt_events.specs.Linearization.{IsLinearization, IsGreedy}
+use Rattle.ompt_events.specs.Completion.{IsCompleteIn}
+use Rattle.ompt_events.specs.Violations.{IsRequired, IsUnfinished, IsFirstUnfinished}
+use Rattle.ompt_events.specs.Causes.{IsMalformed, IsWellFormed}
+use Rattle.checker.specs.declared.verdict.Verdict.{Verdict}
+use Rattle.checker.specs.declared.verdict.Verdict.TheVariants.{Yes, No, Malformed}
+use Rattle.checker.specs.declared.verdict.Why.TheVariants.{Unfinished}
+
+-- the causes that are looked for
+abbrev pub sought : List Cause
+sought = CreatedTwice ∷ Rootless ∷ NotCurrent ∷ Moved ∷ RegionOrder ∷ NoOrder ∷ []
+
+-- in every order that the records allow, every task that must be complete at a record is complete there
+abbrev pub IsAlwaysComplete : List Record → Type 0
+IsAlwaysComplete rs = (order : List ℕ) → IsLinearization rs order → (i task : ℕ) → IsRequired rs i task → IsCompleteIn rs order task i
+
+-- what a yes with this order says
+pub record IsApproved (rs : List Record) (order : List ℕ) : Type 0 where
+  pub well_formed : IsWellFormed rs sought
+  pub linearization : IsLinearization rs order
+  pub greedy : IsGreedy rs order
+  pub finished : (i task : ℕ) → IsUnfinished rs i task → ⊥
+  pub always_complete : IsAlwaysComplete rs
+
+-- what a no at a record says, with the task that is unfinished there
+pub record IsRejected (rs : List Record) (i task : ℕ) : Type 0 where
+  pub well_formed : IsWellFormed rs sought
+  pub unfinished : IsFirstUnfinished rs i task
+
+-- the verdict is that of the records
+abbrev pub IsVerdict : List Record → Verdict → Type 0
+IsVerdict rs (Yes order) = IsApproved rs order
+IsVerdict rs (No i (Unfinished task)) = IsRejected rs i task
+IsVerdict rs (Malformed i cause) = IsMalformed rs sought i cause
