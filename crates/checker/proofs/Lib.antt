@@ -1,4 +1,5 @@
 mod Reading
+mod Ranges
 mod Bodies
 mod NumberMaps
 mod MakerLemmas
@@ -7,3 +8,4 @@ mod WalkLemmas
 mod MarkLemmas
 mod SettleLemmas
 mod RootlessLemmas
+mod LinkLemmas

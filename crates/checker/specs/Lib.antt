@@ -1,3 +1,4 @@
 pub mod Verdicts
 pub mod Searches
 pub mod Marks
+pub mod Links

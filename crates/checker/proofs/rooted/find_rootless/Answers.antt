@@ -16,12 +16,14 @@ returns-then-is_rootless-clause-found c =
     let r = c.index-records-at.result in
     let here : mark_at marks i ≡ c.index.result.now = mark_read marks i c.index.result.now (rw c.in_ok-marks.ensures.marks.all c.loop-at-test.true) c.index.ensures in
     let found : AnyUnmade makers (named r.body) ⊎ ((c.index.result.now ≡ Unrooted) ⊎ IsMember r.body) = c.is_rootless.ensures.0 c.if-is_rootless.true in
-    let first = first_rootless rs i c.loop-at-test.true c.loop-at.invariant in
-    (refl, elim found [
-      | inl any ↦ first (from_unmade rs makers i r c.requires c.loop-at-test.true c.index-records-at.is any)
-      | inr (inl is) ↦ first (from_mark rs makers marks i c.requires c.in_ok-marks.ensures.marks (here ∙ is))
-      | inr (inr member) ↦ first (from_member rs i r member.0 c.loop-at-test.true c.index-records-at.is member.1 member.2 member.3)
-    ])
+    let first = first_rootless rs i c.loop-at-test.true c.loop-at.invariant in (
+      refl,
+      elim found [
+        | inl any ↦ first (from_unmade rs makers i r c.requires c.loop-at-test.true c.index-records-at.is any)
+        | inr (inl is) ↦ first (from_mark rs makers marks i c.requires c.in_ok-marks.ensures.marks (here ∙ is))
+        | inr (inr member) ↦ first (from_member rs i r member.0 c.loop-at-test.true c.index-records-at.is member.1 member.2 member.3)
+      ],
+    )
 
 pub loop-at-preserved : goal.loop-at-preserved
 loop-at-preserved c =

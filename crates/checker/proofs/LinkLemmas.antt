@@ -1,0 +1,188 @@
+-- How the open regions change from record to record.
+use Rattle.std.proofs.Common.{◌≡◌, ◌≢◌, ◌∙◌, ℕ, ◌<◌, ◌≤◌, ◌+◌, ◌-◌, List, [], ◌∷◌, ◌++◌, length, get_or, drop, Option, Some, None, true, false, Bool, cond, eqb, refl, sym, ap, subst, arith, inl, inr}
+use Rattle.std.proofs.lemmas.Bool.{cases_eq, false≢true, eq-eqb}
+use Rattle.std.proofs.lemmas.Bool.Decides.{nat_tests}
+use Rattle.std.proofs.lemmas.Option.{none-some, same_Some, slice_get-get_or, slice_get_within}
+use Rattle.std.proofs.lemmas.List.{get_or_append_left, get_or_push, length_push, append-nil}
+use Rattle.std.proofs.lemmas.List.Elements.{filter-append}
+use Rattle.std.proofs.lemmas.List.Sums.{fold_push}
+use Rattle.std.specs.Prelude.{◌==◌, slice_get, filter, fold, option_and_then}
+use Rattle.std.specs.List.{range_with_len}
+use Rattle.std.specs.Option.{option_map_or}
+use Rattle.std.specs.Ordering.{nat_cmp}
+use Rattle.std.specs.BTreeMap.{BTreeMap, get}
+use Rattle.ompt_events.specs.declared.records.Record.{Record}
+use Rattle.ompt_events.specs.declared.records.Body.{Body}
+use Rattle.ompt_events.specs.declared.records.Body.TheVariants.{ImplicitTask, TaskCreate, TaskSchedule, SyncRegion}
+use Rattle.ompt_events.specs.declared.names.Endpoint.{Endpoint}
+use Rattle.ompt_events.specs.declared.names.Endpoint.TheVariants.{Begin, End}
+use Rattle.ompt_events.specs.declared.names.SyncKind.{SyncKind}
+use Rattle.ompt_events.specs.declared.cause.Cause.TheVariants.{RegionOrder}
+use Rattle.ompt_events.specs.Records.{region, running}
+use Rattle.ompt_events.specs.Places.{at, is_own, own_before}
+use Rattle.ompt_events.specs.Regions.{after_region, open_regions, kind_at, EndsRegion, EndsNoRegion}
+use Rattle.ompt_events.specs.Causes.{HasNoBegin, HasCause, region_order, IsFirstWith, IsFreeOf}
+use Rattle.checker.specs.Links.{below_of, top_after, IsStack, SetsTo, AreLinked}
+use Rattle.checker.proofs.Reading.{at_within}
+use Rattle.checker.proofs.Ranges.{range_more}
+use Rattle.checker.proofs.Bodies.{at_through}
+
+-- a record of a region is its task's own
+region_running : (task : ℕ) (kind : SyncKind) (endpoint : Endpoint) (b : Body) → region b ≡ Some (task, kind, endpoint) → running b ≡ Some task
+region_running task kind endpoint (ImplicitTask e actual index flags parallel root) says = absurd (none-some (task, kind, endpoint) says)
+region_running task kind endpoint (TaskCreate deps flags parent child) says = absurd (none-some (task, kind, endpoint) says)
+region_running task kind endpoint (TaskSchedule status prior next share) says = absurd (none-some (task, kind, endpoint) says)
+region_running task kind endpoint (SyncRegion k e parallel own) says = ap Some (ap (λ (p : ℕ × SyncKind × Endpoint). p.0) (same_Some (own, k, e) (task, kind, endpoint) says))
+
+-- one more place among a task's own
+own_more : (rs : List Record) (task n : ℕ) → own_before rs task (n + 1) ≡ own_before rs task n ++ cond (is_own rs task n) (n ∷ []) []
+own_more rs task n = ap (filter (is_own rs task)) (range_more n) ∙ filter-append (is_own rs task) (range_with_len 0 n) (n ∷ [])
+
+-- what the open regions become by one more place of the task
+step : List Record → List ℕ → ℕ → List ℕ
+step rs opened k = after_region opened k (at region rs k)
+
+open_more : (rs : List Record) (task n : ℕ) (own : Bool) → is_own rs task n ≡ own → open_regions rs task (n + 1) ≡ cond own (after_region (open_regions rs task n) n (at region rs n)) (open_regions rs task n)
+open_more rs task n true own =
+    ap (fold (λ opened k. after_region opened k (at region rs k)) []) (own_more rs task n ∙ ap (λ b. own_before rs task n ++ cond b (n ∷ []) []) own)
+    ∙ fold_push (λ opened k. after_region opened k (at region rs k)) [] (own_before rs task n) n
+open_more rs task n false own =
+    ap (fold (λ opened k. after_region opened k (at region rs k)) []) (own_more rs task n ∙ ap (λ b. own_before rs task n ++ cond b (n ∷ []) []) own ∙ append-nil (own_before rs task n))
+
+-- a record of no region changes nothing
+pub open_none : (rs : List Record) (task n : ℕ) → at region rs n ≡ None → open_regions rs task (n + 1) ≡ open_regions rs task n
+open_none rs task n none = open_more rs task n (is_own rs task n) refl ∙ ap (λ r. cond (is_own rs task n) (after_region (open_regions rs task n) n r) (open_regions rs task n)) none ∙ same (is_own rs task n) (open_regions rs task n)
+  where
+    same : (b : Bool) (xs : List ℕ) → cond b xs xs ≡ xs
+    same true xs = refl
+    same false xs = refl
+
+-- nor does one of another task
+pub open_other : (rs : List Record) (task own n : ℕ) (kind : SyncKind) (endpoint : Endpoint) → at region rs n ≡ Some (own, kind, endpoint) → task ≢ own → open_regions rs task (n + 1) ≡ open_regions rs task n
+open_other rs task own n kind endpoint says apart =
+    let runs = at_through region running (own, kind, endpoint) own rs n (region_running own kind endpoint) says in
+    open_more rs task n false (ap (λ o. option_map_or (λ t. t == task) o false) runs ∙ not_eqb own task (λ e. apart (sym e)))
+  where
+    not_eqb : (a b : ℕ) → a ≢ b → eqb a b ≡ false
+    not_eqb a b apart' = grind (arith, nat_tests)
+
+-- one of the task itself does
+pub open_own : (rs : List Record) (own n : ℕ) (kind : SyncKind) (endpoint : Endpoint) → at region rs n ≡ Some (own, kind, endpoint) → open_regions rs own (n + 1) ≡ after_region (open_regions rs own n) n (Some (own, kind, endpoint))
+open_own rs own n kind endpoint says =
+    let runs = at_through region running (own, kind, endpoint) own rs n (region_running own kind endpoint) says in
+    open_more rs own n true (ap (λ o. option_map_or (λ t. t == own) o false) runs ∙ eq-eqb own own refl) ∙ ap (after_region (open_regions rs own n) n) says
+
+-- a stack stays when a link is added
+stack_more : (links : List (Option ℕ)) (link top : Option ℕ) (stack : List ℕ) → IsStack links top stack → IsStack (links ++ link ∷ []) top stack
+stack_more links link top [] is = is
+stack_more links link top (begin ∷ below) (is, within, rest) =
+    let same : below_of (links ++ link ∷ []) top ≡ below_of links top = ap (below_of (links ++ link ∷ [])) is ∙ get_or_append_left links (link ∷ []) None begin within ∙ ap (below_of links) (sym is) in
+    (is, rw (length_push links link) (omega arith), rw same (stack_more links link (below_of links top) below rest))
+
+-- what is known of the open regions after n records
+pub record AreOpen (rs : List Record) (n : ℕ) (innermost : BTreeMap ℕ ℕ) (links : List (Option ℕ)) : Type 0 where
+  pub all : length links ≡ n
+  pub stacks : (task : ℕ) → IsStack links (get nat_cmp innermost task) (open_regions rs task n)
+  pub linked : AreLinked rs n links
+
+pub open_start : (rs : List Record) (innermost : BTreeMap ℕ ℕ) (links : List (Option ℕ)) → ((task : ℕ) → get nat_cmp innermost task ≡ None) → links ≡ [] → AreOpen rs 0 innermost links
+open_start rs innermost links none empty = record {
+  all = ap length empty;
+  stacks = none;
+  linked = λ i task kind below. absurd (omega arith);
+}
+
+linked_more : (rs : List Record) (n : ℕ) (links : List (Option ℕ)) (link : Option ℕ) → length links ≡ n → AreLinked rs n links → ((task : ℕ) (kind : SyncKind) → at region rs n ≡ Some (task, kind, End) → (begin : ℕ) × (link ≡ Some begin) × EndsRegion rs n task kind begin) → AreLinked rs (n + 1) (links ++ link ∷ [])
+linked_more rs n links link all linked here i task kind below ends = elim (cases_eq i n) [
+  | inl same ↦
+      let h = here task kind (ap (at region rs) (sym same) ∙ ends) in
+      (h.0, last i same ∙ ap Some h.1, let P : ℕ → Type 0 = λ j. EndsRegion rs j task kind h.0 in subst P (sym same) h.2)
+  | inr apart ↦
+      let old = linked i task kind (omega arith) ends in
+      let inside = slice_get_within links i (Some old.0) old.1 in
+      (old.0, slice_get-get_or (links ++ link ∷ []) i None (rw (length_push links link) (omega arith)) ∙ ap Some (get_or_append_left links (link ∷ []) None i inside) ∙ sym (slice_get-get_or links i None inside) ∙ old.1, old.2)
+]
+  where
+    last : (j : ℕ) → j ≡ n → slice_get (links ++ link ∷ []) j ≡ Some link
+    last j same = slice_get-get_or (links ++ link ∷ []) j None (rw (length_push links link) (omega arith)) ∙ ap Some (get_or_push links link None j (all ∙ sym same))
+
+-- a record of no region
+pub open_more_none : (rs : List Record) (n : ℕ) (innermost : BTreeMap ℕ ℕ) (links : List (Option ℕ)) → AreOpen rs n innermost links → at region rs n ≡ None → AreOpen rs (n + 1) innermost (links ++ None ∷ [])
+open_more_none rs n innermost links are none = record {
+  all = length_push links None ∙ ap (λ k. k + 1) are.all;
+  stacks = λ task. rw (open_none rs task n none) (stack_more links None (get nat_cmp innermost task) (open_regions rs task n) (are.stacks task));
+  linked = linked_more rs n links None are.all are.linked (λ task kind ends. absurd (none-some (task, kind, End) (sym none ∙ ends)));
+}
+
+-- the stack of a task after its own record
+own_stack : (links : List (Option ℕ)) (n own : ℕ) (kind : SyncKind) (endpoint : Endpoint) (link : Option ℕ) (stack : List ℕ) → length links ≡ n → (endpoint ≡ End → (begin : ℕ) × (link ≡ Some begin)) → IsStack links link stack → IsStack (links ++ link ∷ []) (top_after links link n endpoint) (after_region stack n (Some (own, kind, endpoint)))
+own_stack links n own kind Begin link stack all found is =
+    let here : below_of (links ++ link ∷ []) (Some n) ≡ link = get_or_push links link None n all in
+    (refl, rw (length_push links link) (omega arith), rw here (stack_more links link link stack is))
+own_stack links n own kind End link [] all found is = let h = found refl in absurd (none-some h.0 (sym is ∙ h.1))
+own_stack links n own kind End link (begin ∷ below) all found (is, within, rest) = stack_more links link (below_of links link) below rest
+
+-- a record that begins or ends a region
+pub open_more_own : (rs : List Record) (n own : ℕ) (kind : SyncKind) (endpoint : Endpoint) (innermost after : BTreeMap ℕ ℕ) (links : List (Option ℕ)) → AreOpen rs n innermost links → at region rs n ≡ Some (own, kind, endpoint) → (endpoint ≡ End → (begin : ℕ) × (get nat_cmp innermost own ≡ Some begin) × (kind_at rs begin ≡ Some kind)) → SetsTo innermost after own (top_after links (get nat_cmp innermost own) n endpoint) → AreOpen rs (n + 1) after (links ++ get nat_cmp innermost own ∷ [])
+open_more_own rs n own kind endpoint innermost after links are says found sets = record {
+  all = length_push links (get nat_cmp innermost own) ∙ ap (λ k. k + 1) are.all;
+  stacks = λ task. elim (cases_eq task own) [
+    | inl same ↦ rw (same, sets.here, open_own rs own n kind endpoint says) (own_stack links n own kind endpoint (get nat_cmp innermost own) (open_regions rs own n) are.all (λ e. let h = found e in (h.0, h.1)) (are.stacks own))
+    | inr apart ↦ rw (sets.there task apart, open_other rs task own n kind endpoint says apart) (stack_more links (get nat_cmp innermost own) (get nat_cmp innermost task) (open_regions rs task n) (are.stacks task))
+  ];
+  linked = linked_more rs n links (get nat_cmp innermost own) are.all are.linked (λ task kind' ends. ends_here task kind' ends);
+}
+  where
+    head_of : (top : Option ℕ) (stack : List ℕ) (begin : ℕ) → IsStack links top stack → top ≡ Some begin → slice_get stack 0 ≡ Some begin
+    head_of top [] begin is e = absurd (none-some begin (sym is ∙ e))
+    head_of top (b ∷ below) begin (is, within, rest) e = sym is ∙ e
+
+    ends_here : (task : ℕ) (kind' : SyncKind) → at region rs n ≡ Some (task, kind', End) → (begin : ℕ) × (get nat_cmp innermost own ≡ Some begin) × EndsRegion rs n task kind' begin
+    ends_here task kind' ends =
+        let same = same_Some (own, kind, endpoint) (task, kind', End) (sym says ∙ ends) in
+        let is_end : endpoint ≡ End = ap (λ (p : ℕ × SyncKind × Endpoint). p.2) same in
+        let is_task : own ≡ task = ap (λ (p : ℕ × SyncKind × Endpoint). p.0) same in
+        let is_kind : kind ≡ kind' = ap (λ (p : ℕ × SyncKind × Endpoint). p.1) same in
+        let h = found is_end in (
+          h.0,
+          h.1,
+          record {
+            ends = ends;
+            innermost = ap (λ t. slice_get (open_regions rs t n) 0) (sym is_task) ∙ head_of (get nat_cmp innermost own) (open_regions rs own n) h.0 (are.stacks own) h.1;
+            same_kind = h.2 ∙ ap Some is_kind;
+          },
+        )
+
+pub has_no_begin : (rs : List Record) (i : ℕ) → HasCause rs i RegionOrder → HasNoBegin rs i
+has_no_begin rs i (region_order h) = h
+
+-- an end that misses its begin
+pub misses_here : (rs : List Record) (i own : ℕ) (kind : SyncKind) (endpoint : Endpoint) (innermost : BTreeMap ℕ ℕ) (links : List (Option ℕ)) → AreOpen rs i innermost links → ((k : ℕ) → k < i → HasNoBegin rs k → ⊥) → at region rs i ≡ Some (own, kind, endpoint) → (endpoint ≡ End) × ((begin : ℕ) → get nat_cmp innermost own ≡ Some begin → kind_at rs begin ≢ Some kind) → IsFirstWith rs RegionOrder i
+misses_here rs i own kind endpoint innermost links are free says (is_end, none) = record {
+  within = at_within region rs i (own, kind, endpoint) says;
+  has = region_order (
+    own,
+    kind,
+    record {
+      ends = says ∙ ap (λ e. Some (own, kind, e)) is_end;
+      none = λ begin top. none begin (top_of (get nat_cmp innermost own) (open_regions rs own i) begin (are.stacks own) top);
+    },
+  );
+  first = λ k below has. free k below (has_no_begin rs k has);
+}
+  where
+    top_of : (top : Option ℕ) (stack : List ℕ) (begin : ℕ) → IsStack links top stack → slice_get stack 0 ≡ Some begin → top ≡ Some begin
+    top_of top [] begin is e = absurd (none-some begin e)
+    top_of top (b ∷ below) begin (is, within, rest) e = is ∙ e
+
+-- a record that has its begin, or needs none
+pub begins_here : (rs : List Record) (n : ℕ) (links : List (Option ℕ)) → AreLinked rs (n + 1) links → HasNoBegin rs n → ⊥
+begins_here rs n links linked (task, kind, h) =
+    let found = linked n task kind (omega arith) h.ends in
+    h.none found.0 found.2.innermost found.2.same_kind
+
+-- every end up to the last has its begin
+pub free_of_misses : (rs : List Record) (n : ℕ) → ((k : ℕ) → k < n → HasNoBegin rs k → ⊥) → length rs ≤ n → IsFreeOf rs RegionOrder
+free_of_misses rs n free all i has =
+    let h = has_no_begin rs i has in
+    free i (let inside = at_within region rs i (h.0, h.1, End) h.2.ends in omega arith) h
