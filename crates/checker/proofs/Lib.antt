@@ -9,3 +9,7 @@ mod MarkLemmas
 mod SettleLemmas
 mod RootlessLemmas
 mod LinkLemmas
+mod MergeLemmas
+mod EntryLemmas
+mod OrderLemmas
+mod MergingLemmas

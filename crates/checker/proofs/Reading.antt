@@ -41,3 +41,6 @@ thread_none {X} f rs i e = no_record f (slice_get rs i) e
     no_record : {X : Type 0} (f : Body → Option X) (o : Option Record) → option_map (λ (r : Record). r.thread) o ≡ None → option_and_then (λ (r : Record). f r.body) o ≡ None
     no_record f None e = refl
     no_record f (Some r) e = absurd (none-some r.thread (sym e))
+
+pub thread_index : (rs : List Record) (i : ℕ) (r : Record) → i < length rs → thread_at rs i ≡ Some (get_or rs i r).thread
+thread_index rs i r within = ap (option_map (λ (q : Record). q.thread)) (slice_get-get_or rs i r within)

@@ -2,3 +2,4 @@ pub mod Verdicts
 pub mod Searches
 pub mod Marks
 pub mod Links
+pub mod Merging

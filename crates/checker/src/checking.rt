@@ -1,18 +1,22 @@
 //! The check as a whole.
-ghost use Rattle.std.specs.Prelude.{length};
-ghost use Rattle.checker.specs.Searches.{AreMakers};
+ghost use Rattle.std.specs.Prelude.{◌≡◌, IfOk, IfErr, OnOk, length};
+ghost use Rattle.ompt_events.specs.declared.cause.Cause.TheVariants.{NoOrder};
+ghost use Rattle.ompt_events.specs.Places.{places};
+ghost use Rattle.ompt_events.specs.Linearization.{IsLinearization, IsGreedy};
+ghost use Rattle.ompt_events.specs.Causes.{IsFreeOf};
+ghost use Rattle.checker.specs.Searches.{IsFound, AreMakers};
 
 use crate::current::find_misfit;
 use crate::homes::find_moved;
 use crate::makers::find_makers;
-use crate::merge::greedy_order;
+use crate::merge::find_order;
 use crate::regions::find_links;
 use crate::rooted::find_rootless;
 use crate::schedule::{creations_awaited, is_in_order};
 use crate::search::SearchFault;
 use crate::verdict::{CheckFault, Order, Verdict, Why};
 use crate::waits::find_unfinished;
-use ompt_events::{Cause, Record, Trace};
+use ompt_events::{Record, Trace};
 use std::alloc::{AllocError, Global};
 use std::collections::BTreeMap;
 
@@ -34,7 +38,7 @@ fn verdict_of(alloc: Global, records: &[Record]) -> Result<Verdict, SearchFault>
     find_misfit(alloc, records, &makers)?;
     find_moved(alloc, records, &makers)?;
     let links = find_links(alloc, records)?;
-    let places = find_order(alloc, records, &makers)?;
+    let places = order_of(alloc, records, &makers)?;
     match find_unfinished(alloc, records, links.as_slice())? {
         Some((at, task)) => Ok(Verdict::No {
             at,
@@ -47,39 +51,32 @@ fn verdict_of(alloc: Global, records: &[Record]) -> Result<Verdict, SearchFault>
 }
 
 /// The greedy order of all records. Searches for the first record that has none.
-fn find_order(
+fn order_of(
     alloc: Global,
     records: &[Record],
     makers: &BTreeMap<u64, usize>,
 ) -> Result<Vec<usize>, SearchFault>
     requires { AreMakers records.now (length records.now) makers.now }
+    ensures linearization { IfOk result (λ order. IsLinearization records.now order.items) }
+    ensures greedy { IfOk result (λ order. IsGreedy records.now order.items) }
+    ensures free { OnOk result (IsFreeOf records.now NoOrder) }
+    ensures found { IfErr result (IsFound records.now NoOrder) }
 {
     let awaited = creations_awaited(alloc, records, makers)?;
-    if is_in_order(records, awaited.as_slice()) {
-        return Ok(file_order(alloc, records.len())?);
+    // A file in time order costs one pass.
+    if is_in_order(records, &awaited) {
+        return Ok(file_order(alloc, records)?);
     }
-    let order = greedy_order(alloc, records, awaited.as_slice())?;
-    match first_missing(alloc, records.len(), order.as_slice())? {
-        Some(at) => Err(SearchFault::Malformed {
-            at,
-            cause: Cause::NoOrder,
-        }),
-        None => Ok(order),
-    }
+    find_order(alloc, records, &awaited)
 }
 
 /// All places as they stand in the file.
-fn file_order(alloc: Global, len: usize) -> Result<Vec<usize>, AllocError> {
-    (0..len).collect(alloc)
-}
-
-/// The first place that the order lacks.
-fn first_missing(alloc: Global, len: usize, order: &[usize]) -> Result<Option<usize>, AllocError> {
-    let mut placed = vec![in alloc; false; len]?;
-    for place in order {
-        if *place < placed.len() {
-            placed[*place] = true;
-        }
+fn file_order(alloc: Global, records: &[Record]) -> Result<Vec<usize>, AllocError>
+    ensures { IfOk result (λ order. order.items ≡ places records.now) }
+{
+    let mut order = Vec::with_capacity(alloc, records.len())?;
+    for at in 0..records.len() {
+        order.push(at)?;
     }
-    Ok(placed.iter().position(|stands| !*stands))
+    Ok(order)
 }

@@ -1,65 +1,114 @@
 //! The greedy order of the records.
-ghost use Rattle.std.specs.Prelude.{◌≤◌, length};
+ghost use Rattle.std.specs.Prelude.{false, IfNone, replicate, ℕ, ◌≡◌, ◌<◌, ◌≤◌, ◌↔◌, ⊤, Some, IsTrue, IfSome, IfOk, IfErr, OnOk, MatchOption, length, option_map, slice_get, slice_index_or};
+ghost use Rattle.ompt_events.specs.declared.cause.Cause.TheVariants.{NoOrder};
+ghost use Rattle.ompt_events.specs.Places.{thread_at};
+ghost use Rattle.ompt_events.specs.Linearization.{IsLinearization, IsGreedy};
+ghost use Rattle.ompt_events.specs.Causes.{IsFreeOf};
+ghost use Rattle.checker.specs.Searches.{IsFound};
+ghost use Rattle.checker.specs.Merging.{AreAwaited, Stands, MayFollow, AreHeads, IsLeastEntry, IsReadyHead, AreFirstHeads, AreEntries};
 
-use ompt_events::{Record, finish};
+use crate::search::SearchFault;
+use ompt_events::{Cause, Record, finish};
 use std::alloc::{AllocError, Global};
 
-/// Where a merge of the threads stands.
-#[derive(Drop)]
-struct Merge {
-    /// Whether each record stands in the order already.
-    placed: Vec<bool>,
-    /// For each thread its first record that does not stand yet, or the number of records.
-    heads: Vec<usize>,
-    /// The finishing records that do not stand yet are among these from `low` on, the least entry first.
-    entries: Vec<(u32, usize)>,
-    low: usize,
-}
-
-/// The records as far as they have an order: again and again the first in file order
-/// of which all that happens before it stands already.
-pub(crate) fn greedy_order(
+/// The greedy order: again and again the first record in file order of which all that happens before it stands already.
+/// Searches for the first record that has no place in it.
+pub(crate) fn find_order(
     alloc: Global,
     records: &[Record],
     awaited: &[Option<usize>],
-) -> Result<Vec<usize>, AllocError>
-    requires { length awaited.now ≤ length records.now }
+) -> Result<Vec<usize>, SearchFault>
+    requires { AreAwaited records.now (length records.now) awaited.now }
+    ensures linearization { IfOk result (λ order. IsLinearization records.now order.items) }
+    ensures greedy { IfOk result (λ order. IsGreedy records.now order.items) }
+    ensures free { OnOk result (IsFreeOf records.now NoOrder) }
+    ensures found { IfErr result (IsFound records.now NoOrder) }
 {
-    let mut merge = start(alloc, records)?;
+    let mut placed = none_placed(alloc, records.len())?;
+    let mut heads = first_heads(alloc, records)?;
+    let entries = entries_of(alloc, records)?;
+    let mut low = 0;
     let mut order = Vec::with_capacity(alloc, records.len())?;
-    for _ in 0..records.len() {
-        let Some(place) = first_ready(&merge, records, awaited) else {
-            break;
-        };
+    'merge: while let Some(place) = first_ready(
+        records,
+        awaited,
+        &placed,
+        &heads,
+        entry_at(&entries, low),
+    ) {
         order.push(place)?;
-        advance(&mut merge, records, place);
+        placed[place] = true;
+        heads[records[place].thread as usize] = next_of_thread(
+            records,
+            records[place].thread,
+            place + 1,
+        );
+        low = first_missing(&placed, &entries, low);
     }
-    Ok(order)
+    match first_unplaced(&placed) {
+        Some(at) => Err(SearchFault::Malformed {
+            at,
+            cause: Cause::NoOrder,
+        }),
+        None => Ok(order),
+    }
 }
 
 /// No record stands.
-fn start(alloc: Global, records: &[Record]) -> Result<Merge, AllocError> {
-    let placed = vec![in alloc; false; records.len()]?;
-    let mut heads = Vec::new(alloc);
-    for thread in 0..=last_thread(records) {
-        heads.push(next_of_thread(records, thread, 0))?;
+fn none_placed(alloc: Global, len: usize) -> Result<Vec<bool>, AllocError>
+    ensures { IfOk result (λ placed. placed.items ≡ replicate len false) }
+{
+    vec![in alloc; false; len]
+}
+
+/// The first record that does not stand.
+fn first_unplaced(placed: &[bool]) -> Option<usize>
+    ensures every { IfNone result ((i : ℕ) → i < length placed.now → Stands placed.now i) }
+    ensures within { IfSome result (λ at. at < length placed.now) }
+    ensures before { IfSome result (λ at. (i : ℕ) → i < at → Stands placed.now i) }
+    ensures missing { IfSome result (λ at. Stands placed.now at → ⊥) }
+{
+    for at in 0..placed.len() {
+        if !stands(placed, at) {
+            return Some(at);
+        }
     }
-    let entries = entries_of(alloc, records)?;
-    Ok(Merge {
-        placed,
-        heads,
-        entries,
-        low: 0,
-    })
+    None
+}
+
+/// The first record of each thread.
+fn first_heads(alloc: Global, records: &[Record]) -> Result<Vec<usize>, AllocError>
+    ensures { IfOk result (λ heads. AreFirstHeads records.now heads.items) }
+{
+    let last = last_thread(records);
+    let mut heads = Vec::new(alloc);
+    for thread in 0..usize::from(last) + 1 {
+        heads.push(next_of_thread(records, thread as u8, 0))?;
+    }
+    Ok(heads)
 }
 
 /// The greatest thread number.
-fn last_thread(records: &[Record]) -> u8 {
-    records.iter().map(|event| event.thread).max().unwrap_or(0)
+fn last_thread(records: &[Record]) -> u8
+    ensures { (i thread : ℕ) → thread_at records.now i ≡ Some thread → thread ≤ result }
+{
+    let mut last = 0;
+    for event in records {
+        if event.thread > last {
+            last = event.thread;
+        }
+    }
+    last
 }
 
 /// The first record of the thread from a place on, or the number of records.
-fn next_of_thread(records: &[Record], thread: u8, from: usize) -> usize {
+fn next_of_thread(records: &[Record], thread: u8, from: usize) -> usize
+    requires { from ≤ length records.now }
+    ensures from { from ≤ result }
+    ensures within { result ≤ length records.now }
+    ensures none { (i : ℕ) → from ≤ i → i < result → thread_at records.now i ≡ Some thread → ⊥ }
+    ensures found { result < length records.now → thread_at records.now result ≡ Some thread }
+{
     for at in from..records.len() {
         if records[at].thread == thread {
             return at;
@@ -69,65 +118,129 @@ fn next_of_thread(records: &[Record], thread: u8, from: usize) -> usize {
 }
 
 /// The finishing records with their entries, the least entry first.
-fn entries_of(alloc: Global, records: &[Record]) -> Result<Vec<(u32, usize)>, AllocError> {
+fn entries_of(alloc: Global, records: &[Record]) -> Result<Vec<(u32, usize)>, AllocError>
+    ensures { IfOk result (λ entries. AreEntries records.now entries.items) }
+{
     let mut entries = Vec::new(alloc);
     for (at, event) in records.iter().enumerate() {
         if finish(event).is_some() {
             entries.push((event.seen, at))?;
         }
     }
-    entries.sort_unstable();
+    entries.sort_unstable_by_key(|entry| entry.0);
     Ok(entries)
 }
 
-/// Of the threads' first records that do not stand the first in file order that may stand next.
-fn first_ready(merge: &Merge, records: &[Record], awaited: &[Option<usize>]) -> Option<usize> {
+/// The entry at a place of the list.
+fn entry_at(entries: &[(u32, usize)], low: usize) -> Option<u32>
+    ensures { result ≡ option_map (λ (entry : ℕ × ℕ). entry.0) (slice_get entries.now low) }
+{
+    if low < entries.len() {
+        Some(entries[low].0)
+    } else {
+        None
+    }
+}
+
+/// Of the heads of the threads the first in file order that may stand next.
+fn first_ready(
+    records: &[Record],
+    awaited: &[Option<usize>],
+    placed: &[bool],
+    heads: &[usize],
+    least: Option<u32>,
+) -> Option<usize>
+    requires awaited { AreAwaited records.now (length records.now) awaited.now }
+    requires heads { AreHeads records.now placed.now heads.now }
+    requires least { IsLeastEntry records.now placed.now least }
+    ensures none { MatchOption result ((i : ℕ) → MayFollow records.now placed.now i → ⊥) (λ place. (i : ℕ) → i < place → MayFollow records.now placed.now i → ⊥) }
+    ensures found { IfSome result (MayFollow records.now placed.now) }
+{
     let mut first = None;
-    for head in &merge.heads {
-        if first.is_none_or(|place| *head < place) && is_ready(merge, records, awaited, *head) {
+    for head in heads {
+        if is_before(*head, first) && is_ready(records, awaited, placed, least, *head) {
             first = Some(*head);
         }
     }
     first
 }
 
-/// Whether all that happens before the head of a thread stands.
-fn is_ready(merge: &Merge, records: &[Record], awaited: &[Option<usize>], head: usize) -> bool {
-    let Some(event) = records.get(head) else {
-        return false;
-    };
-    let created = match awaited.get(head) {
-        Some(Some(creation)) => merge.placed.get(*creation) == Some(&true),
-        _ => true,
-    };
-    let entered = match merge.entries.get(merge.low) {
-        Some((entry, _)) => event.seen <= *entry,
+/// Whether the place is before the one that was found, if one was.
+fn is_before(place: usize, found: Option<usize>) -> bool
+    ensures { IsTrue result ↔ MatchOption found ⊤ (λ other. place < other) }
+{
+    match found {
+        Some(other) => place < other,
         None => true,
-    };
-    created && entered
+    }
 }
 
-/// Lets the record stand.
-fn advance(merge: &mut Merge, records: &[Record], place: usize) {
-    if place >= records.len() {
-        return;
+/// Whether the creation that the head of a thread awaits stands, and each ledger entry that it names.
+fn is_ready(
+    records: &[Record],
+    awaited: &[Option<usize>],
+    placed: &[bool],
+    least: Option<u32>,
+    head: usize,
+) -> bool
+    ensures { IsTrue result ↔ IsReadyHead records.now awaited.now placed.now least head }
+{
+    if head >= records.len() {
+        return false;
     }
-    let thread = records[place].thread;
-    if place < merge.placed.len() {
-        merge.placed[place] = true;
+    is_created(awaited, placed, head) && is_entered(records[head].seen, least)
+}
+
+/// Whether the creation that the record awaits stands.
+fn is_created(awaited: &[Option<usize>], placed: &[bool], head: usize) -> bool
+    ensures { IsTrue result ↔ ((c : ℕ) → slice_get awaited.now head ≡ Some (Some c) → Stands placed.now c) }
+{
+    match awaited_at(awaited, head) {
+        Some(creation) => stands(placed, creation),
+        None => true,
     }
-    if (thread as usize) < merge.heads.len() {
-        merge.heads[thread as usize] = next_of_thread(records, thread, place + 1);
+}
+
+/// The creation that the record awaits, if it awaits one.
+fn awaited_at(awaited: &[Option<usize>], place: usize) -> Option<usize>
+    ensures { (c : ℕ) → (result ≡ Some c) ↔ (slice_get awaited.now place ≡ Some (Some c)) }
+{
+    if place < awaited.len() {
+        awaited[place]
+    } else {
+        None
     }
-    merge.low = first_missing(&merge.placed, &merge.entries, merge.low);
+}
+
+/// Whether a length is not above the least entry that is missing.
+fn is_entered(seen: u32, least: Option<u32>) -> bool
+    ensures { IsTrue result ↔ ((entry : ℕ) → least ≡ Some entry → seen ≤ entry) }
+{
+    match least {
+        Some(entry) => seen <= entry,
+        None => true,
+    }
 }
 
 /// The first of the entries from a place on whose record does not stand.
-fn first_missing(placed: &[bool], entries: &[(u32, usize)], from: usize) -> usize {
+fn first_missing(placed: &[bool], entries: &[(u32, usize)], from: usize) -> usize
+    requires { from ≤ length entries.now }
+    ensures from { from ≤ result }
+    ensures within { result ≤ length entries.now }
+    ensures passed { (j : ℕ) (d : ℕ × ℕ) → from ≤ j → j < result → Stands placed.now (slice_index_or entries.now j d).1 }
+    ensures missing { (d : ℕ × ℕ) → result < length entries.now → Stands placed.now (slice_index_or entries.now result d).1 → ⊥ }
+{
     for at in from..entries.len() {
-        if placed.get(entries[at].1) != Some(&true) {
+        if !stands(placed, entries[at].1) {
             return at;
         }
     }
     entries.len()
+}
+
+/// Whether the record stands.
+fn stands(placed: &[bool], place: usize) -> bool
+    ensures { IsTrue result ↔ Stands placed.now place }
+{
+    place < placed.len() && placed[place]
 }

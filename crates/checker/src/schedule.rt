@@ -1,27 +1,32 @@
-//! Which creation each start of a task waits for, and whether file order is an order of the records.
-ghost use Rattle.std.specs.Prelude.{length};
+//! Which creation each start of a task awaits, and whether file order is an order of the records.
+ghost use Rattle.std.specs.Prelude.{ℕ, ◌≡◌, ◌<◌, Some, None, IsTrue, IfOk, MatchOption, is_some, length, slice_get};
+ghost use Rattle.ompt_events.specs.Places.{seen_at};
+ghost use Rattle.ompt_events.specs.Tree.{IsExplicit};
+ghost use Rattle.ompt_events.specs.HappensBefore.{IsFinishing, IsStep};
 ghost use Rattle.checker.specs.Searches.{AreMakers};
+ghost use Rattle.checker.specs.Merging.{AreAwaited};
 
 use crate::makers::creation_of;
 use ompt_events::{Record, finish};
 use std::alloc::{AllocError, Global};
 use std::collections::BTreeMap;
 
-/// For each record the creation that it must not precede: that of the explicit task that it starts.
+/// For each record the creation that it awaits: that of the explicit task that it starts.
 pub(crate) fn creations_awaited(
     alloc: Global,
     records: &[Record],
     makers: &BTreeMap<u64, usize>,
 ) -> Result<Vec<Option<usize>>, AllocError>
     requires { AreMakers records.now (length records.now) makers.now }
+    ensures { IfOk result (λ awaited. AreAwaited records.now (length records.now) awaited.items) }
 {
     let mut starts: BTreeMap<u64, usize> = BTreeMap::new(alloc);
     let mut awaited: Vec<Option<usize>> = Vec::with_capacity(alloc, records.len())?;
     for (at, event) in records.iter().enumerate() {
         let mut creation = None;
         if let Some(task) = event.body.started() {
-            if !starts.contains_key(&task) {
-                starts.insert(task, at)?;
+            let before = starts.insert(task, at)?;
+            if before.is_none() {
                 creation = creation_of(records, makers, task);
             }
         }
@@ -30,13 +35,18 @@ pub(crate) fn creations_awaited(
     Ok(awaited)
 }
 
-/// Whether what happens before a record always stands before it in the file.
-pub(crate) fn is_in_order(records: &[Record], awaited: &[Option<usize>]) -> bool {
+/// Whether what happens before a record stands before it in the file.
+pub(crate) fn is_in_order(records: &[Record], awaited: &[Option<usize>]) -> bool
+    requires { AreAwaited records.now (length records.now) awaited.now }
+    ensures { IsTrue result → (a b : ℕ) → IsStep records.now a b → a < b }
+{
     are_created_before(awaited) && are_entered_before(records)
 }
 
 /// Whether each creation stands before the start that awaits it.
-fn are_created_before(awaited: &[Option<usize>]) -> bool {
+fn are_created_before(awaited: &[Option<usize>]) -> bool
+    ensures { IsTrue result → (i c : ℕ) → slice_get awaited.now i ≡ Some (Some c) → c < i }
+{
     for (at, creation) in awaited.iter().enumerate() {
         if let Some(place) = creation {
             if *place >= at {
@@ -48,15 +58,18 @@ fn are_created_before(awaited: &[Option<usize>]) -> bool {
 }
 
 /// Whether each ledger entry is made before every record that names a length above it.
-fn are_entered_before(records: &[Record]) -> bool {
+fn are_entered_before(records: &[Record]) -> bool
+    ensures { IsTrue result → (a b : ℕ) → IsFinishing records.now a → seen_at records.now a < seen_at records.now b → a < b }
+{
     // The least entry that a record behind makes.
     let mut least: u32 = u32::MAX;
-    for event in records.iter().rev() {
+    for step in 0..records.len() {
+        let event = &records[records.len() - 1 - step];
         if event.seen > least {
             return false;
         }
-        if finish(event).is_some() {
-            least = least.min(event.seen);
+        if finish(event).is_some() && event.seen < least {
+            least = event.seen;
         }
     }
     true

@@ -28,24 +28,24 @@ loop-at-preserved c =
     let read = at_read region rs i c.index-records-at.result c.loop-at-test.true c.index-records-at.is ∙ sym c.region.ensures in
     elim c.match-region.branch [
       | in-Some+else-misses_begin+in_ok-set_innermost w ↦
-        let own = w.in-Some.task in
-        let top : w.copied-link.result ≡ get nat_cmp c.loop-at.innermost own = w.copied-link.ensures ∙ w.get.ensures.value in
-        let says : at region rs i ≡ Some (own, w.in-Some.kind, w.in-Some.endpoint) = read ∙ w.in-Some.is in
-        let found : w.in-Some.endpoint ≡ End → (begin : ℕ) × (get nat_cmp c.loop-at.innermost own ≡ Some begin) × (kind_at rs begin ≡ Some w.in-Some.kind) = λ e. let h = w.misses_begin.ensures.finds w.if-misses_begin.false e in (h.0, sym top ∙ h.1, h.2) in
-        let next : w.next_top-top.result ≡ top_after links (get nat_cmp c.loop-at.innermost own) i w.in-Some.endpoint = rw (← top, ← w.deref.ensures.value) w.next_top-top.ensures in
-        let sets : SetsTo c.loop-at.innermost w.set_innermost.new.innermost own (top_after links (get nat_cmp c.loop-at.innermost own) i w.in-Some.endpoint) = rw next at w.in_ok-set_innermost.ensures in
-        let opened : AreOpen rs (i + 1) c.match-region.innermost c.push.new.self.items = rw (w.innermost-is, c.in_ok-push.ensures.items, w.link-is, top) (open_more_own rs i own w.in-Some.kind w.in-Some.endpoint c.loop-at.innermost w.set_innermost.new.innermost links c.loop-at.invariant.open_ones says found sets) in
-        record {
-          open_ones = opened;
-          free = below_more _ _ c.loop-at.invariant.free (begins_here rs i c.push.new.self.items opened.linked);
-        }
+          let own = w.in-Some.task in
+          let top : w.copied-link.result ≡ get nat_cmp c.loop-at.innermost own = w.copied-link.ensures ∙ w.get.ensures.value in
+          let says : at region rs i ≡ Some (own, w.in-Some.kind, w.in-Some.endpoint) = read ∙ w.in-Some.is in
+          let found : w.in-Some.endpoint ≡ End → (begin : ℕ) × (get nat_cmp c.loop-at.innermost own ≡ Some begin) × (kind_at rs begin ≡ Some w.in-Some.kind) = λ e. let h = w.misses_begin.ensures.finds w.if-misses_begin.false e in (h.0, sym top ∙ h.1, h.2) in
+          let next : w.next_top-top.result ≡ top_after links (get nat_cmp c.loop-at.innermost own) i w.in-Some.endpoint = rw (← top, ← w.deref.ensures.value) w.next_top-top.ensures in
+          let sets : SetsTo c.loop-at.innermost w.set_innermost.new.innermost own (top_after links (get nat_cmp c.loop-at.innermost own) i w.in-Some.endpoint) = rw next at w.in_ok-set_innermost.ensures in
+          let opened : AreOpen rs (i + 1) c.match-region.innermost c.push.new.self.items = rw (w.innermost-is, c.in_ok-push.ensures.items, w.link-is, top) (open_more_own rs i own w.in-Some.kind w.in-Some.endpoint c.loop-at.innermost w.set_innermost.new.innermost links c.loop-at.invariant.open_ones says found sets) in
+          record {
+            open_ones = opened;
+            free = below_more _ _ c.loop-at.invariant.free (begins_here rs i c.push.new.self.items opened.linked);
+          }
       | in_default w ↦
-        let none : at region rs i ≡ None = read ∙ w.in_default.is in
-        let opened : AreOpen rs (i + 1) c.match-region.innermost c.push.new.self.items = rw (w.innermost-is, c.in_ok-push.ensures.items, w.link-is) (open_more_none rs i c.loop-at.innermost links c.loop-at.invariant.open_ones none) in
-        record {
-          open_ones = opened;
-          free = below_more _ _ c.loop-at.invariant.free (begins_here rs i c.push.new.self.items opened.linked);
-        }
+          let none : at region rs i ≡ None = read ∙ w.in_default.is in
+          let opened : AreOpen rs (i + 1) c.match-region.innermost c.push.new.self.items = rw (w.innermost-is, c.in_ok-push.ensures.items, w.link-is) (open_more_none rs i c.loop-at.innermost links c.loop-at.invariant.open_ones none) in
+          record {
+            open_ones = opened;
+            free = below_more _ _ c.loop-at.invariant.free (begins_here rs i c.push.new.self.items opened.linked);
+          }
     ]
 
 pub returns-clause-free : goal.returns-clause-free

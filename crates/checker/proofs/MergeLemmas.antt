@@ -1,0 +1,100 @@
+-- The heads of the threads are the records that may stand next.
+use Rattle.std.proofs.Common.{zero, suc, ◌≡◌, ◌≢◌, ◌∙◌, ℕ, ◌<◌, ◌≤◌, ◌+◌, List, [], ◌∷◌, ◌++◌, length, get_or, Option, Some, None, Bool, true, false, refl, sym, ap, subst, arith, inl, inr, ◌⊎◌}
+use Rattle.std.proofs.lemmas.Bool.{cases_eq, cases_lt}
+use Rattle.std.proofs.lemmas.Option.{none-some, same_Some, slice_get-get_or, slice_get_within, get_or_from_slice_get}
+use Rattle.std.specs.Prelude.{slice_get, slice_index, option_map, MatchOption, IfSome}
+use Rattle.ompt_events.specs.declared.records.Record.{Record}
+use Rattle.ompt_events.specs.Records.{created}
+use Rattle.ompt_events.specs.Places.{at, thread_at, seen_at}
+use Rattle.ompt_events.specs.HappensBefore.{IsStart, IsFinishing, IsProgramStep, thread_order, creation, IsStep, program, ledger}
+use Rattle.checker.specs.Merging.{IsAwaited, AreAwaited, Stands, MayFollow, AreHeads, IsLeastEntry, IsReadyHead}
+use Rattle.checker.proofs.Reading.{at_within}
+
+pub stands_same : (placed : List Bool) (a b : ℕ) → a ≡ b → Stands placed a → Stands placed b
+stands_same placed a b same stands = ap (slice_get placed) (sym same) ∙ stands
+
+-- a record stands or not
+pub stands_or_not : (placed : List Bool) (i : ℕ) → Stands placed i ⊎ (Stands placed i → ⊥)
+stands_or_not placed i = stands (slice_get placed i)
+  where
+    stands : (o : Option Bool) → (o ≡ Some true) ⊎ (o ≡ Some true → ⊥)
+    stands None = inr (λ e. none-some true e)
+    stands (Some true) = inl refl
+    stands (Some false) = inr (λ e. let b : false ≡ true = same_Some false true e in cc)
+
+-- the head of a thread that passes the test may stand next
+pub may_follow : (rs : List Record) (awaited : List (Option ℕ)) (placed : List Bool) (heads : List ℕ) (least : Option ℕ) (thread head : ℕ) → AreAwaited rs (length rs) awaited → AreHeads rs placed heads → IsLeastEntry rs placed least → thread < length heads → slice_index heads thread ≡ head → IsReadyHead rs awaited placed least head → MayFollow rs placed head
+may_follow rs awaited placed heads least thread head awaits are is_least low is ready = record {
+  within = ready.within;
+  missing = λ standing. are.missing thread low (stands_same placed head (slice_index heads thread) (sym is) standing);
+  steps = λ a step. stands_before a step;
+}
+  where
+    runs : thread_at rs head ≡ Some thread
+    runs = ap (thread_at rs) (sym is) ∙ are.head thread low (rw is ready.within)
+
+    stands_before : (a : ℕ) → IsStep rs a head → Stands placed a
+    stands_before a (program (thread_order earlier inside same)) = are.below thread a (same ∙ runs) (rw is earlier)
+    stands_before a (program (creation task creates starts)) = ready.is_created a (awaits.each head a ready.within (task, starts, creates))
+    stands_before a (ledger finishes less) = elim (stands_or_not placed a) [
+      | inl standing ↦ standing
+      | inr missing ↦
+          let entry = is_least.below a finishes missing in
+          let bound = ready.is_entered entry.0 entry.1 in
+          absurd (omega (arith, entry.2, bound, less))
+    ]
+
+-- a record that may stand next passes the test
+pub ready_head : (rs : List Record) (awaited : List (Option ℕ)) (placed : List Bool) (least : Option ℕ) (i : ℕ) → AreAwaited rs (length rs) awaited → IsLeastEntry rs placed least → MayFollow rs placed i → IsReadyHead rs awaited placed least i
+ready_head rs awaited placed least i awaits is_least may = record {
+  within = may.within;
+  is_created = λ c found. let h = awaits.only i c found in may.steps c (program (creation h.0 h.2 h.1));
+  is_entered = λ entry found. elim (cases_lt entry (seen_at rs i)) [
+    | inl less ↦
+        let reached = is_least.reached entry found in
+        absurd (reached.2 (may.steps reached.0 (ledger reached.1 (omega (arith, reached.3, less)))))
+    | inr bound ↦ bound
+  ];
+}
+
+-- and is the head of its thread
+pub is_head : (rs : List Record) (placed : List Bool) (heads : List ℕ) (i thread : ℕ) → AreHeads rs placed heads → thread_at rs i ≡ Some thread → MayFollow rs placed i → slice_index heads thread ≡ i
+is_head rs placed heads i thread are runs may = elim (cases_lt i (slice_index heads thread)) [
+  | inl below ↦ absurd (may.missing (are.below thread i runs below))
+  | inr above ↦ elim (cases_eq (slice_index heads thread) i) [
+    | inl same ↦ same
+    | inr apart ↦
+        let low = are.all i thread runs in
+        let inside : slice_index heads thread < length rs = let w = may.within in omega arith in
+        absurd (are.missing thread low (may.steps (slice_index heads thread) (program (thread_order (omega arith) may.within (are.head thread low inside ∙ sym runs)))))
+  ]
+]
+
+-- no place below the end is empty
+no_get : (rs : List Record) (i : ℕ) → i < length rs → slice_get rs i ≡ None → ⊥
+no_get [] i within e = absurd (omega arith)
+no_get (r ∷ rs) zero within e = none-some r (sym e)
+no_get (r ∷ rs) (suc i) within e = no_get rs i (omega arith) e
+
+-- each record has a thread
+pub thread_of : (rs : List Record) (i : ℕ) → i < length rs → (thread : ℕ) × (thread_at rs i ≡ Some thread)
+thread_of rs i within = found (slice_get rs i) refl
+  where
+    found : (o : Option Record) → slice_get rs i ≡ o → (thread : ℕ) × (thread_at rs i ≡ Some thread)
+    found None e = absurd (no_get rs i within e)
+    found (Some r) e = (r.thread, ap (option_map (λ (q : Record). q.thread)) e)
+
+-- where no head passes the test no record may stand next, and where one does, none before the first of them
+pub none_found : (rs : List Record) (awaited : List (Option ℕ)) (placed : List Bool) (heads : List ℕ) (least first : Option ℕ) (n : ℕ) → AreAwaited rs (length rs) awaited → AreHeads rs placed heads → IsLeastEntry rs placed least → length heads ≤ n → MatchOption first ((t : ℕ) → t < n → IsReadyHead rs awaited placed least (slice_index heads t) → ⊥) (λ place. (t : ℕ) → t < n → slice_index heads t < place → IsReadyHead rs awaited placed least (slice_index heads t) → ⊥) → MatchOption first ((i : ℕ) → MayFollow rs placed i → ⊥) (λ place. (i : ℕ) → i < place → MayFollow rs placed i → ⊥)
+none_found rs awaited placed heads least None n awaits are is_least all none = λ i may.
+    let thread = thread_of rs i may.within in
+    let same = is_head rs placed heads i thread.0 are thread.1 may in
+    none thread.0 (let low = are.all i thread.0 thread.1 in omega arith) (rw same (ready_head rs awaited placed least i awaits is_least may))
+none_found rs awaited placed heads least (Some place) n awaits are is_least all none = λ i before may.
+    let thread = thread_of rs i may.within in
+    let same = is_head rs placed heads i thread.0 are thread.1 may in
+    none thread.0 (let low = are.all i thread.0 thread.1 in omega arith) (rw same before) (rw same (ready_head rs awaited placed least i awaits is_least may))
+
+pub first_found : (rs : List Record) (awaited : List (Option ℕ)) (placed : List Bool) (heads : List ℕ) (least first : Option ℕ) (n : ℕ) → AreAwaited rs (length rs) awaited → AreHeads rs placed heads → IsLeastEntry rs placed least → n ≤ length heads → IfSome first (λ place. IsReadyHead rs awaited placed least place × ((t : ℕ) × (t < n) × (slice_index heads t ≡ place))) → IfSome first (MayFollow rs placed)
+first_found rs awaited placed heads least None n awaits are is_least low found = found
+first_found rs awaited placed heads least (Some place) n awaits are is_least low (ready, (t, below, is)) = may_follow rs awaited placed heads least t place awaits are is_least (omega arith) is ready

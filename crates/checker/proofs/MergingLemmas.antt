@@ -1,0 +1,280 @@
+-- The merge of the threads, one record on.
+use Rattle.std.proofs.Common.{zero, suc, ◌≡◌, ◌≢◌, ◌∙◌, ℕ, ◌<◌, ◌≤◌, ◌+◌, List, [], ◌∷◌, ◌++◌, length, get_or, take, Option, Some, None, Bool, true, false, refl, sym, ap, subst, arith, inl, inr, ◌⊎◌}
+use Rattle.std.proofs.lemmas.Bool.{cases_eq, cases_lt, false≢true}
+use Rattle.std.proofs.lemmas.Option.{none-some, same_Some, slice_get-get_or, slice_get_within, slice_get_past}
+use Rattle.std.proofs.lemmas.List.{length-set, length-replicate, get_or-set_same, get_or-set_other, get_or-replicate, get_or_default, get_or-take, length-take, append-nil}
+use Rattle.std.proofs.lemmas.List.Elements.{Contains-push, Contains-push_cases, Contains-append_left, Contains-append_cases}
+use Rattle.std.proofs.lemmas.List.Sorted.{IsPermutation-refl, IsPermutation-more, Contains-permutation}
+use Rattle.std.specs.List.Sorted.{IsPermutation}
+use Rattle.std.specs.List.{remove}
+use Rattle.checker.proofs.Ranges.{contains_place, nothing_left}
+use Rattle.std.proofs.Math.ListN.{set}
+use Rattle.std.specs.Prelude.{slice_get, slice_index, Contains, ⊤, replicate, sum_by}
+use Rattle.std.proofs.lemmas.List.Sums.{sum_by-set}
+use Rattle.ompt_events.specs.declared.records.Record.{Record}
+use Rattle.ompt_events.specs.Places.{places, thread_at}
+use Rattle.ompt_events.specs.HappensBefore.{IsStep, HappensBefore, step}
+use Rattle.ompt_events.specs.declared.cause.Cause.TheVariants.{NoOrder}
+use Rattle.ompt_events.specs.Causes.{HasCause, no_order, HasNoOrder, IsFirstWith}
+use Rattle.ompt_events.specs.Linearization.{IsDue, IsReady, IsFirstReady, IsGreedy, IsGrounded, IsLinearization}
+use Rattle.checker.specs.Merging.{Stands, MayFollow, AreHeads, AreFirstHeads}
+use Rattle.checker.proofs.MarkLemmas.{contains_none}
+use Rattle.checker.proofs.MergeLemmas.{stands_same, stands_or_not, is_head}
+use Rattle.checker.proofs.OrderLemmas.{IsClosed, due_from_steps, closed_more, greedy_more, greedy_grounded, grounded_rising, before_to, before_from}
+
+-- what stands is one of the places
+pub stands_within : (placed : List Bool) (i : ℕ) → Stands placed i → i < length placed
+stands_within placed i stands = slice_get_within placed i true stands
+
+-- the place that is marked stands, and the others as before
+pub stands_here : (placed : List Bool) (place : ℕ) → place < length placed → Stands (set placed place true) place
+stands_here placed place within = slice_get-get_or (set placed place true) place false (rw (length-set placed place true) within) ∙ ap Some (get_or-set_same placed place true false within)
+
+pub get_other : (placed : List Bool) (place i : ℕ) → i ≢ place → i < length placed → slice_get (set placed place true) i ≡ slice_get placed i
+get_other placed place i apart within = slice_get-get_or (set placed place true) i false (rw (length-set placed place true) within) ∙ ap Some (get_or-set_other placed place i true false apart) ∙ sym (slice_get-get_or placed i false within)
+
+pub stands_still : (placed : List Bool) (place i : ℕ) → Stands placed i → Stands (set placed place true) i
+stands_still placed place i stands = elim (cases_eq i place) [
+  | inl same ↦ let P : ℕ → Type 0 = λ j. Stands (set placed place true) j in subst P (sym same) (stands_here placed place (rw (← same) (stands_within placed i stands)))
+  | inr apart ↦ get_other placed place i apart (stands_within placed i stands) ∙ stands
+]
+
+pub stands_cases : (placed : List Bool) (place i : ℕ) → Stands (set placed place true) i → Stands placed i ⊎ (i ≡ place)
+stands_cases placed place i stands = elim (cases_eq i place) [
+  | inl same ↦ inr same
+  | inr apart ↦ inl (sym (get_other placed place i apart (rw (← length-set placed place true) (stands_within (set placed place true) i stands))) ∙ stands)
+]
+
+pub none_stands : (n i : ℕ) → Stands (replicate n false) i → ⊥
+none_stands n i stands =
+    let within : i < n = rw (length-replicate n false) at (stands_within (replicate n false) i stands) in
+    let e : false ≡ true = sym (get_or-replicate n i false false within) ∙ same_Some (get_or (replicate n false) i false) true (sym (slice_get-get_or (replicate n false) i false (stands_within (replicate n false) i stands)) ∙ stands) in
+    false≢true e
+
+-- how far the merge has come
+pub record IsMerging (rs : List Record) (placed : List Bool) (heads : List ℕ) (order : List ℕ) : Type 0 where
+  pub all : length placed ≡ length rs
+  pub to_order : (i : ℕ) → Stands placed i → Contains order i
+  pub from_order : (i : ℕ) → Contains order i → Stands placed i
+  pub are_heads : AreHeads rs placed heads
+  -- of each thread nothing beyond its head stands
+  pub above : (thread i : ℕ) → thread_at rs i ≡ Some thread → Stands placed i → i < slice_index heads thread
+  pub greedy : IsGreedy rs order
+  pub closed : IsClosed rs order
+  -- the records that are left to place
+  pub left : List ℕ
+  pub permutation : IsPermutation (places rs) (order ++ left)
+
+pub merging_start : (rs : List Record) (heads : List ℕ) (placed : List Bool) → placed ≡ replicate (length rs) false → AreFirstHeads rs heads → IsMerging rs placed heads []
+merging_start rs heads placed is first = rw is (record {
+  all = length-replicate (length rs) false;
+  to_order = λ i stands. absurd (none_stands (length rs) i stands);
+  from_order = λ i c. absurd (contains_none i c);
+  are_heads = record {
+    all = first.all;
+    below = λ thread i runs below. absurd (first.none thread i (first.all i thread runs) below runs);
+    head = first.head;
+    missing = λ thread low stands. none_stands (length rs) (slice_index heads thread) stands;
+  };
+  above = λ thread i runs stands. absurd (none_stands (length rs) i stands);
+  greedy = λ k below. absurd (omega arith);
+  closed = λ b c. absurd (contains_none b c);
+  left = places rs;
+  permutation = IsPermutation-refl (places rs);
+})
+
+-- the heads after the head of a thread was placed
+heads_more : (rs : List Record) (placed : List Bool) (heads order : List ℕ) (place thread next : ℕ) → IsMerging rs placed heads order → MayFollow rs placed place → thread_at rs place ≡ Some thread → place + 1 ≤ next → next ≤ length rs → ((i : ℕ) → place + 1 ≤ i → i < next → thread_at rs i ≡ Some thread → ⊥) → (next < length rs → thread_at rs next ≡ Some thread) → AreHeads rs (set placed place true) (set heads thread next)
+heads_more rs placed heads order place thread next merging may runs after within none found = record {
+  all = λ i other runs_there. rw (length-set heads thread next) (merging.are_heads.all i other runs_there);
+  below = λ other i runs_there below. elim (cases_eq other thread) [
+    | inl same ↦ stands_below i (runs_there ∙ ap Some same) (rw (same, here) at below)
+    | inr apart ↦ stands_still placed place i (merging.are_heads.below other i runs_there (rw (there other apart) at below))
+  ];
+  head = λ other low inside. elim (cases_eq other thread) [
+    | inl same ↦ rw (same, here) (found (rw (same, here) at inside))
+    | inr apart ↦ rw (there other apart) (merging.are_heads.head other (rw (length-set heads thread next) at low) (rw (there other apart) at inside))
+  ];
+  missing = λ other low stands. elim (cases_eq other thread) [
+    | inl same ↦ next_missing (rw (same, here) at stands)
+    | inr apart ↦ elim (stands_cases placed place (slice_index heads other) (rw (there other apart) at stands)) [
+      | inl old ↦ merging.are_heads.missing other (rw (length-set heads thread next) at low) old
+      | inr is ↦ apart (same_Some other thread (sym (merging.are_heads.head other (rw (length-set heads thread next) at low) (rw is may.within)) ∙ ap (thread_at rs) is ∙ runs))
+    ]
+  ];
+}
+  where
+    low_thread : thread < length heads
+    low_thread = merging.are_heads.all place thread runs
+
+    here : slice_index (set heads thread next) thread ≡ next
+    here = get_or-set_same heads thread next 0 low_thread
+
+    there : (other : ℕ) → other ≢ thread → slice_index (set heads thread next) other ≡ slice_index heads other
+    there other apart = get_or-set_other heads thread other next 0 apart
+
+    head_is : slice_index heads thread ≡ place
+    head_is = is_head rs placed heads place thread merging.are_heads runs may
+
+    stands_below : (i : ℕ) → thread_at rs i ≡ Some thread → i < next → Stands (set placed place true) i
+    stands_below i runs_there below = elim (cases_lt i place) [
+      | inl earlier ↦ stands_still placed place i (merging.are_heads.below thread i runs_there (rw head_is earlier))
+      | inr later ↦ elim (cases_eq i place) [
+        | inl same ↦ let P : ℕ → Type 0 = λ j. Stands (set placed place true) j in subst P (sym same) (stands_here placed place (rw merging.all may.within))
+        | inr apart ↦ absurd (none i (omega arith) below runs_there)
+      ]
+    ]
+
+    next_missing : Stands (set placed place true) next → ⊥
+    next_missing stands = elim (stands_cases placed place next stands) [
+      | inl old ↦ elim (cases_lt next (length rs)) [
+        | inl inside ↦ absurd (let h = merging.above thread next (found inside) old in omega (arith, head_is, h))
+        | inr past ↦ let h = stands_within placed next old in absurd (omega (arith, h, merging.all))
+      ]
+      | inr is ↦ absurd (omega arith)
+    ]
+
+-- one more record stands
+pub merging_more : (rs : List Record) (placed : List Bool) (heads order : List ℕ) (place thread next : ℕ) → IsMerging rs placed heads order → MayFollow rs placed place → ((i : ℕ) → i < place → MayFollow rs placed i → ⊥) → thread_at rs place ≡ Some thread → place + 1 ≤ next → next ≤ length rs → ((i : ℕ) → place + 1 ≤ i → i < next → thread_at rs i ≡ Some thread → ⊥) → (next < length rs → thread_at rs next ≡ Some thread) → IsMerging rs (set placed place true) (set heads thread next) (order ++ place ∷ [])
+merging_more rs placed heads order place thread next merging may first runs after within none found = record {
+  all = length-set placed place true ∙ merging.all;
+  to_order = λ i stands. elim (stands_cases placed place i stands) [
+    | inl old ↦ Contains-append_left order (place ∷ []) i (merging.to_order i old)
+    | inr same ↦ rw same (Contains-push order place)
+  ];
+  from_order = λ i c. elim (Contains-push_cases order place i c) [
+    | inl old ↦ stands_still placed place i (merging.from_order i old)
+    | inr same ↦ let P : ℕ → Type 0 = λ j. Stands (set placed place true) j in subst P same (stands_here placed place (rw merging.all may.within))
+  ];
+  are_heads = heads_more rs placed heads order place thread next merging may runs after within none found;
+  above = λ other i runs_there stands. elim (cases_eq other thread) [
+    | inl same ↦ rw (same, here) (elim (stands_cases placed place i stands) [
+      | inl old ↦ let h = merging.above thread i (runs_there ∙ ap Some same) old in omega (arith, h, head_is)
+      | inr is ↦ omega arith
+    ])
+    | inr apart ↦ rw (there other apart) (elim (stands_cases placed place i stands) [
+      | inl old ↦ merging.above other i runs_there old
+      | inr is ↦ absurd (apart (same_Some other thread (sym runs_there ∙ ap (thread_at rs) is ∙ runs)))
+    ])
+  ];
+  greedy = greedy_more rs order place merging.greedy first_ready;
+  closed = closed_more rs order place merging.closed due;
+  left = left_after.0;
+  permutation = left_after.1;
+}
+  where
+    here : slice_index (set heads thread next) thread ≡ next
+    here = get_or-set_same heads thread next 0 (merging.are_heads.all place thread runs)
+
+    there : (other : ℕ) → other ≢ thread → slice_index (set heads thread next) other ≡ slice_index heads other
+    there other apart = get_or-set_other heads thread other next 0 apart
+
+    head_is : slice_index heads thread ≡ place
+    head_is = is_head rs placed heads place thread merging.are_heads runs may
+
+    left_after : (rest : List ℕ) × IsPermutation (places rs) ((order ++ place ∷ []) ++ rest)
+    left_after = elim (Contains-append_cases order merging.left place (Contains-permutation (places rs) (order ++ merging.left) place merging.permutation (contains_place rs place may.within))) [
+      | inl c ↦ absurd (may.missing (merging.from_order place c))
+      | inr c ↦ (remove merging.left c.0, IsPermutation-more (places rs) order merging.left c.0 place c.1 (sym c.2) merging.permutation)
+    ]
+
+    due : IsDue rs order place
+    due a before = due_from_steps rs order merging.closed a place before (λ c s. merging.to_order c (may.steps c s))
+
+    first_ready : IsFirstReady rs (λ _. ⊤) order place
+    first_ready = record {
+      ready = record {
+        within = may.within;
+        taken = tt;
+        missing = λ c. may.missing (merging.from_order place c);
+        due = due;
+      };
+      first = λ k earlier ready. first k earlier (record {
+        within = ready.within;
+        missing = λ stands. ready.missing (merging.to_order k stands);
+        steps = λ a s. merging.from_order a (ready.due a (step s));
+      });
+    }
+
+-- where no record may follow, none is ready
+pub none_ready : (rs : List Record) (placed : List Bool) (heads order : List ℕ) → IsMerging rs placed heads order → ((i : ℕ) → MayFollow rs placed i → ⊥) → (i : ℕ) → IsReady rs (λ _. ⊤) order i → ⊥
+none_ready rs placed heads order merging none i ready = none i (record {
+  within = ready.within;
+  missing = λ stands. ready.missing (merging.to_order i stands);
+  steps = λ a s. merging.from_order a (ready.due a (step s));
+})
+
+-- with every place filled the order is a linearization
+pub all_ordered : (rs : List Record) (placed : List Bool) (heads order : List ℕ) → IsMerging rs placed heads order → ((i : ℕ) → i < length rs → Stands placed i) → IsLinearization rs order
+all_ordered rs placed heads order merging full = record {
+  all_once = rw (nothing_left rs order merging.left merging.permutation (λ i inside. merging.to_order i (full i inside)), append-nil) at merging.permutation;
+  rising = λ a b before. grounded_rising rs order (greedy_grounded rs order merging.greedy) a b before (merging.to_order b (full b (before_to rs a b before)));
+}
+
+-- each record that stands has an order
+pub stands_ordered : (rs : List Record) (placed : List Bool) (heads order : List ℕ) (i : ℕ) → IsMerging rs placed heads order → Stands placed i → HasCause rs i NoOrder → ⊥
+stands_ordered rs placed heads order i merging stands (no_order h) = h.never order (greedy_grounded rs order merging.greedy) (merging.to_order i stands)
+
+-- and where no record may follow, one that doesn't stand has none
+pub missing_unordered : (rs : List Record) (placed : List Bool) (heads order : List ℕ) (i : ℕ) → IsMerging rs placed heads order → ((j : ℕ) → MayFollow rs placed j → ⊥) → i < length rs → (Stands placed i → ⊥) → HasNoOrder rs i
+missing_unordered rs placed heads order i merging none within missing = record {
+  within = within;
+  never = λ other grounded c. missing (merging.from_order i (
+      let P : ℕ → Type 0 = λ j. Contains order j in
+      let is : slice_index other c.0 ≡ i = get_or_default other c.0 0 i c.1 ∙ c.2 in
+      subst P is (grounded_stands rs placed heads order other merging none grounded (c.0 + 1) c.0 (omega arith) c.1 (rw is within))
+      ));
+}
+  where
+    grounded_stands : (rs' : List Record) (placed' : List Bool) (heads' order' other : List ℕ) → IsMerging rs' placed' heads' order' → ((j : ℕ) → MayFollow rs' placed' j → ⊥) → IsGrounded rs' other → (n q : ℕ) → q < n → q < length other → slice_index other q < length rs' → Contains order' (slice_index other q)
+    grounded_stands rs' placed' heads' order' other merging' none' grounded zero q below inside real = absurd (omega arith)
+    grounded_stands rs' placed' heads' order' other merging' none' grounded (suc n) q below inside real = elim (stands_or_not placed' (slice_index other q)) [
+      | inl stands ↦ merging'.to_order (slice_index other q) stands
+      | inr missing' ↦ absurd (none_ready rs' placed' heads' order' merging' none' (slice_index other q) (record {
+        within = real;
+        taken = tt;
+        missing = λ c. missing' (merging'.from_order (slice_index other q) c);
+        due = λ a before.
+            let earlier = grounded q inside a before in
+            let p_low : earlier.0 < q = let e = earlier.1 in let t = length-take q other in omega (arith, e, t) in
+            let is : slice_index other earlier.0 ≡ a = get_or_default other earlier.0 0 a (omega arith) ∙ sym (get_or-take q other earlier.0 a p_low) ∙ earlier.2 in
+            let P : ℕ → Type 0 = λ j. Contains order' j in
+            subst P is (grounded_stands rs' placed' heads' order' other merging' none' grounded n earlier.0 (omega arith) (omega arith) (rw is (before_from rs' a (slice_index other q) before)));
+      }))
+    ]
+
+abbrev pub is_missing : Bool → ℕ
+is_missing true = 0
+is_missing false = 1
+
+not_standing : (placed : List Bool) (i : ℕ) → i < length placed → (Stands placed i → ⊥) → get_or placed i false ≡ false
+not_standing placed i within missing = flag (get_or placed i false) refl
+  where
+    flag : (b : Bool) → get_or placed i false ≡ b → get_or placed i false ≡ false
+    flag true e = absurd (missing (slice_get-get_or placed i false within ∙ ap Some e))
+    flag false e = e
+
+-- one record less is missing
+pub missing_less : (placed : List Bool) (place : ℕ) → place < length placed → (Stands placed place → ⊥) → sum_by is_missing (set placed place true) < sum_by is_missing placed
+missing_less placed place within missing =
+    let change : sum_by is_missing (set placed place true) + is_missing (get_or placed place false) ≡ sum_by is_missing placed + 0 = sum_by-set is_missing placed place true false within in
+    let one : is_missing (get_or placed place false) ≡ 1 = ap is_missing (not_standing placed place within missing) in
+    omega (arith, change, one)
+
+-- the entries before a place stand after one more record does
+pub passed_more : (placed : List Bool) (entries : List (ℕ × ℕ)) (low next place : ℕ) → ((j : ℕ) (d : ℕ × ℕ) → j < low → Stands placed (get_or entries j d).1) → ((j : ℕ) (d : ℕ × ℕ) → low ≤ j → j < next → Stands (set placed place true) (get_or entries j d).1) → (j : ℕ) (d : ℕ × ℕ) → j < next → Stands (set placed place true) (get_or entries j d).1
+passed_more placed entries low next place old new j d below = elim (cases_lt j low) [
+  | inl before ↦ stands_still placed place (get_or entries j d).1 (old j d before)
+  | inr after ↦ new j d after below
+]
+
+-- the first place that isn't filled
+pub first_unordered : (rs : List Record) (placed : List Bool) (heads order : List ℕ) (i : ℕ) → IsMerging rs placed heads order → ((j : ℕ) → MayFollow rs placed j → ⊥) → i < length rs → (Stands placed i → ⊥) → ((k : ℕ) → k < i → Stands placed k) → IsFirstWith rs NoOrder i
+first_unordered rs placed heads order i merging none within missing before = record {
+  within = within;
+  has = no_order (missing_unordered rs placed heads order i merging none within missing);
+  first = λ k below has. stands_ordered rs placed heads order k merging (before k below) has;
+}
+
+pub unordered_within : (rs : List Record) (i : ℕ) → HasCause rs i NoOrder → i < length rs
+unordered_within rs i (no_order h) = h.within

@@ -1,0 +1,57 @@
+-- The records while they are put into an order.
+use Rattle.std.specs.Prelude.{ℕ, ◌≡◌, ◌<◌, ◌≤◌, List, length, Bool, true, Option, Some, slice_get, slice_index, Contains}
+use Rattle.std.specs.List.Sorted.{IsNonDecreasingBy}
+use Rattle.ompt_events.specs.declared.records.Record.{Record}
+use Rattle.ompt_events.specs.Records.{created, started}
+use Rattle.ompt_events.specs.Places.{at, thread_at, seen_at}
+use Rattle.ompt_events.specs.HappensBefore.{IsStart, IsFinishing, IsStep}
+
+-- the record at i starts the task that is created at c
+abbrev pub IsAwaited : List Record → ℕ → ℕ → Type 0
+IsAwaited rs i c = (task : ℕ) × IsStart rs i task × (at created rs c ≡ Some task)
+
+-- of the first n records each names the creation that it awaits
+pub record AreAwaited (rs : List Record) (n : ℕ) (awaited : List (Option ℕ)) : Type 0 where
+  pub all : length awaited ≡ n
+  pub each : (i c : ℕ) → i < n → IsAwaited rs i c → slice_get awaited i ≡ Some (Some c)
+  pub only : (i c : ℕ) → slice_get awaited i ≡ Some (Some c) → IsAwaited rs i c
+
+-- the record stands in the order already
+abbrev pub Stands : List Bool → ℕ → Type 0
+Stands placed i = slice_get placed i ≡ Some true
+
+-- the record may stand next: it doesn't stand yet, and each step that leads to it starts at one that does
+pub record MayFollow (rs : List Record) (placed : List Bool) (i : ℕ) : Type 0 where
+  pub within : i < length rs
+  pub missing : Stands placed i → ⊥
+  pub steps : (a : ℕ) → IsStep rs a i → Stands placed a
+
+-- of each thread the first record that doesn't stand; the number of records where all stand
+pub record AreHeads (rs : List Record) (placed : List Bool) (heads : List ℕ) : Type 0 where
+  pub all : (i thread : ℕ) → thread_at rs i ≡ Some thread → thread < length heads
+  pub below : (thread i : ℕ) → thread_at rs i ≡ Some thread → i < slice_index heads thread → Stands placed i
+  pub head : (thread : ℕ) → thread < length heads → slice_index heads thread < length rs → thread_at rs (slice_index heads thread) ≡ Some thread
+  pub missing : (thread : ℕ) → thread < length heads → Stands placed (slice_index heads thread) → ⊥
+
+-- the least ledger entry that a record makes which doesn't stand
+pub record IsLeastEntry (rs : List Record) (placed : List Bool) (least : Option ℕ) : Type 0 where
+  pub below : (i : ℕ) → IsFinishing rs i → (Stands placed i → ⊥) → (entry : ℕ) × (least ≡ Some entry) × (entry ≤ seen_at rs i)
+  pub reached : (entry : ℕ) → least ≡ Some entry → (i : ℕ) × IsFinishing rs i × (Stands placed i → ⊥) × (seen_at rs i ≡ entry)
+
+-- what is tested of the head of a thread
+pub record IsReadyHead (rs : List Record) (awaited : List (Option ℕ)) (placed : List Bool) (least : Option ℕ) (i : ℕ) : Type 0 where
+  pub within : i < length rs
+  pub is_created : (c : ℕ) → slice_get awaited i ≡ Some (Some c) → Stands placed c
+  pub is_entered : (entry : ℕ) → least ≡ Some entry → seen_at rs i ≤ entry
+
+-- the first record of each thread
+pub record AreFirstHeads (rs : List Record) (heads : List ℕ) : Type 0 where
+  pub all : (i thread : ℕ) → thread_at rs i ≡ Some thread → thread < length heads
+  pub none : (thread i : ℕ) → thread < length heads → i < slice_index heads thread → thread_at rs i ≡ Some thread → ⊥
+  pub head : (thread : ℕ) → thread < length heads → slice_index heads thread < length rs → thread_at rs (slice_index heads thread) ≡ Some thread
+
+-- each finishing record with the entry that it makes, the least entry first
+pub record AreEntries (rs : List Record) (entries : List (ℕ × ℕ)) : Type 0 where
+  pub sorted : IsNonDecreasingBy (λ (entry : ℕ × ℕ). entry.0) entries
+  pub each : (i : ℕ) → IsFinishing rs i → Contains entries (seen_at rs i, i)
+  pub only : (entry : ℕ × ℕ) → Contains entries entry → IsFinishing rs entry.1 × (seen_at rs entry.1 ≡ entry.0)
