@@ -13,3 +13,6 @@ mod MergeLemmas
 mod EntryLemmas
 mod OrderLemmas
 mod MergingLemmas
+mod ScheduleLemmas
+mod VerdictLemmas
+mod WaitLemmas

@@ -3,3 +3,4 @@ pub mod Searches
 pub mod Marks
 pub mod Links
 pub mod Merging
+pub mod Waits

@@ -6,7 +6,8 @@ use Rattle.ompt_events.specs.declared.records.Record.{Record}
 use Rattle.ompt_events.specs.declared.cause.Cause.{Cause}
 use Rattle.ompt_events.specs.Records.{made}
 use Rattle.ompt_events.specs.Places.{at}
-use Rattle.ompt_events.specs.Causes.{IsFirstWith}
+use Rattle.ompt_events.specs.Causes.{IsFirstWith, IsMalformed}
+use Rattle.checker.specs.Verdicts.{sought}
 use Rattle.checker.specs.declared.search.SearchFault.{SearchFault}
 use Rattle.checker.specs.declared.search.SearchFault.TheVariants.{Memory, Malformed}
 
@@ -14,6 +15,11 @@ use Rattle.checker.specs.declared.search.SearchFault.TheVariants.{Memory, Malfor
 abbrev pub IsFound : List Record → Cause → SearchFault → Type 0
 IsFound rs cause Memory = ⊤
 IsFound rs cause (Malformed i found) = (found ≡ cause) × IsFirstWith rs cause i
+
+-- what was found is what makes the records malformed, unless memory ran out
+abbrev pub IsLeastFound : List Record → SearchFault → Type 0
+IsLeastFound rs Memory = ⊤
+IsLeastFound rs (Malformed i cause) = IsMalformed rs sought i cause
 
 -- each task stands under the place of the record that makes it, of the first n records
 pub record AreMakers (rs : List Record) (n : ℕ) (makers : BTreeMap ℕ ℕ) : Type 0 where

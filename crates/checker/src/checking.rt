@@ -1,10 +1,11 @@
 //! The check as a whole.
 ghost use Rattle.std.specs.Prelude.{◌≡◌, IfOk, IfErr, OnOk, length};
-ghost use Rattle.ompt_events.specs.declared.cause.Cause.TheVariants.{NoOrder};
+ghost use Rattle.ompt_events.specs.declared.cause.Cause.TheVariants.{CreatedTwice, Rootless, NotCurrent, Moved, NoOrder};
 ghost use Rattle.ompt_events.specs.Places.{places};
 ghost use Rattle.ompt_events.specs.Linearization.{IsLinearization, IsGreedy};
 ghost use Rattle.ompt_events.specs.Causes.{IsFreeOf};
-ghost use Rattle.checker.specs.Searches.{IsFound, AreMakers};
+ghost use Rattle.checker.specs.Searches.{IsFound, IsLeastFound, AreMakers};
+ghost use Rattle.checker.specs.Verdicts.{IsVerdict};
 
 use crate::current::find_misfit;
 use crate::homes::find_moved;
@@ -23,7 +24,9 @@ use std::collections::BTreeMap;
 /// The verdict on the records: malformed with the least of the causes that occur, at the first record that has it;
 /// else no at the first end of a taskwait that covers an unfinished task; else yes with the greedy order.
 /// Refused for want of memory alone.
-pub fn check(alloc: Global, trace: &Trace) -> Result<Verdict, CheckFault> {
+pub fn check(alloc: Global, trace: &Trace) -> Result<Verdict, CheckFault>
+    ensures { IfOk result (IsVerdict trace.now.records) }
+{
     match verdict_of(alloc, trace.records()) {
         Ok(verdict) => Ok(verdict),
         Err(SearchFault::Memory) => Err(CheckFault::Memory),
@@ -31,15 +34,16 @@ pub fn check(alloc: Global, trace: &Trace) -> Result<Verdict, CheckFault> {
     }
 }
 
-/// The verdict; malformed records are told as a fault.
-fn verdict_of(alloc: Global, records: &[Record]) -> Result<Verdict, SearchFault> {
+/// The verdict on records that are not malformed.
+fn verdict_of(alloc: Global, records: &[Record]) -> Result<Verdict, SearchFault>
+    ensures verdict { IfOk result (IsVerdict records.now) }
+    ensures malformed { IfErr result (IsLeastFound records.now) }
+{
     let makers = find_makers(alloc, records)?;
-    find_rootless(alloc, records, &makers)?;
-    find_misfit(alloc, records, &makers)?;
-    find_moved(alloc, records, &makers)?;
+    find_misplaced(alloc, records, &makers)?;
     let links = find_links(alloc, records)?;
     let places = order_of(alloc, records, &makers)?;
-    match find_unfinished(alloc, records, links.as_slice())? {
+    match find_unfinished(alloc, records, &links)? {
         Some((at, task)) => Ok(Verdict::No {
             at,
             why: Why::Unfinished(task),
@@ -48,6 +52,25 @@ fn verdict_of(alloc: Global, records: &[Record]) -> Result<Verdict, SearchFault>
             order: Order::from_vec(places),
         }),
     }
+}
+
+/// Searches for the first record of a task without a root, of one that its thread does not run,
+/// or of one that has moved to another thread, in this order.
+fn find_misplaced(
+    alloc: Global,
+    records: &[Record],
+    makers: &BTreeMap<u64, usize>,
+) -> Result<(), SearchFault>
+    requires makers { AreMakers records.now (length records.now) makers.now }
+    requires once { IsFreeOf records.now CreatedTwice }
+    ensures rooted { OnOk result (IsFreeOf records.now Rootless) }
+    ensures current { OnOk result (IsFreeOf records.now NotCurrent) }
+    ensures at_home { OnOk result (IsFreeOf records.now Moved) }
+    ensures malformed { IfErr result (IsLeastFound records.now) }
+{
+    find_rootless(alloc, records, makers)?;
+    find_misfit(alloc, records, makers)?;
+    find_moved(alloc, records, makers)
 }
 
 /// The greedy order of all records. Searches for the first record that has none.

@@ -1,6 +1,10 @@
 //! Which creation each start of a task awaits, and whether file order is an order of the records.
-ghost use Rattle.std.specs.Prelude.{ℕ, ◌≡◌, ◌<◌, Some, None, IsTrue, IfOk, MatchOption, is_some, length, slice_get};
+ghost use Rattle.std.specs.Prelude.{ℕ, ◌≡◌, ◌<◌, Some, None, IsTrue, IfOk, OnOk, MatchOption, length, slice_get};
+ghost use Rattle.std.specs.Ordering.{nat_cmp};
+ghost use Rattle.std.specs.BTreeMap.{Updates, get};
+ghost use Rattle.ompt_events.specs.Records.{created};
 ghost use Rattle.ompt_events.specs.Places.{seen_at};
+ghost use Rattle.ompt_events.specs.Places.{at as says_at};
 ghost use Rattle.ompt_events.specs.Tree.{IsExplicit};
 ghost use Rattle.ompt_events.specs.HappensBefore.{IsFinishing, IsStep};
 ghost use Rattle.checker.specs.Searches.{AreMakers};
@@ -23,16 +27,33 @@ pub(crate) fn creations_awaited(
     let mut starts: BTreeMap<u64, usize> = BTreeMap::new(alloc);
     let mut awaited: Vec<Option<usize>> = Vec::with_capacity(alloc, records.len())?;
     for (at, event) in records.iter().enumerate() {
-        let mut creation = None;
-        if let Some(task) = event.body.started() {
-            let before = starts.insert(task, at)?;
-            if before.is_none() {
-                creation = creation_of(records, makers, task);
-            }
-        }
+        let creation = match event.body.started() {
+            Some(task) => note_start(records, makers, &mut starts, task, at)?,
+            None => None,
+        };
         awaited.push(creation)?;
     }
     Ok(awaited)
+}
+
+/// Notes that the task is started, and gives its creation where that is its first start.
+fn note_start(
+    records: &[Record],
+    makers: &BTreeMap<u64, usize>,
+    starts: &mut BTreeMap<u64, usize>,
+    task: u64,
+    at: usize,
+) -> Result<Option<usize>, AllocError>
+    requires { AreMakers records.now (length records.now) makers.now }
+    ensures noted { OnOk result (Updates nat_cmp starts.old starts.new task (Some at)) }
+    ensures first { IfOk result (λ creation. get nat_cmp starts.old task ≡ None → MatchOption creation (IsExplicit records.now task → ⊥) (λ place. says_at created records.now place ≡ Some task)) }
+    ensures later { IfOk result (λ creation. (k : ℕ) → get nat_cmp starts.old task ≡ Some k → creation ≡ None) }
+{
+    let before = starts.insert(task, at)?;
+    if before.is_none() {
+        return Ok(creation_of(records, makers, task));
+    }
+    Ok(None)
 }
 
 /// Whether what happens before a record stands before it in the file.

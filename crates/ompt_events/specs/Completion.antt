@@ -1,4 +1,4 @@
--- When a task is complete (OpenMP 5.2, 1.2.5 and 12.5.1: task completion, the detach clause).
+-- When a task is complete (OpenMP 5.2, 1.2.5 and 12.5.2: task completion, the detach clause).
 use Rattle.std.specs.Prelude.{ℕ, ◌≡◌, ◌<◌, ◌⊎◌, List, Some}
 use Rattle.ompt_events.specs.declared.records.Record.{Record}
 use Rattle.ompt_events.specs.declared.records.Part.{Part}

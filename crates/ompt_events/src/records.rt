@@ -6,7 +6,7 @@ use crate::flags::TaskFlags;
 use crate::names::{Endpoint, Status, SyncKind};
 use crate::path::Path;
 
-/// How much of a task a finishing record finishes. A detachable task (OpenMP 5.2, 12.5.1)
+/// How much of a task a finishing record finishes. A detachable task (OpenMP 5.2, 12.5.2)
 /// is complete when both its body and its event are finished; any other task is finished whole.
 #[derive(Clone, Copy, Debug, PartialEq, Eq)]
 pub enum Part {

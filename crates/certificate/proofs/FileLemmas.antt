@@ -1,0 +1,90 @@
+-- How a file is read line by line.
+use Rattle.std.proofs.Common.{◌≡◌, ◌≢◌, ℕ, ◌+◌, ◌<◌, ◌≤◌, List, [], ◌∷◌, ◌++◌, length, take, drop, get_or, Some, None, Ok, Err, true, false, arith, refl, sym, ap, ◌∙◌, eqb-true, eq-eqb, suc, append-nil, length-append, length-take}
+use Rattle.std.specs.Prelude.{◌==◌}
+use Rattle.std.specs.List.{AllByRecursion}
+use Rattle.ompt_events.specs.declared.records.Record.{Record}
+use Rattle.certificate.specs.declared.faults.ReadCause.TheVariants.{LineTooLong}
+use Rattle.std.proofs.lemmas.List.{take-append-drop, get_or-take, drop_more}
+use Rattle.certificate.specs.Windows.{LineFeedAt}
+use Rattle.certificate.specs.Files.{Cut, cut, with_byte, is_long, from_line, rest_says, go_on, fault_in, text_adds, end_adds}
+
+-- no line feed
+abbrev pub IsUnbroken : List ℕ → Type 0
+IsUnbroken bytes = AllByRecursion (λ b. (b == 10) ≡ false) bytes
+
+-- bytes in front of the first line
+abbrev pub with_front : List ℕ → List (List ℕ) → List ℕ → Cut
+with_front front [] rest = record { lines = []; rest = front ++ rest }
+with_front front (line ∷ lines) rest = record { lines = (front ++ line) ∷ lines; rest = rest }
+
+pub cut-front : (front bytes : List ℕ) → IsUnbroken front → cut (front ++ bytes) ≡ with_front front (cut bytes).lines (cut bytes).rest
+unfolding cut
+cut-front [] bytes all = by_lines (cut bytes).lines (cut bytes).rest
+  where
+    by_lines : (lines : List (List ℕ)) (rest : List ℕ) → ◌≡◌ {A = Cut} (record { lines = lines; rest = rest }) (with_front [] lines rest)
+    by_lines [] rest = refl
+    by_lines (line ∷ lines) rest = refl
+cut-front (b ∷ front) bytes all = rw (all.0, cut-front front bytes all.1) (by_lines (cut bytes).lines (cut bytes).rest)
+  where
+    by_lines : (lines : List (List ℕ)) (rest : List ℕ) → with_byte b (with_front front lines rest).lines (with_front front lines rest).rest ≡ with_front (b ∷ front) lines rest
+    by_lines [] rest = refl
+    by_lines (line ∷ lines) rest = refl
+
+-- ---- the first line of the bytes
+
+pub unbroken-from : (bytes : List ℕ) → ((i : ℕ) → i < length bytes → get_or bytes i 0 ≢ 10) → IsUnbroken bytes
+unbroken-from [] each = tt
+unbroken-from (b ∷ bytes) each = (
+  elim (b == 10) as (λ t. b == 10 ≡ t → t ≡ false) [
+    | true ↦ λ is. absurd (each 0 (omega arith) (eqb-true b 10 is))
+    | false ↦ λ _. refl
+  ] refl,
+  unbroken-from bytes (λ i h. each (suc i) (omega arith)),
+)
+
+pub unbroken-front : (bytes : List ℕ) (k : ℕ) → k ≤ length bytes → ((i : ℕ) → i < k → get_or bytes i 0 ≢ 10) → IsUnbroken (take k bytes)
+unbroken-front bytes k within each =
+    unbroken-from (take k bytes) (λ i h is.
+    let below : i < k = omega (arith, length-take k bytes) in
+    each i below (sym (get_or-take k bytes i 0 below) ∙ is))
+
+pub unbroken-before : (window : List ℕ) (len : ℕ) → LineFeedAt window (Some len) → IsUnbroken (take len window)
+unbroken-before window len at = unbroken-front window len (omega (arith, at.0.high)) (λ i h is. at.0.before i (omega arith) h (eq-eqb _ _ is))
+
+pub unbroken-all : (window : List ℕ) → LineFeedAt window None → IsUnbroken window
+unbroken-all window none = unbroken-from window (λ i h is. none i (omega arith) h (eq-eqb _ _ is))
+
+pub window-parts : (window : List ℕ) (len : ℕ) → LineFeedAt window (Some len) → window ≡ take len window ++ (10 ∷ drop (len + 1) window)
+window-parts window len at =
+    let within : len < length window = at.0.high in
+    let line_feed : get_or window len 0 ≡ 10 = eqb-true _ _ at.1 in
+    sym (take-append-drop len window) ∙ ap (λ bytes. take len window ++ bytes) (drop_more window len 0 within ∙ ap (λ b. b ∷ drop (len + 1) window) line_feed)
+
+cut-line : (line bytes : List ℕ) → IsUnbroken line → cut (line ++ (10 ∷ bytes)) ≡ record { lines = line ∷ (cut bytes).lines; rest = (cut bytes).rest }
+unfolding cut
+cut-line line bytes all = cut-front line (10 ∷ bytes) all ∙ rw (append-nil line) refl
+
+cut-unbroken : (bytes : List ℕ) → IsUnbroken bytes → cut bytes ≡ record { lines = []; rest = bytes }
+unfolding cut
+cut-unbroken bytes all = ap cut (sym (append-nil bytes)) ∙ cut-front bytes [] all ∙ rw (append-nil bytes) refl
+
+pub rest_says-line : (n : ℕ) (before : List Record) (line bytes : List ℕ) → IsUnbroken line → length line ≤ 65536 → rest_says n before (line ++ (10 ∷ bytes)) ≡ go_on n (text_adds n before line) (λ records. rest_says (n + 1) records bytes)
+unfolding from_line
+rest_says-line n before line bytes all short =
+    let not_long : is_long line ≡ false = grind arith in
+    rw (cut-line line bytes all, not_long) refl
+
+pub rest_says-end : (n : ℕ) (before : List Record) (bytes : List ℕ) → IsUnbroken bytes → rest_says n before bytes ≡ go_on n (end_adds n before bytes) Ok
+unfolding from_line
+rest_says-end n before bytes all = rw (cut-unbroken bytes all) refl
+
+pub rest_says-long : (n : ℕ) (before : List Record) (front bytes : List ℕ) → IsUnbroken front → 65536 < length front → rest_says n before (front ++ bytes) ≡ Err (fault_in n LineTooLong)
+unfolding from_line
+rest_says-long n before front bytes all long = rw (cut-front front bytes all) (by_lines (cut bytes).lines (cut bytes).rest)
+  where
+    over : (more : List ℕ) → is_long (front ++ more) ≡ true
+    over more = let len = length-append front more in grind arith
+
+    by_lines : (lines : List (List ℕ)) (rest : List ℕ) → from_line n before (with_front front lines rest).lines (with_front front lines rest).rest ≡ Err (fault_in n LineTooLong)
+    by_lines [] rest = rw (over rest) refl
+    by_lines (line ∷ lines) rest = rw (over line) refl

@@ -1,0 +1,10 @@
+mod WindowLemmas
+mod MemoryLemmas
+mod MemberLemmas
+mod RecordLemmas
+mod FileLemmas
+mod CountLemmas
+mod SoundLemmas
+mod ReadingLemmas
+mod WritingLemmas
+mod LawLemmas

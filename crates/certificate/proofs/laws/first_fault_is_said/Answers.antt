@@ -1,0 +1,5 @@
+use Rattle.certificate.proofs.LawLemmas.{first_fault, said_of_first}
+use Rattle.certificate.proofs.laws.first_fault_is_said.Goals as goal
+
+pub returns : goal.returns
+returns c = λ bytes fault. (first_fault bytes fault, said_of_first bytes fault)

@@ -1,0 +1,42 @@
+use Rattle.std.proofs.lemmas.Result.{err_from_is_err_and}
+use Rattle.certificate.specs.declared.faults.ReadCause.TheVariants.{Memory}
+use Rattle.certificate.proofs.RecordLemmas.{ok_not_err}
+use Rattle.certificate.proofs.ReadingLemmas.{IsBetween-keeps, IsBetween-line, IsAfter-no_line, IsAfter-text_fault, IsAfter-none_first, IsAfter-none, Grows-text}
+use Rattle.certificate.proofs.reading.read_line.Goals as goal
+
+pub returns-in_err-len-clause-after : goal.returns-in_err-len-clause-after
+returns-in_err-len-clause-after g c =
+    let p = err_from_is_err_and c.from_residual.result c.from_residual.ensures.1 in
+    rw (p.1, p.2) (λ known now. IsAfter-no_line known c.args.line c.args.kept.now c.next_line.new.window (g.S.Source.remaining c.next_line.new.source) _ c.in_err-len.ensures.fault
+    (IsBetween-keeps known c.args.line c.args.kept.now c.args.window.now c.next_line.new.window (g.S.Source.remaining c.args.source.now) (g.S.Source.remaining c.next_line.new.source) c.in_err-len.ensures.bytes now))
+
+pub returns-in_err-take_text-in-Some-clause-after : goal.returns-in_err-take_text-in-Some-clause-after
+returns-in_err-take_text-in-Some-clause-after g c =
+    let p = err_from_is_err_and c.from_residual-in_err-take_text-in-Some.result c.from_residual-in_err-take_text-in-Some.ensures.1 in
+    let shows = rw c.in-Some.is at c.in_ok-len.ensures.found in
+    rw (p.1, p.2) (λ known now. IsAfter-text_fault known c.args.line c.args.kept.now c.next_line.new.window c.in-Some.len (g.S.Source.remaining c.next_line.new.source) _ c.requires.line shows.1 shows.0
+    (rw c.front.ensures at c.in_err-take_text-in-Some.ensures)
+    (IsBetween-keeps known c.args.line c.args.kept.now c.args.window.now c.next_line.new.window (g.S.Source.remaining c.args.source.now) (g.S.Source.remaining c.next_line.new.source) c.in_ok-len.ensures.bytes now))
+
+pub returns-in_ok-take_text-in-Some-clause-after : goal.returns-in_ok-take_text-in-Some-clause-after
+returns-in_ok-take_text-in-Some-clause-after g c =
+    let shows = rw c.in-Some.is at c.in_ok-len.ensures.found in
+    rw c.skip.ensures (λ known now. IsBetween-line known c.args.line c.args.kept.now c.take_text.new.kept c.next_line.new.window c.in-Some.len (g.S.Source.remaining c.next_line.new.source) shows.1 shows.0
+    (rw c.front.ensures at (c.in_ok-take_text-in-Some.ensures (ok_not_err _ Memory)))
+    (IsBetween-keeps known c.args.line c.args.kept.now c.args.window.now c.next_line.new.window (g.S.Source.remaining c.args.source.now) (g.S.Source.remaining c.next_line.new.source) c.in_ok-len.ensures.bytes now))
+
+pub returns-in_ok-take_text-in-Some-clause-grows : goal.returns-in_ok-take_text-in-Some-clause-grows
+returns-in_ok-take_text-in-Some-clause-grows g c =
+    λ _. Grows-text c.args.line c.args.kept.now c.take_text.new.kept _ (c.in_ok-take_text-in-Some.ensures (ok_not_err _ Memory))
+
+pub returns-in-None-clause-after : goal.returns-in-None-clause-after
+returns-in-None-clause-after g c =
+    λ known now. IsAfter-none_first known c.args.line c.args.kept.now c.next_line.new.window (g.S.Source.remaining c.next_line.new.source) c.if-line-eq1.true
+    (rw c.in-None.is at c.in_ok-len.ensures.found)
+    (IsBetween-keeps known c.args.line c.args.kept.now c.args.window.now c.next_line.new.window (g.S.Source.remaining c.args.source.now) (g.S.Source.remaining c.next_line.new.source) c.in_ok-len.ensures.bytes now)
+
+pub returns-in-None-2-clause-after : goal.returns-in-None-2-clause-after
+returns-in-None-2-clause-after g c =
+    λ known now. IsAfter-none known c.args.line c.args.kept.now c.next_line.new.window (g.S.Source.remaining c.next_line.new.source) c.if-line-eq1.false
+    (rw c.in-None.is at c.in_ok-len.ensures.found)
+    (IsBetween-keeps known c.args.line c.args.kept.now c.args.window.now c.next_line.new.window (g.S.Source.remaining c.args.source.now) (g.S.Source.remaining c.next_line.new.source) c.in_ok-len.ensures.bytes now)

@@ -1,0 +1,10 @@
+pub mod Counts
+pub mod Windows
+pub mod FaultNames
+pub mod Members
+pub mod RecordLines
+pub mod Files
+pub mod Keeping
+pub mod Reading
+pub mod MemoryDevices
+pub mod Streams

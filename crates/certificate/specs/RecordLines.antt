@@ -1,0 +1,152 @@
+-- What a single line stands for.
+use Rattle.std.specs.Prelude.{ℕ, ◌≡◌, ◌≢◌, ◌==◌, ◌&&◌, ◌^◌, Bool, true, false, List, length, Option, Some, None, Result, Ok, Err, ok_or, nat_lt, nat_le, codes, if◌then◌else◌}
+use Rattle.std.specs.Option.{option_map_or}
+use Rattle.std.specs.List.{list_all}
+use Rattle.std.specs.Str.{is_utf8, bytes_eq}
+use Rattle.std.specs.Int.RustNames.{bit_and}
+use Rattle.serde_json.specs.Data.{Data}
+use Rattle.serde_json.specs.Read.{read}
+use Rattle.ompt_events.specs.declared.records.Record.{Record}
+use Rattle.ompt_events.specs.declared.records.Claim.{Claim}
+use Rattle.ompt_events.specs.declared.records.Body.{Body}
+use Rattle.ompt_events.specs.declared.records.Body.TheVariants.{ImplicitTask, TaskCreate, TaskSchedule, SyncRegion}
+use Rattle.ompt_events.specs.declared.names.Status.{Status}
+use Rattle.ompt_events.specs.declared.names.Status.TheVariants.{Complete, Switch}
+use Rattle.ompt_events.specs.declared.names.Endpoint.{Endpoint}
+use Rattle.ompt_events.specs.declared.names.Endpoint.TheVariants.{Begin, End}
+use Rattle.certificate.specs.declared.faults.ReadCause.{ReadCause}
+use Rattle.certificate.specs.declared.faults.ReadCause.TheVariants.{Memory, Header, NotJson, Field, Limit}
+use Rattle.certificate.specs.Members.{◌>>=◌, whole, whole_or_null, text, truth, list, status, endpoint, sync_kind, flags, wholes}
+
+-- the JSON value of a line of UTF-8
+abbrev pub value_of : List ℕ → Option Data
+value_of line = if is_utf8 line then read line else None
+
+-- an initial task begins
+unfoldable pub implicit_task : Data → Option Body
+implicit_task d = do
+  endpoint ← endpoint d
+  actual ← whole (codes "actual") d
+  index ← whole (codes "index") d
+  bits ← flags d
+  parallel ← whole (codes "parallel") d
+  task ← whole (codes "task") d
+  if is_begin endpoint && (bit_and bits 0x1 == 0x1) then Some (ImplicitTask endpoint actual index (record { 0 = bits }) parallel task) else None
+  where
+    is_begin : Endpoint → Bool
+    is_begin Begin = true
+    is_begin End = false
+
+-- a task is created, without dependences
+unfoldable pub task_create : Data → Option Body
+task_create d = do
+  deps ← truth (codes "deps") d
+  bits ← flags d
+  task ← whole (codes "task") d
+  child ← whole (codes "child") d
+  if deps then None else Some (TaskCreate deps (record { 0 = bits }) task child)
+
+-- a region of synchronisation begins or ends
+unfoldable pub sync_region : Data → Option Body
+sync_region d = do
+  kind ← sync_kind d
+  endpoint ← endpoint d
+  parallel ← whole_or_null (codes "parallel") d
+  task ← whole (codes "task") d
+  Some (SyncRegion kind endpoint parallel task)
+
+-- where a finished task stands
+unfoldable pub path : Data → Option (List ℕ)
+path d = list (codes "path") d >>= wholes
+
+-- what a finishing record claims of its task's place
+unfoldable pub claim : Data → Option Claim
+claim d = do
+  kept ← whole (codes "kept") d
+  root ← whole (codes "root") d
+  path ← path d
+  Some (record { kept = kept; root = root; path = path })
+
+-- the claim is read where the task is finished, and any other status has none
+unfoldable pub share : Status → Data → Option (Option Claim)
+share Complete d = claim d >>= λ c. Some (Some c)
+share Switch d = Some None
+
+-- a task stops running, and another goes on
+unfoldable pub task_schedule : Data → Option Body
+task_schedule d = do
+  status ← status d
+  prior ← whole (codes "prior") d
+  next ← whole (codes "next") d
+  share ← share status d
+  Some (TaskSchedule status prior (Some next) share)
+
+-- the members of a callback, by its name
+unfoldable pub body_named : List ℕ → Data → Option Body
+body_named name d =
+    if bytes_eq name (codes "implicit_task") then implicit_task d
+    else if bytes_eq name (codes "task_create") then task_create d
+    else if bytes_eq name (codes "task_schedule") then task_schedule d
+    else if bytes_eq name (codes "sync_region") then sync_region d
+    else None
+
+abbrev pub body : Data → Option Body
+body d = text (codes "cb") d >>= λ name. body_named name d
+
+-- the record of an object, its numbers without their bounds
+unfoldable pub unbounded : Data → Option Record
+unbounded d = do
+  thread ← whole (codes "thread") d
+  seq ← whole (codes "seq") d
+  seen ← whole (codes "seen") d
+  body ← body d
+  Some (record { thread = thread; seq = seq; seen = seen; body = body })
+
+abbrev pub is_short : ℕ → Bool
+is_short n = nat_lt n (2 ^ 32)
+
+abbrev pub path_fits : List ℕ → Bool
+path_fits path = nat_le (length path) 1024 && list_all is_short path
+
+abbrev pub claim_fits : Claim → Bool
+claim_fits c = path_fits c.path && is_short c.kept
+
+abbrev pub body_fits : Body → Bool
+body_fits (ImplicitTask endpoint actual index bits parallel task) = is_short actual && is_short index
+body_fits (TaskCreate deps bits task child) = true
+body_fits (TaskSchedule status prior next share) = option_map_or claim_fits share true
+body_fits (SyncRegion kind endpoint parallel task) = true
+
+abbrev pub record_fits : Record → Bool
+record_fits r = body_fits r.body && nat_lt r.thread 256 && is_short r.seq && is_short r.seen
+
+-- a value within its bounds; `Field` where there is none, before `Limit`
+abbrev pub bounded : {X : Type 0} → (X → Bool) → Option X → Result X ReadCause
+bounded fits None = Err Field
+bounded fits (Some x) = if fits x then Ok x else Err Limit
+
+-- what one line stands for
+abbrev pub said_of : Option Data → Result Record ReadCause
+said_of None = Err NotJson
+said_of (Some d) = bounded record_fits (unbounded d)
+
+abbrev pub line_says : List ℕ → Result Record ReadCause
+line_says line = said_of (value_of line)
+
+-- the value of a line, or the cause for which it has none
+abbrev pub value_or_cause : List ℕ → Result Data ReadCause
+value_or_cause line = ok_or (value_of line) NotJson
+
+-- the header of a trace file of version 1
+abbrev pub names_format : Data → Bool
+names_format d = option_map_or (λ s. bytes_eq s (codes "task-credit-audit")) (text (codes "format") d) false && option_map_or (λ n. n == 1) (whole (codes "version") d) false
+
+abbrev pub is_header : List ℕ → Bool
+is_header line = option_map_or names_format (value_of line) false
+
+abbrev pub header_says : List ℕ → Result (Unit {0}) ReadCause
+header_says line = if is_header line then Ok tt else Err Header
+
+-- the answer is what the definition says, or that no memory was found
+abbrev pub IsSaid : {X : Type 0} → Result X ReadCause → Result X ReadCause → Type 0
+IsSaid result said = result ≢ Err Memory → result ≡ said

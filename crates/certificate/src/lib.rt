@@ -1,0 +1,24 @@
+//! The trace file: what its lines stand for, a reader of it from any source, and plain bytes written to any sink.
+#![tactic(auto)]
+
+mod device;
+mod faults;
+mod kept;
+pub mod laws;
+mod lines;
+mod members;
+mod memory;
+mod reading;
+mod streams;
+mod window;
+mod writing;
+
+pub use device::{DeviceFault, Sink, Source};
+pub use faults::{ReadCause, ReadFault, WriteFault};
+pub use memory::{MemSink, MemSource};
+pub use reading::read;
+pub use streams::{FromRead, ToWrite};
+pub use writing::write_bytes;
+
+#[cfg(test)]
+mod tests;

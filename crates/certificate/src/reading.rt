@@ -1,0 +1,148 @@
+//! The reader of trace files.
+ghost use Rattle.std.specs.Prelude.{◌≡◌, ◌≤◌, ◌+◌, ℕ, List, Option, length, Ok, true, IfOk, IfErr, IfSome};
+ghost use Rattle.std.specs.Result.{result_err, result_map_both};
+ghost use Rattle.certificate.specs.Files.{text_adds};
+ghost use Rattle.certificate.specs.RecordLines.{IsSaid};
+ghost use Rattle.std.specs.Io.KnownBytes.{Keeps, IsAtEnd, prepend_known};
+ghost use Rattle.certificate.specs.Counts.{TakesTurns, breaks_told, cause_told};
+ghost use Rattle.certificate.specs.Reading.{IsAnswer, IsBetween, IsAfter, Grows};
+ghost use Rattle.certificate.specs.Windows.{ShowsLine, ShowsFault, IsDeviceFault};
+
+use crate::device::{DeviceFault, Source};
+use crate::faults::{ReadCause, ReadFault};
+use crate::kept::Kept;
+use crate::lines::{header, record_of};
+use crate::window::{MAX_LINE, Window};
+use ompt_events::{MAX_RECORDS, Trace};
+use std::alloc::Global;
+
+/// How often a source may answer `Again` in one call. The next such answer ends it.
+const MAX_TURNS: u32 = 10_000;
+
+/// The number of the last line that is read: after the header and the records, one that is too many.
+const LAST_LINE: u32 = 2 + MAX_RECORDS as u32;
+
+/// Reads a trace file to its end. The source is asked for at most 128 KiB at a time, and of the bytes
+/// one line is kept at most; after a refusal nothing is said of how far the source was read.
+pub fn read<S: Source>(alloc: Global, source: &mut S) -> Result<Trace, ReadFault>
+    // The trace that the bytes stand for, their first fault, or a fault of the device or of memory.
+    ensures file { IfSome (S.remaining source.old)
+        (λ bytes. IsAnswer result bytes (S.remaining source.new)) }
+
+    // Each answer `Again` is a turn, and the 10,001st ends the call.
+    ensures turns { (turns : ℕ) × TakesTurns (cause_told result) 0 turns (S.agains source.old) (S.agains source.new) }
+
+    // `Device` is told exactly where the source broke.
+    ensures breaks { S.breaks source.new ≡ breaks_told (cause_told result) (S.breaks source.old) }
+    ensures line { IfErr result (λ fault. (1 ≤ fault.line) × (fault.line ≤ LAST_LINE)) }
+{
+    let Ok(mut window) = Window::new(alloc) else {
+        return Err(ReadFault {
+            line: 1,
+            cause: ReadCause::Memory,
+        });
+    };
+    let mut kept = Kept::new(alloc);
+    let mut turns = 0;
+    'lines: for line in 1..=LAST_LINE {
+        match read_line(alloc, line, &mut window, source, &mut turns, &mut kept) {
+            Ok(true) => {}
+            Ok(false) => return Ok(kept.into_trace()),
+            Err(cause) => return Err(ReadFault { line, cause }),
+        }
+    }
+    unreachable!()
+}
+
+/// Reads the line of this number and keeps what it stands for. Says whether there was one.
+fn read_line<S: Source>(
+    alloc: Global,
+    line: u32,
+    window: &mut Window,
+    source: &mut S,
+    turns: &mut u32,
+    kept: &mut Kept,
+) -> Result<bool, ReadCause>
+    requires line { 1 ≤ line }
+    requires turns { turns.old ≤ 10000 }
+    ensures after { (known : Option (List ℕ)) → IsBetween known line kept.old window.old (S.remaining source.old)
+        → IsAfter result known line kept.new window.new (S.remaining source.new) }
+    ensures grows { result ≡ Ok true → Grows line kept.old kept.new }
+    ensures turns { TakesTurns (result_err result) turns.old turns.new (S.agains source.old) (S.agains source.new) }
+    ensures breaks { S.breaks source.new ≡ breaks_told (result_err result) (S.breaks source.old) }
+{
+    match next_line(window, source, turns)? {
+        Some(len) => {
+            take_text(alloc, line, window.front(len), kept)?;
+            window.skip(len + 1);
+            Ok(true)
+        }
+        None if line == 1 => Err(ReadCause::Header),
+        None => Ok(false),
+    }
+}
+
+/// Takes the text of the line of this number: the header, or a record that is kept.
+fn take_text(alloc: Global, line: u32, text: &[u8], kept: &mut Kept) -> Result<(), ReadCause>
+    ensures { IsSaid (result_map_both (λ _. kept.new) (λ e. e) result) (text_adds line kept.old text.now) }
+{
+    if line == 1 {
+        header(alloc, text)
+    } else {
+        kept.keep(record_of(alloc, text)?)
+    }
+}
+
+/// The length of the next line, which the window then begins with; none at the end of the input.
+fn next_line<S: Source>(
+    window: &mut Window,
+    source: &mut S,
+    turns: &mut u32,
+) -> Result<Option<usize>, ReadCause>
+    requires { turns.old ≤ 10000 }
+    ensures bytes { Keeps (prepend_known window.old (S.remaining source.old))
+        (prepend_known window.new (S.remaining source.new)) }
+    ensures found { IfOk result (λ found. ShowsLine found window.new (S.remaining source.new)) }
+    ensures fault { IfErr result (λ cause. ShowsFault cause window.new (S.remaining source.new)) }
+    ensures turns { TakesTurns (result_err result) turns.old turns.new (S.agains source.old) (S.agains source.new) }
+    ensures breaks { S.breaks source.new ≡ breaks_told (result_err result) (S.breaks source.old) }
+{
+    'search: loop {
+        match window.line_feed() {
+            Some(len) if len <= MAX_LINE => return Ok(Some(len)),
+            Some(_) => return Err(ReadCause::LineTooLong),
+            None if window.len() > MAX_LINE => return Err(ReadCause::LineTooLong),
+            None => {}
+        }
+        if ask(window, source, turns)? == 0 {
+            return if window.len() == 0 {
+                Ok(None)
+            } else {
+                Err(ReadCause::Unended)
+            };
+        }
+    }
+}
+
+/// Takes more bytes from the source, and asks again as long as it wants that and has turns left.
+fn ask<S: Source>(window: &mut Window, source: &mut S, turns: &mut u32) -> Result<usize, ReadCause>
+    requires window { length window.old ≤ MAX_LINE }
+    requires turns { turns.old ≤ 10000 }
+    ensures bytes { Keeps (prepend_known window.old (S.remaining source.old))
+        (prepend_known window.new (S.remaining source.new)) }
+    ensures more { IfOk result (λ count. length window.new ≡ length window.old + count) }
+    ensures end { result ≡ Ok 0 → IsAtEnd (S.remaining source.new) }
+    ensures none { result ≡ Ok 0 → window.new ≡ window.old }
+    ensures fault { IfErr result (λ cause. (window.new ≡ window.old) × IsDeviceFault cause) }
+    ensures turns { TakesTurns (result_err result) turns.old turns.new (S.agains source.old) (S.agains source.new) }
+    ensures breaks { S.breaks source.new ≡ breaks_told (result_err result) (S.breaks source.old) }
+{
+    'turns: while *turns <= MAX_TURNS {
+        match window.fill(source) {
+            Ok(count) => return Ok(count),
+            Err(DeviceFault::Again) => *turns += 1,
+            Err(DeviceFault::Broken) => return Err(ReadCause::Device),
+        }
+    }
+    Err(ReadCause::TurnsSpent)
+}

@@ -1,0 +1,150 @@
+//! The bytes that a source gave and that were not read yet.
+ghost use Rattle.std.specs.Prelude.{◌≡◌, ℕ, ◌≤◌, ◌<◌, ◌+◌, ◌-◌, [], length, take, drop, slice_range, Ok, OnErr, IfOk, IfSome, vec_len};
+ghost use Rattle.std.specs.Io.{ReadsAtMost};
+ghost use Rattle.std.specs.Io.KnownBytes.{ReadConsumes, Keeps, IsAtEnd, prepend_known};
+ghost use Rattle.memchr.specs.Find.{IsFirstByte, is_byte};
+ghost use Rattle.certificate.specs.Counts.{agains_after, breaks_after};
+ghost use Rattle.certificate.specs.Windows.{IsWindow};
+
+use crate::device::{DeviceFault, Source};
+use memchr::memchr;
+use std::alloc::{AllocError, Global};
+use std::marker::Model;
+
+/// The most bytes that a line may have before its line feed.
+pub(crate) const MAX_LINE: usize = 65_536;
+
+/// Twice what the longest line needs with its line feed: when it is full, half of it is free or gets free.
+const SIZE: usize = 2 * (MAX_LINE + 1);
+
+/// A stretch of bytes that goes on at its end, as the source gives more, and is read from its front.
+#[derive(Drop)]
+pub(crate) struct Window {
+    bytes: Vec<u8>,
+    start: usize,
+    // No line feed stands from `start` up to here.
+    searched: usize,
+    end: usize,
+}
+
+impl Model for Window {
+    ghost use Rattle.std.specs.Prelude.{List, ℕ, slice_range};
+    ghost use Rattle.certificate.specs.Windows.{IsWindow};
+
+    ghost Value = { List ℕ };
+
+    ghost view = { λ window. slice_range window.bytes.items window.start window.end };
+
+    ghost invariant = { λ window. IsWindow window.bytes.items window.start window.searched window.end };
+}
+
+impl Window {
+    /// An empty window.
+    pub(crate) fn new(alloc: Global) -> Result<Window, AllocError>
+        ensures { IfOk result (λ window. window ≡ []) }
+    {
+        Ok(Window {
+            bytes: vec![in alloc; 0; SIZE]?,
+            start: 0,
+            searched: 0,
+            end: 0,
+        })
+    }
+
+    /// How many bytes wait.
+    pub(crate) fn len(&self) -> usize
+        ensures { result ≡ length self.now }
+    {
+        self.end - self.start
+    }
+
+    /// The place of the first line feed. No byte is looked at twice.
+    pub(crate) fn line_feed(&mut self) -> Option<usize>
+        ensures same { self.new ≡ self.old }
+        ensures first { IsFirstByte (is_byte 10) self.old result }
+    {
+        match memchr(b'\n', &self.bytes[self.searched..self.end]) {
+            Some(at) => Some(self.searched - self.start + at),
+            None => {
+                self.searched = self.end;
+                None
+            }
+        }
+    }
+
+    /// The first bytes.
+    pub(crate) fn front(&self, count: usize) -> &[u8]
+        requires { count ≤ length self.now }
+        ensures { result.now ≡ take count self.now }
+    {
+        &self.bytes[self.start..self.start + count]
+    }
+
+    /// Lets the first bytes go.
+    pub(crate) fn skip(&mut self, count: usize)
+        requires { count ≤ length self.old }
+        ensures { self.new ≡ drop count self.old }
+    {
+        self.start += count;
+        self.searched = self.start;
+    }
+
+    /// Takes more bytes from the source, and says how many: none only at its end.
+    pub(crate) fn fill<S: Source>(&mut self, source: &mut S) -> Result<usize, DeviceFault>
+        requires { length self.old ≤ MAX_LINE }
+        ensures bytes { Keeps (prepend_known self.old (S.remaining source.old))
+            (prepend_known self.new (S.remaining source.new)) }
+        ensures more { IfOk result (λ count. length self.new ≡ length self.old + count) }
+        ensures end { result ≡ Ok 0 → IsAtEnd (S.remaining source.new) }
+        ensures none { result ≡ Ok 0 → self.new ≡ self.old }
+        ensures err { OnErr result (self.new ≡ self.old) }
+        ensures agains { S.agains source.new ≡ agains_after result (S.agains source.old) }
+        ensures breaks { S.breaks source.new ≡ breaks_after result (S.breaks source.old) }
+    {
+        let (start, searched, end) = make_room(
+            &mut self.bytes,
+            self.start,
+            self.searched,
+            self.end,
+        );
+        self.start = start;
+        self.searched = searched;
+        self.end = end;
+        let count = read_at(&mut self.bytes, self.end, source)?;
+        self.end += count;
+        Ok(count)
+    }
+}
+
+/// Moves the bytes that wait to the front, where nothing is free behind them.
+fn make_room(
+    bytes: &mut Vec<u8>,
+    start: usize,
+    searched: usize,
+    end: usize,
+) -> (usize, usize, usize)
+    requires window { IsWindow bytes.old.items start searched end }
+    requires short { end - start ≤ MAX_LINE }
+    ensures window { IsWindow bytes.new.items result.0 result.1 result.2 }
+    ensures room { result.2 < length bytes.new.items }
+    ensures same { slice_range bytes.new.items result.0 result.2 ≡ slice_range bytes.old.items start end }
+{
+    if end < SIZE {
+        return (start, searched, end);
+    }
+    bytes.copy_within(start..end, 0);
+    (0, searched - start, end - start)
+}
+
+/// Reads into the bytes from a place on.
+fn read_at<S: Source>(bytes: &mut Vec<u8>, at: usize, source: &mut S) -> Result<usize, DeviceFault>
+    requires { at < length bytes.old.items }
+    ensures len { length bytes.new.items ≡ length bytes.old.items }
+    ensures front { take at bytes.new.items ≡ take at bytes.old.items }
+    ensures bound { IfOk result (λ count. at + count ≤ length bytes.new.items) }
+    ensures bytes { ReadConsumes (S.remaining source.old) (S.remaining source.new) result (drop at bytes.new.items) }
+    ensures agains { S.agains source.new ≡ agains_after result (S.agains source.old) }
+    ensures breaks { S.breaks source.new ≡ breaks_after result (S.breaks source.old) }
+{
+    source.read(&mut bytes[at..])
+}

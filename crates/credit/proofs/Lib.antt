@@ -1,0 +1,5 @@
+pub mod ShareLemmas
+pub mod CreditLemmas
+pub mod TileLaw
+pub mod HoldLaw
+pub mod HoldLemmas

@@ -1,0 +1,4 @@
+pub mod Audits
+pub mod Commands
+pub mod Reports
+pub mod Statuses

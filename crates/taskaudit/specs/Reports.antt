@@ -1,0 +1,90 @@
+-- What is printed, to the byte. Each text is one line.
+use Rattle.std.specs.Prelude.{ℕ, ◌+◌, ◌++◌, Bool, true, false, List, length, count_by, is_some, codes, decimal, slice_get}
+use Rattle.std.specs.Option.{option_map_or}
+use Rattle.ompt_events.specs.declared.records.Record.{Record}
+use Rattle.ompt_events.specs.declared.names.Endpoint.TheVariants.{End}
+use Rattle.ompt_events.specs.declared.names.SyncKind.TheVariants.{Taskwait}
+use Rattle.ompt_events.specs.declared.records.Body.{Body}
+use Rattle.ompt_events.specs.declared.records.Body.TheVariants.{SyncRegion}
+use Rattle.ompt_events.specs.declared.cause.Cause.{Cause}
+use Rattle.ompt_events.specs.CauseNames.{cause_number, cause_name}
+use Rattle.ompt_events.specs.Records.{creation}
+use Rattle.ompt_events.specs.Causes.{entries_in}
+use Rattle.checker.specs.declared.verdict.Verdict.{Verdict}
+use Rattle.checker.specs.declared.verdict.Verdict.TheVariants.{Yes, No, Malformed}
+use Rattle.checker.specs.declared.verdict.Why.TheVariants.{Unfinished}
+use Rattle.certificate.specs.declared.faults.ReadCause.{ReadCause}
+use Rattle.certificate.specs.declared.faults.ReadCause.TheVariants as read
+use Rattle.certificate.specs.declared.faults.WriteFault.{WriteFault}
+use Rattle.certificate.specs.declared.faults.WriteFault.TheVariants as write
+use Rattle.certificate.specs.FaultNames.{read_cause_number, read_cause_name, write_fault_number, write_fault_name}
+use Rattle.checker.specs.declared.verdict.CheckFault.TheVariants as check
+use Rattle.taskaudit.specs.declared.work.Outcome.{Outcome}
+use Rattle.taskaudit.specs.declared.work.Outcome.TheVariants as outcome
+use Rattle.taskaudit.specs.declared.work.AuditFault.{AuditFault}
+use Rattle.taskaudit.specs.declared.work.AuditFault.TheVariants as fault
+
+-- how many explicit tasks the records create
+abbrev pub creates_in : List Record → ℕ
+creates_in rs = count_by (λ r. is_some (creation r.body)) rs
+
+-- a region ends that waits for tasks
+abbrev pub ends_wait : Body → Bool
+ends_wait (SyncRegion Taskwait End parallel task) = true
+ends_wait _ = false
+
+-- how many ends of such regions there are
+abbrev pub waits_in : List Record → ℕ
+waits_in rs = count_by (λ r. ends_wait r.body) rs
+
+-- where a record stands, in words
+abbrev pub place_text : ℕ → ℕ → ℕ → List ℕ
+place_text line thread seq = codes "line " ++ (decimal line ++ (codes ", thread " ++ (decimal thread ++ (codes ", seq " ++ decimal seq))))
+
+-- the same of the record at the place i: line 1 of the file is the header
+abbrev pub place_of : List Record → ℕ → List ℕ
+place_of rs i = place_text (i + 2) (option_map_or (λ r. r.thread) (slice_get rs i) 0) (option_map_or (λ r. r.seq) (slice_get rs i) 0)
+
+abbrev pub yes_text : List Record → List ℕ
+yes_text rs = codes "yes: " ++ (decimal (length rs) ++ (codes " records, " ++ (decimal (entries_in rs) ++ (codes " entries, " ++ (decimal (creates_in rs) ++ (codes " tasks, " ++ (decimal (waits_in rs) ++ codes " waits\n")))))))
+
+-- the task is unfinished at the place i
+abbrev pub no_text : List Record → ℕ → ℕ → List ℕ
+no_text rs i task = codes "no: " ++ (place_of rs i ++ (codes ": task " ++ (decimal task ++ codes " unfinished\n")))
+
+-- the record at the place i has the cause
+abbrev pub malformed_text : List Record → ℕ → Cause → List ℕ
+malformed_text rs i cause = codes "malformed: " ++ (place_of rs i ++ (codes ": cause " ++ (decimal (cause_number cause) ++ (codes " " ++ (cause_name cause ++ codes "\n")))))
+
+-- the report of a verdict
+abbrev pub report_of : List Record → Verdict → List ℕ
+report_of rs (Yes order) = yes_text rs
+report_of rs (No i (Unfinished task)) = no_text rs i task
+report_of rs (Malformed i cause) = malformed_text rs i cause
+
+-- the text of any want of memory
+abbrev pub no_memory_text : List ℕ
+no_memory_text = codes "out of memory\n"
+
+-- the input could not be read
+abbrev pub unreadable_text : ℕ → ReadCause → List ℕ
+unreadable_text line read.Memory = no_memory_text
+unreadable_text line cause = codes "unreadable: line " ++ (decimal line ++ (codes ": " ++ (decimal (read_cause_number cause) ++ (codes " " ++ (read_cause_name cause ++ codes "\n")))))
+
+-- the report could not be written
+abbrev pub unwritten_text : WriteFault → List ℕ
+unwritten_text write.Memory = no_memory_text
+unwritten_text cause = codes "unwritten: " ++ (decimal (write_fault_number cause) ++ (codes " " ++ (write_fault_name cause ++ codes "\n")))
+
+-- the text of a fault
+abbrev pub fault_text_of : AuditFault → List ℕ
+fault_text_of (fault.Read f) = unreadable_text f.line f.cause
+fault_text_of (fault.Write f) = unwritten_text f
+fault_text_of (fault.Check check.Memory) = no_memory_text
+fault_text_of fault.Memory = no_memory_text
+
+-- the kind of a verdict
+abbrev pub outcome_of : Verdict → Outcome
+outcome_of (Yes order) = outcome.Yes
+outcome_of (No i why) = outcome.No
+outcome_of (Malformed i cause) = outcome.Malformed

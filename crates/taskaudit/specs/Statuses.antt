@@ -1,0 +1,43 @@
+-- The exit statuses of the program.
+use Rattle.std.specs.Prelude.{ℕ}
+use Rattle.certificate.specs.declared.faults.ReadCause.{ReadCause}
+use Rattle.certificate.specs.declared.faults.ReadCause.TheVariants as read
+use Rattle.certificate.specs.declared.faults.WriteFault.{WriteFault}
+use Rattle.certificate.specs.declared.faults.WriteFault.TheVariants as write
+use Rattle.checker.specs.declared.verdict.CheckFault.TheVariants as check
+use Rattle.clap.specs.declared.error.kind.ErrorKind.{ErrorKind}
+use Rattle.clap.specs.declared.error.kind.ErrorKind.TheVariants.{DisplayHelp, DisplayVersion, OutOfMemory}
+use Rattle.taskaudit.specs.declared.work.Outcome.{Outcome}
+use Rattle.taskaudit.specs.declared.work.Outcome.TheVariants as outcome
+use Rattle.taskaudit.specs.declared.work.AuditFault.{AuditFault}
+use Rattle.taskaudit.specs.declared.work.AuditFault.TheVariants as fault
+
+-- a verdict was given
+abbrev pub outcome_status : Outcome → ℕ
+outcome_status outcome.Yes = 0
+outcome_status outcome.No = 1
+outcome_status outcome.Malformed = 2
+
+-- the input could not be read: for want of memory, or for another cause
+abbrev pub read_status : ReadCause → ℕ
+read_status read.Memory = 5
+read_status _ = 3
+
+-- the report could not be written
+abbrev pub write_status : WriteFault → ℕ
+write_status write.Memory = 5
+write_status _ = 3
+
+-- no verdict was given, or it could not be written
+abbrev pub fault_status_of : AuditFault → ℕ
+fault_status_of (fault.Read f) = read_status f.cause
+fault_status_of (fault.Write f) = write_status f
+fault_status_of (fault.Check check.Memory) = 5
+fault_status_of fault.Memory = 5
+
+-- the words name no work: help or the version was asked for, memory ran out, or they are wrong
+abbrev pub usage_status_of : ErrorKind → ℕ
+usage_status_of DisplayHelp = 0
+usage_status_of DisplayVersion = 0
+usage_status_of OutOfMemory = 5
+usage_status_of _ = 4

@@ -1,0 +1,225 @@
+//! What is printed of a verdict or a fault, and the exit statuses.
+ghost use Rattle.std.specs.Prelude.{◌≡◌, ◌++◌, IfOk, IsOkUnless, string_bytes, codes, decimal, slice_get, Some, length, is_some, ◌<◌, ◌+◌, ◌^◌, ◌≤◌};
+ghost use Rattle.ompt_events.specs.Traces.{IsTrace};
+ghost use Rattle.ompt_events.specs.Causes.{entries_in};
+ghost use Rattle.ompt_events.specs.CauseNames.{cause_number, cause_name};
+ghost use Rattle.checker.specs.Verdicts.{IsVerdict};
+ghost use Rattle.clap.specs.Words.{kind_of};
+ghost use Rattle.taskaudit.specs.Reports.{report_of, fault_text_of, yes_text, no_text, malformed_text, place_text, place_of, ends_wait, creates_in, waits_in, unreadable_text, unwritten_text, no_memory_text};
+ghost use Rattle.taskaudit.specs.Statuses.{fault_status_of, usage_status_of};
+
+use crate::work::AuditFault;
+use certificate::{ReadCause, ReadFault, WriteFault};
+use checker::{CheckFault, Verdict, Why};
+use clap::error::ErrorKind;
+use ompt_events::{Body, Cause, Endpoint, Record, SyncKind, Trace, finish};
+use std::alloc::{AllocError, Global};
+use std::fmt;
+
+/// The exit status where the input is not read or the report is not written.
+const NOT_REPORTED: u8 = 3;
+
+/// The exit status where the words of the command line name no work.
+pub const WRONG_WORDS: u8 = 4;
+
+/// The exit status of any want of memory.
+const NO_MEMORY: u8 = 5;
+
+/// The report of the trace's verdict: one line, with its line feed.
+pub fn report_text(alloc: Global, verdict: &Verdict, trace: &Trace) -> Result<String, AuditFault>
+    requires { IsVerdict trace.now.records verdict.now }
+    ensures text { IfOk result (λ text. string_bytes text ≡ report_of trace.now.records verdict.now) }
+    ensures memory { IsOkUnless result AuditFault.Memory }
+{
+    let records = trace.records();
+    let text = match verdict {
+        Verdict::Yes { .. } => yes_text(alloc, records),
+        Verdict::No {
+            at,
+            why: Why::Unfinished(task),
+        } => no_text(alloc, records, *at, *task),
+        Verdict::Malformed { at, cause } => malformed_text(alloc, records, *at, *cause),
+    };
+    text.map_err(|_| AuditFault::Memory)
+}
+
+/// The report of a yes.
+fn yes_text(alloc: Global, records: &[Record]) -> Result<String, AllocError>
+    ensures { IfOk result (λ text. string_bytes text ≡ yes_text records.now) }
+{
+    let count = records.len();
+    let entries = entries_in(records);
+    let tasks = creates_in(records);
+    let waits = waits_in(records);
+    format!(in alloc; "yes: {count} records, {entries} entries, {tasks} tasks, {waits} waits\n")
+}
+
+/// How many records finish a task, and so make an entry of the ledger.
+fn entries_in(records: &[Record]) -> usize
+    ensures { result ≡ entries_in records.now }
+{
+    records.iter().filter(|r| finish(r).is_some()).count()
+}
+
+/// How many explicit tasks the records create.
+fn creates_in(records: &[Record]) -> usize
+    ensures { result ≡ creates_in records.now }
+{
+    records
+        .iter()
+        .filter(|r| r.body.creation().is_some())
+        .count()
+}
+
+/// How many regions end that wait for tasks.
+fn waits_in(records: &[Record]) -> usize
+    ensures { result ≡ waits_in records.now }
+{
+    records.iter().filter(|r| ends_wait(&r.body)).count()
+}
+
+/// The report of a no: the task is unfinished at the record.
+fn no_text(alloc: Global, records: &[Record], at: usize, task: u64) -> Result<String, AllocError>
+    requires within { at < length records.now }
+    requires few { length records.now ≤ 2 ^ 22 }
+    ensures { IfOk result (λ text. string_bytes text ≡ no_text records.now at task) }
+{
+    let place = Place::of(records, at);
+    format!(in alloc; "no: {place}: task {task} unfinished\n")
+}
+
+/// The report of a malformed trace: the record has the cause.
+fn malformed_text(
+    alloc: Global,
+    records: &[Record],
+    at: usize,
+    cause: Cause,
+) -> Result<String, AllocError>
+    requires within { at < length records.now }
+    requires few { length records.now ≤ 2 ^ 22 }
+    ensures { IfOk result (λ text. string_bytes text ≡ malformed_text records.now at cause) }
+{
+    let place = Place::of(records, at);
+    let number = cause.number();
+    let name = cause.name();
+    format!(in alloc; "malformed: {place}: cause {number} {name}\n")
+}
+
+/// Where a record stands in the file and among those of its thread.
+#[derive(Clone, Copy)]
+struct Place {
+    line: usize,
+    thread: u8,
+    seq: u32,
+}
+
+impl Place {
+    /// The place of the record; the file's line 1 is the header.
+    fn of(records: &[Record], at: usize) -> Place
+        requires within { at < length records.now }
+        requires few { length records.now ≤ 2 ^ 22 }
+        ensures { place_text result.line result.thread result.seq ≡ place_of records.now at }
+    {
+        let event = &records[at];
+        Place {
+            line: at + 2,
+            thread: event.thread,
+            seq: event.seq,
+        }
+    }
+}
+
+impl fmt::Display for Place {
+    ghost output = { λ place. Some (place_text place.line place.thread place.seq) };
+
+    fn fmt<W: fmt::Write>(&self, f: &mut fmt::Formatter<W>) -> fmt::Result {
+        write!(
+            f,
+            "line {}, thread {}, seq {}",
+            self.line, self.thread, self.seq
+        )
+    }
+}
+
+/// Whether the record ends a region that waits for tasks.
+fn ends_wait(body: &Body) -> bool
+    ensures { result ≡ ends_wait body.now }
+{
+    match body {
+        Body::SyncRegion {
+            kind: SyncKind::Taskwait,
+            endpoint: Endpoint::End,
+            ..
+        } => true,
+        _ => false,
+    }
+}
+
+/// The text of the fault: one line, with its line feed. Any want of memory has one text.
+pub fn fault_text(alloc: Global, fault: &AuditFault) -> Result<String, AuditFault>
+    ensures text { IfOk result (λ text. string_bytes text ≡ fault_text_of fault.now) }
+    ensures memory { IsOkUnless result AuditFault.Memory }
+{
+    let text = match fault {
+        AuditFault::Read(fault) => unreadable_text(alloc, *fault),
+        AuditFault::Write(fault) => unwritten_text(alloc, *fault),
+        AuditFault::Check(CheckFault::Memory) | AuditFault::Memory => no_memory_text(alloc),
+    };
+    text.map_err(|_| AuditFault::Memory)
+}
+
+/// The text of a fault of the input.
+fn unreadable_text(alloc: Global, fault: ReadFault) -> Result<String, AllocError>
+    ensures { IfOk result (λ text. string_bytes text ≡ unreadable_text fault.line fault.cause) }
+{
+    if fault.cause == ReadCause::Memory {
+        return no_memory_text(alloc);
+    }
+    let line = fault.line;
+    let number = fault.cause.number();
+    let name = fault.cause.name();
+    format!(in alloc; "unreadable: line {line}: {number} {name}\n")
+}
+
+/// The text of a fault of the output.
+fn unwritten_text(alloc: Global, fault: WriteFault) -> Result<String, AllocError>
+    ensures { IfOk result (λ text. string_bytes text ≡ unwritten_text fault) }
+{
+    if fault == WriteFault::Memory {
+        return no_memory_text(alloc);
+    }
+    let number = fault.number();
+    let name = fault.name();
+    format!(in alloc; "unwritten: {number} {name}\n")
+}
+
+/// The text of a want of memory.
+fn no_memory_text(alloc: Global) -> Result<String, AllocError>
+    ensures { IfOk result (λ text. string_bytes text ≡ no_memory_text) }
+{
+    String::from_str(alloc, "out of memory\n")
+}
+
+/// The exit status of the program where no verdict is reported.
+pub fn fault_status(fault: &AuditFault) -> u8
+    ensures { result ≡ fault_status_of fault.now }
+{
+    match fault {
+        AuditFault::Read(fault) if fault.cause == ReadCause::Memory => NO_MEMORY,
+        AuditFault::Write(WriteFault::Memory) => NO_MEMORY,
+        AuditFault::Read(_) | AuditFault::Write(_) => NOT_REPORTED,
+        AuditFault::Check(CheckFault::Memory) | AuditFault::Memory => NO_MEMORY,
+    }
+}
+
+/// The exit status of the program where the words of the command line name no work:
+/// 0 where they ask for help.
+pub fn usage_status(error: &clap::Error) -> u8
+    ensures { result ≡ usage_status_of (kind_of error.now) }
+{
+    match error.kind() {
+        ErrorKind::DisplayHelp | ErrorKind::DisplayVersion => 0,
+        ErrorKind::OutOfMemory => NO_MEMORY,
+        _ => WRONG_WORDS,
+    }
+}
