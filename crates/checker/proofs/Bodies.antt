@@ -1,6 +1,6 @@
 -- How what single records say hangs together.
-use Rattle.std.proofs.Common.{◌≡◌, ◌∙◌, ℕ, List, Option, Some, None, refl, sym, ap, ◌⊎◌, inl, inr}
-use Rattle.std.specs.Prelude.{slice_get, option_and_then, option_map, is_some, true, false}
+use Rattle.std.proofs.Common.{◌≡◌, ℕ, List, Option, Some, None, refl, ap, ◌⊎◌, inl, inr}
+use Rattle.std.specs.Prelude.{slice_get, option_and_then, option_map, is_some, true}
 use Rattle.std.proofs.lemmas.Option.{none-some, same_Some}
 use Rattle.ompt_events.specs.declared.records.Record.{Record}
 use Rattle.ompt_events.specs.declared.records.Body.{Body}

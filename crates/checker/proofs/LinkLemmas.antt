@@ -1,12 +1,12 @@
 -- How the open regions change from record to record.
-use Rattle.std.proofs.Common.{◌≡◌, ◌≢◌, ◌∙◌, ℕ, ◌<◌, ◌≤◌, ◌+◌, ◌-◌, List, [], ◌∷◌, ◌++◌, length, get_or, drop, Option, Some, None, true, false, Bool, cond, eqb, refl, sym, ap, subst, arith, inl, inr}
-use Rattle.std.proofs.lemmas.Bool.{cases_eq, false≢true, eq-eqb}
+use Rattle.std.proofs.Common.{◌≡◌, ◌≢◌, ◌∙◌, ℕ, ◌<◌, ◌≤◌, ◌+◌, List, [], ◌∷◌, ◌++◌, length, Option, Some, None, true, false, Bool, cond, eqb, refl, sym, ap, subst, arith, inl, inr}
+use Rattle.std.proofs.lemmas.Bool.{cases_eq, eq-eqb}
 use Rattle.std.proofs.lemmas.Bool.Decides.{nat_tests}
 use Rattle.std.proofs.lemmas.Option.{none-some, same_Some, slice_get-get_or, slice_get_within}
 use Rattle.std.proofs.lemmas.List.{get_or_append_left, get_or_push, length_push, append-nil}
 use Rattle.std.proofs.lemmas.List.Elements.{filter-append}
 use Rattle.std.proofs.lemmas.List.Sums.{fold_push}
-use Rattle.std.specs.Prelude.{◌==◌, slice_get, filter, fold, option_and_then}
+use Rattle.std.specs.Prelude.{◌==◌, slice_get, filter, fold}
 use Rattle.std.specs.List.{range_with_len}
 use Rattle.std.specs.Option.{option_map_or}
 use Rattle.std.specs.Ordering.{nat_cmp}
@@ -20,7 +20,7 @@ use Rattle.ompt_events.specs.declared.names.SyncKind.{SyncKind}
 use Rattle.ompt_events.specs.declared.cause.Cause.TheVariants.{RegionOrder}
 use Rattle.ompt_events.specs.Records.{region, running}
 use Rattle.ompt_events.specs.Places.{at, is_own, own_before}
-use Rattle.ompt_events.specs.Regions.{after_region, open_regions, kind_at, EndsRegion, EndsNoRegion}
+use Rattle.ompt_events.specs.Regions.{after_region, open_regions, kind_at, EndsRegion}
 use Rattle.ompt_events.specs.Causes.{HasNoBegin, HasCause, region_order, IsFirstWith, IsFreeOf}
 use Rattle.checker.specs.Links.{below_of, top_after, IsStack, SetsTo, AreLinked}
 use Rattle.checker.proofs.Reading.{at_within}

@@ -1,23 +1,23 @@
 -- Climbing the chains of parents.
-use Rattle.std.proofs.Common.{◌≡◌, ◌≢◌, ◌∙◌, ℕ, ◌<◌, ◌≤◌, ◌+◌, List, [], ◌∷◌, ◌++◌, length, get_or, take, Option, Some, None, Bool, true, false, cond, refl, sym, ap, subst, arith, inl, inr, ◌⊎◌}
+use Rattle.std.proofs.Common.{◌≡◌, ◌≢◌, ◌∙◌, ℕ, ◌<◌, List, [], ◌∷◌, ◌++◌, length, get_or, Option, Some, None, Bool, true, false, refl, sym, ap, subst, arith, inl, inr, ◌⊎◌}
 use Rattle.std.proofs.lemmas.Bool.{cases_eq, false≢true}
-use Rattle.std.proofs.lemmas.Option.{none-some, same_Some, some_pair_parts}
+use Rattle.std.proofs.lemmas.Option.{none-some, same_Some}
 use Rattle.std.proofs.lemmas.List.{length-set, get_or-set_same, get_or-set_other, get_or_default}
 use Rattle.std.proofs.lemmas.List.Elements.{Contains-push, Contains-push_cases, Contains-append_left}
 use Rattle.std.proofs.Math.ListN.{set}
-use Rattle.std.specs.Prelude.{is_some, Contains, map}
+use Rattle.std.specs.Prelude.{is_some, Contains}
 use Rattle.std.specs.Ordering.{nat_cmp}
 use Rattle.std.specs.BTreeMap.{BTreeMap, get}
 use Rattle.ompt_events.specs.declared.records.Record.{Record}
-use Rattle.ompt_events.specs.Records.{begun_root, created, creation, made}
+use Rattle.ompt_events.specs.Records.{creation, made}
 use Rattle.ompt_events.specs.Places.{at}
-use Rattle.ompt_events.specs.Tree.{IsRoot, IsRooted, root, child, IsCreatedAt}
+use Rattle.ompt_events.specs.Tree.{IsRooted, child}
 use Rattle.checker.specs.declared.rooted.Mark.{Mark}
 use Rattle.checker.specs.declared.rooted.Mark.TheVariants.{Unknown, Rooted, Unrooted}
 use Rattle.checker.specs.Searches.{AreMakers}
-use Rattle.checker.specs.Marks.{mark_at, IsStuck, AreMarks, MarksChain, AreRooted, IsClimbed}
+use Rattle.checker.specs.Marks.{mark_at, AreMarks, MarksChain, AreRooted, IsClimbed}
 use Rattle.checker.proofs.Reading.{at_within}
-use Rattle.checker.proofs.Bodies.{begun_at_made, created_at_made, creation_at_created, made_at_cases}
+use Rattle.checker.proofs.Bodies.{created_at_made, creation_at_created, made_at_cases}
 
 -- no list holds an element before it has one
 pub contains_none : (i : ℕ) → Contains (let l : List ℕ = [] in l) i → ⊥

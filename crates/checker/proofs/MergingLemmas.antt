@@ -1,7 +1,7 @@
 -- The merge of the threads, one record on.
-use Rattle.std.proofs.Common.{zero, suc, ◌≡◌, ◌≢◌, ◌∙◌, ℕ, ◌<◌, ◌≤◌, ◌+◌, List, [], ◌∷◌, ◌++◌, length, get_or, take, Option, Some, None, Bool, true, false, refl, sym, ap, subst, arith, inl, inr, ◌⊎◌}
+use Rattle.std.proofs.Common.{zero, suc, ◌≡◌, ◌≢◌, ◌∙◌, ℕ, ◌<◌, ◌≤◌, ◌+◌, List, [], ◌∷◌, ◌++◌, length, get_or, Some, Bool, true, false, refl, sym, ap, subst, arith, inl, inr, ◌⊎◌}
 use Rattle.std.proofs.lemmas.Bool.{cases_eq, cases_lt, false≢true}
-use Rattle.std.proofs.lemmas.Option.{none-some, same_Some, slice_get-get_or, slice_get_within, slice_get_past}
+use Rattle.std.proofs.lemmas.Option.{same_Some, slice_get-get_or, slice_get_within}
 use Rattle.std.proofs.lemmas.List.{length-set, length-replicate, get_or-set_same, get_or-set_other, get_or-replicate, get_or_default, get_or-take, length-take, append-nil}
 use Rattle.std.proofs.lemmas.List.Elements.{Contains-push, Contains-push_cases, Contains-append_left, Contains-append_cases}
 use Rattle.std.proofs.lemmas.List.Sorted.{IsPermutation-refl, IsPermutation-more, Contains-permutation}
@@ -13,13 +13,13 @@ use Rattle.std.specs.Prelude.{slice_get, slice_index, Contains, ⊤, replicate, 
 use Rattle.std.proofs.lemmas.List.Sums.{sum_by-set}
 use Rattle.ompt_events.specs.declared.records.Record.{Record}
 use Rattle.ompt_events.specs.Places.{places, thread_at}
-use Rattle.ompt_events.specs.HappensBefore.{IsStep, HappensBefore, step}
+use Rattle.ompt_events.specs.HappensBefore.{step}
 use Rattle.ompt_events.specs.declared.cause.Cause.TheVariants.{NoOrder}
 use Rattle.ompt_events.specs.Causes.{HasCause, no_order, HasNoOrder, IsFirstWith}
 use Rattle.ompt_events.specs.Linearization.{IsDue, IsReady, IsFirstReady, IsGreedy, IsGrounded, IsLinearization}
 use Rattle.checker.specs.Merging.{Stands, MayFollow, AreHeads, AreFirstHeads}
 use Rattle.checker.proofs.MarkLemmas.{contains_none}
-use Rattle.checker.proofs.MergeLemmas.{stands_same, stands_or_not, is_head}
+use Rattle.checker.proofs.MergeLemmas.{stands_or_not, is_head}
 use Rattle.checker.proofs.OrderLemmas.{IsClosed, due_from_steps, closed_more, greedy_more, greedy_grounded, grounded_rising, before_to, before_from}
 
 -- what stands is one of the places

@@ -1,17 +1,17 @@
 -- Greedy orders: how they grow, and what they are when no record may follow.
-use Rattle.std.proofs.Common.{zero, suc, ◌≡◌, ◌≢◌, ◌∙◌, ℕ, ◌<◌, ◌≤◌, ◌+◌, List, [], ◌∷◌, ◌++◌, length, get_or, take, Option, Some, None, Bool, true, false, refl, sym, ap, subst, arith, inl, inr, ◌⊎◌}
-use Rattle.std.proofs.lemmas.Bool.{cases_eq, cases_lt}
-use Rattle.std.proofs.lemmas.Option.{none-some, same_Some, slice_get_within}
+use Rattle.std.proofs.Common.{◌≡◌, ◌∙◌, ℕ, ◌<◌, ◌≤◌, List, [], ◌∷◌, ◌++◌, length, take, Option, Some, None, true, refl, sym, subst, arith, inl, inr}
+use Rattle.std.proofs.lemmas.Bool.{cases_lt}
+use Rattle.std.proofs.lemmas.Option.{slice_get_within}
 use Rattle.std.proofs.lemmas.List.{take-append-le, take_all, get_or_push, get_or_append_left, get_or-take, get_or_default, length-take, length_push}
-use Rattle.std.proofs.lemmas.List.Elements.{Contains-push, Contains-push_cases, Contains-append_left, Contains-get_or}
+use Rattle.std.proofs.lemmas.List.Elements.{Contains-push_cases, Contains-append_left}
 use Rattle.std.specs.Option.{option_map_or}
-use Rattle.std.specs.Prelude.{is_some, slice_get, slice_index, Contains, ⊤, option_map}
+use Rattle.std.specs.Prelude.{is_some, slice_get, slice_index, Contains, ⊤}
 use Rattle.ompt_events.specs.declared.records.Record.{Record}
 use Rattle.ompt_events.specs.declared.records.Part.{Part}
 use Rattle.ompt_events.specs.Records.{created, started, finish}
-use Rattle.ompt_events.specs.Places.{at, places, thread_at, seen_at}
-use Rattle.ompt_events.specs.HappensBefore.{IsStart, IsFinishing, IsProgramStep, thread_order, creation, IsStep, program, ledger, HappensBefore, step, chain}
-use Rattle.ompt_events.specs.Linearization.{IsEarlier, IsDue, IsReady, IsFirstReady, IsGreedy, IsGrounded}
+use Rattle.ompt_events.specs.Places.{at, seen_at}
+use Rattle.ompt_events.specs.HappensBefore.{IsFinishing, thread_order, creation, IsStep, program, ledger, HappensBefore, step, chain}
+use Rattle.ompt_events.specs.Linearization.{IsEarlier, IsDue, IsFirstReady, IsGreedy, IsGrounded}
 use Rattle.checker.proofs.Reading.{at_within}
 
 -- a place that names a length is one of the places

@@ -1,8 +1,7 @@
 -- Which records speak of a task without a root.
-use Rattle.std.proofs.Common.{◌≡◌, ◌≢◌, ◌∙◌, ℕ, zero, suc, ◌<◌, ◌≤◌, ◌+◌, List, [], ◌∷◌, length, get_or, Option, Some, None, true, false, refl, sym, ap, subst, arith, inl, inr, ◌⊎◌}
-use Rattle.std.proofs.lemmas.Bool.{false≢true}
+use Rattle.std.proofs.Common.{◌≡◌, ◌≢◌, ◌∙◌, ℕ, zero, suc, ◌<◌, ◌≤◌, List, [], ◌∷◌, length, get_or, Option, Some, None, true, false, refl, sym, ap, subst, arith, inl, inr}
 use Rattle.std.proofs.lemmas.Option.{none-some, same_Some, slice_get_within}
-use Rattle.std.specs.Prelude.{is_some, Contains, slice_get}
+use Rattle.std.specs.Prelude.{is_some, Contains}
 use Rattle.std.specs.Ordering.{nat_cmp}
 use Rattle.std.specs.BTreeMap.{BTreeMap, get}
 use Rattle.ompt_events.specs.declared.records.Record.{Record}
@@ -10,8 +9,8 @@ use Rattle.ompt_events.specs.declared.cause.Cause.TheVariants.{Rootless}
 use Rattle.ompt_events.specs.Records.{begun_root, created, creation, made, flags, named}
 use Rattle.ompt_events.specs.Flags.{has_flag}
 use Rattle.ompt_events.specs.Places.{at}
-use Rattle.ompt_events.specs.Tree.{IsRoot, IsRooted, root, child}
-use Rattle.ompt_events.specs.Causes.{IsMade, IsNamedAt, BeginsMember, HasNoRoot, unmade, unrooted, no_region, HasCause, rootless, IsFirstWith, IsFreeOf}
+use Rattle.ompt_events.specs.Tree.{IsRooted, root, child}
+use Rattle.ompt_events.specs.Causes.{IsMade, HasNoRoot, unmade, unrooted, no_region, HasCause, rootless, IsFirstWith, IsFreeOf}
 use Rattle.checker.specs.declared.rooted.Mark.{Mark}
 use Rattle.checker.specs.declared.rooted.Mark.TheVariants.{Unknown, Rooted, Unrooted}
 use Rattle.checker.specs.Searches.{AreMakers}

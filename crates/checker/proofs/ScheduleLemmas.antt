@@ -1,17 +1,16 @@
 -- Which creations are awaited, and when file order is an order.
-use Rattle.std.proofs.Common.{zero, suc, ◌≡◌, ◌≢◌, ◌∙◌, ℕ, ◌<◌, ◌≤◌, ◌+◌, ◌-◌, List, [], ◌∷◌, ◌++◌, length, get_or, take, Option, Some, None, Bool, true, false, refl, sym, ap, subst, arith, inl, inr, ◌⊎◌}
-use Rattle.std.proofs.lemmas.Bool.{cases_eq, cases_lt}
+use Rattle.std.proofs.Common.{◌≡◌, ◌≢◌, ◌∙◌, ℕ, ◌<◌, ◌+◌, List, [], ◌∷◌, ◌++◌, length, Option, Some, None, refl, sym, ap, subst, arith, inl, inr}
+use Rattle.std.proofs.lemmas.Bool.{cases_eq}
 use Rattle.std.proofs.lemmas.Option.{none-some, same_Some, slice_get-get_or, slice_get_within}
-use Rattle.std.proofs.lemmas.List.{get_or_append_left, get_or_push, length_push, take_at, get_or-take, length-take}
-use Rattle.std.specs.Prelude.{is_some, is_none, slice_get, slice_index, Contains, ⊤, MatchOption}
+use Rattle.std.proofs.lemmas.List.{get_or_append_left, get_or_push, length_push}
+use Rattle.std.specs.Prelude.{slice_get, MatchOption}
 use Rattle.std.specs.Ordering.{nat_cmp}
 use Rattle.std.specs.BTreeMap.{BTreeMap, get, Updates}
 use Rattle.ompt_events.specs.declared.records.Record.{Record}
-use Rattle.ompt_events.specs.declared.cause.Cause.TheVariants.{NoOrder}
 use Rattle.ompt_events.specs.Records.{created, started, made}
-use Rattle.ompt_events.specs.Places.{at, places, seen_at, thread_at}
+use Rattle.ompt_events.specs.Places.{at, seen_at}
 use Rattle.ompt_events.specs.Tree.{IsExplicit}
-use Rattle.ompt_events.specs.HappensBefore.{IsStart, IsFinishing, IsProgramStep, thread_order, creation, IsStep, program, ledger, HappensBefore, step, chain}
+use Rattle.ompt_events.specs.HappensBefore.{IsStart, IsFinishing, thread_order, creation, IsStep, program, ledger, HappensBefore, step, chain}
 use Rattle.checker.specs.Merging.{IsAwaited, AreAwaited}
 use Rattle.checker.specs.Searches.{AreMakers}
 use Rattle.checker.proofs.NumberMaps.{updated_here, updated_there}

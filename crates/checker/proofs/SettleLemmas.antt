@@ -1,5 +1,5 @@
 -- Once a climb has ended, its chain is settled.
-use Rattle.std.proofs.Common.{zero, suc, Bool, cond, Option, ◌≡◌, ◌≢◌, ◌∙◌, ℕ, ◌<◌, ◌≤◌, ◌+◌, List, [], ◌∷◌, ◌++◌, length, get_or, take, Some, None, true, false, refl, sym, ap, arith, inl, inr, ◌⊎◌}
+use Rattle.std.proofs.Common.{zero, suc, Bool, cond, Option, ◌≡◌, ◌≢◌, ◌∙◌, ℕ, ◌<◌, ◌+◌, List, [], ◌∷◌, length, get_or, take, Some, None, true, false, refl, sym, ap, arith, inl, inr, ◌⊎◌}
 use Rattle.std.proofs.lemmas.Bool.{cases_eq}
 use Rattle.std.proofs.lemmas.List.{length-set, get_or-set_same, get_or-set_other, take_more, length-map}
 use Rattle.std.proofs.lemmas.List.Elements.{Contains-push, Contains-push_cases, Contains-append_left, Contains-get_or}
@@ -8,14 +8,13 @@ use Rattle.std.specs.Prelude.{is_some, Contains, map, if◌then◌else◌}
 use Rattle.ompt_events.specs.Tree.{IsRooted, root}
 use Rattle.checker.specs.Searches.{AreMakers}
 use Rattle.checker.proofs.Bodies.{begun_at_made}
-use Rattle.std.specs.Ordering.{nat_cmp}
-use Rattle.std.specs.BTreeMap.{BTreeMap, get}
+use Rattle.std.specs.BTreeMap.{BTreeMap}
 use Rattle.ompt_events.specs.declared.records.Record.{Record}
 use Rattle.ompt_events.specs.Records.{begun_root, made}
 use Rattle.ompt_events.specs.Places.{at}
 use Rattle.checker.specs.declared.rooted.Mark.{Mark}
 use Rattle.checker.specs.declared.rooted.Mark.TheVariants.{Unknown, Rooted, Unrooted}
-use Rattle.checker.specs.Marks.{mark_at, IsStuck, AreMarks, MarksChain, IsClimbed, IsSettled}
+use Rattle.checker.specs.Marks.{mark_at, AreMarks, MarksChain, IsClimbed, IsSettled}
 use Rattle.checker.proofs.MarkLemmas.{contains_none}
 
 unknown_rooted : {m : Mark} → m ≡ Unknown → m ≡ Rooted → ⊥

@@ -1,25 +1,38 @@
 -- From what the searches find to the verdict.
-use Rattle.std.proofs.Common.{zero, suc, ◌≡◌, ◌≢◌, ◌∙◌, ℕ, ◌<◌, ◌≤◌, ◌+◌, List, [], ◌∷◌, ◌++◌, length, get_or, take, Option, Some, None, Bool, true, false, refl, sym, ap, subst, arith, inl, inr, ◌⊎◌}
+use Rattle.std.proofs.Common.{zero-add, zero, suc, ◌≡◌, ◌≢◌, ◌∙◌, ℕ, ◌<◌, ◌≤◌, List, length, take, Option, Some, None, refl, sym, ap, subst, arith, inl, inr, ◌⊎◌}
 use Rattle.std.proofs.lemmas.Bool.{cases_eq, cases_lt}
 use Rattle.std.proofs.lemmas.Option.{none-some, same_Some}
-use Rattle.std.specs.Prelude.{is_some, slice_get, Contains, ⊤}
+use Rattle.std.specs.Prelude.{is_some, Contains, ⊤}
 use Rattle.ompt_events.specs.declared.records.Record.{Record}
 use Rattle.ompt_events.specs.declared.records.Part.{Part}
 use Rattle.ompt_events.specs.declared.records.Part.TheVariants as part
 use Rattle.ompt_events.specs.declared.cause.Cause.{Cause}
 use Rattle.ompt_events.specs.declared.cause.Cause.TheVariants.{CreatedTwice, Rootless, NotCurrent, Moved, RegionOrder, NoOrder}
 use Rattle.ompt_events.specs.CauseNames.{cause_number}
-use Rattle.ompt_events.specs.Records.{finish}
-use Rattle.ompt_events.specs.Places.{at, seen_at}
-use Rattle.ompt_events.specs.HappensBefore.{ledger, step}
-use Rattle.ompt_events.specs.Linearization.{IsLinearization, IsGreedy}
-use Rattle.ompt_events.specs.Completion.{IsPartFinished, IsFinished, CountsIn, CountsAt, IsCompleteIn, IsCompleteAt, StartsTask}
-use Rattle.ompt_events.specs.Violations.{IsRequired, IsUnfinished}
-use Rattle.ompt_events.specs.Causes.{IsFreeOf, IsFirstWith, IsMalformed, IsWellFormed}
+use Rattle.ompt_events.specs.declared.names.Endpoint.{Endpoint}
+use Rattle.ompt_events.specs.declared.names.Endpoint.TheVariants.{End}
+use Rattle.ompt_events.specs.declared.names.SyncKind.{SyncKind}
+use Rattle.ompt_events.specs.declared.names.SyncKind.TheVariants.{Taskwait}
+use Rattle.ompt_events.specs.Records.{finish, region}
+use Rattle.ompt_events.specs.Places.{at, places, seen_at}
+use Rattle.ompt_events.specs.Coverage.{waited}
+use Rattle.ompt_events.specs.HappensBefore.{IsStep, ledger, step}
+use Rattle.ompt_events.specs.Linearization.{IsLinearization, IsGreedy, IsFirstReady}
+use Rattle.ompt_events.specs.Completion.{IsPartFinished, CountsIn, CountsAt, IsCompleteIn, IsCompleteAt}
+use Rattle.ompt_events.specs.Violations.{IsRequired, covered, IsUnfinished}
+use Rattle.ompt_events.specs.Causes.{IsFreeOf, no_order, IsMalformed, IsWellFormed}
 use Rattle.checker.specs.declared.search.SearchFault.{SearchFault}
 use Rattle.checker.specs.declared.search.SearchFault.TheVariants.{Memory, Malformed}
 use Rattle.checker.specs.Verdicts.{sought, IsAlwaysComplete}
 use Rattle.checker.specs.Searches.{IsFound, IsLeastFound}
+use Rattle.std.proofs.lemmas.List.{length-take, get_or-take}
+use Rattle.std.proofs.lemmas.List.FromFn.{length-range_with_len, get_or-range_with_len}
+use Rattle.std.proofs.lemmas.List.Sorted.{IsPermutation-refl}
+use Rattle.checker.proofs.Reading.{at_within}
+use Rattle.checker.proofs.Ranges.{contains_place}
+use Rattle.checker.proofs.OrderLemmas.{before_to, greedy_grounded}
+use Rattle.checker.proofs.ScheduleLemmas.{before_less}
+use Rattle.checker.proofs.WaitLemmas.{whole_at}
 
 -- what holds of each cause that is looked for
 pub each_sought : (P : Cause → Type 0) → P CreatedTwice → P Rootless → P NotCurrent → P Moved → P RegionOrder → P NoOrder → (cause : Cause) → Contains sought cause → P cause
@@ -31,10 +44,7 @@ each_sought P a b c d e f cause (suc (suc (suc (suc zero))), below, is) = subst 
 each_sought P a b c d e f cause (suc (suc (suc (suc (suc zero)))), below, is) = subst P is f
 each_sought P a b c d e f cause (suc (suc (suc (suc (suc (suc k))))), below, is) = absurd (omega arith)
 
--- no cause with a smaller number occurs
-pub FreeBelow : List Record → Cause → Type 0
-FreeBelow rs cause = (other : Cause) → Contains sought other → cause_number other < cause_number cause → IsFreeOf rs other
-
+-- what was found first is least where no smaller cause occurs
 least_found : (rs : List Record) (cause : Cause) (fault : SearchFault) → Contains sought cause → ((other : Cause) → Contains sought other → cause_number other < cause_number cause → IsFreeOf rs other) → IsFound rs cause fault → IsLeastFound rs fault
 least_found rs cause Memory among free found = tt
 least_found rs cause (Malformed i told) among free (same, first) =
@@ -109,3 +119,63 @@ whole_below rs i task (suc n) = elim (whole_below rs i task n) [
           | inl is ↦ different (ap (λ (x : ℕ × Part). x.0) (same_Some (other, p) (task, part.Whole) (sym e ∙ ap (at finish rs) (sym is) ∙ finishes)))
           | inr apart ↦ none k (omega arith) finishes less
         ])
+
+-- where no required task is unfinished, each is complete in every order
+pub always_complete : (rs : List Record) → ((i task : ℕ) → IsUnfinished rs i task → ⊥) → IsAlwaysComplete rs
+always_complete rs none order linear i task required = complete_in rs order i task linear (elim (whole_below rs i task (length rs)) [
+  | inl found ↦ inl (found.0, found.1, inl found.2)
+  | inr missing ↦ absurd (none i task (record {
+    required = required;
+    incomplete = λ complete.
+        let region_end = required_end rs i task required in
+        let found = whole_at rs i region_end.0 task region_end.1 region_end.2 region_end.3 complete in
+        missing found.0 (at_within finish rs found.0 (task, part.Whole) found.1) found.1 found.2;
+  }))
+])
+  where
+    required_end : (rs' : List Record) (i' task' : ℕ) → IsRequired rs' i' task' → (own : ℕ) × (kind : SyncKind) × (endpoint : Endpoint) × (at region rs' i' ≡ Some (own, kind, endpoint))
+    required_end rs' i' task' (covered (waited {parent = own} ends before)) = (own, Taskwait, End, ends.ends)
+
+-- file order is a linearization where each step leads on, and the greedy one
+pub file_linear : (rs : List Record) → ((a b : ℕ) → IsStep rs a b → a < b) → IsLinearization rs (places rs)
+file_linear rs steps = record {
+  all_once = IsPermutation-refl (places rs);
+  rising = λ a b before.
+      let inside = before_to rs a b before in
+      record {
+        first = a;
+        second = b;
+        apart = before_less rs steps a b before;
+        within = rw (length-range_with_len 0 (length rs)) inside;
+        a_stands = get_or-range_with_len 0 (length rs) a 0 (let less = before_less rs steps a b before in omega arith) ∙ zero-add a;
+        b_stands = get_or-range_with_len 0 (length rs) b 0 inside ∙ zero-add b;
+      };
+}
+
+pub file_greedy : (rs : List Record) → ((a b : ℕ) → IsStep rs a b → a < b) → IsGreedy rs (places rs)
+file_greedy rs steps k below =
+    let inside : k < length rs = rw (length-range_with_len 0 (length rs)) at below in
+    let P : ℕ → Type 0 = λ i. IsFirstReady rs (λ _. ⊤) (take k (places rs)) i in
+    subst P (sym (get_or-range_with_len 0 (length rs) k 0 inside ∙ zero-add k)) (record {
+      ready = record {
+        within = inside;
+        taken = tt;
+        missing = λ c. let h = taken_below k c in absurd (omega arith);
+        due = λ a before. below_taken k inside a (before_less rs steps a k before);
+      };
+      first = λ j earlier ready. ready.missing (below_taken k inside j earlier);
+    })
+  where
+    taken_below : (n : ℕ) {i : ℕ} → Contains (take n (places rs)) i → i < n
+    taken_below n {i} (q, low, is) =
+        let q_low : q < n = let t = length-take n (places rs) in omega (arith, low, t) in
+        let q_in : q < length rs = let t = length-take n (places rs) in let l = length-range_with_len 0 (length rs) in omega (arith, low, t, l) in
+        let same : q ≡ i = sym (get_or-range_with_len 0 (length rs) q i q_in ∙ zero-add q) ∙ sym (get_or-take n (places rs) q i q_low) ∙ is in
+        omega arith
+
+    below_taken : (n : ℕ) → n < length rs → (i : ℕ) → i < n → Contains (take n (places rs)) i
+    below_taken n inside i low = (i, (let t = length-take n (places rs) in let l = length-range_with_len 0 (length rs) in omega (arith, t, l)), get_or-take n (places rs) i i low ∙ get_or-range_with_len 0 (length rs) i i (omega arith) ∙ zero-add i)
+
+-- then every record has an order
+pub file_orders : (rs : List Record) → ((a b : ℕ) → IsStep rs a b → a < b) → IsFreeOf rs NoOrder
+file_orders rs steps i (no_order h) = h.never (places rs) (greedy_grounded rs (places rs) (file_greedy rs steps)) (contains_place rs i h.within)

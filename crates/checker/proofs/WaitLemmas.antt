@@ -69,7 +69,7 @@ region_starts_none rs i task kind endpoint says (next, explicit, start) = none-s
     there (Some r) says' = region_starts task kind endpoint r.body says'
 
 -- a task that is complete at a record of a region was finished whole by an entry that is seen there
-whole_at : (rs : List Record) (i own task : ℕ) (kind : SyncKind) (endpoint : Endpoint) → at region rs i ≡ Some (own, kind, endpoint) → IsCompleteAt rs task i → (k : ℕ) × (at finish rs k ≡ Some (task, Whole)) × (seen_at rs k < seen_at rs i)
+pub whole_at : (rs : List Record) (i own task : ℕ) (kind : SyncKind) (endpoint : Endpoint) → at region rs i ≡ Some (own, kind, endpoint) → IsCompleteAt rs task i → (k : ℕ) × (at finish rs k ≡ Some (task, Whole)) × (seen_at rs k < seen_at rs i)
 whole_at rs i own task kind endpoint says (inl (k, finishes, inl below)) = (k, finishes, below)
 whole_at rs i own task kind endpoint says (inl (k, finishes, inr (same, starts))) = absurd (region_starts_none rs i own kind endpoint says starts)
 whole_at rs i own task kind endpoint says (inr (body, event)) = let never : BodyPart ≡ Whole = finish_at_whole task BodyPart rs body.0 body.1 in cc

@@ -1,5 +1,5 @@
 -- The walk along each thread, one record on.
-use Rattle.std.proofs.Common.{◌≡◌, ◌≢◌, ◌∙◌, ℕ, ◌<◌, ◌≤◌, ◌+◌, List, [], ◌∷◌, ◌++◌, length, get_or, take, Option, Some, None, true, false, cond, eqb, refl, sym, ap, subst, arith, inl, inr, ◌⊎◌}
+use Rattle.std.proofs.Common.{◌≡◌, ◌≢◌, ◌∙◌, ℕ, ◌<◌, ◌≤◌, ◌+◌, List, [], ◌∷◌, ◌++◌, length, get_or, take, Option, Some, None, false, cond, eqb, refl, sym, ap, subst, arith, inl, inr, ◌⊎◌}
 use Rattle.std.proofs.lemmas.Bool.{cases_eq, eq-eqb}
 use Rattle.std.proofs.lemmas.Bool.Decides.{nat_tests}
 use Rattle.std.proofs.lemmas.List.Sums.{fold_push}
@@ -13,10 +13,9 @@ use Rattle.ompt_events.specs.declared.records.Record.{Record}
 use Rattle.ompt_events.specs.declared.records.Body.{Body}
 use Rattle.ompt_events.specs.declared.cause.Cause.TheVariants.{NotCurrent}
 use Rattle.ompt_events.specs.Records.{running, ended_root, started}
-use Rattle.ompt_events.specs.Places.{thread_at}
 use Rattle.ompt_events.specs.Tree.{IsRoot}
 use Rattle.ompt_events.specs.Threads.{Walk, at_start, after_body, after_record, walk_of, Misfits, not_running, not_innermost, other_root, MisfitsAt}
-use Rattle.ompt_events.specs.Causes.{HasCause, not_current, IsNotCurrent, IsFirstWith, IsFreeOf}
+use Rattle.ompt_events.specs.Causes.{HasCause, not_current, IsFirstWith, IsFreeOf}
 
 -- the three ways to misfit, each as a test has it
 pub from_running : (rs : List Record) (w : Walk) (b : Body) → IsSomeAnd (running b) (λ t. w.current ≢ Some t) → Misfits rs w b

@@ -8,7 +8,7 @@ use Rattle.ompt_events.specs.declared.names.Endpoint.TheVariants.{Begin, End}
 use Rattle.ompt_events.specs.declared.names.SyncKind.{SyncKind}
 use Rattle.ompt_events.specs.Records.{region}
 use Rattle.ompt_events.specs.Places.{at}
-use Rattle.ompt_events.specs.Regions.{EndsRegion, open_regions}
+use Rattle.ompt_events.specs.Regions.{EndsRegion}
 
 -- the region that is open below the one that begins there
 abbrev pub below_of : List (Option ℕ) → Option ℕ → Option ℕ

@@ -1,8 +1,6 @@
 //! What is printed of a verdict or a fault, and the exit statuses.
-ghost use Rattle.std.specs.Prelude.{◌≡◌, ◌++◌, IfOk, IsOkUnless, string_bytes, codes, decimal, slice_get, Some, length, is_some, ◌<◌, ◌+◌, ◌^◌, ◌≤◌};
-ghost use Rattle.ompt_events.specs.Traces.{IsTrace};
+ghost use Rattle.std.specs.Prelude.{◌≡◌, ◌<◌, ◌≤◌, ◌^◌, IfOk, IsOkUnless, Some, length, string_bytes};
 ghost use Rattle.ompt_events.specs.Causes.{entries_in};
-ghost use Rattle.ompt_events.specs.CauseNames.{cause_number, cause_name};
 ghost use Rattle.checker.specs.Verdicts.{IsVerdict};
 ghost use Rattle.clap.specs.Words.{kind_of};
 ghost use Rattle.taskaudit.specs.Reports.{report_of, fault_text_of, yes_text, no_text, malformed_text, place_text, place_of, ends_wait, creates_in, waits_in, unreadable_text, unwritten_text, no_memory_text};

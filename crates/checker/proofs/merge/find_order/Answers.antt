@@ -1,9 +1,8 @@
-use Rattle.std.proofs.Common.{true, ◌≡◌, ◌∙◌, ◌<◌, ◌≤◌, ◌+◌, ◌++◌, ◌∷◌, [], ℕ, Some, None, length, get_or, refl, sym, ap, arith, rules}
+use Rattle.std.proofs.Common.{true, ◌≡◌, ◌∙◌, ◌<◌, ◌≤◌, ℕ, Some, length, get_or, refl, sym, arith, rules}
 use Rattle.std.proofs.Math.ListN.{set}
 use Rattle.std.proofs.lemmas.Option.{same_Some}
-use Rattle.std.specs.Prelude.{sum_by}
 use Rattle.ompt_events.specs.Places.{thread_at}
-use Rattle.checker.specs.Merging.{Stands, MayFollow, IsLeastEntry}
+use Rattle.checker.specs.Merging.{Stands, MayFollow}
 use Rattle.checker.proofs.Reading.{thread_index}
 use Rattle.checker.proofs.EntryLemmas.{least_entry}
 use Rattle.checker.proofs.MergingLemmas.{merging_start, merging_more, none_stands, missing_less, passed_more, first_unordered, all_ordered, stands_ordered, unordered_within}

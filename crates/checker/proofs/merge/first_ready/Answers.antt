@@ -1,4 +1,4 @@
-use Rattle.checker.proofs.MergeLemmas.{may_follow, ready_head, is_head, thread_of, none_found, first_found}
+use Rattle.checker.proofs.MergeLemmas.{none_found, first_found}
 use Rattle.checker.proofs.merge.first_ready.Goals as goal
 
 pub returns-clause-none : goal.returns-clause-none

@@ -1,11 +1,11 @@
-use Rattle.std.proofs.Common.{◌≡◌, ◌≢◌, ◌∙◌, ◌<◌, Some, None, length, refl, sym, ap, true, false, rules, ℕ}
+use Rattle.std.proofs.Common.{◌≡◌, ◌∙◌, ◌<◌, Some, None, length, sym}
 use Rattle.std.proofs.lemmas.Bool.{false≢true}
 use Rattle.std.proofs.lemmas.List.{length-set}
 use Rattle.std.specs.Ordering.{nat_cmp}
 use Rattle.std.specs.BTreeMap.{get}
 use Rattle.ompt_events.specs.Records.{creation}
 use Rattle.ompt_events.specs.Places.{at}
-use Rattle.checker.specs.declared.rooted.Mark.TheVariants.{Unknown, Rooted}
+use Rattle.checker.specs.declared.rooted.Mark.TheVariants.{Unknown}
 use Rattle.checker.specs.Marks.{mark_at}
 use Rattle.checker.proofs.Reading.{at_index}
 use Rattle.checker.proofs.MarkLemmas.{climbing_creates, climbed_unmade, climbing_more, climbed_marked, mark_read}

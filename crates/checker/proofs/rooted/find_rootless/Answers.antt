@@ -1,4 +1,4 @@
-use Rattle.std.proofs.Common.{◌≡◌, ◌∙◌, ◌<◌, ◌⊎◌, length, get_or, refl, sym, inl, inr, below_more}
+use Rattle.std.proofs.Common.{◌≡◌, ◌∙◌, ◌⊎◌, refl, sym, inl, inr, below_more}
 use Rattle.std.proofs.lemmas.Bool.{false≢true}
 use Rattle.ompt_events.specs.Records.{named}
 use Rattle.checker.specs.declared.rooted.Mark.TheVariants.{Unrooted}

@@ -1,10 +1,8 @@
-use Rattle.std.proofs.Common.{◌≡◌, ◌≢◌, ◌∙◌, ◌<◌, ◌+◌, ℕ, Some, true, false, length, sym, ap, below_more, arith}
-use Rattle.std.proofs.lemmas.Bool.{cases_lt, false≢true}
+use Rattle.std.proofs.Common.{◌≡◌, ◌∙◌, sym, ap, below_more, arith}
+use Rattle.std.proofs.lemmas.Bool.{false≢true}
 use Rattle.std.specs.Prelude.{is_some}
 use Rattle.ompt_events.specs.Records.{creation}
 use Rattle.ompt_events.specs.Places.{at}
-use Rattle.checker.specs.declared.rooted.Mark.TheVariants.{Unknown}
-use Rattle.checker.specs.Marks.{mark_at, AreMarks}
 use Rattle.checker.proofs.Reading.{at_read}
 use Rattle.checker.proofs.MarkLemmas.{creates_within}
 use Rattle.checker.proofs.SettleLemmas.{marks_first}

@@ -1,7 +1,6 @@
-use Rattle.std.proofs.Common.{rules, ◌≡◌, ◌<◌, ◌∙◌, true, false, length, get_or, take, ap, sym}
+use Rattle.std.proofs.Common.{rules, true, false, get_or}
 use Rattle.std.proofs.lemmas.List.{get_or_default, take_all}
-use Rattle.std.proofs.lemmas.List.Elements.{Contains-get_or}
-use Rattle.checker.specs.Marks.{IsClimbed, IsSettled}
+use Rattle.checker.specs.Marks.{IsClimbed}
 use Rattle.checker.proofs.SettleLemmas.{MarksRooted, rooted_more, settled_rooted, settled_unrooted, within_chain}
 use Rattle.checker.proofs.rooted.settle.Goals as goal
 use Rattle.checker.proofs.rooted.settle.Goals.{then-reaches+else-loop-place-test, else-reaches}

@@ -1,5 +1,4 @@
 use Rattle.std.proofs.Common.{take}
-use Rattle.checker.specs.Marks.{IsClimbed}
 use Rattle.checker.proofs.SettleLemmas.{MarksRooted}
 use Rattle.checker.proofs.rooted.settle.Given as goal
 

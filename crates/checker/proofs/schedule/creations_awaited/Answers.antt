@@ -1,7 +1,6 @@
-use Rattle.std.proofs.Common.{◌≡◌, ◌∙◌, ◌≤◌, ℕ, Some, None, length, sym, arith}
+use Rattle.std.proofs.Common.{◌≡◌, ◌∙◌, Some, None, length, sym, arith}
 use Rattle.ompt_events.specs.Records.{started}
 use Rattle.ompt_events.specs.Places.{at}
-use Rattle.checker.specs.Merging.{AreAwaited}
 use Rattle.checker.proofs.Reading.{at_read}
 use Rattle.checker.proofs.ScheduleLemmas.{started_none, started_more, awaited_more, awaits_none, awaits_here}
 use Rattle.checker.proofs.schedule.creations_awaited.Goals as goal

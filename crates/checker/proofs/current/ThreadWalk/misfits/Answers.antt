@@ -1,6 +1,6 @@
 use Rattle.std.proofs.Common.{◌≡◌, ◌≢◌, ◌∙◌, Some, refl, sym, ap, inl, inr}
 use Rattle.std.proofs.lemmas.Bool.{false≢true}
-use Rattle.std.specs.Prelude.{IsSomeAnd, IsTrue, slice_get}
+use Rattle.std.specs.Prelude.{IsSomeAnd, slice_get}
 use Rattle.ompt_events.specs.Records.{running, ended_root}
 use Rattle.ompt_events.specs.Threads.{Walk}
 use Rattle.checker.proofs.WalkLemmas.{from_running, from_ended, from_root, misfit_cases}

@@ -1,0 +1,6 @@
+use Rattle.std.proofs.Common.{◌∙◌, [], ◌∷◌, ◌++◌, ap, sym}
+use Rattle.checker.proofs.Ranges.{range_more}
+use Rattle.checker.proofs.checking.file_order.Goals as goal
+
+pub loop-at-preserved : goal.loop-at-preserved
+loop-at-preserved c = c.in_ok-push.ensures.items ∙ ap (λ order. order ++ c.loop-at.at ∷ []) c.loop-at.invariant ∙ sym (range_more c.loop-at.at)
