@@ -10,6 +10,8 @@ mod regions;
 mod rooted;
 mod schedule;
 mod search;
+#[cfg(test)]
+mod tests;
 mod verdict;
 mod waits;
 

@@ -38,7 +38,8 @@ impl Order {
     pub fn into_vec(self) -> Vec<usize>
         ensures { result.items ≡ self }
     {
-        self.places
+        let Order { places: list } = self;
+        list
     }
 }
 

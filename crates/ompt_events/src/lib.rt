@@ -6,6 +6,8 @@ mod flags;
 mod names;
 mod path;
 mod records;
+#[cfg(test)]
+mod tests;
 mod trace;
 
 pub use cause::Cause;

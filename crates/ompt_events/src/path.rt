@@ -50,6 +50,7 @@ impl Path {
     pub fn into_vec(self) -> Vec<u32>
         ensures { result.items ≡ self }
     {
-        self.numbers
+        let Path { numbers: list } = self;
+        list
     }
 }

@@ -107,13 +107,8 @@ impl Body {
         ensures { result ≡ made self.now }
     {
         match self {
-            Body::ImplicitTask {
-                endpoint: Endpoint::Begin,
-                task,
-                ..
-            } => Some(*task),
             Body::TaskCreate { child, .. } => Some(*child),
-            _ => None,
+            _ => self.begun_root(),
         }
     }
 
@@ -132,15 +127,7 @@ impl Body {
         ensures { result ≡ running self.now }
     {
         match self {
-            Body::ImplicitTask {
-                endpoint: Endpoint::Begin,
-                ..
-            } => None,
-            Body::ImplicitTask {
-                endpoint: Endpoint::End,
-                task,
-                ..
-            } => Some(*task),
+            Body::ImplicitTask { .. } => self.ended_root(),
             Body::TaskCreate { task, .. } => Some(*task),
             Body::TaskSchedule { prior, .. } => Some(*prior),
             Body::SyncRegion { task, .. } => Some(*task),
