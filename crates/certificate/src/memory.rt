@@ -173,7 +173,7 @@ impl MemSink {
     pub fn bytes(&self) -> &[u8]
         ensures { result.now ≡ self.now.taken }
     {
-        &self.bytes
+        self.bytes.as_slice()
     }
 }
 

@@ -98,156 +98,164 @@ fn expect(
 ) -> Result<(), Fail> {
     let alloc = rt.alloc();
     let file = file_of(alloc, lines)?;
+    let report = format!(in alloc; "{text}\n")?;
     for per_read in [1, 100_000] {
         let mut source = source_of(alloc, file.as_bytes(), per_read)?;
         let mut sink = MemSink::new(alloc, 200, None, None)?;
         let answer = audit(alloc, &mut source, &mut sink);
         assert_eq!(rt; answer, Ok(outcome), "at {text}");
-        assert_eq!(rt; sink.bytes(), text.as_bytes(), "at {text}");
+        assert_eq!(rt; sink.bytes(), report.as_bytes(), "at {text}");
     }
     Ok(())
 }
 
+/// A child runs inside the taskwait that waits for it.
+const WAITED: &[Line] = &[
+    (0, 0, Initial(1)),
+    (0, 0, Create(1, 2)),
+    (0, 0, Begin(1)),
+    (0, 0, Switch(1, 2)),
+    (0, 0, Complete(2, 1, 0)),
+    (0, 1, End(1)),
+];
+
+/// The taskwait ends before anything is known of the child's end.
+const ENDED_EARLY: &[Line] = &[
+    (0, 0, Initial(1)),
+    (0, 0, Create(1, 2)),
+    (0, 0, Begin(1)),
+    (0, 0, End(1)),
+    (1, 0, Initial(10)),
+    (1, 0, Switch(10, 2)),
+    (1, 0, Complete(2, 10, 0)),
+];
+
+/// The child's own child never runs.
+const GRANDCHILD: &[Line] = &[
+    (0, 0, Initial(1)),
+    (0, 0, Create(1, 2)),
+    (0, 0, Begin(1)),
+    (0, 0, Switch(1, 2)),
+    (0, 0, Create(2, 3)),
+    (0, 0, Complete(2, 1, 1)),
+    (0, 1, End(1)),
+];
+
+/// The thread that runs the child stands first in the file.
+const RUN_ELSEWHERE: &[Line] = &[
+    (1, 0, Initial(10)),
+    (1, 0, Switch(10, 2)),
+    (1, 0, Complete(2, 10, 0)),
+    (0, 0, Initial(1)),
+    (0, 0, Create(1, 2)),
+    (0, 0, Begin(1)),
+    (0, 1, End(1)),
+];
+
 #[test]
 fn judges_waits(rt: HostRuntime) -> Result<(), Fail> {
-    let waited = [
-        (0, 0, Initial(1)),
-        (0, 0, Create(1, 2)),
-        (0, 0, Begin(1)),
-        (0, 0, Switch(1, 2)),
-        (0, 0, Complete(2, 1, 0)),
-        (0, 1, End(1)),
-    ];
-    let ended_early = [
-        (0, 0, Initial(1)),
-        (0, 0, Create(1, 2)),
-        (0, 0, Begin(1)),
-        (0, 0, End(1)),
-        (1, 0, Initial(10)),
-        (1, 0, Switch(10, 2)),
-        (1, 0, Complete(2, 10, 0)),
-    ];
-    let grandchild = [
-        (0, 0, Initial(1)),
-        (0, 0, Create(1, 2)),
-        (0, 0, Begin(1)),
-        (0, 0, Switch(1, 2)),
-        (0, 0, Create(2, 3)),
-        (0, 0, Complete(2, 1, 1)),
-        (0, 1, End(1)),
-    ];
-    let run_elsewhere = [
-        (1, 0, Initial(10)),
-        (1, 0, Switch(10, 2)),
-        (1, 0, Complete(2, 10, 0)),
-        (0, 0, Initial(1)),
-        (0, 0, Create(1, 2)),
-        (0, 0, Begin(1)),
-        (0, 1, End(1)),
-    ];
-    let no = "no: line 5, thread 0, seq 3: task 2 unfinished\n";
     expect(
         &rt,
         &[],
         Outcome::Yes,
-        "yes: 0 records, 0 entries, 0 tasks, 0 waits\n",
+        "yes: 0 records, 0 entries, 0 tasks, 0 waits",
     )?;
-    expect(
-        &rt,
-        &waited[..1],
-        Outcome::Yes,
-        "yes: 1 records, 0 entries, 0 tasks, 0 waits\n",
-    )?;
-    expect(
-        &rt,
-        &waited,
-        Outcome::Yes,
-        "yes: 6 records, 1 entries, 1 tasks, 1 waits\n",
-    )?;
-    expect(&rt, &ended_early, Outcome::No, no)?;
-    expect(
-        &rt,
-        &grandchild,
-        Outcome::Yes,
-        "yes: 7 records, 1 entries, 2 tasks, 1 waits\n",
-    )?;
-    expect(
-        &rt,
-        &run_elsewhere,
-        Outcome::Yes,
-        "yes: 7 records, 1 entries, 1 tasks, 1 waits\n",
-    )
+    for (lines, outcome, text) in [
+        (
+            &WAITED[..1],
+            Outcome::Yes,
+            "yes: 1 records, 0 entries, 0 tasks, 0 waits",
+        ),
+        (
+            WAITED,
+            Outcome::Yes,
+            "yes: 6 records, 1 entries, 1 tasks, 1 waits",
+        ),
+        (
+            ENDED_EARLY,
+            Outcome::No,
+            "no: line 5, thread 0, seq 3: task 2 unfinished",
+        ),
+        (
+            GRANDCHILD,
+            Outcome::Yes,
+            "yes: 7 records, 1 entries, 2 tasks, 1 waits",
+        ),
+        (
+            RUN_ELSEWHERE,
+            Outcome::Yes,
+            "yes: 7 records, 1 entries, 1 tasks, 1 waits",
+        ),
+    ] {
+        expect(&rt, lines, outcome, text)?;
+    }
+    Ok(())
 }
+
+const CREATED_TWICE: &[Line] = &[
+    (0, 0, Initial(1)),
+    (0, 0, Create(1, 2)),
+    (0, 0, Create(1, 2)),
+];
+
+const ROOTLESS: &[Line] = &[(0, 0, Initial(1)), (0, 0, Switch(1, 2))];
+
+const NOT_CURRENT: &[Line] = &[
+    (0, 0, Initial(1)),
+    (0, 0, Create(1, 2)),
+    (0, 0, Create(2, 3)),
+];
+
+const MOVED: &[Line] = &[
+    (0, 0, Initial(1)),
+    (0, 0, Create(1, 2)),
+    (0, 0, Switch(1, 2)),
+    (0, 0, Switch(2, 1)),
+    (1, 0, Initial(10)),
+    (1, 0, Switch(10, 2)),
+];
+
+const REGION_ORDER: &[Line] = &[(0, 0, Initial(1)), (0, 0, End(1))];
+
+const NO_ORDER: &[Line] = &[
+    (0, 0, Initial(1)),
+    (0, 0, Switch(1, 20)),
+    (0, 0, Switch(20, 1)),
+    (0, 0, Create(1, 10)),
+    (1, 0, Initial(2)),
+    (1, 0, Switch(2, 10)),
+    (1, 0, Switch(10, 2)),
+    (1, 0, Create(2, 20)),
+];
 
 #[test]
 fn tells_causes(rt: HostRuntime) -> Result<(), Fail> {
-    let created_twice = [
-        (0, 0, Initial(1)),
-        (0, 0, Create(1, 2)),
-        (0, 0, Create(1, 2)),
-    ];
-    let rootless = [(0, 0, Initial(1)), (0, 0, Switch(1, 2))];
-    let not_current = [
-        (0, 0, Initial(1)),
-        (0, 0, Create(1, 2)),
-        (0, 0, Create(2, 3)),
-    ];
-    let moved = [
-        (0, 0, Initial(1)),
-        (0, 0, Create(1, 2)),
-        (0, 0, Switch(1, 2)),
-        (0, 0, Switch(2, 1)),
-        (1, 0, Initial(10)),
-        (1, 0, Switch(10, 2)),
-    ];
-    let region_order = [(0, 0, Initial(1)), (0, 0, End(1))];
-    let no_order = [
-        (0, 0, Initial(1)),
-        (0, 0, Switch(1, 20)),
-        (0, 0, Switch(20, 1)),
-        (0, 0, Create(1, 10)),
-        (1, 0, Initial(2)),
-        (1, 0, Switch(2, 10)),
-        (1, 0, Switch(10, 2)),
-        (1, 0, Create(2, 20)),
-    ];
-    let malformed = Outcome::Malformed;
-    expect(
-        &rt,
-        &created_twice,
-        malformed,
-        "malformed: line 4, thread 0, seq 2: cause 2 CreatedTwice\n",
-    )?;
-    expect(
-        &rt,
-        &rootless,
-        malformed,
-        "malformed: line 3, thread 0, seq 1: cause 3 Rootless\n",
-    )?;
-    expect(
-        &rt,
-        &not_current,
-        malformed,
-        "malformed: line 4, thread 0, seq 2: cause 4 NotCurrent\n",
-    )?;
-    expect(
-        &rt,
-        &moved,
-        malformed,
-        "malformed: line 7, thread 1, seq 1: cause 5 Moved\n",
-    )?;
-    expect(
-        &rt,
-        &region_order,
-        malformed,
-        "malformed: line 3, thread 0, seq 1: cause 7 RegionOrder\n",
-    )?;
-    expect(
-        &rt,
-        &no_order,
-        malformed,
-        "malformed: line 3, thread 0, seq 1: cause 15 NoOrder\n",
-    )
+    for (lines, text) in [
+        (
+            CREATED_TWICE,
+            "malformed: line 4, thread 0, seq 2: cause 2 CreatedTwice",
+        ),
+        (
+            ROOTLESS,
+            "malformed: line 3, thread 0, seq 1: cause 3 Rootless",
+        ),
+        (
+            NOT_CURRENT,
+            "malformed: line 4, thread 0, seq 2: cause 4 NotCurrent",
+        ),
+        (MOVED, "malformed: line 7, thread 1, seq 1: cause 5 Moved"),
+        (
+            REGION_ORDER,
+            "malformed: line 3, thread 0, seq 1: cause 7 RegionOrder",
+        ),
+        (
+            NO_ORDER,
+            "malformed: line 3, thread 0, seq 1: cause 15 NoOrder",
+        ),
+    ] {
+        expect(&rt, lines, Outcome::Malformed, text)?;
+    }
+    Ok(())
 }
 
 /// Compares the text and the exit status of a fault.

@@ -1,0 +1,85 @@
+#!/usr/bin/env python3
+"""Times reading, the causes, the order and the waits, each for itself, on files of 2^12 to 2^17 records.
+
+The phases follow one another, so each is the difference between two runs that end one phase apart: `timing read`
+ends after reading; a file whose last record ends a region that never began is malformed once all causes but the order
+were looked for; a file whose first wait saw nothing is a no once the order was found; the file itself goes to the end.
+"""
+
+import json
+import os
+import subprocess
+import sys
+import tempfile
+
+from bench import HERE, PROGRAM, TOP, best
+
+TIMING = os.path.join(TOP, "crates", "timing", "out", "timing")
+NEW_THREAD, NEW_TASK = 255, 1_000_000_000
+
+
+def with_a_cause(lines):
+    """The records, and then an end without a begin on a thread of its own."""
+    start = {"actual": 1, "cb": "implicit_task", "endpoint": "begin", "flags": ["initial"], "index": 0, "parallel": 0,
+             "seen": 0, "seq": 0, "task": NEW_TASK, "thread": NEW_THREAD}
+    end = {"cb": "sync_region", "endpoint": "end", "kind": "taskwait", "parallel": None, "seen": 0, "seq": 1,
+           "task": NEW_TASK, "thread": NEW_THREAD}
+    return lines + [json.dumps(start), json.dumps(end)]
+
+
+def with_an_early_end(lines):
+    """The records, of which the first end of a wait that covers a child names the ledger length 0."""
+    parents = set()
+    for at, line in enumerate(lines[1:], 1):
+        record = json.loads(line)
+        if record["cb"] == "task_create":
+            parents.add(record["task"])
+        elif record["cb"] == "sync_region" and record["endpoint"] == "end" and record["task"] in parents:
+            record["seen"] = 0
+            return lines[:at] + [json.dumps(record)] + lines[at + 1:]
+    raise ValueError("no wait covers a child")
+
+
+def seconds_of(command, path, lines, answer):
+    """The seconds of the quickest run on a file of these lines, which must answer so."""
+    with open(path, "w", encoding="utf-8") as file:
+        file.write("".join(line + "\n" for line in lines))
+    seconds, _, text = best(command, path)
+    if seconds is None or answer not in text:
+        sys.exit(f"answered {text!r} in place of {answer!r}")
+    return seconds
+
+
+def phases(path, size, order):
+    """The seconds of each phase on the trace of so many records."""
+    made = subprocess.run([sys.executable, os.path.join(HERE, "traces.py"), str(size)] + order, capture_output=True, check=True)
+    lines = made.stdout.decode().splitlines()
+    check = [PROGRAM, "check"]
+    ends = [
+        seconds_of([TIMING, "read"], path, lines, f"{size} records"),
+        seconds_of(check, path, with_a_cause(lines), "cause 7 RegionOrder"),
+        seconds_of(check, path, with_an_early_end(lines), "no: "),
+        seconds_of(check, path, lines, "yes: "),
+    ]
+    return [ends[0]] + [later - earlier for earlier, later in zip(ends, ends[1:])]
+
+
+def table(title, path, order):
+    """Prints a row for each size, with what each phase grew by since the size before."""
+    print(f"\n{title}\n")
+    print("| Records | Read | Causes | Order | Waits | Growth of each |")
+    print("|---|---|---|---|---|---|", flush=True)
+    earlier = None
+    for size in (2**power for power in range(12, 18)):
+        now = phases(path, size, order)
+        growth = ", ".join(f"{b / a:.1f}" for a, b in zip(earlier, now)) if earlier and min(earlier) > 0 else ""
+        print(f"| {size:,} | " + " | ".join(f"{1000 * one:.1f}" for one in now) + f" | {growth} |", flush=True)
+        earlier = now
+
+
+if __name__ == "__main__":
+    if sys.argv[1:]:
+        sys.exit(__doc__)
+    with tempfile.TemporaryDirectory() as folder:
+        table("Milliseconds, in the order of time", os.path.join(folder, "trace"), [])
+        table("Milliseconds, one thread after another", os.path.join(folder, "trace"), ["threads"])
