@@ -1,5 +1,7 @@
 #!/usr/bin/env python3
-"""Times reading, the causes, the order and the waits, each for itself, on files of 2^12 to 2^17 records.
+"""Counts the instructions of reading, the causes, the order and the waits, each for itself, from 2^12 to 2^17 records.
+
+Valgrind counts them, so the same files give the same figures on a busy machine too.
 
 The phases follow one another, so each is the difference between two runs that end one phase apart: `timing read`
 ends after reading; a file whose last record ends a region that never began is malformed once all causes but the order
@@ -8,12 +10,14 @@ were looked for; a file whose first wait saw nothing is a no once the order was 
 
 import json
 import os
+import re
 import subprocess
 import sys
 import tempfile
 
-from bench import HERE, PROGRAM, TOP, best
+from bench import HERE, PROGRAM, TOP
 
+COUNTING = ["valgrind", "--tool=cachegrind", "--cache-sim=no", "--cachegrind-out-file=/dev/null"]
 TIMING = os.path.join(TOP, "crates", "timing", "out", "timing")
 NEW_THREAD, NEW_TASK = 255, 1_000_000_000
 
@@ -40,26 +44,28 @@ def with_an_early_end(lines):
     raise ValueError("no wait covers a child")
 
 
-def seconds_of(command, path, lines, answer):
-    """The seconds of the quickest run on a file of these lines, which must answer so."""
+def instructions_of(command, path, lines, answer):
+    """The instructions of a run on a file of these lines, which must answer so."""
     with open(path, "w", encoding="utf-8") as file:
         file.write("".join(line + "\n" for line in lines))
-    seconds, _, text = best(command, path)
-    if seconds is None or answer not in text:
+    with open(path, "rb") as source:
+        run = subprocess.run(COUNTING + command, stdin=source, capture_output=True, check=False)
+    text = run.stdout.decode()
+    if answer not in text:
         sys.exit(f"answered {text!r} in place of {answer!r}")
-    return seconds
+    return int(re.search(r"I +refs: +([0-9,]+)", run.stderr.decode())[1].replace(",", ""))
 
 
 def phases(path, size, order):
-    """The seconds of each phase on the trace of so many records."""
+    """The instructions of each phase on the trace of so many records."""
     made = subprocess.run([sys.executable, os.path.join(HERE, "traces.py"), str(size)] + order, capture_output=True, check=True)
     lines = made.stdout.decode().splitlines()
     check = [PROGRAM, "check"]
     ends = [
-        seconds_of([TIMING, "read"], path, lines, f"{size} records"),
-        seconds_of(check, path, with_a_cause(lines), "cause 7 RegionOrder"),
-        seconds_of(check, path, with_an_early_end(lines), "no: "),
-        seconds_of(check, path, lines, "yes: "),
+        instructions_of([TIMING, "read"], path, lines, f"{size} records"),
+        instructions_of(check, path, with_a_cause(lines), "cause 7 RegionOrder"),
+        instructions_of(check, path, with_an_early_end(lines), "no: "),
+        instructions_of(check, path, lines, "yes: "),
     ]
     return [ends[0]] + [later - earlier for earlier, later in zip(ends, ends[1:])]
 
@@ -73,7 +79,7 @@ def table(title, path, order):
     for size in (2**power for power in range(12, 18)):
         now = phases(path, size, order)
         growth = ", ".join(f"{b / a:.1f}" for a, b in zip(earlier, now)) if earlier and min(earlier) > 0 else ""
-        print(f"| {size:,} | " + " | ".join(f"{1000 * one:.1f}" for one in now) + f" | {growth} |", flush=True)
+        print(f"| {size:,} | " + " | ".join(f"{one / 1e6:.1f}" for one in now) + f" | {growth} |", flush=True)
         earlier = now
 
 
@@ -81,5 +87,5 @@ if __name__ == "__main__":
     if sys.argv[1:]:
         sys.exit(__doc__)
     with tempfile.TemporaryDirectory() as folder:
-        table("Milliseconds, in the order of time", os.path.join(folder, "trace"), [])
-        table("Milliseconds, one thread after another", os.path.join(folder, "trace"), ["threads"])
+        table("Millions of instructions, in the order of time", os.path.join(folder, "trace"), [])
+        table("Millions of instructions, one thread after another", os.path.join(folder, "trace"), ["threads"])

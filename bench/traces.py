@@ -1,7 +1,7 @@
 #!/usr/bin/env python3
-"""traces.py SIZE [threads]: a trace of SIZE records, in the order of time or one thread after another.
+"""traces.py SIZE [time|threads [COUNT]]: a trace of SIZE records, in the order of time or one thread after another.
 
-Eight threads run random trees of tasks, and each taskwait ends after the children that it covers. The same words give
+COUNT threads, else eight, run random trees of tasks, and each taskwait ends after the children that it covers. The same words give
 the same bytes each time.
 """
 
@@ -17,17 +17,17 @@ MOST_DEPTH = 12
 class Run:
     """A run of the threads, which records what they do."""
 
-    def __init__(self):
+    def __init__(self, threads):
         self.random = random.Random("taskwait trees")
         self.records = []  # of each line its thread and its text
-        self.seqs = [0] * THREADS
-        self.known = [0] * THREADS  # the ledger length that each thread last knew
+        self.seqs = [0] * threads
+        self.known = [0] * threads  # the ledger length that each thread last knew
         self.ledger = 0
         self.next_task = 1
         self.parent, self.path, self.root = {}, {}, {}
         self.planned, self.kept, self.running, self.waiting, self.unstarted = {}, {}, {}, {}, {}
         self.created = []  # unstarted tasks, and some that were started since
-        self.stacks = [[self.begin_root(thread)] for thread in range(THREADS)]
+        self.stacks = [[self.begin_root(thread)] for thread in range(threads)]
 
     def new_task(self, parent, path, root):
         task = self.next_task
@@ -111,11 +111,11 @@ class Run:
             self.planned[task] = self.random.randint(1, MOST_CHILDREN)
 
 
-def trace(size, by_thread=False):
+def trace(size, by_thread=False, threads=THREADS):
     """The text of a trace of so many records, in the order of time or one thread after another."""
-    run = Run()
+    run = Run(threads)
     while len(run.records) < size:
-        run.step(run.random.randrange(THREADS))
+        run.step(run.random.randrange(threads))
     records = run.records[:size]
     if by_thread:
         records.sort(key=lambda record: record[0])
@@ -123,6 +123,7 @@ def trace(size, by_thread=False):
 
 
 if __name__ == "__main__":
-    if len(sys.argv) < 2 or sys.argv[2:] not in ([], ["threads"]):
+    words = sys.argv[1:]
+    if not 1 <= len(words) <= 3 or words[1:2] not in ([], ["time"], ["threads"]):
         sys.exit(__doc__)
-    sys.stdout.write(trace(int(sys.argv[1]), sys.argv[2:] == ["threads"]))
+    sys.stdout.write(trace(int(words[0]), words[1:2] == ["threads"], int(words[2]) if words[2:] else THREADS))

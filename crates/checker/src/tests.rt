@@ -234,7 +234,7 @@ fn names_the_first_of_many_tasks(rt: HostRuntime) -> Result<(), Fail> {
 }
 
 #[test]
-fn names_each_cause(rt: HostRuntime) -> Result<(), Fail> {
+fn names_tasks_without_a_place(rt: HostRuntime) -> Result<(), Fail> {
     let mut script = Script::new(rt.alloc());
     script.initial(0, 0, 1)?;
     script.create(0, 0, 1, 2)?;
@@ -251,7 +251,11 @@ fn names_each_cause(rt: HostRuntime) -> Result<(), Fail> {
         script.verdict()?.as_str(),
         "Malformed { at: 1, cause: Rootless }"
     );
+    Ok(())
+}
 
+#[test]
+fn names_tasks_on_the_wrong_thread(rt: HostRuntime) -> Result<(), Fail> {
     let mut script = Script::new(rt.alloc());
     script.initial(0, 0, 1)?;
     script.create(0, 0, 1, 2)?;
@@ -272,7 +276,11 @@ fn names_each_cause(rt: HostRuntime) -> Result<(), Fail> {
         script.verdict()?.as_str(),
         "Malformed { at: 5, cause: Moved }"
     );
+    Ok(())
+}
 
+#[test]
+fn names_records_out_of_order(rt: HostRuntime) -> Result<(), Fail> {
     let mut script = Script::new(rt.alloc());
     script.initial(0, 0, 1)?;
     script.wait(0, 0, Endpoint::End, 1)?;
