@@ -1,7 +1,7 @@
 -- How a list stays a trace while records are added.
-use Rattle.std.proofs.Common.{◌≡◌, ℕ, ◌+◌, ◌<◌, ◌≤◌, ◌^◌, List, length, take, get_or, arith, true, false}
+use Rattle.std.proofs.Common.{◌≡◌, ℕ, ◌+◌, ◌<◌, ◌≤◌, ◌^◌, List, length, take, get_or, arith, true, false, sym, ◌∙◌, subst, min}
 use Rattle.std.specs.Prelude.{is_some}
-use Rattle.std.proofs.lemmas.List.{length-take}
+use Rattle.std.proofs.lemmas.List.{length-take, get_or-take}
 use Rattle.std.proofs.lemmas.List.Sums.{count_by_more_yes, count_by_more_no}
 use Rattle.std.proofs.lemmas.List.Elements.{All-more}
 use Rattle.ompt_events.specs.declared.records.Record.{Record}
@@ -25,3 +25,9 @@ tasks_in-made rs i r within read makes =
 pub tasks_in-other : (rs : List Record) (i : ℕ) (r : Record) → i < length rs → r ≡ get_or rs i r → is_some (made r.body) ≡ false → tasks_in (take (i + 1) rs) ≡ tasks_in (take i rs)
 tasks_in-other rs i r within read makes =
     count_by_more_no (λ x. is_some (made x.body)) rs i r within (rw (← read) makes)
+
+-- with a record that isn't sound they are no trace
+pub IsTrace-unsound : (rs : List Record) (i : ℕ) (r : Record) → i < length rs → r ≡ get_or rs i r → (IsSound r.body → ⊥) → IsTrace (take (i + 1) rs) → ⊥
+IsTrace-unsound rs i r within read unsound trace =
+    let last : IsSound (get_or (take (i + 1) rs) i r).body = trace.sound i r (omega (arith, length-take (i + 1) rs)) in
+    unsound (subst (λ (x : Record). IsSound x.body) (get_or-take (i + 1) rs i r (omega arith) ∙ sym read) last)

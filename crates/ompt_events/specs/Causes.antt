@@ -1,19 +1,23 @@
 -- The causes for which a list of records is no account of a run. Each is a fact about the list alone.
 -- What is said of a cause matters where no cause with a smaller number occurs.
-use Rattle.std.specs.Prelude.{false, true, ℕ, ◌≡◌, ◌≢◌, ◌<◌, ◌≤◌, ◌+◌, ◌==◌, List, length, take, Some, Contains, count_by, slice_get, is_some, if◌then◌else◌}
+use Rattle.std.specs.Prelude.{false, true, ℕ, ◌≡◌, ◌≢◌, ◌<◌, ◌≤◌, ◌+◌, ◌==◌, List, [], length, take, Some, None, Contains, count_by, slice_get, is_some, if◌then◌else◌}
 use Rattle.ompt_events.specs.declared.records.Record.{Record}
 use Rattle.ompt_events.specs.declared.records.Claim.{Claim}
 use Rattle.ompt_events.specs.declared.records.Part.{Part}
 use Rattle.ompt_events.specs.declared.cause.Cause.{Cause}
-use Rattle.ompt_events.specs.declared.cause.Cause.TheVariants.{SeqGap, CreatedTwice, Rootless, NotCurrent, Moved, RegionOrder, ShareWrong, EntryTwice, LengthAhead, LengthBack, NoOrder, TargetTask}
+use Rattle.ompt_events.specs.declared.cause.Cause.TheVariants.{SeqGap, CreatedTwice, Rootless, NotCurrent, Moved, StatusOrder, RegionOrder, TeamShort, NestedParallel, DepsPlace, ShareWrong, EntryTwice, LengthAhead, LengthBack, NoOrder, TargetTask}
 use Rattle.ompt_events.specs.declared.names.SyncKind.{SyncKind}
+use Rattle.ompt_events.specs.declared.names.Endpoint.{Endpoint}
+use Rattle.ompt_events.specs.declared.deps.Dep.{Dep}
 use Rattle.ompt_events.specs.CauseNames.{cause_number}
 use Rattle.ompt_events.specs.Flags.{has_flag}
-use Rattle.ompt_events.specs.Records.{made, created, started, finish, claim, flags, named, begun_root}
+use Rattle.ompt_events.specs.Records.{Membership, made, created, created_with_deps, dependences, started, finish, claim, flags, named, forked, region_named, joined, begun_initial, region}
 use Rattle.ompt_events.specs.Places.{at, thread_at, seen_at, places}
 use Rattle.ompt_events.specs.Tree.{IsExplicit, IsRooted, HasPath, creates_for}
-use Rattle.ompt_events.specs.Threads.{MisfitsAt}
-use Rattle.ompt_events.specs.Regions.{EndsNoRegion}
+use Rattle.ompt_events.specs.Threads.{Walk, walk_of, MisfitsAt}
+use Rattle.ompt_events.specs.States.{Move, moves_of, nature_of, state_of}
+use Rattle.ompt_events.specs.Regions.{EndsNoRegion, IsRegion, is_barrier, is_called_barrier, barrier_number, barriers_of}
+use Rattle.ompt_events.specs.Teams.{IsMember, IsInitial, IsTeammate, team_size}
 use Rattle.ompt_events.specs.HappensBefore.{IsProgramStep, IsFinishing}
 use Rattle.ompt_events.specs.Linearization.{IsGrounded}
 
@@ -25,6 +29,10 @@ HasSeqGap rs i = (r : Record) × (slice_get rs i ≡ Some r) × (r.seq ≢ count
 abbrev pub IsMadeAgain : List Record → ℕ → Type 0
 IsMadeAgain rs i = (task k : ℕ) × (k < i) × (at made rs k ≡ Some task) × (at made rs i ≡ Some task)
 
+-- a record earlier in file order begins the same parallel region
+abbrev pub IsForkedAgain : List Record → ℕ → Type 0
+IsForkedAgain rs i = (parallel k own other : ℕ) × (k < i) × (at forked rs k ≡ Some (other, parallel)) × (at forked rs i ≡ Some (own, parallel))
+
 -- a task is named there
 abbrev pub IsNamedAt : List Record → ℕ → ℕ → Type 0
 IsNamedAt rs i task = (r : Record) × (slice_get rs i ≡ Some r) × Contains (named r.body) task
@@ -33,9 +41,9 @@ IsNamedAt rs i task = (r : Record) × (slice_get rs i ≡ Some r) × Contains (n
 abbrev pub IsMade : List Record → ℕ → Type 0
 IsMade rs task = (k : ℕ) × (at made rs k ≡ Some task)
 
--- a member of a team begins; with the flag `initial` the task is none (OpenMP 5.2, 19.5.2.11)
-abbrev pub BeginsMember : List Record → ℕ → Type 0
-BeginsMember rs i = (task bits : ℕ) × (at begun_root rs i ≡ Some task) × (at flags rs i ≡ Some bits) × (has_flag bits 0x1 ≡ false)
+-- some record begins the parallel region
+abbrev pub IsForked : List Record → ℕ → Type 0
+IsForked rs parallel = (k task : ℕ) × (at forked rs k ≡ Some (task, parallel))
 
 -- a task without a root
 pub data HasNoRoot (rs : List Record) (i : ℕ) : Type 0 where
@@ -43,8 +51,8 @@ pub data HasNoRoot (rs : List Record) (i : ℕ) : Type 0 where
   unmade : (task : ℕ) → IsNamedAt rs i task → (IsMade rs task → ⊥) → HasNoRoot rs i
   -- a task is created whose chain of parents reaches no root
   unrooted : (task : ℕ) → at created rs i ≡ Some task → (IsRooted rs task → ⊥) → HasNoRoot rs i
-  -- a member of a team begins whose parallel region no record begins; no record can, of those that there are so far
-  no_region : BeginsMember rs i → HasNoRoot rs i
+  -- a parallel region ends, or a member of its team begins, that no record begins
+  no_region : (parallel : ℕ) → at region_named rs i ≡ Some parallel → (IsForked rs parallel → ⊥) → HasNoRoot rs i
 
 -- the first record of its thread that speaks for a task which the thread does not run
 pub record IsNotCurrent (rs : List Record) (i : ℕ) : Type 0 where
@@ -55,9 +63,68 @@ pub record IsNotCurrent (rs : List Record) (i : ℕ) : Type 0 where
 abbrev pub IsMoved : List Record → ℕ → Type 0
 IsMoved rs i = (task k : ℕ) × IsExplicit rs task × (at started rs i ≡ Some task) × (k < i) × (at started rs k ≡ Some task) × (thread_at rs k ≢ thread_at rs i)
 
+-- of a task's moves this record makes the first that its state does not allow
+pub record HasNoState (rs : List Record) (i : ℕ) : Type 0 where
+  pub task : ℕ
+  pub number : ℕ
+  pub move : Move
+  pub made_there : slice_get (moves_of rs task) number ≡ Some (i, move)
+  pub allowed : is_some (state_of (nature_of rs task) (take number (moves_of rs task))) ≡ true
+  pub not_allowed : state_of (nature_of rs task) (take (number + 1) (moves_of rs task)) ≡ None
+
 -- a region ends that isn't open
 abbrev pub HasNoBegin : List Record → ℕ → Type 0
 HasNoBegin rs i = (task : ℕ) × (kind : SyncKind) × EndsNoRegion rs i task kind
+
+-- an explicit task begins or ends a barrier (OpenMP 5.2, 15.3: it may not)
+abbrev pub HasBarrier : List Record → ℕ → Type 0
+HasBarrier rs i = (task : ℕ) × (kind : SyncKind) × (endpoint : Endpoint) × (at region rs i ≡ Some (task, kind, endpoint)) × (is_called_barrier kind ≡ true) × IsExplicit rs task
+
+-- a team or one of its barriers lacks a member
+pub data IsShort (rs : List Record) (i : ℕ) : Type 0 where
+  -- the member's number isn't one of its team
+  outside : (m : Membership) → at joined rs i ≡ Some m → m.actual ≤ m.index → IsShort rs i
+  -- an earlier member of the team has the same number
+  same_index : (m e : Membership) (k : ℕ) → at joined rs i ≡ Some m → k < i → at joined rs k ≡ Some e → e.parallel ≡ m.parallel → e.index ≡ m.index → IsShort rs i
+  -- an earlier member names another size of the team
+  other_size : (m e : Membership) (k : ℕ) → at joined rs i ≡ Some m → k < i → at joined rs k ≡ Some e → e.parallel ≡ m.parallel → e.actual ≢ m.actual → IsShort rs i
+  -- the team has fewer members than its size
+  few : (m : Membership) → at joined rs i ≡ Some m → team_size rs m.parallel < m.actual → IsShort rs i
+  -- a barrier ends that a member of the team doesn't begin
+  missed : (task member begin : ℕ) (kind : SyncKind) → IsRegion rs i task kind begin → is_barrier kind ≡ true → IsTeammate rs task member → barriers_of rs member ≤ barrier_number rs task begin → IsShort rs i
+
+-- where the thread of the record stands before it
+abbrev pub IsWalkAt : List Record → ℕ → Walk → Type 0
+IsWalkAt rs i walk = (r : Record) × (slice_get rs i ≡ Some r) × (walk ≡ walk_of r.thread (take i rs))
+
+-- a parallel region inside another
+pub data IsNested (rs : List Record) (i : ℕ) : Type 0 where
+  -- a parallel region begins by a task that isn't initial
+  forked_inside : (task parallel : ℕ) → at forked rs i ≡ Some (task, parallel) → (IsInitial rs task → ⊥) → IsNested rs i
+  -- a member of a team begins while another is the thread's innermost open root
+  joined_inside : (m : Membership) (walk : Walk) (outer : ℕ) → at joined rs i ≡ Some m → IsWalkAt rs i walk → slice_get walk.roots 0 ≡ Some outer → IsMember rs outer → IsNested rs i
+  -- an initial task begins while the thread has an open root
+  initial_inside : (task : ℕ) (walk : Walk) → at begun_initial rs i ≡ Some task → IsWalkAt rs i walk → walk.roots ≢ [] → IsNested rs i
+
+-- the thread's next record after the one at a is that at b
+pub record IsNextInThread (rs : List Record) (a b : ℕ) : Type 0 where
+  pub later : a < b
+  pub within : b < length rs
+  pub same_thread : thread_at rs a ≡ thread_at rs b
+  pub next : (k : ℕ) → a < k → k < b → thread_at rs k ≢ thread_at rs a
+
+-- a task is created with dependences at a, and they follow at b
+pub record AreFollowed (rs : List Record) (a b : ℕ) : Type 0 where
+  pub task : ℕ
+  pub items : List Dep
+  pub is_created : at created_with_deps rs a ≡ Some task
+  pub listed : at dependences rs b ≡ Some (task, items)
+  pub next : IsNextInThread rs a b
+
+-- a list of dependences that doesn't follow its creation, or is missing there
+pub data HasMisplacedDeps (rs : List Record) (i : ℕ) : Type 0 where
+  stray : is_some (at dependences rs i) ≡ true → ((a : ℕ) → AreFollowed rs a i → ⊥) → HasMisplacedDeps rs i
+  missing : is_some (at created_with_deps rs i) ≡ true → ((b : ℕ) → AreFollowed rs i b → ⊥) → HasMisplacedDeps rs i
 
 -- how many children the task created
 abbrev pub children_of : List Record → ℕ → ℕ
@@ -102,15 +169,20 @@ pub record HasNoOrder (rs : List Record) (i : ℕ) : Type 0 where
 abbrev pub MakesTarget : List Record → ℕ → Type 0
 MakesTarget rs i = (task bits : ℕ) × (at made rs i ≡ Some task) × (at flags rs i ≡ Some bits) × (has_flag bits 0x8 ≡ true)
 
--- The record has the cause. The statuses, the parallel regions, the barriers and the lists of dependences
--- that StatusOrder, TeamShort, NestedParallel and DepsPlace speak of can't be recorded yet.
+-- The record has the cause.
 pub data HasCause (rs : List Record) (i : ℕ) : Cause → Type 0 where
   seq_gap : HasSeqGap rs i → HasCause rs i SeqGap
   created_twice : IsMadeAgain rs i → HasCause rs i CreatedTwice
+  forked_twice : IsForkedAgain rs i → HasCause rs i CreatedTwice
   rootless : HasNoRoot rs i → HasCause rs i Rootless
   not_current : IsNotCurrent rs i → HasCause rs i NotCurrent
   moved : IsMoved rs i → HasCause rs i Moved
+  status_order : HasNoState rs i → HasCause rs i StatusOrder
   region_order : HasNoBegin rs i → HasCause rs i RegionOrder
+  barrier_order : HasBarrier rs i → HasCause rs i RegionOrder
+  team_short : IsShort rs i → HasCause rs i TeamShort
+  nested_parallel : IsNested rs i → HasCause rs i NestedParallel
+  deps_place : HasMisplacedDeps rs i → HasCause rs i DepsPlace
   share_wrong : HasWrongShare rs i → HasCause rs i ShareWrong
   entry_twice : RepeatsEntry rs i → HasCause rs i EntryTwice
   length_ahead : IsAhead rs i → HasCause rs i LengthAhead

@@ -9,6 +9,12 @@ task_flags =
     ∷ (codes "taskwait", 0x10) ∷ (codes "undeferred", 0x0800_0000) ∷ (codes "untied", 0x1000_0000)
     ∷ (codes "final", 0x2000_0000) ∷ (codes "mergeable", 0x4000_0000) ∷ (codes "merged", 0x8000_0000) ∷ []
 
+-- OpenMP 5.2, ompt_cancel_flag_t
+abbrev pub cancel_flags : List (List ℕ × ℕ)
+cancel_flags =
+    (codes "parallel", 0x1) ∷ (codes "sections", 0x2) ∷ (codes "loop", 0x4) ∷ (codes "taskgroup", 0x8)
+    ∷ (codes "activated", 0x10) ∷ (codes "detected", 0x20) ∷ (codes "discarded_task", 0x40) ∷ []
+
 -- whether the flag is among the bits
 abbrev pub has_flag : ℕ → ℕ → Bool
 has_flag bits flag = bit_and bits flag == flag

@@ -1,7 +1,7 @@
 -- What the records themselves say of their order.
 use Rattle.std.specs.Prelude.{ℕ, ◌≡◌, ◌≢◌, ◌<◌, List, length, Some, true, is_some}
 use Rattle.ompt_events.specs.declared.records.Record.{Record}
-use Rattle.ompt_events.specs.Records.{created, started, finish}
+use Rattle.ompt_events.specs.Records.{created, started, discarded, fulfilled, finish}
 use Rattle.ompt_events.specs.Places.{at, thread_at, seen_at}
 
 -- the first record in file order after which the task runs
@@ -19,6 +19,10 @@ pub data IsProgramStep (rs : List Record) (a b : ℕ) : Type 0 where
   thread_order : a < b → b < length rs → thread_at rs a ≡ thread_at rs b → IsProgramStep rs a b
   -- the creation of a task, and its start
   creation : (task : ℕ) → at created rs a ≡ Some task → IsStart rs b task → IsProgramStep rs a b
+  -- the creation of a task, and a discard of it
+  discard : (task : ℕ) → at created rs a ≡ Some task → at discarded rs b ≡ Some task → IsProgramStep rs a b
+  -- the creation of a task, and a fulfilment of its event
+  fulfilment : (task : ℕ) → at created rs a ≡ Some task → at fulfilled rs b ≡ Some task → IsProgramStep rs a b
 
 -- one thing is known to come before another
 pub data IsStep (rs : List Record) (a b : ℕ) : Type 0 where

@@ -7,9 +7,12 @@ pub mod Places
 pub mod Tree
 pub mod Threads
 pub mod Regions
+pub mod Teams
+pub mod States
 pub mod HappensBefore
 pub mod Linearization
 pub mod Completion
 pub mod Coverage
+pub mod Dependences
 pub mod Violations
 pub mod Causes

@@ -1,14 +1,17 @@
 -- What single records say.
-use Rattle.std.specs.Prelude.{ℕ, List, [], ◌∷◌, Option, Some, None, option_to_list, option_map, ◌++◌}
+use Rattle.std.specs.Prelude.{ℕ, Bool, true, false, List, [], ◌∷◌, Option, Some, None, option_to_list, option_map, ◌++◌, if◌then◌else◌}
+use Rattle.ompt_events.specs.declared.deps.Dep.{Dep}
 use Rattle.ompt_events.specs.declared.records.Body.{Body}
-use Rattle.ompt_events.specs.declared.records.Body.TheVariants.{ImplicitTask, TaskCreate, TaskSchedule, SyncRegion}
+use Rattle.ompt_events.specs.declared.records.Body.TheVariants.{ParallelBegin, ParallelEnd, ImplicitTask, TaskCreate, Dependences, TaskSchedule, SyncRegion, Cancel}
 use Rattle.ompt_events.specs.declared.records.Claim.{Claim}
 use Rattle.ompt_events.specs.declared.records.Part.{Part}
 use Rattle.ompt_events.specs.declared.records.Part.TheVariants.{Whole}
-use Rattle.ompt_events.specs.declared.names.Status.TheVariants.{Complete}
+use Rattle.ompt_events.specs.declared.names.Status.TheVariants.{EarlyFulfill, LateFulfill, TaskwaitComplete}
 use Rattle.ompt_events.specs.declared.names.Endpoint.{Endpoint}
 use Rattle.ompt_events.specs.declared.names.Endpoint.TheVariants.{Begin, End}
 use Rattle.ompt_events.specs.declared.names.SyncKind.{SyncKind}
+use Rattle.ompt_events.specs.Flags.{has_flag}
+use Rattle.ompt_events.specs.Names.{status_part, demands_next}
 
 -- the initial or implicit task that begins (OpenMP 5.2, 19.5.2.11)
 abbrev pub begun_root : Body → Option ℕ
@@ -20,7 +23,35 @@ abbrev pub ended_root : Body → Option ℕ
 ended_root (ImplicitTask End actual index flags parallel task) = Some task
 ended_root _ = None
 
--- the task that creates, and the explicit task that it creates (OpenMP 5.2, 19.5.2.7)
+-- a member of a team: the parallel region, the size of its team and the member's number there
+pub record Membership : Type 0 where
+  pub parallel : ℕ
+  pub actual : ℕ
+  pub index : ℕ
+  pub member : ℕ
+
+-- the member of a team that begins; with the flag `initial` the task is none
+abbrev pub joined : Body → Option Membership
+joined (ImplicitTask Begin actual index flags parallel task) = if has_flag flags.0 0x1 then None else Some (record { parallel = parallel; actual = actual; index = index; member = task })
+joined _ = None
+
+-- the initial task that begins, which is a team of one
+abbrev pub begun_initial : Body → Option ℕ
+begun_initial (ImplicitTask Begin actual index flags parallel task) = if has_flag flags.0 0x1 then Some task else None
+begun_initial _ = None
+
+-- the task that begins a parallel region, and the region (19.5.2.3)
+abbrev pub forked : Body → Option (ℕ × ℕ)
+forked (ParallelBegin requested task parallel) = Some (task, parallel)
+forked _ = None
+
+-- the parallel region that a record ends (19.5.2.4), or whose team a task joins
+abbrev pub region_named : Body → Option ℕ
+region_named (ParallelEnd task parallel) = Some parallel
+region_named (ImplicitTask Begin actual index flags parallel task) = if has_flag flags.0 0x1 then None else Some parallel
+region_named _ = None
+
+-- the task that creates, and the explicit task that it creates (19.5.2.7)
 abbrev pub creation : Body → Option (ℕ × ℕ)
 creation (TaskCreate deps flags task child) = Some (task, child)
 creation _ = None
@@ -29,33 +60,56 @@ creation _ = None
 abbrev pub created : Body → Option ℕ
 created body = option_map (λ (p : ℕ × ℕ). p.1) (creation body)
 
+-- the explicit task that is created and whose dependences follow
+abbrev pub created_with_deps : Body → Option ℕ
+created_with_deps (TaskCreate deps flags task child) = if deps then Some child else None
+created_with_deps _ = None
+
+-- the task whose dependences are listed, and the list (19.5.2.8)
+abbrev pub dependences : Body → Option (ℕ × List Dep)
+dependences (Dependences task list) = Some (task, list)
+dependences _ = None
+
 -- the task that the record makes
 abbrev pub made : Body → Option ℕ
 made (ImplicitTask Begin actual index flags parallel task) = Some task
 made (TaskCreate deps flags task child) = Some child
 made _ = None
 
--- the task that runs from here on (OpenMP 5.2, 19.5.2.10)
+-- the task that runs from here on (19.5.2.10)
 abbrev pub started : Body → Option ℕ
 started (TaskSchedule status prior next share) = next
 started _ = None
 
--- the task that stops running
-abbrev pub stopped : Body → Option ℕ
-stopped (TaskSchedule status prior next share) = Some prior
-stopped _ = None
+-- the task whose event is fulfilled, early or late (12.5.2: the detach clause)
+abbrev pub fulfilled : Body → Option ℕ
+fulfilled (TaskSchedule EarlyFulfill prior next share) = Some prior
+fulfilled (TaskSchedule LateFulfill prior next share) = Some prior
+fulfilled _ = None
+
+-- the taskwait with dependences that is complete (15.5: it acts as an empty task with them)
+abbrev pub wait_completed : Body → Option ℕ
+wait_completed (TaskSchedule TaskwaitComplete prior next share) = Some prior
+wait_completed _ = None
+
+-- the task that is discarded before it began (11.5: cancellation of a taskgroup)
+abbrev pub discarded : Body → Option ℕ
+discarded (Cancel flags task share) = if has_flag flags.0 0x40 then Some task else None
+discarded _ = None
 
 -- the task that is finished, and its part
 abbrev pub finish : Body → Option (ℕ × Part)
-finish (TaskSchedule Complete prior next share) = Some (prior, Whole)
+finish (TaskSchedule status prior next share) = option_map (λ part. (prior, part)) (status_part status)
+finish (Cancel flags task share) = if has_flag flags.0 0x40 then Some (task, Whole) else None
 finish _ = None
 
 -- what the record claims of the place of the task that it finishes
 abbrev pub claim : Body → Option Claim
 claim (TaskSchedule status prior next share) = share
+claim (Cancel flags task share) = share
 claim _ = None
 
--- the task that begins or ends a synchronisation region, with the region's kind (OpenMP 5.2, 19.5.2.13)
+-- the task that begins or ends a synchronisation region, with the region's kind (19.5.2.13)
 abbrev pub region : Body → Option (ℕ × SyncKind × Endpoint)
 region (SyncRegion kind endpoint parallel task) = Some (task, kind, endpoint)
 region _ = None
@@ -66,17 +120,30 @@ flags (ImplicitTask endpoint actual index given parallel task) = Some given.0
 flags (TaskCreate deps given task child) = Some given.0
 flags _ = None
 
+-- the flags of a cancellation (19.5.2.18)
+abbrev pub cancellation : Body → Option ℕ
+cancellation (Cancel given task share) = Some given.0
+cancellation _ = None
+
 -- the task that must be running on the thread: the one that the record is of
 abbrev pub running : Body → Option ℕ
-running (ImplicitTask Begin actual index given parallel task) = None
+running (ParallelBegin requested task parallel) = Some task
+running (ParallelEnd task parallel) = Some task
 running (ImplicitTask End actual index given parallel task) = Some task
 running (TaskCreate deps given task child) = Some task
-running (TaskSchedule status prior next share) = Some prior
+running (TaskSchedule status prior next share) = if demands_next status then Some prior else None
 running (SyncRegion kind endpoint parallel task) = Some task
+running (Cancel given task share) = if has_flag given.0 0x40 then None else Some task
+running _ = None
 
 -- each member that is a task
 abbrev pub named : Body → List ℕ
+named (ParallelBegin requested task parallel) = task ∷ []
+named (ParallelEnd task parallel) = task ∷ []
 named (ImplicitTask endpoint actual index given parallel task) = task ∷ []
 named (TaskCreate deps given task child) = task ∷ child ∷ []
+named (Dependences task list) = task ∷ []
 named (TaskSchedule status prior next share) = prior ∷ option_to_list next ++ option_to_list (option_map (λ (c : Claim). c.root) share)
 named (SyncRegion kind endpoint parallel task) = task ∷ []
+named (Cancel given task share) = task ∷ option_to_list (option_map (λ (c : Claim). c.root) share)
+named _ = []

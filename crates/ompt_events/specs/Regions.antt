@@ -1,17 +1,21 @@
 -- Synchronisation regions: which begin an end belongs to (OpenMP 5.2, 19.5.2.13).
-use Rattle.std.specs.Prelude.{ℕ, ◌≡◌, ◌≢◌, List, [], ◌∷◌, Option, Some, None, fold, drop, slice_get, option_map}
+use Rattle.std.specs.Prelude.{ℕ, ◌≡◌, ◌≢◌, ◌==◌, Bool, true, false, List, [], ◌∷◌, Option, Some, None, fold, drop, count_by, slice_get, option_map, if◌then◌else◌}
+use Rattle.std.specs.Option.{option_map_or}
 use Rattle.ompt_events.specs.declared.records.Record.{Record}
 use Rattle.ompt_events.specs.declared.names.Endpoint.{Endpoint}
-use Rattle.ompt_events.specs.declared.names.Endpoint.TheVariants.{Begin, End}
+use Rattle.ompt_events.specs.declared.names.Endpoint.TheVariants.{Begin, End, BeginEnd}
 use Rattle.ompt_events.specs.declared.names.SyncKind.{SyncKind}
+use Rattle.ompt_events.specs.declared.names.SyncKind.TheVariants.{Barrier, BarrierImplicit, BarrierExplicit, BarrierImplementation, BarrierImplicitWorkshare, BarrierImplicitParallel, BarrierTeams}
 use Rattle.ompt_events.specs.Records.{region}
-use Rattle.ompt_events.specs.Places.{at, own_before}
+use Rattle.ompt_events.specs.Places.{at, places, own_before}
 
--- the open regions after a record at the place i: a begin opens one, an end closes the innermost
+-- the open regions after a record at the place i: a begin opens one, an end closes the innermost,
+-- and a begin and end in one leave them as they are
 abbrev pub after_region : List ℕ → ℕ → Option (ℕ × SyncKind × Endpoint) → List ℕ
 after_region opened i None = opened
 after_region opened i (Some (task, kind, Begin)) = i ∷ opened
 after_region opened i (Some (task, kind, End)) = drop 1 opened
+after_region opened i (Some (task, kind, BeginEnd)) = opened
 
 -- the task's regions that are open just before the place i: the places of their begins, the innermost first
 abbrev pub open_regions : List Record → ℕ → ℕ → List ℕ
@@ -27,7 +31,45 @@ pub record EndsRegion (rs : List Record) (i task : ℕ) (kind : SyncKind) (begin
   pub innermost : slice_get (open_regions rs task i) 0 ≡ Some begin
   pub same_kind : kind_at rs begin ≡ Some kind
 
+-- a region of this kind, of the task, ends at i; it began at the place begin, which is i itself for a begin and end in one
+pub data IsRegion (rs : List Record) (i task : ℕ) (kind : SyncKind) : ℕ → Type 0 where
+  ended : {begin : ℕ} → EndsRegion rs i task kind begin → IsRegion rs i task kind begin
+  at_once : at region rs i ≡ Some (task, kind, BeginEnd) → IsRegion rs i task kind i
+
 -- an end that belongs to no begin: the task has no open region, or its innermost one is of another kind
 pub record EndsNoRegion (rs : List Record) (i task : ℕ) (kind : SyncKind) : Type 0 where
   pub ends : at region rs i ≡ Some (task, kind, End)
   pub none : (begin : ℕ) → slice_get (open_regions rs task i) 0 ≡ Some begin → kind_at rs begin ≢ Some kind
+
+-- the kinds of barrier that wait for the tasks of the parallel region (OpenMP 5.2, 15.3)
+abbrev pub is_barrier : SyncKind → Bool
+is_barrier Barrier = true
+is_barrier BarrierImplicit = true
+is_barrier BarrierExplicit = true
+is_barrier BarrierImplicitWorkshare = true
+is_barrier BarrierImplicitParallel = true
+is_barrier _ = false
+
+-- any kind that is called a barrier
+abbrev pub is_called_barrier : SyncKind → Bool
+is_called_barrier BarrierImplementation = true
+is_called_barrier BarrierTeams = true
+is_called_barrier kind = is_barrier kind
+
+-- the task that begins a barrier, whether or not it ends there too
+abbrev pub barrier_begun : Option (ℕ × SyncKind × Endpoint) → Option ℕ
+barrier_begun None = None
+barrier_begun (Some (task, kind, End)) = None
+barrier_begun (Some (task, kind, endpoint)) = if is_barrier kind then Some task else None
+
+-- whether the task begins a barrier there
+abbrev pub begins_barrier : List Record → ℕ → ℕ → Bool
+begins_barrier rs task i = option_map_or (λ t. t == task) (barrier_begun (at region rs i)) false
+
+-- the number of the barrier that the task begins at the place i: how many it began before
+abbrev pub barrier_number : List Record → ℕ → ℕ → ℕ
+barrier_number rs task i = count_by (begins_barrier rs task) (own_before rs task i)
+
+-- how many barriers the task begins
+abbrev pub barriers_of : List Record → ℕ → ℕ
+barriers_of rs task = count_by (begins_barrier rs task) (places rs)

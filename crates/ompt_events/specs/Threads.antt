@@ -1,11 +1,12 @@
 -- The walk along a thread: which tasks it runs (OpenMP 5.2, 12.9: task scheduling).
-use Rattle.std.specs.Prelude.{ℕ, ◌≡◌, ◌≢◌, ◌==◌, List, [], ◌∷◌, Option, Some, None, filter, fold, take, drop, slice_get}
+use Rattle.std.specs.Prelude.{ℕ, ◌≡◌, ◌≢◌, ◌==◌, List, [], ◌∷◌, Option, Some, None, if◌then◌else◌, filter, fold, take, drop, slice_get}
 use Rattle.ompt_events.specs.declared.records.Record.{Record}
 use Rattle.ompt_events.specs.declared.records.Body.{Body}
 use Rattle.ompt_events.specs.declared.records.Body.TheVariants.{ImplicitTask, TaskSchedule}
 use Rattle.ompt_events.specs.declared.names.Endpoint.TheVariants.{Begin, End}
-use Rattle.ompt_events.specs.Records.{running, ended_root, started}
-use Rattle.ompt_events.specs.Tree.{IsRoot}
+use Rattle.ompt_events.specs.Names.{demands_next}
+use Rattle.ompt_events.specs.Records.{running, ended_root, started, wait_completed}
+use Rattle.ompt_events.specs.Tree.{IsRoot, IsCreatedAt}
 
 -- where a thread stands: its open roots, the innermost first, and the task that it runs
 pub record Walk : Type 0 where
@@ -16,11 +17,11 @@ pub record Walk : Type 0 where
 abbrev pub at_start : Walk
 at_start = record { roots = []; current = None }
 
--- a root begins and runs, or ends, so that the root below runs; a schedule runs its next task
+-- a root begins and runs, or ends, so that the root below runs; a schedule runs its next task, where its status demands one
 abbrev pub after_body : Walk → Body → Walk
 after_body walk (ImplicitTask Begin actual index flags parallel task) = record { roots = task ∷ walk.roots; current = Some task }
 after_body walk (ImplicitTask End actual index flags parallel task) = record { roots = drop 1 walk.roots; current = slice_get walk.roots 1 }
-after_body walk (TaskSchedule status prior next share) = record { roots = walk.roots; current = next }
+after_body walk (TaskSchedule status prior next share) = if demands_next status then record { roots = walk.roots; current = next } else walk
 after_body walk _ = walk
 
 abbrev pub after_record : Walk → Record → Walk
@@ -38,6 +39,8 @@ pub data Misfits (rs : List Record) (walk : Walk) (body : Body) : Type 0 where
   not_innermost : (task : ℕ) → ended_root body ≡ Some task → slice_get walk.roots 0 ≢ Some task → Misfits rs walk body
   -- a root runs next that isn't the innermost open one
   other_root : (task : ℕ) → started body ≡ Some task → IsRoot rs task → slice_get walk.roots 0 ≢ Some task → Misfits rs walk body
+  -- a taskwait with dependences is complete whose parent isn't the current task
+  other_parent : (task i parent : ℕ) → wait_completed body ≡ Some task → IsCreatedAt rs i parent task → walk.current ≢ Some parent → Misfits rs walk body
 
 -- the record at i speaks for a task that its thread doesn't run there
 pub record MisfitsAt (rs : List Record) (i : ℕ) : Type 0 where

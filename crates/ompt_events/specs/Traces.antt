@@ -1,39 +1,43 @@
 -- What a list of records must be to be a trace.
-use Rattle.std.specs.Prelude.{ℕ, ◌≡◌, ◌≤◌, ◌<◌, ◌+◌, ◌^◌, ⊤, Bool, true, List, length, take, All, count_by, is_some, IfSome}
+use Rattle.std.specs.Prelude.{ℕ, ◌≡◌, ◌≤◌, ◌<◌, ◌+◌, ◌^◌, ⊤, List, length, take, All, count_by, is_some, IfSome}
 use Rattle.std.specs.Int.RustNames.{bit_and}
 use Rattle.bitflags.specs.Sets.{known_bits}
 use Rattle.ompt_events.specs.declared.records.Record.{Record}
 use Rattle.ompt_events.specs.declared.records.Body.{Body}
-use Rattle.ompt_events.specs.declared.records.Body.TheVariants.{TaskSchedule}
-use Rattle.ompt_events.specs.declared.names.Status.{Status}
-use Rattle.ompt_events.specs.declared.names.Status.TheVariants.{Complete, Switch}
-use Rattle.ompt_events.specs.Records.{made, claim, finish, flags}
-use Rattle.ompt_events.specs.Flags.{task_flags}
+use Rattle.ompt_events.specs.declared.records.Body.TheVariants.{ImplicitTask, TaskSchedule}
+use Rattle.ompt_events.specs.declared.names.Endpoint.TheVariants.{BeginEnd}
+use Rattle.ompt_events.specs.declared.deps.Dep.{Dep}
+use Rattle.ompt_events.specs.Names.{demands_next}
+use Rattle.ompt_events.specs.Records.{made, claim, finish, flags, cancellation, dependences}
+use Rattle.ompt_events.specs.Flags.{task_flags, cancel_flags}
 
 -- what clauses see of a trace: its records in file order
 pub record TraceView : Type 0 where
   pub records : List Record
 
--- each bit has a name
-abbrev pub AreNamed : ℕ → Type 0
-AreNamed bits = bit_and bits (known_bits task_flags) ≡ bits
-
--- whether another task runs after a schedule with this status
-abbrev pub demands_next : Status → Bool
-demands_next Complete = true
-demands_next Switch = true
+-- each bit has a name in the table
+abbrev pub AreNamed : List (List ℕ × ℕ) → ℕ → Type 0
+AreNamed table bits = bit_and bits (known_bits table) ≡ bits
 
 -- there is a next task exactly where the status demands one
 abbrev pub HasItsNext : Body → Type 0
 HasItsNext (TaskSchedule status prior next share) = is_some next ≡ demands_next status
 HasItsNext _ = ⊤
 
+-- an initial or implicit task begins or ends, but not both at once
+abbrev pub BeginsOrEnds : Body → Type 0
+BeginsOrEnds (ImplicitTask BeginEnd actual index given parallel task) = ⊥
+BeginsOrEnds _ = ⊤
+
 -- a record that can stand in a trace, as far as it alone shows
 pub record IsSound (body : Body) : Type 0 where
-  pub named_flags : IfSome (flags body) AreNamed
+  pub named_flags : IfSome (flags body) (AreNamed task_flags)
+  pub named_cancellation : IfSome (cancellation body) (AreNamed cancel_flags)
+  pub begins_or_ends : BeginsOrEnds body
   -- a claim exactly where a task is finished
   pub claimed : is_some (claim body) ≡ is_some (finish body)
   pub short_path : IfSome (claim body) (λ c. length c.path ≤ 1024)
+  pub few_dependences : IfSome (dependences body) (λ (d : ℕ × List Dep). length d.1 ≤ 64)
   pub next : HasItsNext body
 
 -- how many tasks the records make

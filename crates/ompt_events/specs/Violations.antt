@@ -1,14 +1,22 @@
 -- What must be complete where, and where it isn't.
 use Rattle.std.specs.Prelude.{ℕ, ◌≡◌, ◌<◌, List, Some}
 use Rattle.ompt_events.specs.declared.records.Record.{Record}
-use Rattle.ompt_events.specs.Records.{created}
+use Rattle.ompt_events.specs.Records.{created, wait_completed}
 use Rattle.ompt_events.specs.Places.{at}
+use Rattle.ompt_events.specs.Tree.{IsExplicit}
+use Rattle.ompt_events.specs.HappensBefore.{IsStart}
+use Rattle.ompt_events.specs.Dependences.{IsPredecessor}
 use Rattle.ompt_events.specs.Completion.{IsCompleteIn, IsCompleteAt}
 use Rattle.ompt_events.specs.Coverage.{Covers}
 
 -- the task must be complete at i
 pub data IsRequired (rs : List Record) (i task : ℕ) : Type 0 where
+  -- a wait ends that covers it
   covered : Covers rs i task → IsRequired rs i task
+  -- a task starts that depends on it
+  preceding : {dependent : ℕ} → IsExplicit rs dependent → IsStart rs i dependent → IsPredecessor rs dependent task → IsRequired rs i task
+  -- a taskwait is complete that depends on it
+  awaited : {dependent : ℕ} → at wait_completed rs i ≡ Some dependent → IsPredecessor rs dependent task → IsRequired rs i task
 
 -- in this order a task that must be complete at i isn't
 abbrev pub IsViolation : List Record → List ℕ → ℕ → Type 0

@@ -1,6 +1,6 @@
-//! The flags of a task, as a set of named bits.
+//! The flags of a task and of a cancellation, as sets of named bits.
 ghost use Rattle.std.specs.Prelude.{⊤};
-ghost use Rattle.ompt_events.specs.Flags.{task_flags};
+ghost use Rattle.ompt_events.specs.Flags.{task_flags, cancel_flags};
 
 use bitflags::{Flag, Flags, bitflag_items};
 
@@ -89,5 +89,78 @@ impl Flags for TaskFlags {
 
     fn from_bits_retain(bits: u32) -> TaskFlags {
         TaskFlags(bits)
+    }
+}
+
+/// What is cancelled, and how far the cancellation has come (OpenMP 5.2, `ompt_cancel_flag_t`).
+/// The bits may be any; a trace holds named ones alone.
+#[derive(Clone, Copy, Debug, PartialEq, Eq)]
+pub struct CancelFlags(pub u32);
+
+bitflag_items! {
+    impl CancelFlags: u32 {
+        const PARALLEL = 0x1;
+        const SECTIONS = 0x2;
+        const LOOP = 0x4;
+        const TASKGROUP = 0x8;
+        const ACTIVATED = 0x10;
+        const DETECTED = 0x20;
+        const DISCARDED_TASK = 0x40;
+    }
+}
+
+impl CancelFlags {
+    /// The flags under the names that they have in a file, in the order in which a file lists them.
+    const NAMED: &'static [Flag<CancelFlags>] = &[
+        Flag {
+            name: "parallel",
+            value: CancelFlags::PARALLEL,
+        },
+        Flag {
+            name: "sections",
+            value: CancelFlags::SECTIONS,
+        },
+        Flag {
+            name: "loop",
+            value: CancelFlags::LOOP,
+        },
+        Flag {
+            name: "taskgroup",
+            value: CancelFlags::TASKGROUP,
+        },
+        Flag {
+            name: "activated",
+            value: CancelFlags::ACTIVATED,
+        },
+        Flag {
+            name: "detected",
+            value: CancelFlags::DETECTED,
+        },
+        Flag {
+            name: "discarded_task",
+            value: CancelFlags::DISCARDED_TASK,
+        },
+    ];
+}
+
+impl Flags for CancelFlags {
+    type Bits = u32;
+
+    ghost exact = { ⊤ };
+
+    ghost table = { cancel_flags };
+
+    ghost set_of = { λ flags. flags.0 };
+
+    fn flags<'a>() -> &'a [Flag<CancelFlags>] {
+        CancelFlags::NAMED
+    }
+
+    fn bits(&self) -> u32 {
+        self.0
+    }
+
+    fn from_bits_retain(bits: u32) -> CancelFlags {
+        CancelFlags(bits)
     }
 }

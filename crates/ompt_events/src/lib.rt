@@ -2,17 +2,21 @@
 #![tactic(auto)]
 
 mod cause;
+mod deps;
 mod flags;
 mod names;
 mod path;
 mod records;
+mod state;
 #[cfg(test)]
 mod tests;
 mod trace;
 
 pub use cause::Cause;
-pub use flags::TaskFlags;
-pub use names::{Endpoint, Status, SyncKind};
+pub use deps::{Dep, Deps};
+pub use flags::{CancelFlags, TaskFlags};
+pub use names::{DepKind, Endpoint, Status, SyncKind, ThreadKind, conflicts};
 pub use path::Path;
 pub use records::{Body, Claim, Part, Record, finish};
-pub use trace::{MAX_DEPTH, MAX_RECORDS, MAX_TASKS, Trace};
+pub use state::State;
+pub use trace::{MAX_DEPENDENCES, MAX_DEPTH, MAX_RECORDS, MAX_TASKS, Trace};

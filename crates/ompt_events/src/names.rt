@@ -1,49 +1,136 @@
 //! The names of statuses, endpoints and kinds, as they stand in a file.
 ghost use Rattle.std.specs.Prelude.{◌≡◌, ◌↔◌, Some};
-ghost use Rattle.ompt_events.specs.Names.{status_name, endpoint_name, sync_kind_name};
+ghost use Rattle.ompt_events.specs.Names.{status_name, endpoint_name, sync_kind_name, dep_kind_name, thread_kind_name, status_part, demands_next, conflict};
 
-/// What a task_schedule event says of the task that stops running
+use crate::records::Part;
+
+/// What a task_schedule event says of the task that stops running or is fulfilled
 /// (OpenMP 5.2, `ompt_task_status_t`).
 #[derive(Clone, Copy, Debug, PartialEq, Eq)]
 pub enum Status {
     Complete,
+    Yield,
+    Cancel,
+    Detach,
+    EarlyFulfill,
+    LateFulfill,
     Switch,
+    TaskwaitComplete,
 }
 
-/// Whether an event begins or ends its region (OpenMP 5.2, `ompt_scope_endpoint_t`).
+/// Whether an event begins or ends its region, or both (OpenMP 5.2, `ompt_scope_endpoint_t`).
 #[derive(Clone, Copy, Debug, PartialEq, Eq)]
 pub enum Endpoint {
     Begin,
     End,
+    /// The begin and the end coincide. Only synchronisation regions have it.
+    BeginEnd,
 }
 
 /// Which construct a synchronisation region belongs to (OpenMP 5.2, `ompt_sync_region_t`).
 #[derive(Clone, Copy, Debug, PartialEq, Eq)]
 pub enum SyncKind {
+    Barrier,
+    BarrierImplicit,
+    BarrierExplicit,
+    BarrierImplementation,
     Taskwait,
+    Taskgroup,
+    Reduction,
+    BarrierImplicitWorkshare,
+    BarrierImplicitParallel,
+    BarrierTeams,
+}
+
+/// How a task uses a location that it depends on (OpenMP 5.2, 15.9.5 and `ompt_dependence_type_t`).
+#[derive(Clone, Copy, Debug, PartialEq, Eq)]
+pub enum DepKind {
+    In,
+    Out,
+    Inout,
+    Mutexinoutset,
+    Inoutset,
+}
+
+/// What a thread is there for (OpenMP 5.2, `ompt_thread_t`).
+#[derive(Clone, Copy, Debug, PartialEq, Eq)]
+pub enum ThreadKind {
+    Initial,
+    Worker,
+    Other,
+    Unknown,
 }
 
 // Each table stands once; the first word names the shape that its rows are put into.
+
+// Of each status: its name, whether another task runs next, and the part of its task that it finishes.
 macro_rules! statuses {
     ($shape:ident $value:expr) => {
-        $shape! { $value, Status, Complete = "complete", Switch = "switch" }
+        $shape! {
+            $value, Status,
+            Complete = "complete" (true, Some(Part::Whole)),
+            Yield = "yield" (true, None),
+            Cancel = "cancel" (true, Some(Part::Whole)),
+            Detach = "detach" (true, Some(Part::Body)),
+            EarlyFulfill = "early_fulfill" (false, None),
+            LateFulfill = "late_fulfill" (false, Some(Part::Event)),
+            Switch = "switch" (true, None),
+            TaskwaitComplete = "taskwait_complete" (false, Some(Part::Whole))
+        }
     };
 }
 
 macro_rules! endpoints {
     ($shape:ident $value:expr) => {
-        $shape! { $value, Endpoint, Begin = "begin", End = "end" }
+        $shape! { $value, Endpoint, Begin = "begin" (), End = "end" (), BeginEnd = "beginend" () }
     };
 }
 
 macro_rules! sync_kinds {
     ($shape:ident $value:expr) => {
-        $shape! { $value, SyncKind, Taskwait = "taskwait" }
+        $shape! {
+            $value, SyncKind,
+            Barrier = "barrier" (),
+            BarrierImplicit = "barrier_implicit" (),
+            BarrierExplicit = "barrier_explicit" (),
+            BarrierImplementation = "barrier_implementation" (),
+            Taskwait = "taskwait" (),
+            Taskgroup = "taskgroup" (),
+            Reduction = "reduction" (),
+            BarrierImplicitWorkshare = "barrier_implicit_workshare" (),
+            BarrierImplicitParallel = "barrier_implicit_parallel" (),
+            BarrierTeams = "barrier_teams" ()
+        }
+    };
+}
+
+macro_rules! dep_kinds {
+    ($shape:ident $value:expr) => {
+        $shape! {
+            $value, DepKind,
+            In = "in" (),
+            Out = "out" (),
+            Inout = "inout" (),
+            Mutexinoutset = "mutexinoutset" (),
+            Inoutset = "inoutset" ()
+        }
+    };
+}
+
+macro_rules! thread_kinds {
+    ($shape:ident $value:expr) => {
+        $shape! {
+            $value, ThreadKind,
+            Initial = "initial" (),
+            Worker = "worker" (),
+            Other = "other" (),
+            Unknown = "unknown" ()
+        }
     };
 }
 
 macro_rules! name_of {
-    ($value:expr, $kind:ident, $($variant:ident = $name:literal),*) => {
+    ($value:expr, $kind:ident, $($variant:ident = $name:literal $facts:tt),*) => {
         match $value {
             $($kind::$variant => $name,)*
         }
@@ -51,10 +138,26 @@ macro_rules! name_of {
 }
 
 macro_rules! value_of {
-    ($value:expr, $kind:ident, $($variant:ident = $name:literal),*) => {
+    ($value:expr, $kind:ident, $($variant:ident = $name:literal $facts:tt),*) => {
         match $value {
             $($name => Some($kind::$variant),)*
             _ => None,
+        }
+    };
+}
+
+macro_rules! has_next {
+    ($value:expr, $kind:ident, $($variant:ident = $name:literal ($next:expr, $part:expr)),*) => {
+        match $value {
+            $($kind::$variant => $next,)*
+        }
+    };
+}
+
+macro_rules! part_of {
+    ($value:expr, $kind:ident, $($variant:ident = $name:literal ($next:expr, $part:expr)),*) => {
+        match $value {
+            $($kind::$variant => $part,)*
         }
     };
 }
@@ -72,6 +175,20 @@ impl Status {
         ensures { (status : Status) → (result ≡ Some status) ↔ (status_name status ≡ name.now) }
     {
         statuses!(value_of name)
+    }
+
+    /// Whether another task runs after an event with this status.
+    pub fn demands_next(self) -> bool
+        ensures { result ≡ demands_next self }
+    {
+        statuses!(has_next self)
+    }
+
+    /// The part of its task that an event with this status finishes.
+    pub fn part(self) -> Option<Part>
+        ensures { result ≡ status_part self }
+    {
+        statuses!(part_of self)
     }
 }
 
@@ -104,5 +221,50 @@ impl SyncKind {
         ensures { (kind : SyncKind) → (result ≡ Some kind) ↔ (sync_kind_name kind ≡ name.now) }
     {
         sync_kinds!(value_of name)
+    }
+}
+
+impl DepKind {
+    /// The name in a file.
+    pub fn name(self) -> &'static str
+        ensures { result.now ≡ dep_kind_name self }
+    {
+        dep_kinds!(name_of self)
+    }
+
+    /// The kind of this name, if one has it.
+    pub fn from_name(name: &str) -> Option<Self>
+        ensures { (kind : DepKind) → (result ≡ Some kind) ↔ (dep_kind_name kind ≡ name.now) }
+    {
+        dep_kinds!(value_of name)
+    }
+}
+
+impl ThreadKind {
+    /// The name in a file.
+    pub fn name(self) -> &'static str
+        ensures { result.now ≡ thread_kind_name self }
+    {
+        thread_kinds!(name_of self)
+    }
+
+    /// The kind of this name, if one has it.
+    pub fn from_name(name: &str) -> Option<Self>
+        ensures { (kind : ThreadKind) → (result ≡ Some kind) ↔ (thread_kind_name kind ≡ name.now) }
+    {
+        thread_kinds!(value_of name)
+    }
+}
+
+/// Whether a task with the one dependence waits for an earlier sibling that has the other one at the same location
+/// (OpenMP 5.2, 15.9.5).
+pub fn conflicts(a: DepKind, b: DepKind) -> bool
+    ensures { result ≡ conflict a b }
+{
+    match (a, b) {
+        (DepKind::In, DepKind::In) => false,
+        (DepKind::Inoutset, DepKind::Inoutset) => false,
+        (DepKind::Mutexinoutset, DepKind::Mutexinoutset) => false,
+        _ => true,
     }
 }

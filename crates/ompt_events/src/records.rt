@@ -1,10 +1,13 @@
 //! One recorded event.
 ghost use Rattle.std.specs.Prelude.{◌≡◌};
-ghost use Rattle.ompt_events.specs.Records.{begun_root, ended_root, creation, made, started, running, region, finish};
+ghost use Rattle.ompt_events.specs.Flags.{has_flag};
+ghost use Rattle.ompt_events.specs.Records.{begun_root, ended_root, creation, made, started, running, region, discarded, finish};
 
-use crate::flags::TaskFlags;
-use crate::names::{Endpoint, Status, SyncKind};
+use crate::deps::Deps;
+use crate::flags::{CancelFlags, TaskFlags};
+use crate::names::{Endpoint, Status, SyncKind, ThreadKind};
 use crate::path::Path;
+use bitflags::Flags;
 
 /// How much of a task a finishing record finishes. A detachable task (OpenMP 5.2, 12.5.2)
 /// is complete when both its body and its event are finished; any other task is finished whole.
@@ -29,8 +32,20 @@ pub struct Claim {
 /// What happened, with the arguments of its OMPT callback (OpenMP 5.2, 19.5.2).
 #[derive(Debug, Drop, PartialEq)]
 pub enum Body {
-    /// An initial or implicit task begins or ends. With the flag `initial` it is an initial task;
-    /// `actual` is the size of its team, and `index` its number there.
+    /// A thread begins (19.5.2.1).
+    ThreadBegin { kind: ThreadKind },
+    /// A thread ends (19.5.2.2).
+    ThreadEnd,
+    /// `task` begins a parallel region, for which it asks for so many threads (19.5.2.3).
+    ParallelBegin {
+        requested: u32,
+        task: u64,
+        parallel: u64,
+    },
+    /// `task` ends a parallel region (19.5.2.4).
+    ParallelEnd { task: u64, parallel: u64 },
+    /// An initial or implicit task begins or ends (19.5.2.11). With the flag `initial` it is an initial task;
+    /// else it is a member of the team of `parallel`, `actual` is the size of that team, and `index` its number there.
     ImplicitTask {
         endpoint: Endpoint,
         actual: u32,
@@ -39,27 +54,35 @@ pub enum Body {
         parallel: u64,
         task: u64,
     },
-    /// `task` creates the explicit task `child`.
+    /// `task` creates the explicit task `child` (19.5.2.7). With `deps` its dependences follow in the thread.
     TaskCreate {
         deps: bool,
         flags: TaskFlags,
         task: u64,
         child: u64,
     },
-    /// `prior` stops running with this status, and `next` runs from here on.
-    /// A finishing record has a `share`.
+    /// What `task` depends on, at most 64 items (19.5.2.8).
+    Dependences { task: u64, list: Deps },
+    /// `prior` stops running or is fulfilled with this status (19.5.2.10), and `next`, where there is one,
+    /// runs from here on. A finishing record has a `share`.
     TaskSchedule {
         status: Status,
         prior: u64,
         next: Option<u64>,
         share: Option<Claim>,
     },
-    /// `task` begins or ends a synchronisation region.
+    /// `task` begins or ends a synchronisation region (19.5.2.13).
     SyncRegion {
         kind: SyncKind,
         endpoint: Endpoint,
         parallel: Option<u64>,
         task: u64,
+    },
+    /// `task` cancels a region or sees it cancelled, or is itself discarded (19.5.2.18). Discarded, it has a `share`.
+    Cancel {
+        flags: CancelFlags,
+        task: u64,
+        share: Option<Claim>,
     },
 }
 
@@ -127,10 +150,23 @@ impl Body {
         ensures { result ≡ running self.now }
     {
         match self {
+            Body::ParallelBegin { task, .. } | Body::ParallelEnd { task, .. } => Some(*task),
             Body::ImplicitTask { .. } => self.ended_root(),
             Body::TaskCreate { task, .. } => Some(*task),
-            Body::TaskSchedule { prior, .. } => Some(*prior),
+            Body::TaskSchedule { status, prior, .. } if status.demands_next() => Some(*prior),
             Body::SyncRegion { task, .. } => Some(*task),
+            Body::Cancel { flags, task, .. } if !discards(*flags) => Some(*task),
+            _ => None,
+        }
+    }
+
+    /// The task that is discarded before it began (OpenMP 5.2, 11.5).
+    pub fn discarded(&self) -> Option<u64>
+        ensures { result ≡ discarded self.now }
+    {
+        match self {
+            Body::Cancel { flags, task, .. } if discards(*flags) => Some(*task),
+            _ => None,
         }
     }
 
@@ -169,11 +205,20 @@ pub fn finish(event: &Record) -> Option<(u64, Part)>
     ensures { result ≡ finish event.now.body }
 {
     match &event.body {
-        Body::TaskSchedule {
-            status: Status::Complete,
-            prior,
-            ..
-        } => Some((*prior, Part::Whole)),
-        _ => None,
+        Body::TaskSchedule { status, prior, .. } => match status.part() {
+            Some(part) => Some((*prior, part)),
+            None => None,
+        },
+        body => match body.discarded() {
+            Some(task) => Some((task, Part::Whole)),
+            None => None,
+        },
     }
+}
+
+/// Whether a cancellation discards its task.
+fn discards(flags: CancelFlags) -> bool
+    ensures { result ≡ has_flag flags.0 0x40 }
+{
+    flags.contains(CancelFlags::DISCARDED_TASK)
 }

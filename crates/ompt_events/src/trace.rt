@@ -1,9 +1,10 @@
 //! A list of records that keeps within the limits of a file.
 ghost use Rattle.std.specs.Prelude.{◌≡◌, ◌↔◌, IsTrue, IfOk, IfErr, MatchOption, is_some, IfSome, length, ◌≤◌};
+ghost use Rattle.ompt_events.specs.Flags.{task_flags, cancel_flags};
 ghost use Rattle.ompt_events.specs.Traces.{AreNamed, IsSound, IsTrace, IsFirstRefused};
 
-use crate::flags::TaskFlags;
-use crate::names::Status;
+use crate::flags::{CancelFlags, TaskFlags};
+use crate::names::Endpoint;
 use crate::records::{Body, Claim, Record};
 use bitflags::Flags;
 use std::marker::Model;
@@ -13,6 +14,9 @@ pub const MAX_RECORDS: usize = 1 << 22;
 
 /// The most tasks that a trace makes, by creation or as initial or implicit tasks.
 pub const MAX_TASKS: usize = 1 << 20;
+
+/// The most dependences that a task has.
+pub const MAX_DEPENDENCES: usize = 64;
 
 /// The most numbers that a path has: how deep below its root a finished task may stand.
 pub const MAX_DEPTH: usize = 1024;
@@ -36,8 +40,9 @@ impl Model for Trace {
 impl Trace {
     /// The trace of these records. Refused are the records, given back, and the place of the first one
     /// that cannot stand in a trace: one past the limit on records or tasks, with a flag bit that has no name,
-    /// with a claim though it does not finish a task or with none though it does,
-    /// without the next task that its status demands, or with a path that is too long. Takes no memory.
+    /// with a claim though it does not finish a task or with none though it does, with a next task that its
+    /// status forbids or without one that it demands, an implicit task's begin and end in one,
+    /// or with a path or a list of dependences that is too long. Takes no memory.
     pub fn from_records(records: Vec<Record>) -> Result<Trace, (Vec<Record>, usize)>
         ensures accepted { IfOk result (λ trace. (trace.records ≡ records.items) × IsTrace records.items) }
         ensures refused { IfErr result (λ refusal. (refusal.0.items ≡ records.items) × IsFirstRefused records.items refusal.1) }
@@ -63,7 +68,10 @@ fn first_refused(records: &[Record]) -> Option<usize>
 {
     let mut tasks: usize = 0;
     for (at, event) in records.iter().enumerate() {
-        if at >= MAX_RECORDS || !is_sound(&event.body) {
+        if at >= MAX_RECORDS {
+            return Some(at);
+        }
+        if !is_sound(&event.body) {
             return Some(at);
         }
         if event.body.made().is_some() {
@@ -81,26 +89,42 @@ fn is_sound(body: &Body) -> bool
     ensures { IsTrue result ↔ IsSound body.now }
 {
     match body {
-        Body::ImplicitTask { flags, .. } => are_named(*flags),
+        Body::ImplicitTask {
+            endpoint, flags, ..
+        } => *endpoint != Endpoint::BeginEnd && are_named(*flags),
         Body::TaskCreate { flags, .. } => are_named(*flags),
+        Body::Dependences { list, .. } => list.as_slice().len() <= MAX_DEPENDENCES,
         Body::TaskSchedule {
             status,
             next,
             share,
             ..
         } => {
-            let finishes = *status == Status::Complete;
-            next.is_some() && share.is_some() == finishes && is_short(share)
+            next.is_some() == status.demands_next()
+                && share.is_some() == status.part().is_some()
+                && is_short(share)
         }
-        Body::SyncRegion { .. } => true,
+        Body::Cancel { flags, share, .. } => {
+            are_cancel_named(*flags)
+                && share.is_some() == body.discarded().is_some()
+                && is_short(share)
+        }
+        _ => true,
     }
 }
 
-/// Whether each bit has a name.
+/// Whether each bit of a task's flags has a name.
 fn are_named(flags: TaskFlags) -> bool
-    ensures { IsTrue result ↔ AreNamed flags.0 }
+    ensures { IsTrue result ↔ AreNamed task_flags flags.0 }
 {
     TaskFlags::from_bits(flags.bits()).is_some()
+}
+
+/// Whether each bit of a cancellation's flags has a name.
+fn are_cancel_named(flags: CancelFlags) -> bool
+    ensures { IsTrue result ↔ AreNamed cancel_flags flags.0 }
+{
+    CancelFlags::from_bits(flags.bits()).is_some()
 }
 
 /// Whether the claimed path, if there is one, is within the limit.

@@ -1,7 +1,7 @@
-use Rattle.std.proofs.Common.{◌≡◌, ◌+◌, ◌≤◌, ◌^◌, ◌∙◌, ◌<◌, take, length, arith, sym, ap}
+use Rattle.std.proofs.Common.{◌≡◌, ◌+◌, ◌≤◌, ◌^◌, ◌∙◌, ◌<◌, take, length, arith, sym, ap, true, false}
 use Rattle.std.specs.Prelude.{is_some}
 use Rattle.ompt_events.specs.Traces.{IsSound, tasks_in}
-use Rattle.ompt_events.proofs.TraceLemmas.{IsTrace-more, tasks_in-made, tasks_in-other}
+use Rattle.ompt_events.proofs.TraceLemmas.{IsTrace-more, IsTrace-unsound, tasks_in-made, tasks_in-other}
 use Rattle.ompt_events.proofs.trace.first_refused.Goals as goal
 use Rattle.ompt_events.proofs.trace.first_refused.Goals.{then-is_some+else-tasks-ge-MAX_TASKS, else-is_some}
 
@@ -28,3 +28,10 @@ loop-at-preserved c =
             sound = IsTrace-more rs at c.index-records-at.result within read c.loop-at.invariant.sound c.if-at-ge-MAX_RECORDS.false sound few;
           }
     ]
+
+pub returns-then-not-is_sound : goal.returns-then-not-is_sound
+returns-then-not-is_sound c = record {
+  within = c.loop-at-test.true;
+  before = c.loop-at.invariant.sound;
+  refused = IsTrace-unsound c.args.records.now c.loop-at.at c.index-records-at.result c.loop-at-test.true c.index-records-at.is (λ sound. let is : false ≡ true = sym c.if-not-is_sound.true ∙ c.is_sound.ensures.1 sound in cc);
+}
