@@ -4,8 +4,8 @@ use Rattle.std.specs.Prelude.{slice_get, option_and_then, option_map, is_some, t
 use Rattle.std.proofs.lemmas.Option.{none-some, same_Some}
 use Rattle.ompt_events.specs.declared.records.Record.{Record}
 use Rattle.ompt_events.specs.declared.records.Body.{Body}
-use Rattle.ompt_events.specs.declared.records.Body.TheVariants.{ImplicitTask, TaskCreate, TaskSchedule, SyncRegion}
-use Rattle.ompt_events.specs.declared.names.Endpoint.TheVariants.{Begin, End}
+use Rattle.ompt_events.specs.declared.records.Body.TheVariants.{ImplicitTask, TaskCreate}
+use Rattle.ompt_events.specs.declared.names.Endpoint.TheVariants.{Begin}
 use Rattle.ompt_events.specs.Records.{begun_root, created, creation, made, running}
 use Rattle.ompt_events.specs.Places.{at}
 
@@ -19,40 +19,29 @@ at_through f g x y rs i follows says = through f g x y follows (slice_get rs i) 
 
 pub begun_made : (task : ℕ) (b : Body) → begun_root b ≡ Some task → made b ≡ Some task
 begun_made task (ImplicitTask Begin actual index flags parallel root) says = says
-begun_made task (ImplicitTask End actual index flags parallel root) says = absurd (none-some task says)
-begun_made task (TaskCreate deps flags parent child) says = absurd (none-some task says)
-begun_made task (TaskSchedule status prior next share) says = absurd (none-some task says)
-begun_made task (SyncRegion kind endpoint parallel own) says = absurd (none-some task says)
+begun_made task _ says = absurd (none-some task says)
 
 pub created_made : (task : ℕ) (b : Body) → created b ≡ Some task → made b ≡ Some task
-created_made task (ImplicitTask endpoint actual index flags parallel root) says = absurd (none-some task says)
 created_made task (TaskCreate deps flags parent child) says = says
-created_made task (TaskSchedule status prior next share) says = absurd (none-some task says)
-created_made task (SyncRegion kind endpoint parallel own) says = absurd (none-some task says)
+created_made task _ says = absurd (none-some task says)
 
 pub creation_created : (parent task : ℕ) (b : Body) → creation b ≡ Some (parent, task) → created b ≡ Some task
 creation_created parent task b says = ap (option_map (λ (p : ℕ × ℕ). p.1)) says
 
 pub creation_running : (parent task : ℕ) (b : Body) → creation b ≡ Some (parent, task) → running b ≡ Some parent
-creation_running parent task (ImplicitTask endpoint actual index flags above root) says = absurd (none-some (parent, task) says)
 creation_running parent task (TaskCreate deps flags own child) says = ap (option_map (λ (p : ℕ × ℕ). p.0)) says
-creation_running parent task (TaskSchedule status prior next share) says = absurd (none-some (parent, task) says)
-creation_running parent task (SyncRegion kind endpoint above own) says = absurd (none-some (parent, task) says)
+creation_running parent task _ says = absurd (none-some (parent, task) says)
 
 -- a record that makes a task begins it as a root or creates it
 pub made_cases : (task : ℕ) (b : Body) → made b ≡ Some task → (begun_root b ≡ Some task) ⊎ (created b ≡ Some task)
 made_cases task (ImplicitTask Begin actual index flags parallel root) says = inl says
-made_cases task (ImplicitTask End actual index flags parallel root) says = absurd (none-some task says)
 made_cases task (TaskCreate deps flags parent child) says = inr says
-made_cases task (TaskSchedule status prior next share) says = absurd (none-some task says)
-made_cases task (SyncRegion kind endpoint parallel own) says = absurd (none-some task says)
+made_cases task _ says = absurd (none-some task says)
 
 -- and not both
 pub root_or_created : (root task : ℕ) (b : Body) → begun_root b ≡ Some root → created b ≡ Some task → ⊥
-root_or_created root task (ImplicitTask endpoint actual index flags parallel own) begins creates = none-some task creates
 root_or_created root task (TaskCreate deps flags parent child) begins creates = none-some root begins
-root_or_created root task (TaskSchedule status prior next share) begins creates = none-some root begins
-root_or_created root task (SyncRegion kind endpoint parallel own) begins creates = none-some root begins
+root_or_created root task _ begins creates = none-some task creates
 
 pub begun_at_made : (task : ℕ) (rs : List Record) (i : ℕ) → at begun_root rs i ≡ Some task → at made rs i ≡ Some task
 begun_at_made task rs i = at_through begun_root made task task rs i (begun_made task)
@@ -68,10 +57,8 @@ creation_at_running parent task rs i = at_through creation running (parent, task
 
 -- a task that is created has a parent
 pub created_by : (task : ℕ) (b : Body) → created b ≡ Some task → (parent : ℕ) × (creation b ≡ Some (parent, task))
-created_by task (ImplicitTask endpoint actual index flags parallel root) says = absurd (none-some task says)
 created_by task (TaskCreate deps flags parent child) says = (parent, ap (λ c. Some (parent, c)) (same_Some child task says))
-created_by task (TaskSchedule status prior next share) says = absurd (none-some task says)
-created_by task (SyncRegion kind endpoint parallel own) says = absurd (none-some task says)
+created_by task _ says = absurd (none-some task says)
 
 pub created_at_creation : (task : ℕ) (rs : List Record) (i : ℕ) → at created rs i ≡ Some task → (parent : ℕ) × (at creation rs i ≡ Some (parent, task))
 created_at_creation task rs i says = there (slice_get rs i) says
@@ -86,10 +73,8 @@ made_at_cases rs i makes = there (slice_get rs i) makes
   where
     here : (b : Body) → is_some (made b) ≡ true → (is_some (begun_root b) ≡ true) ⊎ (is_some (creation b) ≡ true)
     here (ImplicitTask Begin actual index flags parallel root) is = inl refl
-    here (ImplicitTask End actual index flags parallel root) is = inl is
     here (TaskCreate deps flags parent child) is = inr refl
-    here (TaskSchedule status prior next share) is = inl is
-    here (SyncRegion kind endpoint parallel own) is = inl is
+    here _ is = inl is
 
     there : (o : Option Record) → is_some (option_and_then (λ (r : Record). made r.body) o) ≡ true → (is_some (option_and_then (λ (r : Record). begun_root r.body) o) ≡ true) ⊎ (is_some (option_and_then (λ (r : Record). creation r.body) o) ≡ true)
     there None is = inl is

@@ -1,6 +1,7 @@
 mod Reading
 mod Ranges
 mod Bodies
+mod AuditedLemmas
 mod NumberMaps
 mod MakerLemmas
 mod HomeLemmas

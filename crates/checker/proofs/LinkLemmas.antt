@@ -4,6 +4,7 @@ use Rattle.std.proofs.lemmas.Bool.{cases_eq, eq-eqb}
 use Rattle.std.proofs.lemmas.Bool.Decides.{nat_tests}
 use Rattle.std.proofs.lemmas.Option.{none-some, same_Some, slice_get-get_or, slice_get_within}
 use Rattle.std.proofs.lemmas.List.{get_or_append_left, get_or_push, length_push, append-nil}
+use Rattle.std.proofs.lemmas.Bool.{false≢true}
 use Rattle.std.proofs.lemmas.List.Elements.{filter-append}
 use Rattle.std.proofs.lemmas.List.Sums.{fold_push}
 use Rattle.std.specs.Prelude.{◌==◌, slice_get, filter, fold}
@@ -13,26 +14,27 @@ use Rattle.std.specs.Ordering.{nat_cmp}
 use Rattle.std.specs.BTreeMap.{BTreeMap, get}
 use Rattle.ompt_events.specs.declared.records.Record.{Record}
 use Rattle.ompt_events.specs.declared.records.Body.{Body}
-use Rattle.ompt_events.specs.declared.records.Body.TheVariants.{ImplicitTask, TaskCreate, TaskSchedule, SyncRegion}
+use Rattle.ompt_events.specs.declared.records.Body.TheVariants.{SyncRegion}
 use Rattle.ompt_events.specs.declared.names.Endpoint.{Endpoint}
-use Rattle.ompt_events.specs.declared.names.Endpoint.TheVariants.{Begin, End}
+use Rattle.ompt_events.specs.declared.names.Endpoint.TheVariants.{Begin, End, BeginEnd}
 use Rattle.ompt_events.specs.declared.names.SyncKind.{SyncKind}
+use Rattle.ompt_events.specs.declared.names.SyncKind.TheVariants.{Taskwait}
 use Rattle.ompt_events.specs.declared.cause.Cause.TheVariants.{RegionOrder}
 use Rattle.ompt_events.specs.Records.{region, running}
 use Rattle.ompt_events.specs.Places.{at, is_own, own_before}
-use Rattle.ompt_events.specs.Regions.{after_region, open_regions, kind_at, EndsRegion}
-use Rattle.ompt_events.specs.Causes.{HasNoBegin, HasCause, region_order, IsFirstWith, IsFreeOf}
+use Rattle.ompt_events.specs.Regions.{after_region, open_regions, kind_at, is_called_barrier, EndsRegion}
+use Rattle.ompt_events.specs.Causes.{HasNoBegin, HasCause, region_order, barrier_order, IsFirstWith, IsFreeOf}
+use Rattle.checker.specs.Audited.{AreAudited}
 use Rattle.checker.specs.Links.{below_of, top_after, IsStack, SetsTo, AreLinked}
 use Rattle.checker.proofs.Reading.{at_within}
 use Rattle.checker.proofs.Ranges.{range_more}
 use Rattle.checker.proofs.Bodies.{at_through}
+use Rattle.checker.proofs.AuditedLemmas.{only_waits}
 
 -- a record of a region is its task's own
 region_running : (task : ℕ) (kind : SyncKind) (endpoint : Endpoint) (b : Body) → region b ≡ Some (task, kind, endpoint) → running b ≡ Some task
-region_running task kind endpoint (ImplicitTask e actual index flags parallel root) says = absurd (none-some (task, kind, endpoint) says)
-region_running task kind endpoint (TaskCreate deps flags parent child) says = absurd (none-some (task, kind, endpoint) says)
-region_running task kind endpoint (TaskSchedule status prior next share) says = absurd (none-some (task, kind, endpoint) says)
 region_running task kind endpoint (SyncRegion k e parallel own) says = ap Some (ap (λ (p : ℕ × SyncKind × Endpoint). p.0) (same_Some (own, k, e) (task, kind, endpoint) says))
+region_running task kind endpoint _ says = absurd (none-some (task, kind, endpoint) says)
 
 -- one more place among a task's own
 own_more : (rs : List Record) (task n : ℕ) → own_before rs task (n + 1) ≡ own_before rs task n ++ cond (is_own rs task n) (n ∷ []) []
@@ -119,6 +121,7 @@ own_stack : (links : List (Option ℕ)) (n own : ℕ) (kind : SyncKind) (endpoin
 own_stack links n own kind Begin link stack all found is =
     let here : below_of (links ++ link ∷ []) (Some n) ≡ link = get_or_push links link None n all in
     (refl, rw (length_push links link) (omega arith), rw here (stack_more links link link stack is))
+own_stack links n own kind BeginEnd link stack all found is = stack_more links link link stack is
 own_stack links n own kind End link [] all found is = let h = found refl in absurd (none-some h.0 (sym is ∙ h.1))
 own_stack links n own kind End link (begin ∷ below) all found (is, within, rest) = stack_more links link (below_of links link) below rest
 
@@ -153,12 +156,15 @@ open_more_own rs n own kind endpoint innermost after links are says found sets =
           },
         )
 
-pub has_no_begin : (rs : List Record) (i : ℕ) → HasCause rs i RegionOrder → HasNoBegin rs i
-has_no_begin rs i (region_order h) = h
+pub has_no_begin : (rs : List Record) → AreAudited rs → (i : ℕ) → HasCause rs i RegionOrder → HasNoBegin rs i
+has_no_begin rs are i (region_order h) = h
+has_no_begin rs are i (barrier_order (task, kind, endpoint, says, called, explicit)) =
+    let waits : is_called_barrier Taskwait ≡ true = rw ((only_waits rs are i task kind endpoint says).0) at called in
+    absurd (false≢true waits)
 
 -- an end that misses its begin
-pub misses_here : (rs : List Record) (i own : ℕ) (kind : SyncKind) (endpoint : Endpoint) (innermost : BTreeMap ℕ ℕ) (links : List (Option ℕ)) → AreOpen rs i innermost links → ((k : ℕ) → k < i → HasNoBegin rs k → ⊥) → at region rs i ≡ Some (own, kind, endpoint) → (endpoint ≡ End) × ((begin : ℕ) → get nat_cmp innermost own ≡ Some begin → kind_at rs begin ≢ Some kind) → IsFirstWith rs RegionOrder i
-misses_here rs i own kind endpoint innermost links are free says (is_end, none) = record {
+pub misses_here : (rs : List Record) → AreAudited rs → (i own : ℕ) (kind : SyncKind) (endpoint : Endpoint) (innermost : BTreeMap ℕ ℕ) (links : List (Option ℕ)) → AreOpen rs i innermost links → ((k : ℕ) → k < i → HasNoBegin rs k → ⊥) → at region rs i ≡ Some (own, kind, endpoint) → (endpoint ≡ End) × ((begin : ℕ) → get nat_cmp innermost own ≡ Some begin → kind_at rs begin ≢ Some kind) → IsFirstWith rs RegionOrder i
+misses_here rs audited i own kind endpoint innermost links are free says (is_end, none) = record {
   within = at_within region rs i (own, kind, endpoint) says;
   has = region_order (
     own,
@@ -168,7 +174,7 @@ misses_here rs i own kind endpoint innermost links are free says (is_end, none) 
       none = λ begin top. none begin (top_of (get nat_cmp innermost own) (open_regions rs own i) begin (are.stacks own) top);
     },
   );
-  first = λ k below has. free k below (has_no_begin rs k has);
+  first = λ k below has. free k below (has_no_begin rs audited k has);
 }
   where
     top_of : (top : Option ℕ) (stack : List ℕ) (begin : ℕ) → IsStack links top stack → slice_get stack 0 ≡ Some begin → top ≡ Some begin
@@ -182,7 +188,7 @@ begins_here rs n links linked (task, kind, h) =
     h.none found.0 found.2.innermost found.2.same_kind
 
 -- every end up to the last has its begin
-pub free_of_misses : (rs : List Record) (n : ℕ) → ((k : ℕ) → k < n → HasNoBegin rs k → ⊥) → length rs ≤ n → IsFreeOf rs RegionOrder
-free_of_misses rs n free all i has =
-    let h = has_no_begin rs i has in
+pub free_of_misses : (rs : List Record) → AreAudited rs → (n : ℕ) → ((k : ℕ) → k < n → HasNoBegin rs k → ⊥) → length rs ≤ n → IsFreeOf rs RegionOrder
+free_of_misses rs audited n free all i has =
+    let h = has_no_begin rs audited i has in
     free i (let inside = at_within region rs i (h.0, h.1, End) h.2.ends in omega arith) h

@@ -10,14 +10,17 @@ use Rattle.ompt_events.specs.declared.cause.Cause.TheVariants.{CreatedTwice}
 use Rattle.ompt_events.specs.Records.{made, begun_root, created, creation}
 use Rattle.ompt_events.specs.Places.{at}
 use Rattle.ompt_events.specs.Tree.{IsRoot, IsExplicit}
-use Rattle.ompt_events.specs.Causes.{IsMadeAgain, HasCause, created_twice, IsFirstWith, IsFreeOf}
+use Rattle.ompt_events.specs.Causes.{IsMadeAgain, HasCause, created_twice, forked_twice, IsFirstWith, IsFreeOf}
+use Rattle.checker.specs.Audited.{AreAudited}
 use Rattle.checker.specs.Searches.{AreMakers}
+use Rattle.checker.proofs.AuditedLemmas.{no_fork}
 use Rattle.checker.proofs.NumberMaps.{updated_here, updated_there}
 use Rattle.checker.proofs.Reading.{at_within}
 use Rattle.checker.proofs.Bodies.{begun_at_made, created_at_made, creation_at_created, created_at_creation}
 
-pub is_made_again : (rs : List Record) (i : ℕ) → HasCause rs i CreatedTwice → IsMadeAgain rs i
-is_made_again rs i (created_twice again) = again
+pub is_made_again : (rs : List Record) → AreAudited rs → (i : ℕ) → HasCause rs i CreatedTwice → IsMadeAgain rs i
+is_made_again rs are i (created_twice again) = again
+is_made_again rs are i (forked_twice (parallel, k, own, other, below, there, here)) = absurd (no_fork rs are i (own, parallel) here)
 
 -- a record that makes no task leaves the makers
 pub makers_other : (rs : List Record) (i : ℕ) (m : BTreeMap ℕ ℕ) → AreMakers rs i m → at made rs i ≡ None → AreMakers rs (i + 1) m
@@ -66,18 +69,18 @@ pub again_none : (rs : List Record) (i : ℕ) → at made rs i ≡ None → IsMa
 again_none rs i none (other, k, below, made_there, made_here) = none-some other (sym none ∙ made_here)
 
 -- no record up to the end makes a task again
-pub free_of_twice : (rs : List Record) (n : ℕ) → ((k : ℕ) → k < n → IsMadeAgain rs k → ⊥) → length rs ≤ n → IsFreeOf rs CreatedTwice
-free_of_twice rs n free all i has =
-    let again = is_made_again rs i has in
+pub free_of_twice : (rs : List Record) → AreAudited rs → (n : ℕ) → ((k : ℕ) → k < n → IsMadeAgain rs k → ⊥) → length rs ≤ n → IsFreeOf rs CreatedTwice
+free_of_twice rs are n free all i has =
+    let again = is_made_again rs are i has in
     free i (let inside = at_within made rs i again.0 again.4 in omega arith) again
 
 -- the first record that makes a task again
-pub first_again : (rs : List Record) (i task : ℕ) (before : Option ℕ) (m : BTreeMap ℕ ℕ) → ((k : ℕ) → k < i → IsMadeAgain rs k → ⊥) → AreMakers rs i m → at made rs i ≡ Some task → before ≡ get nat_cmp m task → is_some before ≡ true → IsFirstWith rs CreatedTwice i
-first_again rs i task None m free makers makes old is = absurd (cc)
-first_again rs i task (Some k) m free makers makes old is = record {
+pub first_again : (rs : List Record) → AreAudited rs → (i task : ℕ) (before : Option ℕ) (m : BTreeMap ℕ ℕ) → ((k : ℕ) → k < i → IsMadeAgain rs k → ⊥) → AreMakers rs i m → at made rs i ≡ Some task → before ≡ get nat_cmp m task → is_some before ≡ true → IsFirstWith rs CreatedTwice i
+first_again rs are i task None m free makers makes old is = absurd (cc)
+first_again rs are i task (Some k) m free makers makes old is = record {
   within = at_within made rs i task makes;
   has = created_twice (again_found rs i task k m makers makes (sym old));
-  first = λ j below has. free j below (is_made_again rs j has);
+  first = λ j below has. free j below (is_made_again rs are j has);
 }
 
 -- a task with a maker is a root exactly where the maker begins it as one

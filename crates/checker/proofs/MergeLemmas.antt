@@ -5,7 +5,9 @@ use Rattle.std.proofs.lemmas.Option.{none-some, same_Some}
 use Rattle.std.specs.Prelude.{slice_get, slice_index, option_map, MatchOption, IfSome}
 use Rattle.ompt_events.specs.declared.records.Record.{Record}
 use Rattle.ompt_events.specs.Places.{thread_at, seen_at}
-use Rattle.ompt_events.specs.HappensBefore.{thread_order, creation, IsStep, program, ledger}
+use Rattle.ompt_events.specs.HappensBefore.{thread_order, creation, discard, fulfilment, IsStep, program, ledger}
+use Rattle.checker.specs.Audited.{AreAudited}
+use Rattle.checker.proofs.AuditedLemmas.{no_discard, no_fulfilment}
 use Rattle.checker.specs.Merging.{AreAwaited, Stands, MayFollow, AreHeads, IsLeastEntry, IsReadyHead}
 
 pub stands_same : (placed : List Bool) (a b : ℕ) → a ≡ b → Stands placed a → Stands placed b
@@ -21,8 +23,8 @@ stands_or_not placed i = stands (slice_get placed i)
     stands (Some false) = inr (λ e. let b : false ≡ true = same_Some false true e in cc)
 
 -- the head of a thread that passes the test may stand next
-pub may_follow : (rs : List Record) (awaited : List (Option ℕ)) (placed : List Bool) (heads : List ℕ) (least : Option ℕ) (thread head : ℕ) → AreAwaited rs (length rs) awaited → AreHeads rs placed heads → IsLeastEntry rs placed least → thread < length heads → slice_index heads thread ≡ head → IsReadyHead rs awaited placed least head → MayFollow rs placed head
-may_follow rs awaited placed heads least thread head awaits are is_least low is ready = record {
+pub may_follow : (rs : List Record) → AreAudited rs → (awaited : List (Option ℕ)) (placed : List Bool) (heads : List ℕ) (least : Option ℕ) (thread head : ℕ) → AreAwaited rs (length rs) awaited → AreHeads rs placed heads → IsLeastEntry rs placed least → thread < length heads → slice_index heads thread ≡ head → IsReadyHead rs awaited placed least head → MayFollow rs placed head
+may_follow rs audited awaited placed heads least thread head awaits are is_least low is ready = record {
   within = ready.within;
   missing = λ standing. are.missing thread low (stands_same placed head (slice_index heads thread) (sym is) standing);
   steps = λ a step. stands_before a step;
@@ -34,6 +36,8 @@ may_follow rs awaited placed heads least thread head awaits are is_least low is 
     stands_before : (a : ℕ) → IsStep rs a head → Stands placed a
     stands_before a (program (thread_order earlier inside same)) = are.below thread a (same ∙ runs) (rw is earlier)
     stands_before a (program (creation task creates starts)) = ready.is_created a (awaits.each head a ready.within (task, starts, creates))
+    stands_before a (program (discard task creates gone)) = absurd (no_discard rs audited head task gone)
+    stands_before a (program (fulfilment task creates done)) = absurd (no_fulfilment rs audited head task done)
     stands_before a (ledger finishes less) = elim (stands_or_not placed a) [
       | inl standing ↦ standing
       | inr missing ↦
@@ -93,6 +97,6 @@ none_found rs awaited placed heads least (Some place) n awaits are is_least all 
     let same = is_head rs placed heads i thread.0 are thread.1 may in
     none thread.0 (let low = are.all i thread.0 thread.1 in omega arith) (rw same before) (rw same (ready_head rs awaited placed least i awaits is_least may))
 
-pub first_found : (rs : List Record) (awaited : List (Option ℕ)) (placed : List Bool) (heads : List ℕ) (least first : Option ℕ) (n : ℕ) → AreAwaited rs (length rs) awaited → AreHeads rs placed heads → IsLeastEntry rs placed least → n ≤ length heads → IfSome first (λ place. IsReadyHead rs awaited placed least place × ((t : ℕ) × (t < n) × (slice_index heads t ≡ place))) → IfSome first (MayFollow rs placed)
-first_found rs awaited placed heads least None n awaits are is_least low found = found
-first_found rs awaited placed heads least (Some place) n awaits are is_least low (ready, (t, below, is)) = may_follow rs awaited placed heads least t place awaits are is_least (omega arith) is ready
+pub first_found : (rs : List Record) → AreAudited rs → (awaited : List (Option ℕ)) (placed : List Bool) (heads : List ℕ) (least first : Option ℕ) (n : ℕ) → AreAwaited rs (length rs) awaited → AreHeads rs placed heads → IsLeastEntry rs placed least → n ≤ length heads → IfSome first (λ place. IsReadyHead rs awaited placed least place × ((t : ℕ) × (t < n) × (slice_index heads t ≡ place))) → IfSome first (MayFollow rs placed)
+first_found rs audited awaited placed heads least None n awaits are is_least low found = found
+first_found rs audited awaited placed heads least (Some place) n awaits are is_least low (ready, (t, below, is)) = may_follow rs audited awaited placed heads least t place awaits are is_least (omega arith) is ready

@@ -8,9 +8,9 @@ use Rattle.std.specs.Option.{option_map_or}
 use Rattle.std.specs.Prelude.{is_some, slice_get, slice_index, Contains, ⊤}
 use Rattle.ompt_events.specs.declared.records.Record.{Record}
 use Rattle.ompt_events.specs.declared.records.Part.{Part}
-use Rattle.ompt_events.specs.Records.{created, started, finish}
+use Rattle.ompt_events.specs.Records.{created, started, discarded, fulfilled, finish}
 use Rattle.ompt_events.specs.Places.{at, seen_at}
-use Rattle.ompt_events.specs.HappensBefore.{IsFinishing, thread_order, creation, IsStep, program, ledger, HappensBefore, step, chain}
+use Rattle.ompt_events.specs.HappensBefore.{IsFinishing, thread_order, creation, discard, fulfilment, IsStep, program, ledger, HappensBefore, step, chain}
 use Rattle.ompt_events.specs.Linearization.{IsEarlier, IsDue, IsFirstReady, IsGreedy, IsGrounded}
 use Rattle.checker.proofs.Reading.{at_within}
 
@@ -34,11 +34,15 @@ finishing_within rs i finishes = finished (at finish rs i) refl finishes
 pub step_from : (rs : List Record) (a b : ℕ) → IsStep rs a b → a < length rs
 step_from rs a b (program (thread_order earlier within same)) = omega arith
 step_from rs a b (program (creation task creates starts)) = at_within created rs a task creates
+step_from rs a b (program (discard task creates gone)) = at_within created rs a task creates
+step_from rs a b (program (fulfilment task creates done)) = at_within created rs a task creates
 step_from rs a b (ledger finishes less) = finishing_within rs a finishes
 
 pub step_to : (rs : List Record) (a b : ℕ) → IsStep rs a b → b < length rs
 step_to rs a b (program (thread_order earlier within same)) = within
 step_to rs a b (program (creation task creates starts)) = at_within started rs b task starts.starts
+step_to rs a b (program (discard task creates gone)) = at_within discarded rs b task gone
+step_to rs a b (program (fulfilment task creates done)) = at_within fulfilled rs b task done
 step_to rs a b (ledger finishes less) = seen_within rs b (seen_at rs a) less
 
 pub before_to : (rs : List Record) (a b : ℕ) → HappensBefore rs a b → b < length rs

@@ -6,14 +6,15 @@ use Rattle.std.specs.Ordering.{nat_cmp}
 use Rattle.std.specs.BTreeMap.{BTreeMap, get}
 use Rattle.ompt_events.specs.declared.records.Record.{Record}
 use Rattle.ompt_events.specs.declared.cause.Cause.TheVariants.{Rootless}
-use Rattle.ompt_events.specs.Records.{begun_root, created, creation, made, flags, named}
-use Rattle.ompt_events.specs.Flags.{has_flag}
+use Rattle.ompt_events.specs.Records.{created, creation, made, named, region_named}
 use Rattle.ompt_events.specs.Places.{at}
 use Rattle.ompt_events.specs.Tree.{IsRooted, root, child}
 use Rattle.ompt_events.specs.Causes.{IsMade, HasNoRoot, unmade, unrooted, no_region, HasCause, rootless, IsFirstWith, IsFreeOf}
 use Rattle.checker.specs.declared.rooted.Mark.{Mark}
 use Rattle.checker.specs.declared.rooted.Mark.TheVariants.{Unknown, Rooted, Unrooted}
+use Rattle.checker.specs.Audited.{AreAudited}
 use Rattle.checker.specs.Searches.{AreMakers}
+use Rattle.checker.proofs.AuditedLemmas.{no_region_named}
 use Rattle.checker.specs.Marks.{mark_at, AreMarks, AnyUnmade}
 use Rattle.checker.proofs.Reading.{at_within, at_read, read_get}
 use Rattle.checker.proofs.Bodies.{begun_at_made, created_at_made, creation_at_created, created_at_creation}
@@ -73,20 +74,13 @@ from_mark rs makers marks i are known is =
     let makes = created_at_made s.1 rs i creates in
     unrooted s.1 creates (λ rooted. no_root_below rs makers marks are known s.1 rooted i (are.each s.1 i (at_within made rs i s.1 makes) makes) is)
 
-pub from_member : (rs : List Record) (i : ℕ) (r : Record) (bits : ℕ) → i < length rs → r ≡ get_or rs i r → is_some (begun_root r.body) ≡ true → flags r.body ≡ Some bits → has_flag bits 0x1 ≡ false → HasNoRoot rs i
-from_member rs i r bits within read begins given none = member (begun_root r.body) refl begins
-  where
-    member : (o : Option ℕ) → begun_root r.body ≡ o → is_some o ≡ true → HasNoRoot rs i
-    member None e is = cc
-    member (Some task) e is = no_region (task, bits, at_read begun_root rs i r within read ∙ e, at_read flags rs i r within read ∙ given, none)
-
 -- a record that no test finds
-pub has_root : (rs : List Record) (makers : BTreeMap ℕ ℕ) (marks : List Mark) (i : ℕ) (r : Record) → AreMakers rs (length rs) makers → AreMarks rs makers marks → ((k : ℕ) → is_some (at creation rs k) ≡ true → mark_at marks k ≢ Unknown) → i < length rs → r ≡ get_or rs i r → (AnyUnmade makers (named r.body) → ⊥) → mark_at marks i ≢ Unrooted → ((bits : ℕ) → is_some (begun_root r.body) ≡ true → flags r.body ≡ Some bits → has_flag bits 0x1 ≡ false → ⊥) → HasNoRoot rs i → ⊥
-has_root rs makers marks i r are known all_known within read not_unmade not_unrooted not_member (unmade task (q, stands, c) none) =
+pub has_root : (rs : List Record) → AreAudited rs → (makers : BTreeMap ℕ ℕ) (marks : List Mark) (i : ℕ) (r : Record) → AreMakers rs (length rs) makers → AreMarks rs makers marks → ((k : ℕ) → is_some (at creation rs k) ≡ true → mark_at marks k ≢ Unknown) → i < length rs → r ≡ get_or rs i r → (AnyUnmade makers (named r.body) → ⊥) → mark_at marks i ≢ Unrooted → HasNoRoot rs i → ⊥
+has_root rs audited makers marks i r are known all_known within read not_unmade not_unrooted (unmade task (q, stands, c) none) =
     let same : q ≡ r = same_Some q r (sym stands ∙ read_get rs i r within read) in
     let P : Record → Type 0 = λ p. Contains (named p.body) task in
     not_unmade (unmade_any rs makers are (named r.body) task (subst P same c) none)
-has_root rs makers marks i r are known all_known within read not_unmade not_unrooted not_member (unrooted task creates none) =
+has_root rs audited makers marks i r are known all_known within read not_unmade not_unrooted (unrooted task creates none) =
     let by = created_at_creation task rs i creates in
     marked (mark_at marks i) refl (all_known i (ap is_some by.1))
   where
@@ -94,14 +88,13 @@ has_root rs makers marks i r are known all_known within read not_unmade not_unro
     marked Unknown e unknown = unknown e
     marked Rooted e unknown = none (known.rooted i task e (created_at_made task rs i creates))
     marked Unrooted e unknown = not_unrooted e
-has_root rs makers marks i r are known all_known within read not_unmade not_unrooted not_member (no_region (task, bits, begins, given, flag)) =
-    not_member bits (ap is_some (sym (at_read begun_root rs i r within read) ∙ begins)) (sym (at_read flags rs i r within read) ∙ given) flag
+has_root rs audited makers marks i r are known all_known within read not_unmade not_unrooted (no_region parallel says none) = no_region_named rs audited i parallel says
 
 -- a place that has the cause is one of the places
 pub rootless_within : (rs : List Record) (i : ℕ) → HasNoRoot rs i → i < length rs
 rootless_within rs i (unmade task (q, stands, c) none) = slice_get_within rs i q stands
 rootless_within rs i (unrooted task creates none) = at_within created rs i task creates
-rootless_within rs i (no_region (task, bits, begins, given, flag)) = at_within begun_root rs i task begins
+rootless_within rs i (no_region parallel says none) = at_within region_named rs i parallel says
 
 pub free_of_rootless : (rs : List Record) (n : ℕ) → ((k : ℕ) → k < n → HasNoRoot rs k → ⊥) → length rs ≤ n → IsFreeOf rs Rootless
 free_of_rootless rs n free all i has =

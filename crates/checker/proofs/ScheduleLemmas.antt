@@ -10,8 +10,10 @@ use Rattle.ompt_events.specs.declared.records.Record.{Record}
 use Rattle.ompt_events.specs.Records.{created, started, made}
 use Rattle.ompt_events.specs.Places.{at, seen_at}
 use Rattle.ompt_events.specs.Tree.{IsExplicit}
-use Rattle.ompt_events.specs.HappensBefore.{IsStart, IsFinishing, thread_order, creation, IsStep, program, ledger, HappensBefore, step, chain}
+use Rattle.ompt_events.specs.HappensBefore.{IsStart, IsFinishing, thread_order, creation, discard, fulfilment, IsStep, program, ledger, HappensBefore, step, chain}
 use Rattle.checker.specs.Merging.{IsAwaited, AreAwaited}
+use Rattle.checker.specs.Audited.{AreAudited}
+use Rattle.checker.proofs.AuditedLemmas.{no_discard, no_fulfilment}
 use Rattle.checker.specs.Searches.{AreMakers}
 use Rattle.checker.proofs.NumberMaps.{updated_here, updated_there}
 use Rattle.checker.proofs.Reading.{at_within}
@@ -126,8 +128,10 @@ before_less rs steps a b (chain {b = mid} first second) =
     let two = before_less rs steps mid b second in
     omega (arith, one, two)
 
--- the three kinds of step, as the two tests have them
-pub steps_less : (rs : List Record) (awaited : List (Option ℕ)) → AreAwaited rs (length rs) awaited → ((i c : ℕ) → slice_get awaited i ≡ Some (Some c) → c < i) → ((a b : ℕ) → IsFinishing rs a → seen_at rs a < seen_at rs b → a < b) → (a b : ℕ) → IsStep rs a b → a < b
-steps_less rs awaited are by_creation by_entry a b (program (thread_order earlier within same)) = earlier
-steps_less rs awaited are by_creation by_entry a b (program (creation task creates start)) = by_creation b a (are.each b a (at_within started rs b task start.starts) (task, start, creates))
-steps_less rs awaited are by_creation by_entry a b (ledger finishes less) = by_entry a b finishes less
+-- each kind of step that there is, as the two tests have it
+pub steps_less : (rs : List Record) → AreAudited rs → (awaited : List (Option ℕ)) → AreAwaited rs (length rs) awaited → ((i c : ℕ) → slice_get awaited i ≡ Some (Some c) → c < i) → ((a b : ℕ) → IsFinishing rs a → seen_at rs a < seen_at rs b → a < b) → (a b : ℕ) → IsStep rs a b → a < b
+steps_less rs audited awaited are by_creation by_entry a b (program (thread_order earlier within same)) = earlier
+steps_less rs audited awaited are by_creation by_entry a b (program (creation task creates start)) = by_creation b a (are.each b a (at_within started rs b task start.starts) (task, start, creates))
+steps_less rs audited awaited are by_creation by_entry a b (program (discard task creates gone)) = absurd (no_discard rs audited b task gone)
+steps_less rs audited awaited are by_creation by_entry a b (program (fulfilment task creates done)) = absurd (no_fulfilment rs audited b task done)
+steps_less rs audited awaited are by_creation by_entry a b (ledger finishes less) = by_entry a b finishes less

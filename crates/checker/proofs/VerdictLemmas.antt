@@ -15,11 +15,10 @@ use Rattle.ompt_events.specs.declared.names.SyncKind.{SyncKind}
 use Rattle.ompt_events.specs.declared.names.SyncKind.TheVariants.{Taskwait}
 use Rattle.ompt_events.specs.Records.{finish, region}
 use Rattle.ompt_events.specs.Places.{at, places, seen_at}
-use Rattle.ompt_events.specs.Coverage.{waited}
 use Rattle.ompt_events.specs.HappensBefore.{IsStep, ledger, step}
 use Rattle.ompt_events.specs.Linearization.{IsLinearization, IsGreedy, IsFirstReady}
 use Rattle.ompt_events.specs.Completion.{IsPartFinished, CountsIn, CountsAt, IsCompleteIn, IsCompleteAt}
-use Rattle.ompt_events.specs.Violations.{IsRequired, covered, IsUnfinished}
+use Rattle.ompt_events.specs.Violations.{IsRequired, IsUnfinished}
 use Rattle.ompt_events.specs.Causes.{IsFreeOf, no_order, IsMalformed, IsWellFormed}
 use Rattle.checker.specs.declared.search.SearchFault.{SearchFault}
 use Rattle.checker.specs.declared.search.SearchFault.TheVariants.{Memory, Malformed}
@@ -32,7 +31,8 @@ use Rattle.checker.proofs.Reading.{at_within}
 use Rattle.checker.proofs.Ranges.{contains_place}
 use Rattle.checker.proofs.OrderLemmas.{before_to, greedy_grounded}
 use Rattle.checker.proofs.ScheduleLemmas.{before_less}
-use Rattle.checker.proofs.WaitLemmas.{whole_at}
+use Rattle.checker.proofs.WaitLemmas.{whole_at, only_awaited}
+use Rattle.checker.specs.Audited.{AreAudited}
 
 -- what holds of each cause that is looked for
 pub each_sought : (P : Cause → Type 0) → P CreatedTwice → P Rootless → P NotCurrent → P Moved → P RegionOrder → P NoOrder → (cause : Cause) → Contains sought cause → P cause
@@ -121,20 +121,17 @@ whole_below rs i task (suc n) = elim (whole_below rs i task n) [
         ])
 
 -- where no required task is unfinished, each is complete in every order
-pub always_complete : (rs : List Record) → ((i task : ℕ) → IsUnfinished rs i task → ⊥) → IsAlwaysComplete rs
-always_complete rs none order linear i task required = complete_in rs order i task linear (elim (whole_below rs i task (length rs)) [
+pub always_complete : (rs : List Record) → AreAudited rs → ((i task : ℕ) → IsUnfinished rs i task → ⊥) → IsAlwaysComplete rs
+always_complete rs audited none order linear i task required = complete_in rs order i task linear (elim (whole_below rs i task (length rs)) [
   | inl found ↦ inl (found.0, found.1, inl found.2)
   | inr missing ↦ absurd (none i task (record {
     required = required;
     incomplete = λ complete.
-        let region_end = required_end rs i task required in
-        let found = whole_at rs i region_end.0 task region_end.1 region_end.2 region_end.3 complete in
+        let wait = only_awaited rs audited i task required in
+        let found = whole_at rs audited i wait.parent task Taskwait End wait.is_end.ends complete in
         missing found.0 (at_within finish rs found.0 (task, part.Whole) found.1) found.1 found.2;
   }))
 ])
-  where
-    required_end : (rs' : List Record) (i' task' : ℕ) → IsRequired rs' i' task' → (own : ℕ) × (kind : SyncKind) × (endpoint : Endpoint) × (at region rs' i' ≡ Some (own, kind, endpoint))
-    required_end rs' i' task' (covered (waited {parent = own} ends before)) = (own, Taskwait, End, ends.ends)
 
 -- file order is a linearization where each step leads on, and the greedy one
 pub file_linear : (rs : List Record) → ((a b : ℕ) → IsStep rs a b → a < b) → IsLinearization rs (places rs)

@@ -1,6 +1,6 @@
 -- When a task is finished, and what the end of a taskwait covers.
 use Rattle.std.proofs.Common.{◌≡◌, ◌≢◌, ◌∙◌, ℕ, zero, suc, ◌<◌, ◌≤◌, ◌+◌, ◌^◌, List, [], ◌∷◌, ◌++◌, length, get_or, Option, Some, None, true, false, Bool, cond, refl, sym, ap, subst, arith, inl, inr, add-one}
-use Rattle.std.proofs.lemmas.Bool.{cases_eq, cases_lt, cases_order, eq-eqb}
+use Rattle.std.proofs.lemmas.Bool.{false≢true, cases_eq, cases_lt, cases_order, eq-eqb}
 use Rattle.std.proofs.lemmas.Option.{none-some, same_Some, slice_get-get_or, slice_get_within}
 use Rattle.std.proofs.lemmas.List.{get_or_append_left, get_or_push}
 use Rattle.std.proofs.lemmas.List.Elements.{All-nil, All-cons, All-drop, All-same, All-weaker, All-get_or, All-filter, All-contains, Contains-append_right}
@@ -12,25 +12,26 @@ use Rattle.std.specs.Ordering.{nat_cmp}
 use Rattle.std.specs.BTreeMap.{BTreeMap, get, Updates}
 use Rattle.ompt_events.specs.declared.records.Record.{Record}
 use Rattle.ompt_events.specs.declared.records.Body.{Body}
-use Rattle.ompt_events.specs.declared.records.Body.TheVariants.{ImplicitTask, TaskCreate, TaskSchedule, SyncRegion}
+use Rattle.ompt_events.specs.declared.records.Body.TheVariants.{SyncRegion}
 use Rattle.ompt_events.specs.declared.records.Part.{Part}
 use Rattle.ompt_events.specs.declared.records.Part.TheVariants.{Whole, Body as BodyPart}
-use Rattle.ompt_events.specs.declared.names.Status.TheVariants.{Complete, Switch}
 use Rattle.ompt_events.specs.declared.names.Endpoint.{Endpoint}
-use Rattle.ompt_events.specs.declared.names.Endpoint.TheVariants.{Begin, End}
+use Rattle.ompt_events.specs.declared.names.Endpoint.TheVariants.{Begin, End, BeginEnd}
 use Rattle.ompt_events.specs.declared.names.SyncKind.{SyncKind}
-use Rattle.ompt_events.specs.declared.names.SyncKind.TheVariants.{Taskwait}
+use Rattle.ompt_events.specs.declared.names.SyncKind.TheVariants.{Taskwait, Taskgroup}
 use Rattle.ompt_events.specs.declared.cause.Cause.TheVariants.{CreatedTwice}
 use Rattle.ompt_events.specs.Records.{created, creation, finish, region, started}
 use Rattle.ompt_events.specs.Places.{at, seen_at, is_own, own_before}
-use Rattle.ompt_events.specs.Regions.{after_region, open_regions, EndsRegion}
+use Rattle.ompt_events.specs.Regions.{after_region, open_regions, is_barrier, EndsRegion, IsRegion, ended, at_once}
 use Rattle.ompt_events.specs.Completion.{IsCompleteAt, StartsTask}
-use Rattle.ompt_events.specs.Coverage.{waited}
-use Rattle.ompt_events.specs.Violations.{IsRequired, covered, IsUnfinished, IsFirstUnfinished}
+use Rattle.ompt_events.specs.Coverage.{IsChildBefore, waited, grouped, synchronised}
+use Rattle.ompt_events.specs.Violations.{IsRequired, covered, preceding, awaited, IsUnfinished, IsFirstUnfinished}
 use Rattle.ompt_events.specs.Causes.{created_twice, IsFreeOf}
+use Rattle.checker.specs.Audited.{AreAudited}
 use Rattle.checker.specs.Links.{AreLinked}
 use Rattle.checker.specs.Waits.{length_of, latest_of, AreDone, IsRaised, AreLimits, IsLateAt, IsFirstLate, IsFirstCreated}
 use Rattle.checker.proofs.Reading.{at_read, at_within, read_get}
+use Rattle.checker.proofs.AuditedLemmas.{only_whole, only_waits, no_wait_completed, no_dependences}
 use Rattle.checker.proofs.NumberMaps.{updated_here, updated_there}
 use Rattle.checker.proofs.Bodies.{creation_at_created, creation_at_running, created_at_made}
 use Rattle.checker.proofs.LinkLemmas.{open_none, open_other, open_own}
@@ -39,27 +40,10 @@ use Rattle.checker.proofs.LinkLemmas.{open_none, open_other, open_own}
 pub seen_read : (rs : List Record) (i : ℕ) (r : Record) → i < length rs → r ≡ get_or rs i r → seen_at rs i ≡ r.seen
 seen_read rs i r within read = ap (λ (o : Option Record). option_map_or (λ (q : Record). q.seen) o 0) (read_get rs i r within read)
 
--- no record finishes only a part of a task
-finish_whole : (task : ℕ) (part : Part) (b : Body) → finish b ≡ Some (task, part) → part ≡ Whole
-finish_whole task part (ImplicitTask endpoint actual index flags parallel root) says = absurd (none-some (task, part) says)
-finish_whole task part (TaskCreate deps flags parent child) says = absurd (none-some (task, part) says)
-finish_whole task part (TaskSchedule Complete prior next share) says = sym (ap (λ (p : ℕ × Part). p.1) (same_Some (prior, Whole) (task, part) says))
-finish_whole task part (TaskSchedule Switch prior next share) says = absurd (none-some (task, part) says)
-finish_whole task part (SyncRegion kind endpoint parallel own) says = absurd (none-some (task, part) says)
-
-finish_at_whole : (task : ℕ) (part : Part) (rs : List Record) (k : ℕ) → at finish rs k ≡ Some (task, part) → part ≡ Whole
-finish_at_whole task part rs k says = there (slice_get rs k) says
-  where
-    there : (o : Option Record) → option_and_then (λ (r : Record). finish r.body) o ≡ Some (task, part) → part ≡ Whole
-    there None says' = absurd (none-some (task, part) says')
-    there (Some r) says' = finish_whole task part r.body says'
-
 -- a record of a region starts no task
 region_starts : (task : ℕ) (kind : SyncKind) (endpoint : Endpoint) (b : Body) → region b ≡ Some (task, kind, endpoint) → started b ≡ None
-region_starts task kind endpoint (ImplicitTask e actual index flags parallel root) says = absurd (none-some (task, kind, endpoint) says)
-region_starts task kind endpoint (TaskCreate deps flags parent child) says = absurd (none-some (task, kind, endpoint) says)
-region_starts task kind endpoint (TaskSchedule status prior next share) says = absurd (none-some (task, kind, endpoint) says)
 region_starts task kind endpoint (SyncRegion k e parallel own) says = refl
+region_starts task kind endpoint _ says = absurd (none-some (task, kind, endpoint) says)
 
 region_starts_none : (rs : List Record) (i task : ℕ) (kind : SyncKind) (endpoint : Endpoint) → at region rs i ≡ Some (task, kind, endpoint) → StartsTask rs i → ⊥
 region_starts_none rs i task kind endpoint says (next, explicit, start) = none-some next (sym (there (slice_get rs i) says) ∙ start.starts)
@@ -69,10 +53,10 @@ region_starts_none rs i task kind endpoint says (next, explicit, start) = none-s
     there (Some r) says' = region_starts task kind endpoint r.body says'
 
 -- a task that is complete at a record of a region was finished whole by an entry that is seen there
-pub whole_at : (rs : List Record) (i own task : ℕ) (kind : SyncKind) (endpoint : Endpoint) → at region rs i ≡ Some (own, kind, endpoint) → IsCompleteAt rs task i → (k : ℕ) × (at finish rs k ≡ Some (task, Whole)) × (seen_at rs k < seen_at rs i)
-whole_at rs i own task kind endpoint says (inl (k, finishes, inl below)) = (k, finishes, below)
-whole_at rs i own task kind endpoint says (inl (k, finishes, inr (same, starts))) = absurd (region_starts_none rs i own kind endpoint says starts)
-whole_at rs i own task kind endpoint says (inr (body, event)) = let never : BodyPart ≡ Whole = finish_at_whole task BodyPart rs body.0 body.1 in cc
+pub whole_at : (rs : List Record) → AreAudited rs → (i own task : ℕ) (kind : SyncKind) (endpoint : Endpoint) → at region rs i ≡ Some (own, kind, endpoint) → IsCompleteAt rs task i → (k : ℕ) × (at finish rs k ≡ Some (task, Whole)) × (seen_at rs k < seen_at rs i)
+whole_at rs audited i own task kind endpoint says (inl (k, finishes, inl below)) = (k, finishes, below)
+whole_at rs audited i own task kind endpoint says (inl (k, finishes, inr (same, starts))) = absurd (region_starts_none rs i own kind endpoint says starts)
+whole_at rs audited i own task kind endpoint says (inr (body, event)) = let never : BodyPart ≡ Whole = only_whole rs audited body.0 task BodyPart body.1 in cc
 
 -- by the length of a task it is known whether it is complete at a record of a region
 in_time : (rs : List Record) (done : BTreeMap ℕ ℕ) (i task : ℕ) → AreDone rs (length rs) done → seen_at rs i < 2 ^ 32 → length_of done task ≤ seen_at rs i → IsCompleteAt rs task i
@@ -85,9 +69,9 @@ in_time rs done i task are small within = there (get nat_cmp done task) refl
         let is : length_of done task ≡ d = ap (λ (v : Option ℕ). unwrap_or v 0xFFFF_FFFF_FFFF_FFFF) e in
         inl (found.0, found.1, inl (omega (arith, found.2, is)))
 
-too_late : (rs : List Record) (done : BTreeMap ℕ ℕ) (i own task : ℕ) (kind : SyncKind) (endpoint : Endpoint) → AreDone rs (length rs) done → at region rs i ≡ Some (own, kind, endpoint) → seen_at rs i < length_of done task → IsCompleteAt rs task i → ⊥
-too_late rs done i own task kind endpoint are says late complete =
-    let h = whole_at rs i own task kind endpoint says complete in
+too_late : (rs : List Record) → AreAudited rs → (done : BTreeMap ℕ ℕ) (i own task : ℕ) (kind : SyncKind) (endpoint : Endpoint) → AreDone rs (length rs) done → at region rs i ≡ Some (own, kind, endpoint) → seen_at rs i < length_of done task → IsCompleteAt rs task i → ⊥
+too_late rs audited done i own task kind endpoint are says late complete =
+    let h = whole_at rs audited i own task kind endpoint says complete in
     let found = are.each task h.0 (at_within finish rs h.0 (task, Whole) h.1) h.1 in
     let is : length_of done task ≡ found.0 = ap (λ (v : Option ℕ). unwrap_or v 0xFFFF_FFFF_FFFF_FFFF) found.1 in
     omega (arith, h.2, found.2, is)
@@ -244,6 +228,7 @@ own_begins_more rs task n all = more (at region rs n) refl
 
     after : (kind : SyncKind) (endpoint : Endpoint) → at region rs n ≡ Some (task, kind, endpoint) → All (IsOwnBegin rs task (n + 1)) (after_region (open_regions rs task n) n (Some (task, kind, endpoint)))
     after kind Begin says = All-cons (IsOwnBegin rs task (n + 1)) n (open_regions rs task n) (record { before = omega arith; kind = kind; begins = says }) so_far
+    after kind BeginEnd says = so_far
     after kind End says = All-drop (IsOwnBegin rs task (n + 1)) 1 (open_regions rs task n) so_far
 
     more : (o : Option (ℕ × SyncKind × Endpoint)) → at region rs n ≡ o → All (IsOwnBegin rs task (n + 1)) (open_regions rs task (n + 1))
@@ -292,44 +277,69 @@ link_begin rs links i task begin r linked inside read says is =
     let P : ℕ → Type 0 = λ b. EndsRegion rs i task Taskwait b in
     subst P (same_Some found.0 begin (sym found.1 ∙ is)) found.2
 
--- what an end covers: the children that were created before its begin
-required_child : (rs : List Record) (i parent begin task : ℕ) → EndsRegion rs i parent Taskwait begin → IsRequired rs i task → (c : ℕ) × (c < begin) × (at creation rs c ≡ Some (parent, task))
-required_child rs i parent begin task is_end (covered (waited {parent = own} {begin = opened} ends (c, before, creates))) =
-    (c, let below = own_below rs own opened c before in omega (arith, below, same_begin), creates ∙ ap (λ t. Some (t, task)) same_parent)
-  where
-    same_parent : own ≡ parent
-    same_parent = ap (λ (p : ℕ × SyncKind × Endpoint). p.0) (same_Some (own, Taskwait, End) (parent, Taskwait, End) (sym ends.ends ∙ is_end.ends))
+-- the end of a taskwait, and a child that was created before it began
+pub record IsAwaited (rs : List Record) (i task : ℕ) : Type 0 where
+  pub parent : ℕ
+  pub begin : ℕ
+  pub is_end : EndsRegion rs i parent Taskwait begin
+  pub child : IsChildBefore rs begin parent task
 
-    same_begin : opened ≡ begin
-    same_begin = same_Some opened begin (sym ends.innermost ∙ ap (λ t. slice_get (open_regions rs t i) 0) same_parent ∙ is_end.innermost)
+region_kind : (rs : List Record) → AreAudited rs → (i own begin : ℕ) (kind : SyncKind) → IsRegion rs i own kind begin → kind ≡ Taskwait
+region_kind rs audited i own begin kind (ended is_end) = (only_waits rs audited i own kind End is_end.ends).0
+region_kind rs audited i own begin kind (at_once says) = (only_waits rs audited i own kind BeginEnd says).0
+
+-- of the records that a check takes only the end of a taskwait demands a task
+pub only_awaited : (rs : List Record) → AreAudited rs → (i task : ℕ) → IsRequired rs i task → IsAwaited rs i task
+only_awaited rs audited i task (covered (waited {parent = own} {begin = opened} (ended is_end) child)) = record { parent = own; begin = opened; is_end = is_end; child = child }
+only_awaited rs audited i task (covered (waited {parent = own} (at_once says) child)) = absurd ((only_waits rs audited i own Taskwait BeginEnd says).1 refl)
+only_awaited rs audited i task (covered (grouped {parent = own} {begin = opened} region between family)) = let never : Taskgroup ≡ Taskwait = region_kind rs audited i own opened Taskgroup region in cc
+only_awaited rs audited i task (covered (synchronised {own = own} {begin = opened} {kind = kind} start region barrier team begins number child family)) =
+    let waits : is_barrier Taskwait ≡ true = rw (region_kind rs audited i own opened kind region) at barrier in
+    absurd (false≢true waits)
+only_awaited rs audited i task (preceding explicit start before) = absurd (no_dependences rs audited before.depends.0 (_, before.depends.1) before.depends.2)
+only_awaited rs audited i task (awaited {dependent = dependent} completes before) = absurd (no_wait_completed rs audited i dependent completes)
+
+-- what an end covers: the children that were created before its begin
+required_child : (rs : List Record) → AreAudited rs → (i parent begin task : ℕ) → EndsRegion rs i parent Taskwait begin → IsRequired rs i task → (c : ℕ) × (c < begin) × (at creation rs c ≡ Some (parent, task))
+required_child rs audited i parent begin task is_end required =
+    (child.0, let below = own_below rs is.parent is.begin child.0 child.1 in omega (arith, below, same_begin), child.2 ∙ ap (λ t. Some (t, task)) same_parent)
+  where
+    is : IsAwaited rs i task
+    is = only_awaited rs audited i task required
+
+    child : IsChildBefore rs is.begin is.parent task
+    child = is.child
+
+    same_parent : is.parent ≡ parent
+    same_parent = ap (λ (p : ℕ × SyncKind × Endpoint). p.0) (same_Some (is.parent, Taskwait, End) (parent, Taskwait, End) (sym is.is_end.ends ∙ is_end.ends))
+
+    same_begin : is.begin ≡ begin
+    same_begin = same_Some is.begin begin (sym is.is_end.innermost ∙ ap (λ t. slice_get (open_regions rs t i) 0) same_parent ∙ is_end.innermost)
 
 child_required : (rs : List Record) (i parent begin task c : ℕ) → EndsRegion rs i parent Taskwait begin → c < begin → at creation rs c ≡ Some (parent, task) → IsRequired rs i task
-child_required rs i parent begin task c is_end below creates = covered (waited is_end (c, own_creation rs parent task begin c below creates, creates))
+child_required rs i parent begin task c is_end below creates = covered (waited (ended is_end) (c, own_creation rs parent task begin c below creates, creates))
 
 -- where a task is unfinished, a taskwait ends
-wait_ends : (rs : List Record) (i task : ℕ) → IsUnfinished rs i task → (parent : ℕ) × (at region rs i ≡ Some (parent, Taskwait, End))
-wait_ends rs i task unfinished = ends unfinished.required
-  where
-    ends : IsRequired rs i task → (parent : ℕ) × (at region rs i ≡ Some (parent, Taskwait, End))
-    ends (covered (waited {parent = own} is_end child)) = (own, is_end.ends)
+wait_ends : (rs : List Record) → AreAudited rs → (i task : ℕ) → IsUnfinished rs i task → (parent : ℕ) × (at region rs i ≡ Some (parent, Taskwait, End))
+wait_ends rs audited i task unfinished = let is = only_awaited rs audited i task unfinished.required in (is.parent, is.is_end.ends)
 
-pub unfinished_none : (rs : List Record) (i : ℕ) (r : Record) → i < length rs → r ≡ get_or rs i r → ((parent : ℕ) → region r.body ≡ Some (parent, Taskwait, End) → ⊥) → (task : ℕ) → IsUnfinished rs i task → ⊥
-unfinished_none rs i r inside read none task unfinished =
-    let found = wait_ends rs i task unfinished in
+pub unfinished_none : (rs : List Record) → AreAudited rs → (i : ℕ) (r : Record) → i < length rs → r ≡ get_or rs i r → ((parent : ℕ) → region r.body ≡ Some (parent, Taskwait, End) → ⊥) → (task : ℕ) → IsUnfinished rs i task → ⊥
+unfinished_none rs audited i r inside read none task unfinished =
+    let found = wait_ends rs audited i task unfinished in
     none found.0 (sym (at_read region rs i r inside read) ∙ found.1)
 
 -- where no child is late, nothing is unfinished
-none_late : (rs : List Record) (done : BTreeMap ℕ ℕ) (i parent begin seen : ℕ) → AreDone rs (length rs) done → EndsRegion rs i parent Taskwait begin → seen_at rs i ≡ seen → seen < 2 ^ 32 → ((c child : ℕ) → c < begin → IsLateAt rs done parent seen c child → ⊥) → (task : ℕ) → IsUnfinished rs i task → ⊥
-none_late rs done i parent begin seen are is_end is_seen small none task unfinished =
-    let child = required_child rs i parent begin task is_end unfinished.required in
+none_late : (rs : List Record) → AreAudited rs → (done : BTreeMap ℕ ℕ) (i parent begin seen : ℕ) → AreDone rs (length rs) done → EndsRegion rs i parent Taskwait begin → seen_at rs i ≡ seen → seen < 2 ^ 32 → ((c child : ℕ) → c < begin → IsLateAt rs done parent seen c child → ⊥) → (task : ℕ) → IsUnfinished rs i task → ⊥
+none_late rs audited done i parent begin seen are is_end is_seen small none task unfinished =
+    let child = required_child rs audited i parent begin task is_end unfinished.required in
     elim (cases_lt seen (length_of done task)) [
       | inl late ↦ none child.0 task child.1 (child.2, late)
       | inr early ↦ unfinished.incomplete (in_time rs done i task are (omega arith) (omega arith))
     ]
 
 -- no child is late where the limit is low enough
-pub none_above : (rs : List Record) (done : BTreeMap ℕ ℕ) (i parent begin seen : ℕ) (limits : List ℕ) → i < length rs → AreDone rs (length rs) done → AreLimits rs done (length rs) limits → EndsRegion rs i parent Taskwait begin → seen_at rs i ≡ seen → seen < 2 ^ 32 → slice_index limits begin ≤ seen → (task : ℕ) → IsUnfinished rs i task → ⊥
-none_above rs done i parent begin seen limits inside are limits_are is_end is_seen small low = none_late rs done i parent begin seen are is_end is_seen small none
+pub none_above : (rs : List Record) → AreAudited rs → (done : BTreeMap ℕ ℕ) (i parent begin seen : ℕ) (limits : List ℕ) → i < length rs → AreDone rs (length rs) done → AreLimits rs done (length rs) limits → EndsRegion rs i parent Taskwait begin → seen_at rs i ≡ seen → seen < 2 ^ 32 → slice_index limits begin ≤ seen → (task : ℕ) → IsUnfinished rs i task → ⊥
+none_above rs audited done i parent begin seen limits inside are limits_are is_end is_seen small low = none_late rs audited done i parent begin seen are is_end is_seen small none
   where
     none : (c child : ℕ) → c < begin → IsLateAt rs done parent seen c child → ⊥
     none c child below late =
@@ -347,16 +357,16 @@ created_once rs task j k free here there = elim (cases_order j k) [
 ]
 
 -- the first late child is the first created of the unfinished tasks
-late_first : (rs : List Record) (done : BTreeMap ℕ ℕ) (i parent begin seen task : ℕ) → IsFreeOf rs CreatedTwice → AreDone rs (length rs) done → EndsRegion rs i parent Taskwait begin → seen_at rs i ≡ seen → seen < 2 ^ 32 → IsFirstLate rs done parent begin seen task → IsFirstCreated rs i task
-late_first rs done i parent begin seen task free are is_end is_seen small is = record {
+late_first : (rs : List Record) → AreAudited rs → (done : BTreeMap ℕ ℕ) (i parent begin seen task : ℕ) → IsFreeOf rs CreatedTwice → AreDone rs (length rs) done → EndsRegion rs i parent Taskwait begin → seen_at rs i ≡ seen → seen < 2 ^ 32 → IsFirstLate rs done parent begin seen task → IsFirstCreated rs i task
+late_first rs audited done i parent begin seen task free are is_end is_seen small is = record {
   unfinished = record {
     required = child_required rs i parent begin task is.place is_end is.within is.late.0;
-    incomplete = too_late rs done i parent task Taskwait End are is_end.ends (let late = is.late.1 in omega arith);
+    incomplete = too_late rs audited done i parent task Taskwait End are is_end.ends (let late = is.late.1 in omega arith);
   };
   creation = is.place;
   is_created = creation_at_created parent task rs is.place is.late.0;
   created_first = λ k other below creates unfinished.
-      let child = required_child rs i parent begin other is_end unfinished.required in
+      let child = required_child rs audited i parent begin other is_end unfinished.required in
       let same : k ≡ child.0 = created_once rs other k child.0 free creates (creation_at_created parent other rs child.0 child.2) in
       elim (cases_lt seen (length_of done other)) [
         | inl late ↦ is.first child.0 other (omega arith) (child.2, late)
@@ -365,9 +375,9 @@ late_first rs done i parent begin seen task free are is_end is_seen small is = r
 }
 
 -- what the search for a late child gives is what is unfinished
-pub late_or_none : (rs : List Record) (done : BTreeMap ℕ ℕ) (i parent begin seen : ℕ) (found : Option ℕ) → IsFreeOf rs CreatedTwice → AreDone rs (length rs) done → EndsRegion rs i parent Taskwait begin → seen_at rs i ≡ seen → seen < 2 ^ 32 → MatchOption found ((c child : ℕ) → c < begin → IsLateAt rs done parent seen c child → ⊥) (IsFirstLate rs done parent begin seen) → MatchOption found ((task : ℕ) → IsUnfinished rs i task → ⊥) (IsFirstCreated rs i)
-late_or_none rs done i parent begin seen None free are is_end is_seen small none = none_late rs done i parent begin seen are is_end is_seen small none
-late_or_none rs done i parent begin seen (Some task) free are is_end is_seen small late = late_first rs done i parent begin seen task free are is_end is_seen small late
+pub late_or_none : (rs : List Record) → AreAudited rs → (done : BTreeMap ℕ ℕ) (i parent begin seen : ℕ) (found : Option ℕ) → IsFreeOf rs CreatedTwice → AreDone rs (length rs) done → EndsRegion rs i parent Taskwait begin → seen_at rs i ≡ seen → seen < 2 ^ 32 → MatchOption found ((c child : ℕ) → c < begin → IsLateAt rs done parent seen c child → ⊥) (IsFirstLate rs done parent begin seen) → MatchOption found ((task : ℕ) → IsUnfinished rs i task → ⊥) (IsFirstCreated rs i)
+late_or_none rs audited done i parent begin seen None free are is_end is_seen small none = none_late rs audited done i parent begin seen are is_end is_seen small none
+late_or_none rs audited done i parent begin seen (Some task) free are is_end is_seen small late = late_first rs audited done i parent begin seen task free are is_end is_seen small late
 
 -- one more record at which nothing is unfinished
 pub none_more : (rs : List Record) (i : ℕ) → ((k task : ℕ) → k < i → IsUnfinished rs k task → ⊥) → ((task : ℕ) → IsUnfinished rs i task → ⊥) → (k task : ℕ) → k < i + 1 → IsUnfinished rs k task → ⊥
@@ -377,9 +387,9 @@ none_more rs i before here k task below unfinished = elim (cases_eq k i) [
 ]
 
 -- past the last record nothing is unfinished
-pub none_whole : (rs : List Record) (n : ℕ) → ((k task : ℕ) → k < n → IsUnfinished rs k task → ⊥) → length rs ≤ n → (i task : ℕ) → IsUnfinished rs i task → ⊥
-none_whole rs n before all i task unfinished =
-    let found = wait_ends rs i task unfinished in
+pub none_whole : (rs : List Record) → AreAudited rs → (n : ℕ) → ((k task : ℕ) → k < n → IsUnfinished rs k task → ⊥) → length rs ≤ n → (i task : ℕ) → IsUnfinished rs i task → ⊥
+none_whole rs audited n before all i task unfinished =
+    let found = wait_ends rs audited i task unfinished in
     let inside = at_within region rs i (found.0, Taskwait, End) found.1 in
     before i task (omega arith) unfinished
 

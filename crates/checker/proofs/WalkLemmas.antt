@@ -1,5 +1,5 @@
 -- The walk along each thread, one record on.
-use Rattle.std.proofs.Common.{◌≡◌, ◌≢◌, ◌∙◌, ℕ, ◌<◌, ◌≤◌, ◌+◌, List, [], ◌∷◌, ◌++◌, length, get_or, take, Option, Some, None, false, cond, eqb, refl, sym, ap, subst, arith, inl, inr, ◌⊎◌}
+use Rattle.std.proofs.Common.{◌≡◌, ◌≢◌, ◌∙◌, ℕ, ◌<◌, ◌≤◌, ◌+◌, List, [], ◌∷◌, ◌++◌, length, get_or, take, Option, Some, None, true, false, cond, eqb, refl, sym, ap, subst, arith, inl, inr, ◌⊎◌}
 use Rattle.std.proofs.lemmas.Bool.{cases_eq, eq-eqb}
 use Rattle.std.proofs.lemmas.Bool.Decides.{nat_tests}
 use Rattle.std.proofs.lemmas.List.Sums.{fold_push}
@@ -14,7 +14,9 @@ use Rattle.ompt_events.specs.declared.records.Body.{Body}
 use Rattle.ompt_events.specs.declared.cause.Cause.TheVariants.{NotCurrent}
 use Rattle.ompt_events.specs.Records.{running, ended_root, started}
 use Rattle.ompt_events.specs.Tree.{IsRoot}
-use Rattle.ompt_events.specs.Threads.{Walk, at_start, after_body, after_record, walk_of, Misfits, not_running, not_innermost, other_root, MisfitsAt}
+use Rattle.ompt_events.specs.Threads.{Walk, at_start, after_body, after_record, walk_of, Misfits, not_running, not_innermost, other_root, other_parent, MisfitsAt}
+use Rattle.checker.specs.Audited.{is_audited}
+use Rattle.checker.proofs.AuditedLemmas.{completes_no_wait}
 use Rattle.ompt_events.specs.Causes.{HasCause, not_current, IsFirstWith, IsFreeOf}
 
 -- the three ways to misfit, each as a test has it
@@ -41,10 +43,11 @@ at_some None P t e h = absurd (none-some t e)
 at_some (Some u) P t e h = let Q : ℕ → Type 0 = P in subst Q (sym (same_Some u t e)) h
 
 -- and back
-pub misfit_cases : (rs : List Record) (w : Walk) (b : Body) (next : Option ℕ) → ((t : ℕ) → (started b ≡ Some t) × IsRoot rs t → next ≡ Some t) → Misfits rs w b → IsSomeAnd (running b) (λ t. w.current ≢ Some t) ⊎ (IsSomeAnd (ended_root b) (λ t. slice_get w.roots 0 ≢ Some t) ⊎ IsSomeAnd next (λ t. slice_get w.roots 0 ≢ Some t))
-misfit_cases rs w b next is (not_running t runs other) = inl (at_some (running b) (λ u. w.current ≢ Some u) t runs other)
-misfit_cases rs w b next is (not_innermost t ends other) = inr (inl (at_some (ended_root b) (λ u. slice_get w.roots 0 ≢ Some u) t ends other))
-misfit_cases rs w b next is (other_root t starts root other) = inr (inr (at_some next (λ u. slice_get w.roots 0 ≢ Some u) t (is t (starts, root)) other))
+pub misfit_cases : (rs : List Record) (w : Walk) (b : Body) → is_audited b ≡ true → (next : Option ℕ) → ((t : ℕ) → (started b ≡ Some t) × IsRoot rs t → next ≡ Some t) → Misfits rs w b → IsSomeAnd (running b) (λ t. w.current ≢ Some t) ⊎ (IsSomeAnd (ended_root b) (λ t. slice_get w.roots 0 ≢ Some t) ⊎ IsSomeAnd next (λ t. slice_get w.roots 0 ≢ Some t))
+misfit_cases rs w b ok next is (not_running t runs other) = inl (at_some (running b) (λ u. w.current ≢ Some u) t runs other)
+misfit_cases rs w b ok next is (not_innermost t ends other) = inr (inl (at_some (ended_root b) (λ u. slice_get w.roots 0 ≢ Some u) t ends other))
+misfit_cases rs w b ok next is (other_root t starts root other) = inr (inr (at_some next (λ u. slice_get w.roots 0 ≢ Some u) t (is t (starts, root)) other))
+misfit_cases rs w b ok next is (other_parent t i parent completes creates other) = absurd (completes_no_wait b t ok completes)
 
 -- where each thread stands after the first i records
 pub record AreWalks (rs : List Record) (i : ℕ) (walks : List Walk) : Type 0 where

@@ -4,3 +4,4 @@ pub mod Marks
 pub mod Links
 pub mod Merging
 pub mod Waits
+pub mod Audited

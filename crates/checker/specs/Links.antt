@@ -4,7 +4,7 @@ use Rattle.std.specs.Ordering.{nat_cmp}
 use Rattle.std.specs.BTreeMap.{BTreeMap, get}
 use Rattle.ompt_events.specs.declared.records.Record.{Record}
 use Rattle.ompt_events.specs.declared.names.Endpoint.{Endpoint}
-use Rattle.ompt_events.specs.declared.names.Endpoint.TheVariants.{Begin, End}
+use Rattle.ompt_events.specs.declared.names.Endpoint.TheVariants.{Begin, End, BeginEnd}
 use Rattle.ompt_events.specs.declared.names.SyncKind.{SyncKind}
 use Rattle.ompt_events.specs.Records.{region}
 use Rattle.ompt_events.specs.Places.{at}
@@ -19,6 +19,7 @@ below_of links (Some begin) = slice_index_or links begin None
 abbrev pub top_after : List (Option ℕ) → Option ℕ → ℕ → Endpoint → Option ℕ
 top_after links opened i Begin = Some i
 top_after links opened i End = below_of links opened
+top_after links opened i BeginEnd = opened
 
 -- the regions that are open, the innermost first: each names the one below it
 abbrev pub IsStack : List (Option ℕ) → Option ℕ → List ℕ → Type 0

@@ -3,9 +3,7 @@ use Rattle.std.specs.Prelude.{ℕ, ◌≡◌, ◌≢◌, ◌<◌, ◌⊎◌, Lis
 use Rattle.std.specs.Ordering.{nat_cmp}
 use Rattle.std.specs.BTreeMap.{BTreeMap, get}
 use Rattle.ompt_events.specs.declared.records.Record.{Record}
-use Rattle.ompt_events.specs.declared.records.Body.{Body}
-use Rattle.ompt_events.specs.Records.{begun_root, creation, flags, made}
-use Rattle.ompt_events.specs.Flags.{has_flag}
+use Rattle.ompt_events.specs.Records.{begun_root, creation, made}
 use Rattle.ompt_events.specs.Places.{at}
 use Rattle.ompt_events.specs.Tree.{IsRooted}
 use Rattle.checker.specs.declared.rooted.Mark.{Mark}
@@ -53,7 +51,3 @@ pub record IsSettled (rs : List Record) (makers : BTreeMap ℕ ℕ) (old new : L
 abbrev pub AnyUnmade : BTreeMap ℕ ℕ → List ℕ → Type 0
 AnyUnmade makers [] = ⊥
 AnyUnmade makers (task ∷ tasks) = (get nat_cmp makers task ≡ None) ⊎ AnyUnmade makers tasks
-
--- a member of a team begins
-abbrev pub IsMember : Body → Type 0
-IsMember body = (bits : ℕ) × (is_some (begun_root body) ≡ true) × (flags body ≡ Some bits) × (has_flag bits 0x1 ≡ false)

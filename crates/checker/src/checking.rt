@@ -4,6 +4,7 @@ ghost use Rattle.ompt_events.specs.declared.cause.Cause.TheVariants.{CreatedTwic
 ghost use Rattle.ompt_events.specs.Places.{places};
 ghost use Rattle.ompt_events.specs.Linearization.{IsLinearization, IsGreedy};
 ghost use Rattle.ompt_events.specs.Causes.{IsFreeOf};
+ghost use Rattle.checker.specs.Audited.{AreAudited};
 ghost use Rattle.checker.specs.Searches.{IsFound, IsLeastFound, AreMakers};
 ghost use Rattle.checker.specs.Verdicts.{IsVerdict};
 
@@ -23,8 +24,9 @@ use std::collections::BTreeMap;
 
 /// The verdict on the records: malformed with the least of the causes that occur, at the first record that has it;
 /// else no at the first end of a taskwait that covers an unfinished task; else yes with the greedy order.
-/// Refused for want of memory alone.
+/// Refused for want of memory alone. It takes the traces of which `unaudited` names no record.
 pub fn check(alloc: Global, trace: &Trace) -> Result<Verdict, CheckFault>
+    requires { AreAudited trace.now.records }
     ensures { IfOk result (IsVerdict trace.now.records) }
 {
     match verdict_of(alloc, trace.records()) {
@@ -36,6 +38,7 @@ pub fn check(alloc: Global, trace: &Trace) -> Result<Verdict, CheckFault>
 
 /// The verdict on records that are not malformed.
 fn verdict_of(alloc: Global, records: &[Record]) -> Result<Verdict, SearchFault>
+    requires { AreAudited records.now }
     ensures verdict { IfOk result (IsVerdict records.now) }
     ensures malformed { IfErr result (IsLeastFound records.now) }
 {
@@ -62,6 +65,7 @@ fn find_misplaced(
     makers: &BTreeMap<u64, usize>,
 ) -> Result<(), SearchFault>
     requires makers { AreMakers records.now (length records.now) makers.now }
+    requires audited { AreAudited records.now }
     requires once { IsFreeOf records.now CreatedTwice }
     ensures rooted { OnOk result (IsFreeOf records.now Rootless) }
     ensures current { OnOk result (IsFreeOf records.now NotCurrent) }
@@ -79,7 +83,8 @@ fn order_of(
     records: &[Record],
     makers: &BTreeMap<u64, usize>,
 ) -> Result<Vec<usize>, SearchFault>
-    requires { AreMakers records.now (length records.now) makers.now }
+    requires makers { AreMakers records.now (length records.now) makers.now }
+    requires audited { AreAudited records.now }
     ensures linearization { IfOk result (λ order. IsLinearization records.now order.items) }
     ensures greedy { IfOk result (λ order. IsGreedy records.now order.items) }
     ensures free { OnOk result (IsFreeOf records.now NoOrder) }

@@ -1,10 +1,11 @@
 //! Which task each thread runs.
-ghost use Rattle.std.specs.Prelude.{ℕ, ◌≡◌, ◌≢◌, ◌↔◌, Some, IsTrue, IsSomeAnd, IfOk, IfErr, OnOk, length, replicate, slice_get};
+ghost use Rattle.std.specs.Prelude.{ℕ, ◌≡◌, ◌≢◌, ◌↔◌, Some, true, IsTrue, IsSomeAnd, IfOk, IfErr, OnOk, length, replicate, slice_get};
 ghost use Rattle.ompt_events.specs.declared.cause.Cause.TheVariants.{NotCurrent};
 ghost use Rattle.ompt_events.specs.Records.{started};
 ghost use Rattle.ompt_events.specs.Tree.{IsRoot};
 ghost use Rattle.ompt_events.specs.Threads.{Misfits, at_start, after_body};
 ghost use Rattle.ompt_events.specs.Causes.{IsFreeOf};
+ghost use Rattle.checker.specs.Audited.{is_audited, AreAudited};
 ghost use Rattle.checker.specs.Searches.{IsFound, AreMakers};
 
 use crate::makers::is_root;
@@ -64,7 +65,9 @@ impl ThreadWalk {
                 self.roots.pop();
                 self.current = self.roots.last().copied();
             }
-            Body::TaskSchedule { next, .. } => self.current = *next,
+            Body::TaskSchedule { status, next, .. } if status.demands_next() => {
+                self.current = *next;
+            }
             _ => {}
         }
         Ok(())
@@ -79,7 +82,8 @@ impl ThreadWalk {
 
     /// Whether the record speaks for a task that the thread does not run.
     fn misfits(&self, body: &Body, records: &[Record], makers: &BTreeMap<u64, usize>) -> bool
-        requires { AreMakers records.now (length records.now) makers.now }
+        requires makers { AreMakers records.now (length records.now) makers.now }
+        requires audited { is_audited body.now ≡ true }
         ensures { IsTrue result ↔ Misfits records.now self.now body.now }
     {
         if differs(body.running(), self.current) {
@@ -122,7 +126,8 @@ pub(crate) fn find_misfit(
     records: &[Record],
     makers: &BTreeMap<u64, usize>,
 ) -> Result<(), SearchFault>
-    requires { AreMakers records.now (length records.now) makers.now }
+    requires makers { AreMakers records.now (length records.now) makers.now }
+    requires audited { AreAudited records.now }
     ensures free { OnOk result (IsFreeOf records.now NotCurrent) }
     ensures found { IfErr result (IsFound records.now NotCurrent) }
 {

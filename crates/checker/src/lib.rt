@@ -1,6 +1,7 @@
 //! The verdict on a trace: whether each wait ended only when it was allowed to.
 #![tactic(auto)]
 
+mod audited;
 mod checking;
 mod current;
 mod homes;
@@ -15,5 +16,6 @@ mod tests;
 mod verdict;
 mod waits;
 
+pub use audited::unaudited;
 pub use checking::check;
 pub use verdict::{CheckFault, Order, Verdict, Why};

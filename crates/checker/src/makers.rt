@@ -5,6 +5,7 @@ ghost use Rattle.ompt_events.specs.Places.{at};
 ghost use Rattle.ompt_events.specs.Tree.{IsRoot, IsExplicit};
 ghost use Rattle.ompt_events.specs.declared.cause.Cause.TheVariants.{CreatedTwice};
 ghost use Rattle.ompt_events.specs.Causes.{IsFreeOf};
+ghost use Rattle.checker.specs.Audited.{AreAudited};
 ghost use Rattle.checker.specs.Searches.{IsFound, AreMakers};
 
 use crate::search::SearchFault;
@@ -17,6 +18,7 @@ pub(crate) fn find_makers(
     alloc: Global,
     records: &[Record],
 ) -> Result<BTreeMap<u64, usize>, SearchFault>
+    requires { AreAudited records.now }
     ensures makers { IfOk result (AreMakers records.now (length records.now)) }
     ensures free { IfOk result (λ _. IsFreeOf records.now CreatedTwice) }
     ensures found { IfErr result (IsFound records.now CreatedTwice) }

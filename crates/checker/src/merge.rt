@@ -4,6 +4,7 @@ ghost use Rattle.ompt_events.specs.declared.cause.Cause.TheVariants.{NoOrder};
 ghost use Rattle.ompt_events.specs.Places.{thread_at};
 ghost use Rattle.ompt_events.specs.Linearization.{IsLinearization, IsGreedy};
 ghost use Rattle.ompt_events.specs.Causes.{IsFreeOf};
+ghost use Rattle.checker.specs.Audited.{AreAudited};
 ghost use Rattle.checker.specs.Searches.{IsFound};
 ghost use Rattle.checker.specs.Merging.{AreAwaited, Stands, MayFollow, AreHeads, IsLeastEntry, IsReadyHead, AreFirstHeads, AreEntries};
 
@@ -18,7 +19,8 @@ pub(crate) fn find_order(
     records: &[Record],
     awaited: &[Option<usize>],
 ) -> Result<Vec<usize>, SearchFault>
-    requires { AreAwaited records.now (length records.now) awaited.now }
+    requires awaited { AreAwaited records.now (length records.now) awaited.now }
+    requires audited { AreAudited records.now }
     ensures linearization { IfOk result (λ order. IsLinearization records.now order.items) }
     ensures greedy { IfOk result (λ order. IsGreedy records.now order.items) }
     ensures free { OnOk result (IsFreeOf records.now NoOrder) }
@@ -150,6 +152,7 @@ fn first_ready(
     heads: &[usize],
     least: Option<u32>,
 ) -> Option<usize>
+    requires audited { AreAudited records.now }
     requires awaited { AreAwaited records.now (length records.now) awaited.now }
     requires heads { AreHeads records.now placed.now heads.now }
     requires least { IsLeastEntry records.now placed.now least }

@@ -3,6 +3,7 @@ ghost use Rattle.std.specs.Prelude.{ℕ, ◌≡◌, ◌≢◌, ◌↔◌, Some, 
 ghost use Rattle.ompt_events.specs.declared.cause.Cause.TheVariants.{RegionOrder};
 ghost use Rattle.ompt_events.specs.Regions.{kind_at};
 ghost use Rattle.ompt_events.specs.Causes.{IsFreeOf};
+ghost use Rattle.checker.specs.Audited.{AreAudited};
 ghost use Rattle.checker.specs.Searches.{IsFound};
 ghost use Rattle.checker.specs.Links.{AreLinked, SetsTo, top_after};
 
@@ -17,6 +18,7 @@ pub(crate) fn find_links(
     alloc: Global,
     records: &[Record],
 ) -> Result<Vec<Option<usize>>, SearchFault>
+    requires { AreAudited records.now }
     ensures linked { IfOk result (λ links. AreLinked records.now (length records.now) links.items) }
     ensures free { OnOk result (IsFreeOf records.now RegionOrder) }
     ensures found { IfErr result (IsFound records.now RegionOrder) }
@@ -52,7 +54,7 @@ fn misses_begin(
     ensures finds { result ≡ false → endpoint ≡ Endpoint.End → (begin : ℕ) × (opened ≡ Some begin) × (kind_at records.now begin ≡ Some kind) }
 {
     match endpoint {
-        Endpoint::Begin => false,
+        Endpoint::Begin | Endpoint::BeginEnd => false,
         Endpoint::End => match opened {
             Some(begin) => !is_of_kind(records, begin, kind),
             None => true,
@@ -94,6 +96,7 @@ fn next_top(
 {
     match endpoint {
         Endpoint::Begin => Some(at),
+        Endpoint::BeginEnd => opened,
         Endpoint::End => match opened {
             Some(begin) => {
                 if begin < links.len() {

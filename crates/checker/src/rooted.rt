@@ -6,11 +6,11 @@ ghost use Rattle.ompt_events.specs.Records.{begun_root, creation, named};
 ghost use Rattle.ompt_events.specs.Places.{at};
 ghost use Rattle.ompt_events.specs.Causes.{IsFreeOf};
 ghost use Rattle.checker.specs.Searches.{IsFound, AreMakers};
-ghost use Rattle.checker.specs.Marks.{mark_at, AreMarks, IsClimbed, IsSettled, AnyUnmade, IsMember};
+ghost use Rattle.checker.specs.Marks.{mark_at, AreMarks, IsClimbed, IsSettled, AnyUnmade};
+ghost use Rattle.checker.specs.Audited.{AreAudited};
 
 use crate::search::SearchFault;
-use bitflags::Flags;
-use ompt_events::{Body, Cause, Claim, Record, TaskFlags};
+use ompt_events::{Body, Cause, Claim, Record};
 use std::alloc::{AllocError, Global};
 use std::collections::BTreeMap;
 
@@ -25,14 +25,15 @@ pub(crate) enum Mark {
     Unrooted,
 }
 
-/// Searches for the first record that names a task which no record makes, that creates a task whose chain of parents
-/// reaches no root, or that begins a member of a team.
+/// Searches for the first record that names a task which no record makes, or that creates a task whose chain of parents
+/// reaches no root.
 pub(crate) fn find_rootless(
     alloc: Global,
     records: &[Record],
     makers: &BTreeMap<u64, usize>,
 ) -> Result<(), SearchFault>
-    requires { AreMakers records.now (length records.now) makers.now }
+    requires makers { AreMakers records.now (length records.now) makers.now }
+    requires audited { AreAudited records.now }
     ensures free { OnOk result (IsFreeOf records.now Rootless) }
     ensures found { IfErr result (IsFound records.now Rootless) }
 {
@@ -50,9 +51,9 @@ pub(crate) fn find_rootless(
 
 /// Whether the record speaks of a task without a root; the mark is that of the task that it makes.
 fn is_rootless(body: &Body, makers: &BTreeMap<u64, usize>, mark: Mark) -> bool
-    ensures { IsTrue result ↔ (AnyUnmade makers.now (named body.now) ⊎ ((mark ≡ Mark.Unrooted) ⊎ IsMember body.now)) }
+    ensures { IsTrue result ↔ (AnyUnmade makers.now (named body.now) ⊎ (mark ≡ Mark.Unrooted)) }
 {
-    names_unmade(body, makers) || is_marked(mark, Mark::Unrooted) || begins_member(body)
+    names_unmade(body, makers) || is_marked(mark, Mark::Unrooted)
 }
 
 /// For each record a mark of the task that it makes.
@@ -161,7 +162,11 @@ fn names_unmade(body: &Body, makers: &BTreeMap<u64, usize>) -> bool
     ensures { IsTrue result ↔ AnyUnmade makers.now (named body.now) }
 {
     match body {
-        Body::ImplicitTask { task, .. } => is_unmade(Some(*task), makers),
+        Body::ParallelBegin { task, .. }
+        | Body::ParallelEnd { task, .. }
+        | Body::ImplicitTask { task, .. }
+        | Body::Dependences { task, .. }
+        | Body::SyncRegion { task, .. } => is_unmade(Some(*task), makers),
         Body::TaskCreate { task, child, .. } => {
             is_unmade(Some(*task), makers) || is_unmade(Some(*child), makers)
         }
@@ -175,7 +180,10 @@ fn names_unmade(body: &Body, makers: &BTreeMap<u64, usize>) -> bool
                 || is_unmade(*next, makers)
                 || is_unmade(root_of(share), makers)
         }
-        Body::SyncRegion { task, .. } => is_unmade(Some(*task), makers),
+        Body::Cancel { task, share, .. } => {
+            is_unmade(Some(*task), makers) || is_unmade(root_of(share), makers)
+        }
+        Body::ThreadBegin { .. } | Body::ThreadEnd => false,
     }
 }
 
@@ -196,17 +204,5 @@ fn root_of(share: &Option<Claim>) -> Option<u64>
     match share {
         Some(claim) => Some(claim.root),
         None => None,
-    }
-}
-
-/// Whether the record begins a member of a team.
-fn begins_member(body: &Body) -> bool
-    ensures { IsTrue result ↔ IsMember body.now }
-{
-    match body {
-        Body::ImplicitTask { flags, .. } => {
-            body.begun_root().is_some() && !flags.contains(TaskFlags::INITIAL)
-        }
-        _ => false,
     }
 }

@@ -7,6 +7,7 @@ ghost use Rattle.ompt_events.specs.Places.{seen_at};
 ghost use Rattle.ompt_events.specs.Places.{at as says_at};
 ghost use Rattle.ompt_events.specs.Tree.{IsExplicit};
 ghost use Rattle.ompt_events.specs.HappensBefore.{IsFinishing, IsStep};
+ghost use Rattle.checker.specs.Audited.{AreAudited};
 ghost use Rattle.checker.specs.Searches.{AreMakers};
 ghost use Rattle.checker.specs.Merging.{AreAwaited};
 
@@ -58,7 +59,8 @@ fn note_start(
 
 /// Whether what happens before a record stands before it in the file.
 pub(crate) fn is_in_order(records: &[Record], awaited: &[Option<usize>]) -> bool
-    requires { AreAwaited records.now (length records.now) awaited.now }
+    requires awaited { AreAwaited records.now (length records.now) awaited.now }
+    requires audited { AreAudited records.now }
     ensures { IsTrue result → (a b : ℕ) → IsStep records.now a b → a < b }
 {
     are_created_before(awaited) && are_entered_before(records)

@@ -4,6 +4,7 @@ ghost use Rattle.ompt_events.specs.declared.cause.Cause.TheVariants.{CreatedTwic
 ghost use Rattle.ompt_events.specs.Records.{creation, region, finish};
 ghost use Rattle.ompt_events.specs.Causes.{IsFreeOf};
 ghost use Rattle.ompt_events.specs.Violations.{IsUnfinished, IsFirstUnfinished};
+ghost use Rattle.checker.specs.Audited.{AreAudited};
 ghost use Rattle.checker.specs.Links.{AreLinked};
 ghost use Rattle.checker.specs.Waits.{length_of, latest_of, AreDone, AreLimits, IsRaised, IsLateAt, IsFirstLate, IsFirstCreated};
 
@@ -20,6 +21,7 @@ pub(crate) fn find_unfinished(
     records: &[Record],
     links: &[Option<usize>],
 ) -> Result<Option<(usize, u64)>, AllocError>
+    requires audited { AreAudited records.now }
     requires linked { AreLinked records.now (length records.now) links.now }
     requires created_once { IsFreeOf records.now CreatedTwice }
     ensures { IfOk result (λ found. MatchOption found ((i task : ℕ) → IsUnfinished records.now i task → ⊥) (λ f. IsFirstUnfinished records.now f.0 f.1)) }
@@ -122,6 +124,7 @@ fn unfinished_at(
     at: usize,
 ) -> Option<u64>
     requires within { at < length records.now }
+    requires audited { AreAudited records.now }
     requires linked { AreLinked records.now (length records.now) links.now }
     requires created_once { IsFreeOf records.now CreatedTwice }
     requires are_done { AreDone records.now (length records.now) done.now }

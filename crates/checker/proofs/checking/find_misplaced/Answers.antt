@@ -1,6 +1,11 @@
 use Rattle.std.proofs.lemmas.Result.{err_from_is_err_and, MatchResult-weaker}
-use Rattle.checker.proofs.VerdictLemmas.{least_not_current, least_moved}
+use Rattle.checker.proofs.VerdictLemmas.{least_rootless, least_not_current, least_moved}
 use Rattle.checker.proofs.checking.find_misplaced.Goals as goal
+
+pub returns-in_err-find_rootless-clause-malformed : goal.returns-in_err-find_rootless-clause-malformed
+returns-in_err-find_rootless-clause-malformed c =
+    let p = err_from_is_err_and c.from_residual.result c.from_residual.ensures.1 in
+    rw (p.1, p.2) (least_rootless c.args.records.now c.in_err-find_rootless.field-0.0 c.requires.once c.in_err-find_rootless.ensures.found)
 
 pub returns-in_err-find_misfit-clause-malformed : goal.returns-in_err-find_misfit-clause-malformed
 returns-in_err-find_misfit-clause-malformed c =

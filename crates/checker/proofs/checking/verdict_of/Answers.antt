@@ -19,5 +19,5 @@ returns-clause-verdict c =
       linearization = c.in_ok-places.ensures.linearization;
       greedy = c.in_ok-places.ensures.greedy;
       finished = finished;
-      always_complete = always_complete c.args.records.now finished;
+      always_complete = always_complete c.args.records.now c.requires finished;
     })

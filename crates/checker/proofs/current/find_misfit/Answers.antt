@@ -4,6 +4,7 @@ use Rattle.std.proofs.lemmas.Bool.{false≢true}
 use Rattle.std.proofs.Math.ListN.{set}
 use Rattle.ompt_events.specs.Threads.{Misfits, walk_of, after_body}
 use Rattle.checker.proofs.WalkLemmas.{walk_read, walk_is, walks_none, walks_more, misfits_here, fits_here, free_of_misfits}
+use Rattle.checker.proofs.AuditedLemmas.{audited_read}
 use Rattle.checker.proofs.current.find_misfit.Goals as goal
 
 pub loop-at-init : goal.loop-at-init
@@ -37,3 +38,6 @@ loop-at-preserved c =
 
 pub returns-clause-free : goal.returns-clause-free
 returns-clause-free c = free_of_misfits c.args.records.now c.loop-at.at c.loop-at.invariant.free c.loop-at-test.false
+
+pub misfits-requires-clause-audited : goal.misfits-requires-clause-audited
+misfits-requires-clause-audited c = audited_read c.args.records.now c.requires.audited c.loop-at.at c.index-records-at.result c.loop-at-test.true c.index-records-at.is

@@ -11,7 +11,7 @@ use Rattle.checker.proofs.makers.find_makers.Goals.{in-Some+in_ok-before+else-is
 pub returns-then-is_some-clause-found : goal.returns-then-is_some-clause-found
 returns-then-is_some-clause-found c =
     let makes : at made c.args.records.now c.loop-at.at ≡ Some c.in-Some.task = at_read made c.args.records.now c.loop-at.at c.index-records-at.result c.loop-at-test.true c.index-records-at.is ∙ sym c.made.ensures ∙ c.in-Some.is in
-    (refl, first_again c.args.records.now c.loop-at.at c.in-Some.task c.in_ok-before.before c.loop-at.makers c.loop-at.invariant.free c.loop-at.invariant.makers makes c.in_ok-before.ensures.old (sym c.is_some.ensures ∙ c.if-is_some.true))
+    (refl, first_again c.args.records.now c.requires c.loop-at.at c.in-Some.task c.in_ok-before.before c.loop-at.makers c.loop-at.invariant.free c.loop-at.invariant.makers makes c.in_ok-before.ensures.old (sym c.is_some.ensures ∙ c.if-is_some.true))
 
 pub loop-at-preserved : goal.loop-at-preserved
 loop-at-preserved c =
@@ -35,4 +35,4 @@ loop-at-preserved c =
     ]
 
 pub returns-clause-free : goal.returns-clause-free
-returns-clause-free c = free_of_twice c.args.records.now c.loop-at.at c.loop-at.invariant.free c.loop-at-test.false
+returns-clause-free c = free_of_twice c.args.records.now c.requires c.loop-at.at c.loop-at.invariant.free c.loop-at-test.false

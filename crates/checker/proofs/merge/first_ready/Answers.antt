@@ -5,4 +5,4 @@ pub returns-clause-none : goal.returns-clause-none
 returns-clause-none c = none_found c.args.records.now c.args.awaited.now c.args.placed.now c.args.heads.now c.args.least c.loop-head.first c.loop-head.head-index c.requires.awaited c.requires.heads c.requires.least c.loop-head-test.false c.loop-head.invariant.none
 
 pub returns-clause-found : goal.returns-clause-found
-returns-clause-found c = first_found c.args.records.now c.args.awaited.now c.args.placed.now c.args.heads.now c.args.least c.loop-head.first c.loop-head.head-index c.requires.awaited c.requires.heads c.requires.least c.loop-head.auto.head-index-end c.loop-head.invariant.found
+returns-clause-found c = first_found c.args.records.now c.requires.audited c.args.awaited.now c.args.placed.now c.args.heads.now c.args.least c.loop-head.first c.loop-head.head-index c.requires.awaited c.requires.heads c.requires.least c.loop-head.auto.head-index-end c.loop-head.invariant.found

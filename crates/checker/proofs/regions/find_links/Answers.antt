@@ -18,7 +18,7 @@ returns-then-misses_begin-clause-found c =
     let top : c.copied-link.result ≡ get nat_cmp c.loop-at.innermost c.in-Some.task = c.copied-link.ensures ∙ c.get.ensures.value in
     let says : at region rs i ≡ Some (c.in-Some.task, c.in-Some.kind, c.in-Some.endpoint) = at_read region rs i c.index-records-at.result c.loop-at-test.true c.index-records-at.is ∙ sym c.region.ensures ∙ c.in-Some.is in
     let missed = c.misses_begin.ensures.misses c.if-misses_begin.true in
-    (refl, misses_here rs i c.in-Some.task c.in-Some.kind c.in-Some.endpoint c.loop-at.innermost c.loop-at.links.items c.loop-at.invariant.open_ones c.loop-at.invariant.free says (missed.0, λ begin found. missed.1 begin (top ∙ found)))
+    (refl, misses_here rs c.requires i c.in-Some.task c.in-Some.kind c.in-Some.endpoint c.loop-at.innermost c.loop-at.links.items c.loop-at.invariant.open_ones c.loop-at.invariant.free says (missed.0, λ begin found. missed.1 begin (top ∙ found)))
 
 pub loop-at-preserved : goal.loop-at-preserved
 loop-at-preserved c =
@@ -49,4 +49,4 @@ loop-at-preserved c =
     ]
 
 pub returns-clause-free : goal.returns-clause-free
-returns-clause-free c = free_of_misses c.args.records.now c.loop-at.at c.loop-at.invariant.free c.loop-at-test.false
+returns-clause-free c = free_of_misses c.args.records.now c.requires c.loop-at.at c.loop-at.invariant.free c.loop-at-test.false

@@ -2,9 +2,9 @@ use Rattle.std.proofs.Common.{◌≡◌, ◌∙◌, ◌⊎◌, refl, sym, inl, i
 use Rattle.std.proofs.lemmas.Bool.{false≢true}
 use Rattle.ompt_events.specs.Records.{named}
 use Rattle.checker.specs.declared.rooted.Mark.TheVariants.{Unrooted}
-use Rattle.checker.specs.Marks.{mark_at, AnyUnmade, IsMember}
+use Rattle.checker.specs.Marks.{mark_at, AnyUnmade}
 use Rattle.checker.proofs.MarkLemmas.{mark_read}
-use Rattle.checker.proofs.RootlessLemmas.{free_of_rootless, first_rootless, from_unmade, from_mark, from_member, has_root}
+use Rattle.checker.proofs.RootlessLemmas.{free_of_rootless, first_rootless, from_unmade, from_mark, has_root}
 use Rattle.checker.proofs.rooted.find_rootless.Goals as goal
 
 pub returns-then-is_rootless-clause-found : goal.returns-then-is_rootless-clause-found
@@ -15,13 +15,12 @@ returns-then-is_rootless-clause-found c =
     let marks = c.in_ok-marks.marks.items in
     let r = c.index-records-at.result in
     let here : mark_at marks i ≡ c.index.result.now = mark_read marks i c.index.result.now (rw c.in_ok-marks.ensures.marks.all c.loop-at-test.true) c.index.ensures in
-    let found : AnyUnmade makers (named r.body) ⊎ ((c.index.result.now ≡ Unrooted) ⊎ IsMember r.body) = c.is_rootless.ensures.0 c.if-is_rootless.true in
+    let found : AnyUnmade makers (named r.body) ⊎ (c.index.result.now ≡ Unrooted) = c.is_rootless.ensures.0 c.if-is_rootless.true in
     let first = first_rootless rs i c.loop-at-test.true c.loop-at.invariant in (
       refl,
       elim found [
-        | inl any ↦ first (from_unmade rs makers i r c.requires c.loop-at-test.true c.index-records-at.is any)
-        | inr (inl is) ↦ first (from_mark rs makers marks i c.requires c.in_ok-marks.ensures.marks (here ∙ is))
-        | inr (inr member) ↦ first (from_member rs i r member.0 c.loop-at-test.true c.index-records-at.is member.1 member.2 member.3)
+        | inl any ↦ first (from_unmade rs makers i r c.requires.makers c.loop-at-test.true c.index-records-at.is any)
+        | inr is ↦ first (from_mark rs makers marks i c.requires.makers c.in_ok-marks.ensures.marks (here ∙ is))
       ],
     )
 
@@ -33,8 +32,8 @@ loop-at-preserved c =
     let marks = c.in_ok-marks.marks.items in
     let r = c.index-records-at.result in
     let here : mark_at marks i ≡ c.index.result.now = mark_read marks i c.index.result.now (rw c.in_ok-marks.ensures.marks.all c.loop-at-test.true) c.index.ensures in
-    let none = λ (h : AnyUnmade makers (named r.body) ⊎ ((c.index.result.now ≡ Unrooted) ⊎ IsMember r.body)). false≢true (sym c.if-is_rootless.false ∙ c.is_rootless.ensures.1 h) in
-    below_more _ _ c.loop-at.invariant (has_root rs makers marks i r c.requires c.in_ok-marks.ensures.marks c.in_ok-marks.ensures.known c.loop-at-test.true c.index-records-at.is (λ any. none (inl any)) (λ is. none (inr (inl (sym here ∙ is)))) (λ bits begins given flag. none (inr (inr (bits, begins, given, flag)))))
+    let none = λ (h : AnyUnmade makers (named r.body) ⊎ (c.index.result.now ≡ Unrooted)). false≢true (sym c.if-is_rootless.false ∙ c.is_rootless.ensures.1 h) in
+    below_more _ _ c.loop-at.invariant (has_root rs c.requires.audited makers marks i r c.requires.makers c.in_ok-marks.ensures.marks c.in_ok-marks.ensures.known c.loop-at-test.true c.index-records-at.is (λ any. none (inl any)) (λ is. none (inr (sym here ∙ is))))
 
 pub returns-clause-free : goal.returns-clause-free
 returns-clause-free c = free_of_rootless c.args.records.now c.loop-at.at c.loop-at.invariant c.loop-at-test.false

@@ -8,4 +8,4 @@ pub loop-at-preserved : goal.loop-at-preserved
 loop-at-preserved c = none_more c.args.records.now c.loop-at.at c.loop-at.invariant c.in_default.ensures
 
 pub returns : goal.returns
-returns c = none_whole c.args.records.now c.loop-at.at c.loop-at.invariant c.loop-at-test.false
+returns c = none_whole c.args.records.now c.requires.audited c.loop-at.at c.loop-at.invariant c.loop-at-test.false

@@ -4,7 +4,7 @@ use Rattle.checker.proofs.WaitLemmas.{seen_read, unfinished_none, none_above, la
 use Rattle.checker.proofs.waits.unfinished_at.Goals as goal
 
 pub returns-in_err-task : goal.returns-in_err-task
-returns-in_err-task c = rw c.from_residual.ensures (unfinished_none c.args.records.now c.args.at c.index-records-at.result c.requires.within c.index-records-at.is (λ task ends. none-some task (sym c.in_err-task.was ∙ (c.ended_wait.ensures task).1 ends)))
+returns-in_err-task c = rw c.from_residual.ensures (unfinished_none c.args.records.now c.requires.audited c.args.at c.index-records-at.result c.requires.within c.index-records-at.is (λ task ends. none-some task (sym c.in_err-task.was ∙ (c.ended_wait.ensures task).1 ends)))
 
 pub bounds-links-at : goal.bounds-links-at
 bounds-links-at c = link_within c.args.records.now c.args.links.now c.args.at c.in_ok-task.task c.index-records-at.result c.requires.linked c.requires.within c.index-records-at.is ((c.ended_wait.ensures c.in_ok-task.task).0 c.in_ok-task.was)
@@ -30,7 +30,7 @@ returns-then-limits-begin c =
     let ends = link_begin c.args.records.now c.args.links.now c.args.at c.in_ok-task.task c.in_ok-begin.begin c.index-records-at.result c.requires.linked c.requires.within c.index-records-at.is ((c.ended_wait.ensures c.in_ok-task.task).0 c.in_ok-task.was) c.in_ok-begin.was in
     let seen = seen_read c.args.records.now c.args.at c.index-records-at.result c.requires.within c.index-records-at.is in
     let small : c.index-records-at.result.seen < 2 ^ 32 = search rules in
-    none_above c.args.records.now c.args.done.now c.args.at c.in_ok-task.task c.in_ok-begin.begin c.index-records-at.result.seen c.args.limits.now c.requires.within c.requires.are_done c.requires.are_limits ends seen small (rw (← c.from.ensures) c.if-limits-begin.true)
+    none_above c.args.records.now c.requires.audited c.args.done.now c.args.at c.in_ok-task.task c.in_ok-begin.begin c.index-records-at.result.seen c.args.limits.now c.requires.within c.requires.are_done c.requires.are_limits ends seen small (rw (← c.from.ensures) c.if-limits-begin.true)
 
 pub first_late_child-requires : goal.first_late_child-requires
 first_late_child-requires c =
@@ -43,4 +43,4 @@ returns c =
     let ends = link_begin c.args.records.now c.args.links.now c.args.at c.in_ok-task.task c.in_ok-begin.begin c.index-records-at.result c.requires.linked c.requires.within c.index-records-at.is ((c.ended_wait.ensures c.in_ok-task.task).0 c.in_ok-task.was) c.in_ok-begin.was in
     let seen = seen_read c.args.records.now c.args.at c.index-records-at.result c.requires.within c.index-records-at.is in
     let small : c.index-records-at.result.seen < 2 ^ 32 = search rules in
-    late_or_none c.args.records.now c.args.done.now c.args.at c.in_ok-task.task c.in_ok-begin.begin c.index-records-at.result.seen c.first_late_child.result c.requires.created_once c.requires.are_done ends seen small c.first_late_child.ensures
+    late_or_none c.args.records.now c.requires.audited c.args.done.now c.args.at c.in_ok-task.task c.in_ok-begin.begin c.index-records-at.result.seen c.first_late_child.result c.requires.created_once c.requires.are_done ends seen small c.first_late_child.ensures

@@ -25,7 +25,7 @@ returns c =
     let next = c.root_start.result in
     let current : c.self.inside.current ≡ w.current = ap (λ (v : Walk). v.current) c.self.view_is in (
       λ yes. from_root rs w b next (λ t. (c.root_start.ensures t).0) (rw c.innermost-2.ensures at (c.differs-3.ensures.0 yes)),
-      λ misfit. elim (misfit_cases rs w b next (λ t. (c.root_start.ensures t).1) misfit) [
+      λ misfit. elim (misfit_cases rs w b c.requires.audited next (λ t. (c.root_start.ensures t).1) misfit) [
         | inl runs ↦ absurd (false≢true (sym c.if-differs.false ∙ c.differs.ensures.1 (rw (c.running.ensures, current) runs)))
         | inr (inl ends) ↦ absurd (false≢true (sym c.if-differs-2.false ∙ c.differs-2.ensures.1 (rw (c.ended_root.ensures, c.innermost.ensures) ends)))
         | inr (inr root) ↦ c.differs-3.ensures.1 (rw c.innermost-2.ensures root)
