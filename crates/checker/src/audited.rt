@@ -14,7 +14,7 @@ pub fn unaudited(trace: &Trace) -> Option<usize>
 }
 
 /// The first of the records that a check does not take.
-fn first_unaudited(records: &[Record]) -> Option<usize>
+pub(crate) fn first_unaudited(records: &[Record]) -> Option<usize>
     ensures { MatchOption result (AreAudited records.now) (IsFirstUnaudited records.now) }
 {
     for (at, event) in records.iter().enumerate() {

@@ -1,8 +1,12 @@
 //! Verdicts on small lists of records, each worked out by hand.
+use crate::audited::first_unaudited;
 use crate::makers::find_makers;
 use crate::rooted::find_rootless;
-use crate::{Verdict, check};
-use ompt_events::{Body, Claim, Endpoint, Path, Record, Status, SyncKind, TaskFlags, Trace};
+use crate::{Verdict, check, unaudited};
+use ompt_events::{
+    Body, CancelFlags, Claim, Deps, Endpoint, Path, Record, Status, SyncKind, TaskFlags,
+    ThreadKind, Trace,
+};
 use std::alloc::{AllocError, Global};
 use std::test::Fail;
 
@@ -125,10 +129,15 @@ impl Script {
     fn verdict(self) -> Result<String, AllocError> {
         let Script { alloc, records, .. } = self;
         match Trace::from_records(records) {
-            Ok(trace) => match check(alloc, &trace) {
-                Ok(verdict) => format!(in alloc; "{verdict:?}"),
-                Err(fault) => format!(in alloc; "{fault}"),
-            },
+            Ok(trace) => {
+                if let Some(at) = unaudited(&trace) {
+                    return format!(in alloc; "unaudited at {at}");
+                }
+                match check(alloc, &trace) {
+                    Ok(verdict) => format!(in alloc; "{verdict:?}"),
+                    Err(fault) => format!(in alloc; "{fault}"),
+                }
+            }
             Err((_, at)) => format!(in alloc; "refused at {at}"),
         }
     }
@@ -321,6 +330,17 @@ fn names_the_least_cause(rt: HostRuntime) -> Result<(), Fail> {
     Ok(())
 }
 
+/// Whether each task that the records make has a root.
+fn are_rooted(alloc: Global, records: &[Record]) -> Result<bool, Fail> {
+    if first_unaudited(records).is_some() {
+        return Err("unaudited".into());
+    }
+    let makers = find_makers(alloc, records)
+        .ok()
+        .ok_or("a task is made twice")?;
+    Ok(find_rootless(alloc, records, &makers).is_ok())
+}
+
 #[test]
 fn climbs_long_chains_of_parents(rt: HostRuntime) -> Result<(), Fail> {
     // The task n is created by n + 1, whose own creation stands behind; the last one is a root.
@@ -329,10 +349,7 @@ fn climbs_long_chains_of_parents(rt: HostRuntime) -> Result<(), Fail> {
         script.create((task % 256) as u8, 0, task + 1, task)?;
     }
     script.initial(0, 0, 100_000)?;
-    let makers = find_makers(rt.alloc(), &script.records)
-        .ok()
-        .ok_or("a task is made twice")?;
-    assert!(rt; find_rootless(rt.alloc(), &script.records, &makers).is_ok());
+    assert!(rt; are_rooted(rt.alloc(), &script.records)?);
 
     // Two tasks that create each other.
     let mut script = Script::new(rt.alloc());
@@ -356,9 +373,167 @@ fn checks_a_deep_tree(rt: HostRuntime) -> Result<(), Fail> {
     }
     let Script { alloc, records, .. } = script;
     let trace = Trace::from_records(records).ok().ok_or("refused")?;
+    if unaudited(&trace).is_some() {
+        return Err("unaudited".into());
+    }
     match check(alloc, &trace).ok().ok_or("out of memory")? {
         Verdict::Yes { order } => assert_eq!(rt; order.as_slice().len(), 4_001),
         _ => assert!(rt; false, "not a yes"),
     }
+    Ok(())
+}
+
+/// What is said of an initial task and this record of it.
+fn with_record(alloc: Global, body: Body) -> Result<String, AllocError> {
+    let mut script = Script::new(alloc);
+    script.initial(0, 0, 1)?;
+    script.push(0, 0, body)?;
+    script.verdict()
+}
+
+/// A root's claim.
+fn claim(alloc: Global) -> Option<Claim> {
+    Some(Claim {
+        kept: 0,
+        root: 1,
+        path: Path::from_vec(Vec::new(alloc)),
+    })
+}
+
+#[test]
+fn names_callbacks_that_are_not_checked_yet(rt: HostRuntime) -> Result<(), Fail> {
+    let flags = TaskFlags::IMPLICIT;
+    let bodies = [
+        Body::ThreadBegin {
+            kind: ThreadKind::Initial,
+        },
+        Body::ThreadEnd,
+        Body::ParallelBegin {
+            requested: 2,
+            task: 1,
+            parallel: 5,
+        },
+        Body::ParallelEnd {
+            task: 1,
+            parallel: 5,
+        },
+        Body::Dependences {
+            task: 1,
+            list: Deps::from_vec(Vec::new(rt.alloc())),
+        },
+        Body::Cancel {
+            flags: CancelFlags::TASKGROUP,
+            task: 1,
+            share: None,
+        },
+        Body::Cancel {
+            flags: CancelFlags::DISCARDED_TASK,
+            task: 1,
+            share: claim(rt.alloc()),
+        },
+        Body::ImplicitTask {
+            endpoint: Endpoint::Begin,
+            actual: 1,
+            index: 0,
+            flags,
+            parallel: 5,
+            task: 2,
+        },
+        Body::ImplicitTask {
+            endpoint: Endpoint::End,
+            actual: 1,
+            index: 0,
+            flags: TaskFlags::INITIAL,
+            parallel: 0,
+            task: 1,
+        },
+    ];
+    for body in bodies {
+        assert_eq!(rt; with_record(rt.alloc(), body)?.as_str(), "unaudited at 1");
+    }
+    Ok(())
+}
+
+#[test]
+fn names_statuses_that_are_not_checked_yet(rt: HostRuntime) -> Result<(), Fail> {
+    let statuses = [
+        Status::Yield,
+        Status::Cancel,
+        Status::Detach,
+        Status::EarlyFulfill,
+        Status::LateFulfill,
+        Status::TaskwaitComplete,
+    ];
+    for status in statuses {
+        let next = if status.demands_next() { Some(1) } else { None };
+        let share = match status.part() {
+            Some(_) => claim(rt.alloc()),
+            None => None,
+        };
+        let body = Body::TaskSchedule {
+            status,
+            prior: 1,
+            next,
+            share,
+        };
+        assert_eq!(rt; with_record(rt.alloc(), body)?.as_str(), "unaudited at 1");
+    }
+    Ok(())
+}
+
+#[test]
+fn names_regions_and_creations_that_are_not_checked_yet(rt: HostRuntime) -> Result<(), Fail> {
+    let regions = [
+        (SyncKind::Barrier, Endpoint::Begin),
+        (SyncKind::BarrierImplicit, Endpoint::Begin),
+        (SyncKind::BarrierExplicit, Endpoint::Begin),
+        (SyncKind::BarrierImplementation, Endpoint::Begin),
+        (SyncKind::Taskgroup, Endpoint::Begin),
+        (SyncKind::Reduction, Endpoint::Begin),
+        (SyncKind::BarrierImplicitWorkshare, Endpoint::Begin),
+        (SyncKind::BarrierImplicitParallel, Endpoint::Begin),
+        (SyncKind::BarrierTeams, Endpoint::End),
+        (SyncKind::Taskwait, Endpoint::BeginEnd),
+    ];
+    for (kind, endpoint) in regions {
+        let body = Body::SyncRegion {
+            kind,
+            endpoint,
+            parallel: None,
+            task: 1,
+        };
+        assert_eq!(rt; with_record(rt.alloc(), body)?.as_str(), "unaudited at 1");
+    }
+    let creations = [
+        (true, TaskFlags::EXPLICIT),
+        (false, TaskFlags::TARGET),
+        (false, TaskFlags::TASKWAIT),
+    ];
+    for (deps, flags) in creations {
+        let body = Body::TaskCreate {
+            deps,
+            flags,
+            task: 1,
+            child: 2,
+        };
+        assert_eq!(rt; with_record(rt.alloc(), body)?.as_str(), "unaudited at 1");
+    }
+    Ok(())
+}
+
+#[test]
+fn names_the_first_that_is_not_checked_yet(rt: HostRuntime) -> Result<(), Fail> {
+    let mut script = Script::new(rt.alloc());
+    script.initial(0, 0, 1)?;
+    script.create(0, 0, 1, 2)?;
+    script.push(0, 0, Body::ThreadEnd)?;
+    script.push(1, 0, Body::ThreadEnd)?;
+    assert_eq!(rt; script.verdict()?.as_str(), "unaudited at 2");
+
+    // What makes the list malformed is not looked for then.
+    let mut script = Script::new(rt.alloc());
+    script.create(0, 0, 1, 1)?;
+    script.push(0, 0, Body::ThreadEnd)?;
+    assert_eq!(rt; script.verdict()?.as_str(), "unaudited at 1");
     Ok(())
 }

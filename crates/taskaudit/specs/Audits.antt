@@ -1,14 +1,16 @@
 -- What an audit makes of the bytes that it reads, and what it writes.
-use Rattle.std.specs.Prelude.{◌≡◌, ℕ, List, take, Option, IfSome, Some, None, Result, Ok, Err, ⊤}
+use Rattle.std.specs.Prelude.{◌≡◌, ◌⊎◌, ℕ, ◌+◌, List, take, Option, IfSome, Some, None, Result, Ok, Err, ⊤}
 use Rattle.std.specs.Io.KnownBytes.{Appends, Keeps}
 use Rattle.ompt_events.specs.declared.records.Record.{Record}
 use Rattle.ompt_events.specs.Linearization.{IsLinearization}
 use Rattle.certificate.specs.declared.faults.ReadCause.{ReadCause}
 use Rattle.certificate.specs.declared.faults.WriteFault.{WriteFault}
 use Rattle.certificate.specs.Counts.{TakesStalls}
-use Rattle.certificate.specs.Files.{file_says}
+use Rattle.certificate.specs.declared.faults.ReadCause.TheVariants.{Field}
+use Rattle.certificate.specs.Files.{file_says, fault_in}
 use Rattle.certificate.specs.Reading.{IsToldRightly}
 use Rattle.checker.specs.declared.verdict.Verdict.{Verdict}
+use Rattle.checker.specs.Audited.{IsFirstUnaudited}
 use Rattle.checker.specs.Verdicts.{IsVerdict, IsAlwaysComplete}
 use Rattle.taskaudit.specs.declared.work.Outcome.{Outcome}
 use Rattle.taskaudit.specs.declared.work.Outcome.TheVariants.{Yes}
@@ -50,10 +52,22 @@ abbrev pub Leaves : Option (List ℕ) → Option (List ℕ) → Option (List ℕ
 Leaves bytes old new (Write f) = BreaksOff bytes old new
 Leaves bytes old new _ = Keeps old new
 
--- a fault of the input is the file's first one, or one of the source or of memory while the line was read;
--- left is what the source has left
+-- the fault of a file of which a check doesn't take the record at the place i: line 1 is the header
+abbrev pub not_taken : ℕ → AuditFault
+not_taken i = Read (fault_in (i + 2) Field)
+
+-- the bytes are a file for records of which this is the first that a check doesn't take
+pub record IsNotTaken (bytes : List ℕ) (fault : AuditFault) : Type 0 where
+  pub records : List Record
+  pub file : file_says bytes ≡ Ok records
+  pub place : ℕ
+  pub unaudited : IsFirstUnaudited records place
+  pub told : fault ≡ not_taken place
+
+-- a fault of the input is the file's first one, or one of the source or of memory while the line was read,
+-- or that of a whole file with a record that a check doesn't take; left is what the source has left
 abbrev pub IsReadRightly : Option (List ℕ) → Option (List ℕ) → AuditFault → Type 0
-IsReadRightly bytes left (Read f) = IfSome bytes (λ known. IsToldRightly f.cause f.line known left)
+IsReadRightly bytes left (Read f) = IfSome bytes (λ known. IsToldRightly f.cause f.line known left ⊎ IsNotTaken known (Read f))
 IsReadRightly bytes left _ = ⊤
 
 -- how the reading ended: well, or with this cause

@@ -2,8 +2,10 @@
 use Rattle.std.specs.Prelude.{ℕ, ◌+◌, ◌++◌, Bool, true, false, List, length, count_by, is_some, codes, decimal, slice_get}
 use Rattle.std.specs.Option.{option_map_or}
 use Rattle.ompt_events.specs.declared.records.Record.{Record}
-use Rattle.ompt_events.specs.declared.names.Endpoint.TheVariants.{End}
-use Rattle.ompt_events.specs.declared.names.SyncKind.TheVariants.{Taskwait}
+use Rattle.ompt_events.specs.declared.names.Endpoint.TheVariants.{Begin}
+use Rattle.ompt_events.specs.declared.names.SyncKind.TheVariants.{Taskwait, Taskgroup}
+use Rattle.ompt_events.specs.declared.names.SyncKind.{SyncKind}
+use Rattle.ompt_events.specs.Regions.{is_barrier}
 use Rattle.ompt_events.specs.declared.records.Body.{Body}
 use Rattle.ompt_events.specs.declared.records.Body.TheVariants.{SyncRegion}
 use Rattle.ompt_events.specs.declared.cause.Cause.{Cause}
@@ -28,9 +30,16 @@ use Rattle.taskaudit.specs.declared.work.AuditFault.TheVariants as fault
 abbrev pub creates_in : List Record → ℕ
 creates_in rs = count_by (λ r. is_some (creation r.body)) rs
 
--- a region ends that waits for tasks
+-- the kinds of region whose end waits for tasks
+abbrev pub waits_for_tasks : SyncKind → Bool
+waits_for_tasks Taskwait = true
+waits_for_tasks Taskgroup = true
+waits_for_tasks kind = is_barrier kind
+
+-- a region ends that waits for tasks; a begin and end in one is an end too
 abbrev pub ends_wait : Body → Bool
-ends_wait (SyncRegion Taskwait End parallel task) = true
+ends_wait (SyncRegion kind Begin parallel task) = false
+ends_wait (SyncRegion kind endpoint parallel task) = waits_for_tasks kind
 ends_wait _ = false
 
 -- how many ends of such regions there are

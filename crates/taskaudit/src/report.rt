@@ -3,7 +3,7 @@ ghost use Rattle.std.specs.Prelude.{◌≡◌, ◌<◌, ◌≤◌, ◌^◌, IfOk
 ghost use Rattle.ompt_events.specs.Causes.{entries_in};
 ghost use Rattle.checker.specs.Verdicts.{IsVerdict};
 ghost use Rattle.clap.specs.Words.{kind_of};
-ghost use Rattle.taskaudit.specs.Reports.{report_of, fault_text_of, yes_text, no_text, malformed_text, place_text, place_of, ends_wait, creates_in, waits_in, unreadable_text, unwritten_text, no_memory_text};
+ghost use Rattle.taskaudit.specs.Reports.{report_of, fault_text_of, yes_text, no_text, malformed_text, place_text, place_of, ends_wait, waits_for_tasks, creates_in, waits_in, unreadable_text, unwritten_text, no_memory_text};
 ghost use Rattle.taskaudit.specs.Statuses.{fault_status_of, usage_status_of};
 
 use crate::work::AuditFault;
@@ -144,12 +144,25 @@ fn ends_wait(body: &Body) -> bool
     ensures { result ≡ ends_wait body.now }
 {
     match body {
-        Body::SyncRegion {
-            kind: SyncKind::Taskwait,
-            endpoint: Endpoint::End,
-            ..
-        } => true,
+        Body::SyncRegion { kind, endpoint, .. } if *endpoint != Endpoint::Begin => {
+            waits_for_tasks(*kind)
+        }
         _ => false,
+    }
+}
+
+/// Whether the end of a region of this kind waits for tasks.
+fn waits_for_tasks(kind: SyncKind) -> bool
+    ensures { result ≡ waits_for_tasks kind }
+{
+    match kind {
+        SyncKind::Taskwait | SyncKind::Taskgroup => true,
+        SyncKind::Barrier
+        | SyncKind::BarrierImplicit
+        | SyncKind::BarrierExplicit
+        | SyncKind::BarrierImplicitWorkshare
+        | SyncKind::BarrierImplicitParallel => true,
+        SyncKind::BarrierImplementation | SyncKind::Reduction | SyncKind::BarrierTeams => false,
     }
 }
 
