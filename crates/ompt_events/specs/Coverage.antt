@@ -17,17 +17,17 @@ abbrev pub IsChildBetween : List Record → ℕ → ℕ → ℕ → ℕ → Type
 IsChildBetween rs begin i parent child = (c : ℕ) × Contains (own_before rs parent i) c × (Contains (own_before rs parent begin) c → ⊥) × IsCreatedAt rs c parent child
 
 -- the task is the child or one of its descendants
-abbrev pub IsOf : List Record → ℕ → ℕ → Type 0
-IsOf rs child task = (task ≡ child) ⊎ IsDescendant rs child task
+abbrev pub IsFamily : List Record → ℕ → ℕ → Type 0
+IsFamily rs child task = (task ≡ child) ⊎ IsDescendant rs child task
 
 -- the end at i covers the task
 pub data Covers (rs : List Record) (i task : ℕ) : Type 0 where
   -- a taskwait waits for the children created before it began, and not for theirs (OpenMP 5.2, 15.5)
   waited : {parent begin : ℕ} → IsRegion rs i parent Taskwait begin → IsChildBefore rs begin parent task → Covers rs i task
   -- a taskgroup waits for the children created in it, and for their descendants (15.4)
-  grouped : {parent begin child : ℕ} → IsRegion rs i parent Taskgroup begin → IsChildBetween rs begin i parent child → IsOf rs child task → Covers rs i task
+  grouped : {parent begin child : ℕ} → IsRegion rs i parent Taskgroup begin → IsChildBetween rs begin i parent child → IsFamily rs child task → Covers rs i task
   -- a barrier waits, for each member of the team, for the children created before the member's barrier of the same number
   -- began, and for their descendants (15.3)
   synchronised : {own begin member child : ℕ} {kind : SyncKind} (start : ℕ) → IsRegion rs i own kind begin → is_barrier kind ≡ true
     → IsTeammate rs own member → begins_barrier rs member start ≡ true → barrier_number rs member start ≡ barrier_number rs own begin
-    → IsChildBefore rs start member child → IsOf rs child task → Covers rs i task
+    → IsChildBefore rs start member child → IsFamily rs child task → Covers rs i task

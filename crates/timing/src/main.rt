@@ -1,9 +1,9 @@
 //! Times one layer alone: `values` reads each line of standard input as a JSON value and nothing else, `read` reads
-//! the file of records.
+//! the file of records, and `write` reads it and writes it to standard output.
 #![tactic(auto)]
 
 use anyhow::{Result, bail};
-use certificate::{FromRead, read};
+use certificate::{FromRead, ToWrite, read, write};
 use memchr::memchr;
 use serde_json::Value;
 use std::alloc::Global;
@@ -53,15 +53,27 @@ fn records(rt: &HostRuntime) -> Result<()> {
     }
 }
 
+/// Reads the records of standard input, and writes them to standard output.
+fn rewrite(rt: &HostRuntime) -> Result<()> {
+    match read(rt.alloc(), &mut FromRead::new(rt.reader())) {
+        Ok(trace) => match write(rt.alloc(), &trace, &mut ToWrite::new(rt.writer())) {
+            Ok(()) => Ok(()),
+            Err(fault) => bail!("{fault}"),
+        },
+        Err(fault) => bail!("{fault}"),
+    }
+}
+
 fn main(rt: HostRuntime) -> Result<()> {
     let mut words = env::args(&rt)?;
     let _program = words.next();
     let Some(word) = words.next() else {
-        bail!("the word must be values or read");
+        bail!("the word must be values, read or write");
     };
     match word.as_str() {
         "values" => values(&rt),
         "read" => records(&rt),
-        _ => bail!("the word must be values or read"),
+        "write" => rewrite(&rt),
+        _ => bail!("the word must be values, read or write"),
     }
 }
