@@ -7,4 +7,5 @@ mod CountLemmas
 mod SoundLemmas
 mod ReadingLemmas
 mod WritingLemmas
+mod KeptLemmas
 mod LawLemmas

@@ -1,19 +1,22 @@
 -- What the members of a record add up to, and which cause is told.
-use Rattle.std.proofs.Common.{◌≡◌, ℕ, ◌<◌, ◌≤◌, ◌&&◌, List, [], ◌∷◌, ◌++◌, length, drop, Option, Some, None, Result, Ok, Err, Bool, true, false, cond, arith, refl, sym, ap, ◌∙◌, append-nil}
-use Rattle.std.specs.Prelude.{ok_or, option_and_then, option_map, is_some, IsSome, codes, nat_le}
+use Rattle.std.proofs.Common.{◌≡◌, ◌≢◌, ℕ, ◌<◌, ◌≤◌, ◌^◌, ◌&&◌, List, [], ◌∷◌, ◌++◌, length, drop, Option, Some, None, Result, Ok, Err, Bool, true, false, cond, arith, refl, sym, ap, ◌∙◌, append-nil}
+use Rattle.std.specs.Prelude.{ok_or, option_and_then, option_map, is_some, IsSome, codes, nat_le, nat_lt}
 use Rattle.std.specs.List.{list_all}
+use Rattle.std.specs.Str.{bytes_eq}
+use Rattle.std.proofs.lemmas.Slice.Eq.{bytes_eq-Decides}
 use Rattle.std.proofs.Math.ListN.{drop_of_length-le}
 use Rattle.serde_json.specs.Data.{Data, Items}
 use Rattle.serde_json.specs.View.{view, items_view}
 use Rattle.serde_json.specs.declared.value.Value.{Value}
 use Rattle.ompt_events.specs.declared.records.Claim.{Claim}
+use Rattle.ompt_events.specs.declared.records.Body.{Body}
 use Rattle.ompt_events.specs.declared.records.Body.TheVariants.{TaskSchedule}
 use Rattle.ompt_events.specs.declared.names.Status.{Status}
-use Rattle.ompt_events.specs.declared.names.Status.TheVariants.{Complete, Switch}
+use Rattle.ompt_events.specs.Names.{status_part}
 use Rattle.certificate.specs.declared.faults.ReadCause.{ReadCause}
 use Rattle.certificate.specs.declared.faults.ReadCause.TheVariants.{Field, Limit}
-use Rattle.certificate.specs.Members.{whole, whole_of, wholes, list, status}
-use Rattle.certificate.specs.RecordLines.{bounded, body, body_fits, path, claim, claim_fits, share, task_schedule, unbounded, record_fits, path_fits, is_short}
+use Rattle.certificate.specs.Members.{whole, whole_of, each, list, path, status, next}
+use Rattle.certificate.specs.RecordLines.{bounded, body, body_named, body_fits, share, share_fits, task_schedule, unbounded, record_fits, path_fits, is_short}
 use Rattle.certificate.proofs.MemberLemmas.{ok_or-some}
 
 pub ok_not_err : {X : Type 0} (x : X) (e : ReadCause) → ◌≡◌ {A = Result X ReadCause} (Ok x) (Err e) → ⊥
@@ -45,88 +48,118 @@ bounded-err {A} {B} fits fits' f (Some a) e keeps is =
       | false ↦ λ no same. let limit : e ≡ Limit = cc in rw (keeps a no) (ap Err limit)
     ] refl is
 
--- ---- lists of whole numbers
+-- a value that goes on into a whole
+pub bounded-in : {A B : Type 0} (fits : A → Bool) (fits' : B → Bool) (f : A → B) (o : Option A) (a : A) → (fits a ≡ true → fits' (f a) ≡ true) → Ok a ≡ bounded fits o → Ok (f a) ≡ bounded fits' (option_and_then (λ a. Some (f a)) o)
+bounded-in fits fits' f o a keeps is =
+    let found = bounded-ok fits o a is in
+    rw (found.0, keeps found.1)
 
-pub is_some-wholes : (vs : List Value) → is_some (wholes (items_view vs)) ≡ list_all (λ v. is_some (whole_of (view v))) vs
-is_some-wholes [] = refl
-is_some-wholes (v ∷ vs) = by_head (whole_of (view v)) (wholes (items_view vs)) _ (is_some-wholes vs)
+-- a number within its bound
+within-ok : (n m bound : ℕ) → Ok m ≡ cond (nat_lt n bound) (Ok n) (Err Limit) → (m ≡ n) × (nat_lt n bound ≡ true)
+within-ok n m bound e =
+    elim (nat_lt n bound) as (λ b. nat_lt n bound ≡ b → Ok m ≡ cond b (Ok n) (Err Limit) → (m ≡ n) × (nat_lt n bound ≡ true)) [
+      | true ↦ λ is same. let equal : m ≡ n = cc in (equal, is)
+      | false ↦ λ is same. absurd (ok_not_err m Limit same)
+    ] refl e
+
+-- ---- lists
+
+pub is_some-each : {X : Type 0} (says : Data → Option X) (vs : List Value) → is_some (each says (items_view vs)) ≡ list_all (λ v. is_some (says (view v))) vs
+is_some-each says [] = refl
+is_some-each {X} says (v ∷ vs) = by_head (says (view v)) (each says (items_view vs)) _ (is_some-each says vs)
   where
-    by_head : (o : Option ℕ) (rest : Option (List ℕ)) (b : Bool) → is_some rest ≡ b → is_some (option_and_then (λ n. option_map (λ ns. n ∷ ns) rest) o) ≡ (is_some o && b)
+    by_head : (o : Option X) (rest : Option (List X)) (b : Bool) → is_some rest ≡ b → is_some (option_and_then (λ x. option_map (λ xs. x ∷ xs) rest) o) ≡ (is_some o && b)
     by_head None rest b e = refl
-    by_head (Some n) None b e = e
-    by_head (Some n) (Some ns) b e = e
+    by_head (Some x) None b e = e
+    by_head (Some x) (Some xs) b e = e
 
-pub length-wholes : (vs : List Value) (ns : List ℕ) → wholes (items_view vs) ≡ Some ns → length ns ≡ length vs
-length-wholes [] ns e = let h : ns ≡ [] = cc in ap length h
-length-wholes (v ∷ vs) ns e = by_head (whole_of (view v)) (wholes (items_view vs)) e (length-wholes vs)
+pub length-each : {X : Type 0} (says : Data → Option X) (vs : List Value) (xs : List X) → each says (items_view vs) ≡ Some xs → length xs ≡ length vs
+length-each says [] xs e = let h : xs ≡ [] = cc in ap length h
+length-each {X} says (v ∷ vs) xs e = by_head (says (view v)) (each says (items_view vs)) e (length-each says vs)
   where
-    by_head : (o : Option ℕ) (rest : Option (List ℕ)) → option_and_then (λ n. option_map (λ ns. n ∷ ns) rest) o ≡ Some ns → ((ms : List ℕ) → rest ≡ Some ms → length ms ≡ length vs) → length ns ≡ length (v ∷ vs)
-    by_head None rest is each = absurd (let h : None ≡ Some ns = is in cc)
-    by_head (Some n) None is each = absurd (let h : None ≡ Some ns = is in cc)
-    by_head (Some n) (Some ms) is each = let h : ns ≡ n ∷ ms = cc in let same : length ms ≡ length vs = each ms refl in ap length h ∙ omega arith
+    by_head : (o : Option X) (rest : Option (List X)) → option_and_then (λ x. option_map (λ xs. x ∷ xs) rest) o ≡ Some xs → ((ys : List X) → rest ≡ Some ys → length ys ≡ length vs) → length xs ≡ length (v ∷ vs)
+    by_head None rest is later = absurd (let h : None ≡ Some xs = is in cc)
+    by_head (Some x) None is later = absurd (let h : None ≡ Some xs = is in cc)
+    by_head (Some x) (Some ys) is later = let h : xs ≡ x ∷ ys = cc in let same : length ys ≡ length vs = later ys refl in ap length h ∙ omega arith
 
-pub path-too_long : (vs : List Value) → IsSome (wholes (items_view vs)) → 1024 < length vs → Err Limit ≡ bounded path_fits (wholes (items_view vs))
-path-too_long vs some long = by_whole (wholes (items_view vs)) some (length-wholes vs)
+-- what was read of all the items
+pub each-read : {X : Type 0} (says : Data → Option X) (vs : List Value) (i : ℕ) (xs : List X) → each says (items_view vs) ≡ option_map (λ ys. xs ++ ys) (each says (items_view (drop i vs))) → length vs ≤ i → each says (items_view vs) ≡ Some xs
+each-read says vs i xs is past = is ∙ ap (λ ws. option_map (λ ys. xs ++ ys) (each says (items_view ws))) (drop_of_length-le vs past) ∙ ap Some (append-nil xs)
+
+pub path-too_long : (vs : List Value) → IsSome (each whole_of (items_view vs)) → 1024 < length vs → Err Limit ≡ bounded path_fits (each whole_of (items_view vs))
+path-too_long vs some long = by_whole (each whole_of (items_view vs)) some (length-each whole_of vs)
   where
     by_whole : (o : Option (List ℕ)) → IsSome o → ((ns : List ℕ) → o ≡ Some ns → length ns ≡ length vs) → Err Limit ≡ bounded path_fits o
-    by_whole None is each = absurd (let h : false ≡ true = is in cc)
-    by_whole (Some ns) is each =
-        let same : length ns ≡ length vs = each ns refl in
+    by_whole None is all = absurd (let h : false ≡ true = is in cc)
+    by_whole (Some ns) is all =
+        let same : length ns ≡ length vs = all ns refl in
         let no : nat_le (length ns) 1024 ≡ false = grind arith in
         rw no
 
-pub path-read : (vs : List Value) (i : ℕ) (ns : List ℕ) → wholes (items_view vs) ≡ option_map (λ ms. ns ++ ms) (wholes (items_view (drop i vs))) → list_all is_short ns ≡ true → length vs ≤ i → length vs ≤ 1024 → Ok ns ≡ bounded path_fits (wholes (items_view vs))
+pub path-read : (vs : List Value) (i : ℕ) (ns : List ℕ) → each whole_of (items_view vs) ≡ option_map (λ ms. ns ++ ms) (each whole_of (items_view (drop i vs))) → list_all is_short ns ≡ true → length vs ≤ i → length vs ≤ 1024 → Ok ns ≡ bounded path_fits (each whole_of (items_view vs))
 path-read vs i ns is short past few =
-    let all : wholes (items_view vs) ≡ Some ns = is ∙ ap (λ ws. option_map (λ ms. ns ++ ms) (wholes (items_view ws))) (drop_of_length-le vs past) ∙ ap Some (append-nil ns) in
-    let len : length ns ≡ length vs = length-wholes vs ns all in
+    let all : each whole_of (items_view vs) ≡ Some ns = each-read whole_of vs i ns is past in
+    let len : length ns ≡ length vs = length-each whole_of vs ns all in
     let yes : nat_le (length ns) 1024 ≡ true = grind arith in
     rw (all, yes, short)
 
--- ---- callbacks and records
+pub path-not_whole : (name : List ℕ) (d : Data) (items : Items) → Ok items ≡ ok_or (list name d) Field → is_some (each whole_of items) ≡ false → Err Field ≡ bounded path_fits (path name d)
+path-not_whole name d items found missing = rw (ok_or-some _ items found) (by_whole (each whole_of items) missing)
+  where
+    by_whole : (o : Option (List ℕ)) → is_some o ≡ false → Err Field ≡ bounded path_fits o
+    by_whole None h = refl
+    by_whole (Some ns) h = absurd (let f : true ≡ false = h in cc)
+
+-- ---- records
 
 pub unbounded-body : (d : Data) (thread seq seen : ℕ) → Ok thread ≡ ok_or (whole (codes "thread") d) Field → Ok seq ≡ ok_or (whole (codes "seq") d) Field → Ok seen ≡ ok_or (whole (codes "seen") d) Field
     → unbounded d ≡ option_and_then (λ b. Some (record { thread = thread; seq = seq; seen = seen; body = b })) (body d)
 unfolding unbounded
 unbounded-body d thread seq seen t q s = rw (ok_or-some _ thread t, ok_or-some _ seq q, ok_or-some _ seen s)
 
-pub task_schedule-share : (d : Data) (st : Status) (prior next : ℕ) → Ok st ≡ ok_or (status d) Field → Ok prior ≡ ok_or (whole (codes "prior") d) Field → Ok next ≡ ok_or (whole (codes "next") d) Field
-    → task_schedule d ≡ option_and_then (λ sh. Some (TaskSchedule st prior (Some next) sh)) (share st d)
-unfolding task_schedule
-task_schedule-share d st prior next s p n = rw (ok_or-some _ st s, ok_or-some _ prior p, ok_or-some _ next n)
-
--- how a finished task's claim ends the reading of its schedule, or does not
-pub schedule-claim_err : (d : Data) (st : Status) (prior next : ℕ) (e : ReadCause) → Ok st ≡ ok_or (status d) Field → Ok prior ≡ ok_or (whole (codes "prior") d) Field → Ok next ≡ ok_or (whole (codes "next") d) Field
-    → st ≡ Complete → Err e ≡ bounded claim_fits (claim d) → Err e ≡ bounded body_fits (task_schedule d)
-unfolding share
-schedule-claim_err d st prior next e s p n is err =
-    rw (task_schedule-share d st prior next s p n, is) (by_claim (claim d) err)
-  where
-    by_claim : (o : Option Claim) → Err e ≡ bounded claim_fits o → Err e ≡ bounded body_fits (option_and_then (λ sh. Some (TaskSchedule Complete prior (Some next) sh)) (option_and_then (λ c. Some (Some c)) o))
-    by_claim None h = let same : e ≡ Field = cc in ap Err same
-    by_claim (Some c) h = bounded-err claim_fits body_fits (λ c. TaskSchedule Complete prior (Some next) (Some c)) (Some c) e (λ c no. no) h
-
-pub schedule-complete : (d : Data) (st : Status) (prior next : ℕ) (c : Claim) (sh : Option Claim) → Ok st ≡ ok_or (status d) Field → Ok prior ≡ ok_or (whole (codes "prior") d) Field → Ok next ≡ ok_or (whole (codes "next") d) Field
-    → st ≡ Complete → sh ≡ Some c → Ok c ≡ bounded claim_fits (claim d) → Ok (TaskSchedule st prior (Some next) sh) ≡ bounded body_fits (task_schedule d)
-unfolding share
-schedule-complete d st prior next c sh s p n is same read =
-    let found = bounded-ok claim_fits (claim d) c read in
-    rw (task_schedule-share d st prior next s p n, is, same, found.0, found.1)
-
-pub schedule-switch : (d : Data) (st : Status) (prior next : ℕ) (sh : Option Claim) → Ok st ≡ ok_or (status d) Field → Ok prior ≡ ok_or (whole (codes "prior") d) Field → Ok next ≡ ok_or (whole (codes "next") d) Field
-    → st ≡ Switch → sh ≡ None → Ok (TaskSchedule st prior (Some next) sh) ≡ bounded body_fits (task_schedule d)
-unfolding share
-schedule-switch d st prior next sh s p n is same =
-    rw (task_schedule-share d st prior next s p n, is, same)
-
 pub record-body_err : (d : Data) (thread seq seen : ℕ) (e : ReadCause) → Ok thread ≡ ok_or (whole (codes "thread") d) Field → Ok seq ≡ ok_or (whole (codes "seq") d) Field → Ok seen ≡ ok_or (whole (codes "seen") d) Field
     → Err e ≡ bounded body_fits (body d) → Err e ≡ bounded record_fits (unbounded d)
 record-body_err d thread seq seen e t q s err =
     rw (unbounded-body d thread seq seen t q s) (bounded-err body_fits record_fits (λ b. record { thread = thread; seq = seq; seen = seen; body = b }) (body d) e (λ b no. rw no) err)
 
-pub path-not_whole : (d : Data) (items : Items) → Ok items ≡ ok_or (list (codes "path") d) Field → is_some (wholes items) ≡ false → Err Field ≡ bounded path_fits (path d)
-unfolding path
-path-not_whole d items found missing = rw (ok_or-some _ items found) (by_whole (wholes items) missing)
-  where
-    by_whole : (o : Option (List ℕ)) → is_some o ≡ false → Err Field ≡ bounded path_fits o
-    by_whole None h = refl
-    by_whole (Some ns) h = absurd (let f : true ≡ false = h in cc)
+pub record-read : (d : Data) (thread seq seen t q s : ℕ) (b : Body) → Ok thread ≡ ok_or (whole (codes "thread") d) Field → Ok seq ≡ ok_or (whole (codes "seq") d) Field → Ok seen ≡ ok_or (whole (codes "seen") d) Field
+    → Ok b ≡ bounded body_fits (body d) → Ok t ≡ cond (nat_lt thread 256) (Ok thread) (Err Limit) → Ok q ≡ cond (nat_lt seq (2 ^ 32)) (Ok seq) (Err Limit) → Ok s ≡ cond (nat_lt seen (2 ^ 32)) (Ok seen) (Err Limit)
+    → Ok (record { thread = t; seq = q; seen = s; body = b }) ≡ bounded record_fits (unbounded d)
+record-read d thread seq seen t q s b is_thread is_seq is_seen is_body fits_thread fits_seq fits_seen =
+    let t' = within-ok thread t 256 fits_thread in
+    let q' = within-ok seq q (2 ^ 32) fits_seq in
+    let s' = within-ok seen s (2 ^ 32) fits_seen in
+    rw (unbounded-body d thread seq seen is_thread is_seq is_seen, t'.0, q'.0, s'.0)
+    (bounded-in body_fits record_fits (λ b. record { thread = thread; seq = seq; seen = seen; body = b }) (body d) b (λ fits. rw (fits, t'.1, q'.1, s'.1)) is_body)
+
+-- ---- callbacks
+
+pub task_schedule-share : (d : Data) (st : Status) (prior : ℕ) (nx : Option ℕ) → Ok st ≡ ok_or (status (codes "status") d) Field → Ok prior ≡ ok_or (whole (codes "prior") d) Field → Ok nx ≡ ok_or (next st (codes "next") d) Field
+    → task_schedule d ≡ option_and_then (λ sh. Some (TaskSchedule st prior nx sh)) (share (is_some (status_part st)) d)
+unfolding task_schedule
+task_schedule-share d st prior nx s p n = rw (ok_or-some _ st s, ok_or-some _ prior p, ok_or-some _ nx n)
+
+-- how the claim ends the reading of a schedule, or does not
+pub schedule-err : (d : Data) (st : Status) (prior : ℕ) (nx : Option ℕ) (e : ReadCause) → Ok st ≡ ok_or (status (codes "status") d) Field → Ok prior ≡ ok_or (whole (codes "prior") d) Field → Ok nx ≡ ok_or (next st (codes "next") d) Field
+    → Err e ≡ bounded share_fits (share (is_some (status_part st)) d) → Err e ≡ bounded body_fits (task_schedule d)
+schedule-err d st prior nx e s p n err =
+    rw (task_schedule-share d st prior nx s p n) (bounded-err share_fits body_fits (TaskSchedule st prior nx) (share (is_some (status_part st)) d) e (λ sh no. no) err)
+
+pub schedule-ok : (d : Data) (st : Status) (prior : ℕ) (nx : Option ℕ) (sh : Option Claim) → Ok st ≡ ok_or (status (codes "status") d) Field → Ok prior ≡ ok_or (whole (codes "prior") d) Field → Ok nx ≡ ok_or (next st (codes "next") d) Field
+    → Ok sh ≡ bounded share_fits (share (is_some (status_part st)) d) → Ok (TaskSchedule st prior nx sh) ≡ bounded body_fits (task_schedule d)
+schedule-ok d st prior nx sh s p n read =
+    rw (task_schedule-share d st prior nx s p n) (bounded-in share_fits body_fits (TaskSchedule st prior nx) (share (is_some (status_part st)) d) sh (λ fits. fits) read)
+
+-- no callback has the name
+bytes_eq-other : (a b : List ℕ) → a ≢ b → bytes_eq a b ≡ false
+bytes_eq-other a b other =
+    elim (bytes_eq a b) as (λ t. (t ≡ true → a ≡ b) → t ≡ false) [
+      | true ↦ λ is. absurd (other (is refl))
+      | false ↦ λ _. refl
+    ] (bytes_eq-Decides a b).0
+
+pub body_named-none : (name : List ℕ) (d : Data) → name ≢ codes "thread_begin" → name ≢ codes "thread_end" → name ≢ codes "parallel_begin" → name ≢ codes "parallel_end" → name ≢ codes "implicit_task" → name ≢ codes "task_create" → name ≢ codes "dependences" → name ≢ codes "task_schedule" → name ≢ codes "sync_region" → name ≢ codes "cancel" → body_named name d ≡ None
+unfolding body_named
+body_named-none name d no0 no1 no2 no3 no4 no5 no6 no7 no8 no9 =
+    let other = bytes_eq-other name in
+    rw (other _ no0, other _ no1, other _ no2, other _ no3, other _ no4, other _ no5, other _ no6, other _ no7, other _ no8, other _ no9) refl

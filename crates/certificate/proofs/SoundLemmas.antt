@@ -1,128 +1,216 @@
 -- What a line stands for can stand in a trace.
-use Rattle.std.proofs.Common.{◌≡◌, ℕ, ◌≤◌, List, [], ◌∷◌, length, Option, Some, None, Ok, Bool, true, false, cond, arith, refl, sym, ap, ◌∙◌, subst, min, ◌==◌, ◌||◌}
-use Rattle.std.specs.Prelude.{option_and_then, codes, nat_eq}
+use Rattle.std.proofs.Common.{◌≡◌, ℕ, ◌≤◌, List, [], ◌∷◌, length, Option, Some, None, Ok, Bool, true, false, cond, arith, refl, sym, ap, ◌∙◌, subst, min, ◌==◌}
+use Rattle.std.specs.Prelude.{option_map, is_some, IfSome, codes, nat_eq}
 use Rattle.std.specs.Int.{bit_at}
 use Rattle.std.specs.Int.RustNames.{bit_or}
 use Rattle.std.specs.List.{AllByRecursion}
 use Rattle.std.specs.Cmp.Lexicographic.{pointwise}
 use Rattle.std.proofs.lemmas.Nat.Bits.{bit_at_and, bit_at_or, same_from_bits}
 use Rattle.std.proofs.lemmas.Bool.{leb-true}
-use Rattle.std.proofs.lemmas.Option.{option_and_then_some, cond_some}
+use Rattle.std.proofs.lemmas.Option.{option_and_then_some}
 use Rattle.bitflags.specs.Sets.{Row, known_from, known_bits, find_row, find_name}
 use Rattle.serde_json.specs.Data.{Data, Items, no_items, item}
 use Rattle.serde_json.specs.Find.{as_str}
-use Rattle.ompt_events.specs.Flags.{task_flags}
-use Rattle.ompt_events.specs.Traces.{AreNamed, IsSound}
+use Rattle.ompt_events.specs.Flags as table
+use Rattle.ompt_events.specs.Flags.{has_flag}
+use Rattle.ompt_events.specs.Names.{status_part, demands_next}
+use Rattle.ompt_events.specs.Traces.{AreNamed, BeginsOrEnds, IsSound}
 use Rattle.ompt_events.specs.declared.records.Record.{Record}
 use Rattle.ompt_events.specs.declared.records.Claim.{Claim}
+use Rattle.ompt_events.specs.declared.records.Part.{Part}
+use Rattle.ompt_events.specs.declared.records.Part.TheVariants.{Whole}
 use Rattle.ompt_events.specs.declared.records.Body.{Body}
-use Rattle.ompt_events.specs.declared.records.Body.TheVariants.{TaskCreate, TaskSchedule, SyncRegion}
+use Rattle.ompt_events.specs.declared.records.Body.TheVariants.{ThreadBegin, ThreadEnd, ParallelBegin, ParallelEnd, ImplicitTask, TaskCreate, Dependences, TaskSchedule, SyncRegion, Cancel}
 use Rattle.ompt_events.specs.declared.names.Status.{Status}
-use Rattle.ompt_events.specs.declared.names.Status.TheVariants.{Complete, Switch}
+use Rattle.ompt_events.specs.declared.names.Endpoint.{Endpoint}
+use Rattle.ompt_events.specs.declared.names.Endpoint.TheVariants.{Begin, End, BeginEnd}
 use Rattle.std.specs.Str.{bytes_eq}
 use Rattle.certificate.specs.declared.faults.ReadCause.TheVariants.{NotJson}
 use Rattle.certificate.proofs.RecordLemmas.{bounded-ok, ok_not_err, both-first}
-use Rattle.certificate.specs.Members.{whole, text, whole_or_null, list, truth, status, endpoint, sync_kind, flag_named, flag_of, flags_from, flags}
-use Rattle.certificate.specs.RecordLines.{implicit_task, task_create, sync_region, task_schedule, share, claim, body_named, body, unbounded, value_of, said_of, line_says, claim_fits, body_fits, record_fits}
+use Rattle.certificate.specs.Members.{whole, text, whole_or_null, list, truth, status, endpoint, not_both, begin_or_end, sync_kind, thread_kind, flag_of, flags_from, task_flags, cancel_flags, no_id, next, deps}
+use Rattle.certificate.specs.RecordLines.{thread_begin, thread_end, parallel_begin, parallel_end, implicit_task, task_create, dependences, sync_region, task_schedule, cancel, share, claim, body_named, body, unbounded, value_of, said_of, line_says, share_fits, body_fits, record_fits}
 
 -- ---- flags
 
-AreNamed-or : (a b : ℕ) → AreNamed a → AreNamed b → AreNamed (bit_or a b)
-AreNamed-or a b named-a named-b = same_from_bits _ _ (λ i.
-    let k = known_bits task_flags in
+AreNamed-or : (flags : List Row) (a b : ℕ) → AreNamed flags a → AreNamed flags b → AreNamed flags (bit_or a b)
+AreNamed-or flags a b named-a named-b = same_from_bits _ _ (λ i.
+    let k = known_bits flags in
     let bit-a : min (bit_at a i) (bit_at k i) ≡ bit_at a i = sym (bit_at_and a k i) ∙ ap (λ n. bit_at n i) named-a in
     let bit-b : min (bit_at b i) (bit_at k i) ≡ bit_at b i = sym (bit_at_and b k i) ∙ ap (λ n. bit_at n i) named-b in
     bit_at_and (bit_or a b) k i ∙ rw (bit_at_or a b i) (omega arith))
 
-find_row-named : (table : List Row) (name : List ℕ) (bit : ℕ) → AllByRecursion (λ (row : Row). AreNamed row.1) table → find_row table name ≡ Some bit → AreNamed bit
+-- each row of a table has a bit that the table names
+RowsNamed : List Row → Type 0
+RowsNamed flags = AllByRecursion (λ (row : Row). AreNamed flags row.1) flags
+
+find_row-named : (flags rows : List Row) (name : List ℕ) (bit : ℕ) → AllByRecursion (λ (row : Row). AreNamed flags row.1) rows → find_row rows name ≡ Some bit → AreNamed flags bit
 unfolding find_row
-find_row-named [] name bit all e = absurd (let h : None ≡ Some bit = e in cc)
-find_row-named (row ∷ rest) name bit all e =
-    elim (pointwise nat_eq row.0 name) as (λ b. cond b (Some row.1) (find_row rest name) ≡ Some bit → AreNamed bit) [
-      | true ↦ λ same. let is : row.1 ≡ bit = cc in subst (λ (n : ℕ). AreNamed n) is all.0
-      | false ↦ λ later. find_row-named rest name bit all.1 later
+find_row-named flags [] name bit all e = absurd (let h : None ≡ Some bit = e in cc)
+find_row-named flags (row ∷ rest) name bit all e =
+    elim (pointwise nat_eq row.0 name) as (λ b. cond b (Some row.1) (find_row rest name) ≡ Some bit → AreNamed flags bit) [
+      | true ↦ λ same. let is : row.1 ≡ bit = cc in subst (λ (n : ℕ). AreNamed flags n) is all.0
+      | false ↦ λ later. find_row-named flags rest name bit all.1 later
     ] e
 
-rows-named : AllByRecursion (λ (row : Row). AreNamed row.1) task_flags
-unfolding known_from
-rows-named = (refl, (refl, (refl, (refl, (refl, (refl, (refl, (refl, (refl, (refl, tt))))))))))
-
-find_name-named : (name : List ℕ) (bit : ℕ) → find_name task_flags name ≡ Some bit → AreNamed bit
-find_name-named name bit e =
-    elim (length name == 0) as (λ b. cond b None (find_row task_flags name) ≡ Some bit → AreNamed bit) [
+find_name-named : (flags : List Row) (name : List ℕ) (bit : ℕ) → RowsNamed flags → find_name flags name ≡ Some bit → AreNamed flags bit
+unfolding RowsNamed
+find_name-named flags name bit rows e =
+    elim (length name == 0) as (λ b. cond b None (find_row flags name) ≡ Some bit → AreNamed flags bit) [
       | true ↦ λ none. absurd (let h : None ≡ Some bit = none in cc)
-      | false ↦ λ found. find_row-named task_flags name bit rows-named found
+      | false ↦ λ found. find_row-named flags flags name bit rows found
     ] e
 
-flag_of-named : (d : Data) (bit : ℕ) → flag_of d ≡ Some bit → AreNamed bit
-flag_of-named d bit e =
-    option_and_then_some flag_named (as_str d) bit e (λ name _ named.
-    option_and_then_some (λ (n : ℕ). cond (n == 0x8 || n == 0x10) None (Some n)) (find_name task_flags name) bit named (λ n found read.
-    elim (n == 0x8 || n == 0x10) as (λ b. cond b None (Some n) ≡ Some bit → AreNamed bit) [
-      | true ↦ λ none. absurd (let h : None ≡ Some bit = none in cc)
-      | false ↦ λ same. let is : n ≡ bit = cc in subst (λ (m : ℕ). AreNamed m) is (find_name-named name n found)
-    ] read))
+flag_of-named : (flags : List Row) (d : Data) (bit : ℕ) → RowsNamed flags → flag_of flags d ≡ Some bit → AreNamed flags bit
+flag_of-named flags d bit rows e = option_and_then_some (find_name flags) (as_str d) bit e (λ name _ found. find_name-named flags name bit rows found)
 
-flags_from-named : (found : ℕ) (items : Items) (bits : ℕ) → AreNamed found → flags_from found items ≡ Some bits → AreNamed bits
-flags_from-named found no_items bits named e = let is : found ≡ bits = cc in subst (λ (n : ℕ). AreNamed n) is named
-flags_from-named found (item d items) bits named e =
-    option_and_then_some (λ (bit : ℕ). flags_from (bit_or found bit) items) (flag_of d) bits e (λ bit is later.
-    flags_from-named (bit_or found bit) items bits (AreNamed-or found bit named (flag_of-named d bit is)) later)
+flags_from-named : (flags : List Row) (found : ℕ) (items : Items) (bits : ℕ) → RowsNamed flags → AreNamed flags found → flags_from flags found items ≡ Some bits → AreNamed flags bits
+flags_from-named flags found no_items bits rows named e = let is : found ≡ bits = cc in subst (λ (n : ℕ). AreNamed flags n) is named
+flags_from-named flags found (item d items) bits rows named e =
+    option_and_then_some (λ (bit : ℕ). flags_from flags (bit_or found bit) items) (flag_of flags d) bits e (λ bit is later.
+    flags_from-named flags (bit_or found bit) items bits rows (AreNamed-or flags found bit named (flag_of-named flags d bit rows is)) later)
 
-flags-named : (d : Data) (bits : ℕ) → flags d ≡ Some bits → AreNamed bits
+task_rows : RowsNamed table.task_flags
+unfolding known_from RowsNamed
+task_rows = (refl, (refl, (refl, (refl, (refl, (refl, (refl, (refl, (refl, (refl, tt))))))))))
+
+task_flags-named : (name : List ℕ) (d : Data) (bits : ℕ) → task_flags name d ≡ Some bits → AreNamed table.task_flags bits
 unfolding known_from
-flags-named d bits e = option_and_then_some (flags_from 0) (list (codes "flags") d) bits e (λ items _ found. flags_from-named 0 items bits refl found)
+task_flags-named name d bits e = option_and_then_some (flags_from table.task_flags 0) (list name d) bits e (λ items _ found. flags_from-named table.task_flags 0 items bits task_rows refl found)
+
+cancel_rows : RowsNamed table.cancel_flags
+unfolding known_from RowsNamed
+cancel_rows = (refl, (refl, (refl, (refl, (refl, (refl, (refl, tt)))))))
+
+cancel_flags-named : (name : List ℕ) (d : Data) (bits : ℕ) → cancel_flags name d ≡ Some bits → AreNamed table.cancel_flags bits
+unfolding known_from
+cancel_flags-named name d bits e = option_and_then_some (flags_from table.cancel_flags 0) (list name d) bits e (λ items _ found. flags_from-named table.cancel_flags 0 items bits cancel_rows refl found)
+
+-- ---- parts of records
+
+-- a task begins or ends
+begin_or_end-sound : (name : List ℕ) (d : Data) (at : Endpoint) (actual index bits parallel task : ℕ) → begin_or_end name d ≡ Some at → BeginsOrEnds (ImplicitTask at actual index (record { 0 = bits }) parallel task)
+begin_or_end-sound name d at actual index bits parallel task e = option_and_then_some _ (endpoint name d) at e (λ named _ one. by_endpoint named one)
+  where
+    by_endpoint : (named : Endpoint) → not_both named ≡ Some at → BeginsOrEnds (ImplicitTask at actual index (record { 0 = bits }) parallel task)
+    by_endpoint Begin one = let is : Begin ≡ at = cc in subst (λ (x : Endpoint). BeginsOrEnds (ImplicitTask x actual index (record { 0 = bits }) parallel task)) is tt
+    by_endpoint End one = let is : End ≡ at = cc in subst (λ (x : Endpoint). BeginsOrEnds (ImplicitTask x actual index (record { 0 = bits }) parallel task)) is tt
+    by_endpoint BeginEnd one = absurd (let h : None ≡ Some at = one in cc)
+
+-- there is a next task exactly where the status demands one
+next-sound : (st : Status) (name : List ℕ) (d : Data) (nx : Option ℕ) → next st name d ≡ Some nx → is_some nx ≡ demands_next st
+next-sound st name d nx e = option_and_then_some _ (whole_or_null name d) nx e (λ o _ found. by_demand (demands_next st) o found)
+  where
+    by_demand : (demanded : Bool) (o : Option ℕ) → cond demanded (option_map Some o) (no_id o) ≡ Some nx → is_some nx ≡ demanded
+    by_demand true None h = absurd (let f : None ≡ Some nx = h in cc)
+    by_demand true (Some n) h = let is : Some n ≡ nx = cc in ap is_some (sym is)
+    by_demand false None h = let is : None ≡ nx = cc in ap is_some (sym is)
+    by_demand false (Some n) h = absurd (let f : None ≡ Some nx = h in cc)
+
+-- there is a claim exactly where a task is finished
+share-sound : (finishes : Bool) (d : Data) (sh : Option Claim) → share finishes d ≡ Some sh → is_some sh ≡ finishes
+unfolding share
+share-sound true d sh e = by_claim (claim d) e
+  where
+    by_claim : (o : Option Claim) → option_map Some o ≡ Some sh → is_some sh ≡ true
+    by_claim None h = absurd (let f : None ≡ Some sh = h in cc)
+    by_claim (Some c) h = let is : Some c ≡ sh = cc in ap is_some (sym is)
+share-sound false d sh e = let is : None ≡ sh = cc in ap is_some (sym is)
+
+share-short : (sh : Option Claim) → share_fits sh ≡ true → IfSome sh (λ (c : Claim). length c.path ≤ 1024)
+share-short None fits = tt
+share-short (Some c) fits = leb-true _ _ (both-first _ _ (both-first _ _ fits))
+
+is_some-map : {A B : Type 0} (f : A → B) (o : Option A) → is_some (option_map f o) ≡ is_some o
+is_some-map f None = refl
+is_some-map f (Some a) = refl
+
+is_some-cond : {A : Type 0} (b : Bool) (a : A) → is_some (cond b (Some a) None) ≡ b
+is_some-cond true a = refl
+is_some-cond false a = refl
+
+-- a task is discarded, or the cancellation says nothing of it
+discard-sound : (bits task : ℕ) (sh : Option Claim) → is_some sh ≡ has_flag bits 0x40 → AreNamed table.cancel_flags bits → share_fits sh ≡ true → IsSound (Cancel (record { 0 = bits }) task sh)
+discard-sound bits task sh claimed named fits = record { named_flags = tt; named_cancellation = named; begins_or_ends = tt; claimed = claimed ∙ sym (is_some-cond (has_flag bits 0x40) (task, Whole)); short_path = share-short sh fits; few_dependences = tt; next = tt }
 
 -- ---- callbacks
+
+thread_begin-sound : (d : Data) (b : Body) → thread_begin d ≡ Some b → IsSound b
+unfolding thread_begin
+thread_begin-sound d b e =
+    option_and_then_some _ (thread_kind (codes "kind") d) b e (λ kind _ same.
+    let is : ThreadBegin kind ≡ b = cc in
+    subst IsSound is (record { named_flags = tt; named_cancellation = tt; begins_or_ends = tt; claimed = refl; short_path = tt; few_dependences = tt; next = tt }))
+
+thread_end-sound : (d : Data) (b : Body) → thread_end d ≡ Some b → IsSound b
+unfolding thread_end
+thread_end-sound d b same =
+    let is : ThreadEnd ≡ b = cc in
+    subst IsSound is (record { named_flags = tt; named_cancellation = tt; begins_or_ends = tt; claimed = refl; short_path = tt; few_dependences = tt; next = tt })
+
+parallel_begin-sound : (d : Data) (b : Body) → parallel_begin d ≡ Some b → IsSound b
+unfolding parallel_begin
+parallel_begin-sound d b e =
+    option_and_then_some _ (whole (codes "requested") d) b e (λ requested _ e1. option_and_then_some _ (whole (codes "task") d) b e1 (λ task _ e2. option_and_then_some _ (whole (codes "parallel") d) b e2 (λ parallel _ same.
+    let is : ParallelBegin requested task parallel ≡ b = cc in
+    subst IsSound is (record { named_flags = tt; named_cancellation = tt; begins_or_ends = tt; claimed = refl; short_path = tt; few_dependences = tt; next = tt }))))
+
+parallel_end-sound : (d : Data) (b : Body) → parallel_end d ≡ Some b → IsSound b
+unfolding parallel_end
+parallel_end-sound d b e =
+    option_and_then_some _ (whole (codes "task") d) b e (λ task _ e1. option_and_then_some _ (whole (codes "parallel") d) b e1 (λ parallel _ same.
+    let is : ParallelEnd task parallel ≡ b = cc in
+    subst IsSound is (record { named_flags = tt; named_cancellation = tt; begins_or_ends = tt; claimed = refl; short_path = tt; few_dependences = tt; next = tt })))
 
 implicit_task-sound : (d : Data) (b : Body) → implicit_task d ≡ Some b → IsSound b
 unfolding implicit_task
 implicit_task-sound d b e =
-    option_and_then_some _ (endpoint d) b e (λ endpoint _ e1. option_and_then_some _ (whole (codes "actual") d) b e1 (λ actual _ e2. option_and_then_some _ (whole (codes "index") d) b e2 (λ index _ e3.
-    option_and_then_some _ (flags d) b e3 (λ bits named e4. option_and_then_some _ (whole (codes "parallel") d) b e4 (λ parallel _ e5. option_and_then_some _ (whole (codes "task") d) b e5 (λ task _ e6.
-    let is = (cond_some _ _ _ e6).1 in
-    subst IsSound is (record { named_flags = flags-named d bits named; claimed = refl; short_path = tt; next = tt })))))))
+    option_and_then_some _ (begin_or_end (codes "endpoint") d) b e (λ at one e1. option_and_then_some _ (whole (codes "actual") d) b e1 (λ actual _ e2. option_and_then_some _ (whole (codes "index") d) b e2 (λ index _ e3.
+    option_and_then_some _ (task_flags (codes "flags") d) b e3 (λ bits named e4. option_and_then_some _ (whole (codes "parallel") d) b e4 (λ parallel _ e5. option_and_then_some _ (whole (codes "task") d) b e5 (λ task _ same.
+    let is : ImplicitTask at actual index (record { 0 = bits }) parallel task ≡ b = cc in
+    subst IsSound is (by_endpoint at actual index bits parallel task (begin_or_end-sound (codes "endpoint") d at actual index bits parallel task one) (task_flags-named (codes "flags") d bits named))))))))
+  where
+    by_endpoint : (at : Endpoint) (actual index bits parallel task : ℕ) → BeginsOrEnds (ImplicitTask at actual index (record { 0 = bits }) parallel task) → AreNamed table.task_flags bits → IsSound (ImplicitTask at actual index (record { 0 = bits }) parallel task)
+    by_endpoint at actual index bits parallel task one named = record { named_flags = named; named_cancellation = tt; begins_or_ends = one; claimed = refl; short_path = tt; few_dependences = tt; next = tt }
 
 task_create-sound : (d : Data) (b : Body) → task_create d ≡ Some b → IsSound b
 unfolding task_create
 task_create-sound d b e =
-    option_and_then_some _ (truth (codes "deps") d) b e (λ deps _ e1. option_and_then_some _ (flags d) b e1 (λ bits named e2.
-    option_and_then_some _ (whole (codes "task") d) b e2 (λ task _ e3. option_and_then_some _ (whole (codes "child") d) b e3 (λ child _ e4.
-    by_deps deps bits task child (flags-named d bits named) e4))))
-  where
-    by_deps : (deps : Bool) (bits task child : ℕ) → AreNamed bits → cond deps None (Some (TaskCreate deps (record { 0 = bits }) task child)) ≡ Some b → IsSound b
-    by_deps true bits task child named none = absurd (let h : None ≡ Some b = none in cc)
-    by_deps false bits task child named same =
-        let is : TaskCreate false (record { 0 = bits }) task child ≡ b = cc in
-        subst IsSound is (record { named_flags = named; claimed = refl; short_path = tt; next = tt })
+    option_and_then_some _ (truth (codes "deps") d) b e (λ deps _ e1. option_and_then_some _ (task_flags (codes "flags") d) b e1 (λ bits named e2.
+    option_and_then_some _ (whole (codes "task") d) b e2 (λ task _ e3. option_and_then_some _ (whole (codes "child") d) b e3 (λ child _ same.
+    let is : TaskCreate deps (record { 0 = bits }) task child ≡ b = cc in
+    subst IsSound is (record { named_flags = task_flags-named (codes "flags") d bits named; named_cancellation = tt; begins_or_ends = tt; claimed = refl; short_path = tt; few_dependences = tt; next = tt })))))
+
+dependences-sound : (d : Data) (b : Body) → dependences d ≡ Some b → body_fits b ≡ true → IsSound b
+unfolding dependences
+dependences-sound d b e fits =
+    option_and_then_some _ (whole (codes "task") d) b e (λ task _ e1. option_and_then_some _ (deps (codes "list") d) b e1 (λ list _ same.
+    let is : Dependences task list ≡ b = cc in
+    let few : length list ≤ 64 = leb-true _ _ (ap body_fits is ∙ fits) in
+    subst IsSound is (record { named_flags = tt; named_cancellation = tt; begins_or_ends = tt; claimed = refl; short_path = tt; few_dependences = few; next = tt })))
+
+task_schedule-sound : (d : Data) (b : Body) → task_schedule d ≡ Some b → body_fits b ≡ true → IsSound b
+unfolding task_schedule
+task_schedule-sound d b e fits =
+    option_and_then_some _ (status (codes "status") d) b e (λ st _ e1. option_and_then_some _ (whole (codes "prior") d) b e1 (λ prior _ e2.
+    option_and_then_some _ (next st (codes "next") d) b e2 (λ nx follows e3. option_and_then_some _ (share (is_some (status_part st)) d) b e3 (λ sh shared same.
+    let is : TaskSchedule st prior nx sh ≡ b = cc in
+    let claimed = share-sound (is_some (status_part st)) d sh shared ∙ sym (is_some-map (λ (part : Part). (prior, part)) (status_part st)) in
+    subst IsSound is (record { named_flags = tt; named_cancellation = tt; begins_or_ends = tt; claimed = claimed; short_path = share-short sh (ap body_fits is ∙ fits); few_dependences = tt; next = next-sound st (codes "next") d nx follows })))))
 
 sync_region-sound : (d : Data) (b : Body) → sync_region d ≡ Some b → IsSound b
 unfolding sync_region
 sync_region-sound d b e =
-    option_and_then_some _ (sync_kind d) b e (λ kind _ e1. option_and_then_some _ (endpoint d) b e1 (λ endpoint _ e2.
-    option_and_then_some _ (whole_or_null (codes "parallel") d) b e2 (λ parallel _ e3. option_and_then_some _ (whole (codes "task") d) b e3 (λ task _ e4.
-    let is : SyncRegion kind endpoint parallel task ≡ b = cc in
-    subst IsSound is (record { named_flags = tt; claimed = refl; short_path = tt; next = tt })))))
+    option_and_then_some _ (sync_kind (codes "kind") d) b e (λ kind _ e1. option_and_then_some _ (endpoint (codes "endpoint") d) b e1 (λ at _ e2.
+    option_and_then_some _ (whole_or_null (codes "parallel") d) b e2 (λ parallel _ e3. option_and_then_some _ (whole (codes "task") d) b e3 (λ task _ same.
+    let is : SyncRegion kind at parallel task ≡ b = cc in
+    subst IsSound is (record { named_flags = tt; named_cancellation = tt; begins_or_ends = tt; claimed = refl; short_path = tt; few_dependences = tt; next = tt })))))
 
-path_fits-length : (c : Claim) → claim_fits c ≡ true → length c.path ≤ 1024
-path_fits-length c fits = leb-true _ _ (both-first _ _ (both-first _ _ fits))
-
-task_schedule-sound : (d : Data) (b : Body) → task_schedule d ≡ Some b → body_fits b ≡ true → IsSound b
-unfolding task_schedule share
-task_schedule-sound d b e fits =
-    option_and_then_some _ (status d) b e (λ status _ e1. option_and_then_some _ (whole (codes "prior") d) b e1 (λ prior _ e2.
-    option_and_then_some _ (whole (codes "next") d) b e2 (λ next _ e3. by_status status prior next e3)))
-  where
-    by_status : (status : Status) (prior next : ℕ) → option_and_then (λ sh. Some (TaskSchedule status prior (Some next) sh)) (share status d) ≡ Some b → IsSound b
-    by_status Complete prior next found =
-        option_and_then_some (λ (sh : Option Claim). Some (TaskSchedule Complete prior (Some next) sh)) (share Complete d) b found (λ sh is same. option_and_then_some (λ (c : Claim). Some (Some c)) (claim d) sh is (λ c _ some.
-        let body : TaskSchedule Complete prior (Some next) sh ≡ b = cc in
-        let claim : Some c ≡ sh = cc in
-        let good : claim_fits c ≡ true = ap body_fits (ap (TaskSchedule Complete prior (Some next)) claim ∙ body) ∙ fits in
-        subst IsSound (ap (TaskSchedule Complete prior (Some next)) claim ∙ body) (record { named_flags = tt; claimed = refl; short_path = path_fits-length c good; next = refl })))
-    by_status Switch prior next found =
-        let body : TaskSchedule Switch prior (Some next) None ≡ b = cc in
-        subst IsSound body (record { named_flags = tt; claimed = refl; short_path = tt; next = refl })
+cancel-sound : (d : Data) (b : Body) → cancel d ≡ Some b → body_fits b ≡ true → IsSound b
+unfolding cancel
+cancel-sound d b e fits =
+    option_and_then_some _ (cancel_flags (codes "flags") d) b e (λ bits named e1. option_and_then_some _ (whole (codes "task") d) b e1 (λ task _ e2. option_and_then_some _ (share (has_flag bits 0x40) d) b e2 (λ sh shared same.
+    let is : Cancel (record { 0 = bits }) task sh ≡ b = cc in
+    subst IsSound is (discard-sound bits task sh (share-sound (has_flag bits 0x40) d sh shared) (cancel_flags-named (codes "flags") d bits named) (ap body_fits is ∙ fits)))))
 
 chosen : {X P : Type 0} (test : Bool) (x y : Option X) (z : X) → cond test x y ≡ Some z → (x ≡ Some z → P) → (y ≡ Some z → P) → P
 chosen true x y z e first second = first e
@@ -131,10 +219,16 @@ chosen false x y z e first second = second e
 body_named-sound : (name : List ℕ) (d : Data) (b : Body) → body_named name d ≡ Some b → body_fits b ≡ true → IsSound b
 unfolding body_named
 body_named-sound name d b e fits =
-    chosen (bytes_eq name (codes "implicit_task")) (implicit_task d) _ b e (implicit_task-sound d b) (λ e1.
-    chosen (bytes_eq name (codes "task_create")) (task_create d) _ b e1 (task_create-sound d b) (λ e2.
-    chosen (bytes_eq name (codes "task_schedule")) (task_schedule d) _ b e2 (λ is. task_schedule-sound d b is fits) (λ e3.
-    chosen (bytes_eq name (codes "sync_region")) (sync_region d) None b e3 (sync_region-sound d b) (λ none. absurd (let h : None ≡ Some b = none in cc)))))
+    chosen (bytes_eq name (codes "thread_begin")) (thread_begin d) _ b e (thread_begin-sound d b) (λ e1.
+    chosen (bytes_eq name (codes "thread_end")) (thread_end d) _ b e1 (thread_end-sound d b) (λ e2.
+    chosen (bytes_eq name (codes "parallel_begin")) (parallel_begin d) _ b e2 (parallel_begin-sound d b) (λ e3.
+    chosen (bytes_eq name (codes "parallel_end")) (parallel_end d) _ b e3 (parallel_end-sound d b) (λ e4.
+    chosen (bytes_eq name (codes "implicit_task")) (implicit_task d) _ b e4 (implicit_task-sound d b) (λ e5.
+    chosen (bytes_eq name (codes "task_create")) (task_create d) _ b e5 (task_create-sound d b) (λ e6.
+    chosen (bytes_eq name (codes "dependences")) (dependences d) _ b e6 (λ is. dependences-sound d b is fits) (λ e7.
+    chosen (bytes_eq name (codes "task_schedule")) (task_schedule d) _ b e7 (λ is. task_schedule-sound d b is fits) (λ e8.
+    chosen (bytes_eq name (codes "sync_region")) (sync_region d) _ b e8 (sync_region-sound d b) (λ e9.
+    chosen (bytes_eq name (codes "cancel")) (cancel d) None b e9 (λ is. cancel-sound d b is fits) (λ none. absurd (let h : None ≡ Some b = none in cc)))))))))))
 
 unbounded-sound : (d : Data) (r : Record) → unbounded d ≡ Some r → record_fits r ≡ true → IsSound r.body
 unfolding unbounded

@@ -1,17 +1,22 @@
 -- What the members of a line's object say, looked up by name.
-use Rattle.std.specs.Prelude.{ℕ, ◌==◌, ◌||◌, Bool, List, [], ◌∷◌, Option, Some, None, option_map, option_and_then, codes, if◌then◌else◌}
+use Rattle.std.specs.Prelude.{ℕ, Bool, List, [], ◌∷◌, Option, Some, None, option_map, option_and_then, codes, if◌then◌else◌}
 use Rattle.std.specs.Int.RustNames.{bit_or}
 use Rattle.bitflags.specs.Sets.{find_name}
 use Rattle.serde_json.specs.Data.{Data, null, boolean, number, string, array, object, Items, no_items, item}
 use Rattle.serde_json.specs.Find.{get, as_number, as_u64, as_str, as_bool, as_array}
+use Rattle.ompt_events.specs.declared.deps.Dep.{Dep}
 use Rattle.ompt_events.specs.declared.names.Status.{Status}
-use Rattle.ompt_events.specs.declared.names.Status.TheVariants.{Complete, Switch}
+use Rattle.ompt_events.specs.declared.names.Status.TheVariants.{Complete, Yield, Cancel, Detach, EarlyFulfill, LateFulfill, Switch, TaskwaitComplete}
 use Rattle.ompt_events.specs.declared.names.Endpoint.{Endpoint}
-use Rattle.ompt_events.specs.declared.names.Endpoint.TheVariants.{Begin, End}
+use Rattle.ompt_events.specs.declared.names.Endpoint.TheVariants.{Begin, End, BeginEnd}
 use Rattle.ompt_events.specs.declared.names.SyncKind.{SyncKind}
-use Rattle.ompt_events.specs.declared.names.SyncKind.TheVariants.{Taskwait}
-use Rattle.ompt_events.specs.Names.{status_name, endpoint_name, sync_kind_name}
-use Rattle.ompt_events.specs.Flags.{task_flags}
+use Rattle.ompt_events.specs.declared.names.SyncKind.TheVariants.{Barrier, BarrierImplicit, BarrierExplicit, BarrierImplementation, Taskwait, Taskgroup, Reduction, BarrierImplicitWorkshare, BarrierImplicitParallel, BarrierTeams}
+use Rattle.ompt_events.specs.declared.names.DepKind.{DepKind}
+use Rattle.ompt_events.specs.declared.names.DepKind.TheVariants.{In, Out, Inout, Mutexinoutset, Inoutset}
+use Rattle.ompt_events.specs.declared.names.ThreadKind.{ThreadKind}
+use Rattle.ompt_events.specs.declared.names.ThreadKind.TheVariants.{Initial, Worker, Other, Unknown}
+use Rattle.ompt_events.specs.Names.{status_name, endpoint_name, sync_kind_name, dep_kind_name, thread_kind_name, demands_next}
+use Rattle.ompt_events.specs.Flags as table
 use Rattle.std.specs.Str.{bytes_eq}
 
 infixl 10 ◌>>=◌
@@ -48,36 +53,82 @@ truth name d = option_and_then as_bool (get name d)
 abbrev pub list : List ℕ → Data → Option Items
 list name d = option_and_then as_array (get name d)
 
+-- what each item says, where every one says something
+abbrev pub each : {X : Type 0} → (Data → Option X) → Items → Option (List X)
+each says no_items = Some []
+each says (item d ds) = option_and_then (λ x. option_map (λ xs. x ∷ xs) (each says ds)) (says d)
+
+-- ---- names
+
 -- the first of these values that has the name
 unfoldable pub named : {X : Type 0} → (X → List ℕ) → List X → List ℕ → Option X
 named name_of [] name = None
 named name_of (x ∷ xs) name = if bytes_eq (name_of x) name then Some x else named name_of xs name
 
-abbrev pub status : Data → Option Status
-status d = option_and_then (named status_name (Complete ∷ Switch ∷ [])) (text (codes "status") d)
+abbrev pub status : List ℕ → Data → Option Status
+status name d = text name d >>= named status_name (Complete ∷ Yield ∷ Cancel ∷ Detach ∷ EarlyFulfill ∷ LateFulfill ∷ Switch ∷ TaskwaitComplete ∷ [])
 
-abbrev pub endpoint : Data → Option Endpoint
-endpoint d = option_and_then (named endpoint_name (Begin ∷ End ∷ [])) (text (codes "endpoint") d)
+abbrev pub endpoint : List ℕ → Data → Option Endpoint
+endpoint name d = text name d >>= named endpoint_name (Begin ∷ End ∷ BeginEnd ∷ [])
 
-abbrev pub sync_kind : Data → Option SyncKind
-sync_kind d = option_and_then (named sync_kind_name (Taskwait ∷ [])) (text (codes "kind") d)
+-- an endpoint where a begin and an end cannot coincide
+abbrev pub not_both : Endpoint → Option Endpoint
+not_both Begin = Some Begin
+not_both End = Some End
+not_both BeginEnd = None
 
--- the bit of a flag's name; `target` and `taskwait` are not read
-abbrev pub flag_named : List ℕ → Option ℕ
-flag_named name = option_and_then (λ bit. if bit == 0x8 || bit == 0x10 then None else Some bit) (find_name task_flags name)
+abbrev pub begin_or_end : List ℕ → Data → Option Endpoint
+begin_or_end name d = endpoint name d >>= not_both
 
-abbrev pub flag_of : Data → Option ℕ
-flag_of d = option_and_then flag_named (as_str d)
+abbrev pub sync_kind : List ℕ → Data → Option SyncKind
+sync_kind name d = text name d >>= named sync_kind_name (Barrier ∷ BarrierImplicit ∷ BarrierExplicit ∷ BarrierImplementation ∷ Taskwait ∷ Taskgroup ∷ Reduction ∷ BarrierImplicitWorkshare ∷ BarrierImplicitParallel ∷ BarrierTeams ∷ [])
+
+abbrev pub dep_kind : List ℕ → Data → Option DepKind
+dep_kind name d = text name d >>= named dep_kind_name (In ∷ Out ∷ Inout ∷ Mutexinoutset ∷ Inoutset ∷ [])
+
+abbrev pub thread_kind : List ℕ → Data → Option ThreadKind
+thread_kind name d = text name d >>= named thread_kind_name (Initial ∷ Worker ∷ Other ∷ Unknown ∷ [])
+
+-- ---- flags
+
+-- the bit of the flag that an item names
+abbrev pub flag_of : List (List ℕ × ℕ) → Data → Option ℕ
+flag_of flags d = option_and_then (find_name flags) (as_str d)
 
 -- the flags that the items name, in any order and with repeats, beside those that were found
-abbrev pub flags_from : ℕ → Items → Option ℕ
-flags_from found no_items = Some found
-flags_from found (item d ds) = option_and_then (λ bit. flags_from (bit_or found bit) ds) (flag_of d)
+abbrev pub flags_from : List (List ℕ × ℕ) → ℕ → Items → Option ℕ
+flags_from flags found no_items = Some found
+flags_from flags found (item d ds) = option_and_then (λ bit. flags_from flags (bit_or found bit) ds) (flag_of flags d)
 
-abbrev pub flags : Data → Option ℕ
-flags d = option_and_then (flags_from 0) (list (codes "flags") d)
+abbrev pub task_flags : List ℕ → Data → Option ℕ
+task_flags name d = list name d >>= flags_from table.task_flags 0
 
--- the items, each a whole number
-abbrev pub wholes : Items → Option (List ℕ)
-wholes no_items = Some []
-wholes (item d ds) = option_and_then (λ n. option_map (λ ns. n ∷ ns) (wholes ds)) (whole_of d)
+abbrev pub cancel_flags : List ℕ → Data → Option ℕ
+cancel_flags name d = list name d >>= flags_from table.cancel_flags 0
+
+-- ---- what stands under a condition
+
+-- no id is there
+abbrev pub no_id : Option ℕ → Option (Option ℕ)
+no_id None = Some None
+no_id (Some n) = None
+
+-- the task that runs next: an id where the status demands one, elsewhere `null` or nothing
+abbrev pub next : Status → List ℕ → Data → Option (Option ℕ)
+next status name d = whole_or_null name d >>= λ next. if demands_next status then option_map Some next else no_id next
+
+-- ---- lists
+
+-- the numbers of a path
+abbrev pub path : List ℕ → Data → Option (List ℕ)
+path name d = list name d >>= each whole_of
+
+-- one dependence: how it is used, and the location
+abbrev pub dep_of : Data → Option Dep
+dep_of d = do
+  kind ← dep_kind (codes "type") d
+  var ← whole (codes "var") d
+  Some (record { var = var; kind = kind })
+
+abbrev pub deps : List ℕ → Data → Option (List Dep)
+deps name d = list name d >>= each dep_of

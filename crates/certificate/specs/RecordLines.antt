@@ -1,97 +1,136 @@
 -- What a single line stands for.
-use Rattle.std.specs.Prelude.{ℕ, ◌≡◌, ◌≢◌, ◌==◌, ◌&&◌, ◌^◌, Bool, true, false, List, length, Option, Some, None, Result, Ok, Err, ok_or, nat_lt, nat_le, codes, if◌then◌else◌}
+use Rattle.std.specs.Prelude.{ℕ, ◌≡◌, ◌≢◌, ◌==◌, ◌&&◌, ◌^◌, Bool, true, false, List, length, Option, Some, None, Result, Ok, Err, ok_or, option_map, is_some, nat_lt, nat_le, codes, if◌then◌else◌}
 use Rattle.std.specs.Option.{option_map_or}
 use Rattle.std.specs.List.{list_all}
 use Rattle.std.specs.Str.{is_utf8, bytes_eq}
-use Rattle.std.specs.Int.RustNames.{bit_and}
 use Rattle.serde_json.specs.Data.{Data}
 use Rattle.serde_json.specs.Read.{read}
+use Rattle.ompt_events.specs.declared.deps.Dep.{Dep}
 use Rattle.ompt_events.specs.declared.records.Record.{Record}
 use Rattle.ompt_events.specs.declared.records.Claim.{Claim}
 use Rattle.ompt_events.specs.declared.records.Body.{Body}
-use Rattle.ompt_events.specs.declared.records.Body.TheVariants.{ImplicitTask, TaskCreate, TaskSchedule, SyncRegion}
-use Rattle.ompt_events.specs.declared.names.Status.{Status}
-use Rattle.ompt_events.specs.declared.names.Status.TheVariants.{Complete, Switch}
-use Rattle.ompt_events.specs.declared.names.Endpoint.{Endpoint}
-use Rattle.ompt_events.specs.declared.names.Endpoint.TheVariants.{Begin, End}
+use Rattle.ompt_events.specs.declared.records.Body.TheVariants.{ThreadBegin, ThreadEnd, ParallelBegin, ParallelEnd, ImplicitTask, TaskCreate, Dependences, TaskSchedule, SyncRegion, Cancel}
+use Rattle.ompt_events.specs.Flags.{has_flag}
+use Rattle.ompt_events.specs.Names.{status_part}
 use Rattle.certificate.specs.declared.faults.ReadCause.{ReadCause}
 use Rattle.certificate.specs.declared.faults.ReadCause.TheVariants.{Memory, Header, NotJson, Field, Limit}
-use Rattle.certificate.specs.Members.{◌>>=◌, whole, whole_or_null, text, truth, list, status, endpoint, sync_kind, flags, wholes}
+use Rattle.certificate.specs.Members.{◌>>=◌, whole, whole_or_null, text, truth, status, endpoint, begin_or_end, sync_kind, thread_kind, task_flags, cancel_flags, next, path, deps}
 
 -- the JSON value of a line of UTF-8
 abbrev pub value_of : List ℕ → Option Data
 value_of line = if is_utf8 line then read line else None
 
--- an initial task begins
+-- ---- the callbacks (OpenMP 5.2, 19.5.2), their numbers without bounds
+
+-- a thread begins
+unfoldable pub thread_begin : Data → Option Body
+thread_begin d = do
+  kind ← thread_kind (codes "kind") d
+  Some (ThreadBegin kind)
+
+-- a thread ends
+unfoldable pub thread_end : Data → Option Body
+thread_end d = Some ThreadEnd
+
+-- a task begins a parallel region
+unfoldable pub parallel_begin : Data → Option Body
+parallel_begin d = do
+  requested ← whole (codes "requested") d
+  task ← whole (codes "task") d
+  parallel ← whole (codes "parallel") d
+  Some (ParallelBegin requested task parallel)
+
+-- a task ends a parallel region
+unfoldable pub parallel_end : Data → Option Body
+parallel_end d = do
+  task ← whole (codes "task") d
+  parallel ← whole (codes "parallel") d
+  Some (ParallelEnd task parallel)
+
+-- an initial or implicit task begins or ends
 unfoldable pub implicit_task : Data → Option Body
 implicit_task d = do
-  endpoint ← endpoint d
+  endpoint ← begin_or_end (codes "endpoint") d
   actual ← whole (codes "actual") d
   index ← whole (codes "index") d
-  bits ← flags d
+  bits ← task_flags (codes "flags") d
   parallel ← whole (codes "parallel") d
   task ← whole (codes "task") d
-  if is_begin endpoint && (bit_and bits 0x1 == 0x1) then Some (ImplicitTask endpoint actual index (record { 0 = bits }) parallel task) else None
-  where
-    is_begin : Endpoint → Bool
-    is_begin Begin = true
-    is_begin End = false
+  Some (ImplicitTask endpoint actual index (record { 0 = bits }) parallel task)
 
--- a task is created, without dependences
+-- a task is created
 unfoldable pub task_create : Data → Option Body
 task_create d = do
   deps ← truth (codes "deps") d
-  bits ← flags d
+  bits ← task_flags (codes "flags") d
   task ← whole (codes "task") d
   child ← whole (codes "child") d
-  if deps then None else Some (TaskCreate deps (record { 0 = bits }) task child)
+  Some (TaskCreate deps (record { 0 = bits }) task child)
 
--- a region of synchronisation begins or ends
-unfoldable pub sync_region : Data → Option Body
-sync_region d = do
-  kind ← sync_kind d
-  endpoint ← endpoint d
-  parallel ← whole_or_null (codes "parallel") d
+-- what a task depends on
+unfoldable pub dependences : Data → Option Body
+dependences d = do
   task ← whole (codes "task") d
-  Some (SyncRegion kind endpoint parallel task)
-
--- where a finished task stands
-unfoldable pub path : Data → Option (List ℕ)
-path d = list (codes "path") d >>= wholes
+  list ← deps (codes "list") d
+  Some (Dependences task list)
 
 -- what a finishing record claims of its task's place
 unfoldable pub claim : Data → Option Claim
 claim d = do
   kept ← whole (codes "kept") d
   root ← whole (codes "root") d
-  path ← path d
+  path ← path (codes "path") d
   Some (record { kept = kept; root = root; path = path })
 
--- the claim is read where the task is finished, and any other status has none
-unfoldable pub share : Status → Data → Option (Option Claim)
-share Complete d = claim d >>= λ c. Some (Some c)
-share Switch d = Some None
+-- a claim is read where the record finishes a task, and nowhere else
+unfoldable pub share : Bool → Data → Option (Option Claim)
+share finishes d = if finishes then option_map Some (claim d) else Some None
 
--- a task stops running, and another goes on
+-- a task stops running or is fulfilled
 unfoldable pub task_schedule : Data → Option Body
 task_schedule d = do
-  status ← status d
+  status ← status (codes "status") d
   prior ← whole (codes "prior") d
-  next ← whole (codes "next") d
-  share ← share status d
-  Some (TaskSchedule status prior (Some next) share)
+  next ← next status (codes "next") d
+  share ← share (is_some (status_part status)) d
+  Some (TaskSchedule status prior next share)
+
+-- a region of synchronisation begins or ends
+unfoldable pub sync_region : Data → Option Body
+sync_region d = do
+  kind ← sync_kind (codes "kind") d
+  endpoint ← endpoint (codes "endpoint") d
+  parallel ← whole_or_null (codes "parallel") d
+  task ← whole (codes "task") d
+  Some (SyncRegion kind endpoint parallel task)
+
+-- a task cancels a region or sees it cancelled, or is itself discarded
+unfoldable pub cancel : Data → Option Body
+cancel d = do
+  bits ← cancel_flags (codes "flags") d
+  task ← whole (codes "task") d
+  share ← share (has_flag bits 0x40) d
+  Some (Cancel (record { 0 = bits }) task share)
 
 -- the members of a callback, by its name
 unfoldable pub body_named : List ℕ → Data → Option Body
 body_named name d =
-    if bytes_eq name (codes "implicit_task") then implicit_task d
+    if bytes_eq name (codes "thread_begin") then thread_begin d
+    else if bytes_eq name (codes "thread_end") then thread_end d
+    else if bytes_eq name (codes "parallel_begin") then parallel_begin d
+    else if bytes_eq name (codes "parallel_end") then parallel_end d
+    else if bytes_eq name (codes "implicit_task") then implicit_task d
     else if bytes_eq name (codes "task_create") then task_create d
+    else if bytes_eq name (codes "dependences") then dependences d
     else if bytes_eq name (codes "task_schedule") then task_schedule d
     else if bytes_eq name (codes "sync_region") then sync_region d
+    else if bytes_eq name (codes "cancel") then cancel d
     else None
 
 abbrev pub body : Data → Option Body
 body d = text (codes "cb") d >>= λ name. body_named name d
+
+-- ---- records
 
 -- the record of an object, its numbers without their bounds
 unfoldable pub unbounded : Data → Option Record
@@ -108,14 +147,22 @@ is_short n = nat_lt n (2 ^ 32)
 abbrev pub path_fits : List ℕ → Bool
 path_fits path = nat_le (length path) 1024 && list_all is_short path
 
+abbrev pub deps_fit : List Dep → Bool
+deps_fit deps = nat_le (length deps) 64
+
 abbrev pub claim_fits : Claim → Bool
 claim_fits c = path_fits c.path && is_short c.kept
 
+abbrev pub share_fits : Option Claim → Bool
+share_fits share = option_map_or claim_fits share true
+
 abbrev pub body_fits : Body → Bool
+body_fits (ParallelBegin requested task parallel) = is_short requested
 body_fits (ImplicitTask endpoint actual index bits parallel task) = is_short actual && is_short index
-body_fits (TaskCreate deps bits task child) = true
-body_fits (TaskSchedule status prior next share) = option_map_or claim_fits share true
-body_fits (SyncRegion kind endpoint parallel task) = true
+body_fits (Dependences task list) = deps_fit list
+body_fits (TaskSchedule status prior next share) = share_fits share
+body_fits (Cancel bits task share) = share_fits share
+body_fits _ = true
 
 abbrev pub record_fits : Record → Bool
 record_fits r = body_fits r.body && nat_lt r.thread 256 && is_short r.seq && is_short r.seen

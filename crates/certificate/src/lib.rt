@@ -1,11 +1,13 @@
 //! The trace file: what its lines stand for, a reader of it from any source, and plain bytes written to any sink.
 #![tactic(auto)]
 
+mod callbacks;
 mod device;
 mod faults;
 mod kept;
 pub mod laws;
 mod lines;
+mod lists;
 mod members;
 mod memory;
 mod reading;

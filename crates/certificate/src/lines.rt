@@ -1,16 +1,19 @@
 //! What a single line stands for.
-ghost use Rattle.std.specs.Prelude.{◌≡◌, ok_or, is_some, IsSome};
-ghost use Rattle.std.specs.List.{list_all};
+ghost use Rattle.std.specs.Prelude.{◌≡◌};
 ghost use Rattle.std.specs.Result.{result_map_both};
-ghost use Rattle.serde_json.specs.View.{view, items_view};
-ghost use Rattle.certificate.specs.Members as members;
+ghost use Rattle.serde_json.specs.View.{view};
 ghost use Rattle.certificate.specs.RecordLines as spec;
 ghost use Rattle.certificate.specs.RecordLines.{IsSaid, bounded};
 
+use crate::callbacks::{callbacks, members};
 use crate::faults::ReadCause;
-use crate::members::{list, short, task_flags, text, truth, whole, whole_or_null};
+use crate::lists::{deps, path};
+use crate::members::{
+    begin_or_end, byte, cancel_flags, endpoint, id, id_or_null, next, short, status, sync_kind,
+    task_flags, text, thread_kind, truth,
+};
 use bitflags::Flags;
-use ompt_events::{Body, Claim, Endpoint, MAX_DEPTH, Path, Record, Status, SyncKind, TaskFlags};
+use ompt_events::{Body, CancelFlags, Claim, Record};
 use serde_json::Value;
 use std::alloc::Global;
 
@@ -19,6 +22,96 @@ const FORMAT: &str = "task-credit-audit";
 
 /// The version that the header names.
 const VERSION: u64 = 1;
+
+// The shapes into which the rows of a callback's members are put. Each member is looked up before any number is
+// brought within its bounds: a member that is missing or of the wrong kind is told before a limit.
+
+// A member of this kind, looked up.
+macro_rules! look_up {
+    (thread $name:literal ($value:ident $($alloc:ident)?)) => { id($value, $name)? };
+    (short $name:literal ($value:ident $($alloc:ident)?)) => { id($value, $name)? };
+    (path $name:literal ($value:ident $alloc:ident)) => { path($alloc, $value, $name)? };
+    (deps $name:literal ($value:ident $alloc:ident)) => { deps($alloc, $value, $name)? };
+    ($kind:ident $name:literal ($value:ident $($alloc:ident)?)) => { $kind($value, $name)? };
+}
+
+// What was looked up, within its bounds.
+macro_rules! bring_within {
+    (thread $found:ident) => { byte($found)? };
+    (short $found:ident) => { short($found)? };
+    ($kind:ident $found:ident) => { $found };
+}
+
+// A record, whose callback says the rest.
+macro_rules! read_record {
+    (($value:ident $alloc:ident) Record { $($field:ident: $kind:ident $name:literal),* }) => {{
+        $(let $field = look_up!($kind $name ($value $alloc));)*
+        let body = body($alloc, $value)?;
+        Ok(Record { $($field: bring_within!($kind $field),)* body })
+    }};
+}
+
+// The callback of this name.
+macro_rules! read_callback {
+    (($value:ident $alloc:ident) $cb:literal: $($read:ident = $name:literal $variant:ident),*) => {
+        match text($value, $cb)? {
+            $($name => $read($alloc, $value),)*
+            _ => Err(ReadCause::Field),
+        }
+    };
+}
+
+// A variant of `Body`.
+macro_rules! read_body {
+    ($given:tt $variant:ident { $($field:ident: $kind:ident $name:literal),* }) => {{
+        $(let $field = look_up!($kind $name $given);)*
+        Ok(Body::$variant { $($field: bring_within!($kind $field)),* })
+    }};
+}
+
+// A task_schedule, whose status says what else there is.
+macro_rules! read_schedule {
+    (
+        ($value:ident $alloc:ident)
+        $variant:ident {
+            $status:ident: status $status_name:literal,
+            $prior:ident: id $prior_name:literal,
+            $next:ident: next $next_name:literal,
+            $share:ident: claim
+        }
+    ) => {{
+        let $status = status($value, $status_name)?;
+        let $prior = id($value, $prior_name)?;
+        let $next = next($status, $value, $next_name)?;
+        let $share = share($alloc, $value, $status.part().is_some())?;
+        Ok(Body::$variant { $status, $prior, $next, $share })
+    }};
+}
+
+// A cancellation, whose flags say whether it finishes a task.
+macro_rules! read_cancel {
+    (
+        ($value:ident $alloc:ident)
+        $variant:ident {
+            $flags:ident: cancel_flags $flags_name:literal,
+            $task:ident: id $task_name:literal,
+            $share:ident: claim
+        }
+    ) => {{
+        let $flags = cancel_flags($value, $flags_name)?;
+        let $task = id($value, $task_name)?;
+        let $share = share($alloc, $value, $flags.contains(CancelFlags::DISCARDED_TASK))?;
+        Ok(Body::$variant { $flags, $task, $share })
+    }};
+}
+
+// A claim.
+macro_rules! read_claim {
+    ($given:tt Claim { $($field:ident: $kind:ident $name:literal),* }) => {{
+        $(let $field = look_up!($kind $name $given);)*
+        Ok(Claim { $($field: bring_within!($kind $field)),* })
+    }};
+}
 
 /// Tells a header line from any other.
 pub(crate) fn header(alloc: Global, line: &[u8]) -> Result<(), ReadCause>
@@ -35,7 +128,7 @@ pub(crate) fn header(alloc: Global, line: &[u8]) -> Result<(), ReadCause>
 fn is_header(value: &Value) -> bool
     ensures { result ≡ spec.names_format (view value.now) }
 {
-    let (Ok(format), Ok(version)) = (text(value, "format"), whole(value, "version")) else {
+    let (Ok(format), Ok(version)) = (text(value, "format"), id(value, "version")) else {
         return false;
     };
     format == FORMAT && version == VERSION
@@ -65,21 +158,12 @@ fn value_of(alloc: Global, line: &[u8]) -> Result<Value, ReadCause>
     }
 }
 
-/// The record of an object. A member that is missing or of the wrong kind is looked for before a limit.
+/// The record of an object.
 #[tactic(auto, unfolding(crate::specs::RecordLines::unbounded))]
 fn record(alloc: Global, value: &Value) -> Result<Record, ReadCause>
     ensures { IsSaid result (bounded spec.record_fits (spec.unbounded (view value.now))) }
 {
-    let thread = whole(value, "thread")?;
-    let seq = whole(value, "seq")?;
-    let seen = whole(value, "seen")?;
-    let body = body(alloc, value)?;
-    Ok(Record {
-        thread: u8::try_from(thread).map_err(|_| ReadCause::Limit)?,
-        seq: short(seq)?,
-        seen: short(seen)?,
-        body,
-    })
+    members!(Record read_record (value alloc))
 }
 
 /// What the record's callback says.
@@ -87,77 +171,99 @@ fn record(alloc: Global, value: &Value) -> Result<Record, ReadCause>
 fn body(alloc: Global, value: &Value) -> Result<Body, ReadCause>
     ensures { IsSaid result (bounded spec.body_fits (spec.body (view value.now))) }
 {
-    match text(value, "cb")? {
-        "implicit_task" => implicit_task(value),
-        "task_create" => task_create(value),
-        "task_schedule" => task_schedule(alloc, value),
-        "sync_region" => sync_region(value),
-        _ => Err(ReadCause::Field),
-    }
+    callbacks!(read_callback (value alloc))
 }
 
-/// An initial task begins.
+/// A thread begins.
+#[tactic(auto, unfolding(crate::specs::RecordLines::thread_begin))]
+fn thread_begin(_alloc: Global, value: &Value) -> Result<Body, ReadCause>
+    ensures { result ≡ bounded spec.body_fits (spec.thread_begin (view value.now)) }
+{
+    members!(ThreadBegin read_body (value))
+}
+
+/// A thread ends.
+#[tactic(auto, unfolding(crate::specs::RecordLines::thread_end))]
+fn thread_end(_alloc: Global, value: &Value) -> Result<Body, ReadCause>
+    ensures { result ≡ bounded spec.body_fits (spec.thread_end (view value.now)) }
+{
+    members!(ThreadEnd read_body (value))
+}
+
+/// A task begins a parallel region.
+#[tactic(auto, unfolding(crate::specs::RecordLines::parallel_begin))]
+fn parallel_begin(_alloc: Global, value: &Value) -> Result<Body, ReadCause>
+    ensures { result ≡ bounded spec.body_fits (spec.parallel_begin (view value.now)) }
+{
+    members!(ParallelBegin read_body (value))
+}
+
+/// A task ends a parallel region.
+#[tactic(auto, unfolding(crate::specs::RecordLines::parallel_end))]
+fn parallel_end(_alloc: Global, value: &Value) -> Result<Body, ReadCause>
+    ensures { result ≡ bounded spec.body_fits (spec.parallel_end (view value.now)) }
+{
+    members!(ParallelEnd read_body (value))
+}
+
+/// An initial or implicit task begins or ends.
 #[tactic(auto, unfolding(crate::specs::RecordLines::implicit_task))]
-fn implicit_task(value: &Value) -> Result<Body, ReadCause>
+fn implicit_task(_alloc: Global, value: &Value) -> Result<Body, ReadCause>
     ensures { result ≡ bounded spec.body_fits (spec.implicit_task (view value.now)) }
 {
-    let endpoint = endpoint(value)?;
-    let actual = whole(value, "actual")?;
-    let index = whole(value, "index")?;
-    let flags = task_flags(value)?;
-    let parallel = whole(value, "parallel")?;
-    let task = whole(value, "task")?;
-    if endpoint != Endpoint::Begin || !flags.contains(TaskFlags::INITIAL) {
-        return Err(ReadCause::Field);
-    }
-    Ok(Body::ImplicitTask {
-        endpoint,
-        actual: short(actual)?,
-        index: short(index)?,
-        flags,
-        parallel,
-        task,
-    })
+    members!(ImplicitTask read_body (value))
 }
 
-/// A task is created, without dependences.
+/// A task is created.
 #[tactic(auto, unfolding(crate::specs::RecordLines::task_create))]
-fn task_create(value: &Value) -> Result<Body, ReadCause>
+fn task_create(_alloc: Global, value: &Value) -> Result<Body, ReadCause>
     ensures { result ≡ bounded spec.body_fits (spec.task_create (view value.now)) }
 {
-    let deps = truth(value, "deps")?;
-    let flags = task_flags(value)?;
-    let task = whole(value, "task")?;
-    let child = whole(value, "child")?;
-    if deps {
-        return Err(ReadCause::Field);
-    }
-    Ok(Body::TaskCreate {
-        deps,
-        flags,
-        task,
-        child,
-    })
+    members!(TaskCreate read_body (value))
 }
 
-/// A task stops running, and another goes on.
+/// What a task depends on.
+#[tactic(auto, unfolding(crate::specs::RecordLines::dependences))]
+fn dependences(alloc: Global, value: &Value) -> Result<Body, ReadCause>
+    ensures { IsSaid result (bounded spec.body_fits (spec.dependences (view value.now))) }
+{
+    members!(Dependences read_body (value alloc))
+}
+
+/// A task stops running or is fulfilled.
 #[tactic(auto, unfolding(crate::specs::RecordLines::task_schedule))]
 fn task_schedule(alloc: Global, value: &Value) -> Result<Body, ReadCause>
     ensures { IsSaid result (bounded spec.body_fits (spec.task_schedule (view value.now))) }
 {
-    let status = status(value)?;
-    let prior = whole(value, "prior")?;
-    let next = whole(value, "next")?;
-    let share = match status {
-        Status::Complete => Some(claim(alloc, value)?),
-        Status::Switch => None,
-    };
-    Ok(Body::TaskSchedule {
-        status,
-        prior,
-        next: Some(next),
-        share,
-    })
+    members!(TaskSchedule read_schedule (value alloc))
+}
+
+/// A region of synchronisation begins or ends.
+#[tactic(auto, unfolding(crate::specs::RecordLines::sync_region))]
+fn sync_region(_alloc: Global, value: &Value) -> Result<Body, ReadCause>
+    ensures { result ≡ bounded spec.body_fits (spec.sync_region (view value.now)) }
+{
+    members!(SyncRegion read_body (value))
+}
+
+/// A task cancels a region or sees it cancelled, or is itself discarded.
+#[tactic(auto, unfolding(crate::specs::RecordLines::cancel))]
+fn cancel(alloc: Global, value: &Value) -> Result<Body, ReadCause>
+    ensures { IsSaid result (bounded spec.body_fits (spec.cancel (view value.now))) }
+{
+    members!(Cancel read_cancel (value alloc))
+}
+
+/// What a record claims of the task that it finishes, if it finishes one.
+#[tactic(auto, unfolding(crate::specs::RecordLines::share))]
+fn share(alloc: Global, value: &Value, finishes: bool) -> Result<Option<Claim>, ReadCause>
+    ensures { IsSaid result (bounded spec.share_fits (spec.share finishes (view value.now))) }
+{
+    if finishes {
+        Ok(Some(claim(alloc, value)?))
+    } else {
+        Ok(None)
+    }
 }
 
 /// What a finishing record claims of its task's place.
@@ -165,85 +271,5 @@ fn task_schedule(alloc: Global, value: &Value) -> Result<Body, ReadCause>
 fn claim(alloc: Global, value: &Value) -> Result<Claim, ReadCause>
     ensures { IsSaid result (bounded spec.claim_fits (spec.claim (view value.now))) }
 {
-    let kept = whole(value, "kept")?;
-    let root = whole(value, "root")?;
-    let path = path(alloc, value)?;
-    Ok(Claim {
-        kept: short(kept)?,
-        root,
-        path,
-    })
-}
-
-/// The numbers of the path, of which each is looked at before a limit is.
-#[tactic(auto, unfolding(crate::specs::RecordLines::path))]
-fn path(alloc: Global, value: &Value) -> Result<Path, ReadCause>
-    ensures { IsSaid result (bounded spec.path_fits (spec.path (view value.now))) }
-{
-    let numbers = list(value, "path")?;
-    if !are_whole(numbers) {
-        return Err(ReadCause::Field);
-    }
-    short_path(alloc, numbers)
-}
-
-/// Whether each item is a whole number.
-fn are_whole(items: &Vec<Value>) -> bool
-    ensures { result ≡ list_all (λ v. is_some (members.whole_of (view v))) items.now.items }
-{
-    items.iter().all(|item| item.is_u64())
-}
-
-/// The path of these whole numbers.
-fn short_path(alloc: Global, numbers: &Vec<Value>) -> Result<Path, ReadCause>
-    requires { IsSome (members.wholes (items_view numbers.now.items)) }
-    ensures { IsSaid result (bounded spec.path_fits (members.wholes (items_view numbers.now.items))) }
-{
-    if numbers.len() > MAX_DEPTH {
-        return Err(ReadCause::Limit);
-    }
-    let mut path = Vec::new(alloc);
-    'numbers: for number in numbers {
-        let number = number.as_u64().ok_or(ReadCause::Field)?;
-        path.push(short(number)?).map_err(|_| ReadCause::Memory)?;
-    }
-    Ok(Path::from_vec(path))
-}
-
-/// A region of synchronisation begins or ends.
-#[tactic(auto, unfolding(crate::specs::RecordLines::sync_region))]
-fn sync_region(value: &Value) -> Result<Body, ReadCause>
-    ensures { result ≡ bounded spec.body_fits (spec.sync_region (view value.now)) }
-{
-    let kind = sync_kind(value)?;
-    let endpoint = endpoint(value)?;
-    let parallel = whole_or_null(value, "parallel")?;
-    let task = whole(value, "task")?;
-    Ok(Body::SyncRegion {
-        kind,
-        endpoint,
-        parallel,
-        task,
-    })
-}
-
-/// Whether the record begins or ends what it speaks of.
-fn endpoint(value: &Value) -> Result<Endpoint, ReadCause>
-    ensures { result ≡ ok_or (members.endpoint (view value.now)) ReadCause.Field }
-{
-    Endpoint::from_name(text(value, "endpoint")?).ok_or(ReadCause::Field)
-}
-
-/// How the task stops running.
-fn status(value: &Value) -> Result<Status, ReadCause>
-    ensures { result ≡ ok_or (members.status (view value.now)) ReadCause.Field }
-{
-    Status::from_name(text(value, "status")?).ok_or(ReadCause::Field)
-}
-
-/// Which construct the region belongs to.
-fn sync_kind(value: &Value) -> Result<SyncKind, ReadCause>
-    ensures { result ≡ ok_or (members.sync_kind (view value.now)) ReadCause.Field }
-{
-    SyncKind::from_name(text(value, "kind")?).ok_or(ReadCause::Field)
+    members!(Claim read_claim (value alloc))
 }

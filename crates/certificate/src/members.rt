@@ -2,15 +2,16 @@
 ghost use Rattle.std.specs.Prelude.{◌≡◌, ◌<◌, ◌^◌, ok_or, option_map, Ok, Err, nat_lt, if◌then◌else◌};
 ghost use Rattle.std.specs.Result.{result_map_both};
 ghost use Rattle.serde_json.specs.View.{view, items_view};
+ghost use Rattle.ompt_events.specs.Flags as table;
 ghost use Rattle.certificate.specs.Members as spec;
 
 use crate::faults::ReadCause;
 use bitflags::Flags;
-use ompt_events::TaskFlags;
+use ompt_events::{CancelFlags, DepKind, Endpoint, Status, SyncKind, TaskFlags, ThreadKind};
 use serde_json::Value;
 
 /// A whole number from 0 to 2^64 - 1.
-pub(crate) fn whole(value: &Value, name: &str) -> Result<u64, ReadCause>
+pub(crate) fn id(value: &Value, name: &str) -> Result<u64, ReadCause>
     ensures { result ≡ ok_or (spec.whole name.now (view value.now)) ReadCause.Field }
 {
     value
@@ -20,7 +21,7 @@ pub(crate) fn whole(value: &Value, name: &str) -> Result<u64, ReadCause>
 }
 
 /// A whole number, or none where `null` stands or nothing.
-pub(crate) fn whole_or_null(value: &Value, name: &str) -> Result<Option<u64>, ReadCause>
+pub(crate) fn id_or_null(value: &Value, name: &str) -> Result<Option<u64>, ReadCause>
     ensures { result ≡ ok_or (spec.whole_or_null name.now (view value.now)) ReadCause.Field }
 {
     match value.get(name) {
@@ -64,6 +65,13 @@ pub(crate) fn list<'v>(value: &'v Value, name: &str) -> Result<&'v Vec<Value>, R
         .ok_or(ReadCause::Field)
 }
 
+/// A number of at most 8 bits.
+pub(crate) fn byte(number: u64) -> Result<u8, ReadCause>
+    ensures { result ≡ (if nat_lt number 256 then Ok number else Err ReadCause.Limit) }
+{
+    u8::try_from(number).map_err(|_| ReadCause::Limit)
+}
+
 /// A number of at most 32 bits.
 pub(crate) fn short(number: u64) -> Result<u32, ReadCause>
     ensures { result ≡ (if nat_lt number (2 ^ 32) then Ok number else Err ReadCause.Limit) }
@@ -71,12 +79,69 @@ pub(crate) fn short(number: u64) -> Result<u32, ReadCause>
     u32::try_from(number).map_err(|_| ReadCause::Limit)
 }
 
-/// The set of the flags that the list names, in any order and with repeats.
-pub(crate) fn task_flags(value: &Value) -> Result<TaskFlags, ReadCause>
-    ensures { result_map_both (λ flags. flags.0) (λ e. e) result
-        ≡ ok_or (spec.flags (view value.now)) ReadCause.Field }
+/// Whether a region begins or ends, or both.
+pub(crate) fn endpoint(value: &Value, name: &str) -> Result<Endpoint, ReadCause>
+    ensures { result ≡ ok_or (spec.endpoint name.now (view value.now)) ReadCause.Field }
 {
-    let names = list(value, "flags")?;
+    Endpoint::from_name(text(value, name)?).ok_or(ReadCause::Field)
+}
+
+/// Whether a task begins or ends, which it cannot do at once.
+pub(crate) fn begin_or_end(value: &Value, name: &str) -> Result<Endpoint, ReadCause>
+    ensures { result ≡ ok_or (spec.begin_or_end name.now (view value.now)) ReadCause.Field }
+{
+    match endpoint(value, name)? {
+        Endpoint::BeginEnd => Err(ReadCause::Field),
+        endpoint => Ok(endpoint),
+    }
+}
+
+/// How the task stops running, or how it is fulfilled.
+pub(crate) fn status(value: &Value, name: &str) -> Result<Status, ReadCause>
+    ensures { result ≡ ok_or (spec.status name.now (view value.now)) ReadCause.Field }
+{
+    Status::from_name(text(value, name)?).ok_or(ReadCause::Field)
+}
+
+/// The task that runs next, which is there exactly where the status demands it.
+pub(crate) fn next(status: Status, value: &Value, name: &str) -> Result<Option<u64>, ReadCause>
+    ensures { result ≡ ok_or (spec.next status name.now (view value.now)) ReadCause.Field }
+{
+    let next = id_or_null(value, name)?;
+    if next.is_some() == status.demands_next() {
+        Ok(next)
+    } else {
+        Err(ReadCause::Field)
+    }
+}
+
+/// Which construct the region belongs to.
+pub(crate) fn sync_kind(value: &Value, name: &str) -> Result<SyncKind, ReadCause>
+    ensures { result ≡ ok_or (spec.sync_kind name.now (view value.now)) ReadCause.Field }
+{
+    SyncKind::from_name(text(value, name)?).ok_or(ReadCause::Field)
+}
+
+/// How a location is used.
+pub(crate) fn dep_kind(value: &Value, name: &str) -> Result<DepKind, ReadCause>
+    ensures { result ≡ ok_or (spec.dep_kind name.now (view value.now)) ReadCause.Field }
+{
+    DepKind::from_name(text(value, name)?).ok_or(ReadCause::Field)
+}
+
+/// What a thread is there for.
+pub(crate) fn thread_kind(value: &Value, name: &str) -> Result<ThreadKind, ReadCause>
+    ensures { result ≡ ok_or (spec.thread_kind name.now (view value.now)) ReadCause.Field }
+{
+    ThreadKind::from_name(text(value, name)?).ok_or(ReadCause::Field)
+}
+
+/// The set of a task's flags that the list names, in any order and with repeats.
+pub(crate) fn task_flags(value: &Value, name: &str) -> Result<TaskFlags, ReadCause>
+    ensures { result_map_both (λ flags. flags.0) (λ e. e) result
+        ≡ ok_or (spec.task_flags name.now (view value.now)) ReadCause.Field }
+{
+    let names = list(value, name)?;
     let mut flags = TaskFlags(0);
     'names: for name in names {
         flags.insert(task_flag(name)?);
@@ -84,15 +149,33 @@ pub(crate) fn task_flags(value: &Value) -> Result<TaskFlags, ReadCause>
     Ok(flags)
 }
 
-/// The flag that the item names.
+/// The task's flag that the item names.
 fn task_flag(item: &Value) -> Result<TaskFlags, ReadCause>
     ensures { result_map_both (λ flags. flags.0) (λ e. e) result
-        ≡ ok_or (spec.flag_of (view item.now)) ReadCause.Field }
+        ≡ ok_or (spec.flag_of table.task_flags (view item.now)) ReadCause.Field }
 {
     let name = item.as_str().ok_or(ReadCause::Field)?;
-    let flag = TaskFlags::from_name(name).ok_or(ReadCause::Field)?;
-    if flag == TaskFlags::TARGET || flag == TaskFlags::TASKWAIT {
-        return Err(ReadCause::Field);
+    TaskFlags::from_name(name).ok_or(ReadCause::Field)
+}
+
+/// The set of a cancellation's flags that the list names, in any order and with repeats.
+pub(crate) fn cancel_flags(value: &Value, name: &str) -> Result<CancelFlags, ReadCause>
+    ensures { result_map_both (λ flags. flags.0) (λ e. e) result
+        ≡ ok_or (spec.cancel_flags name.now (view value.now)) ReadCause.Field }
+{
+    let names = list(value, name)?;
+    let mut flags = CancelFlags(0);
+    'names: for name in names {
+        flags.insert(cancel_flag(name)?);
     }
-    Ok(flag)
+    Ok(flags)
+}
+
+/// The cancellation's flag that the item names.
+fn cancel_flag(item: &Value) -> Result<CancelFlags, ReadCause>
+    ensures { result_map_both (λ flags. flags.0) (λ e. e) result
+        ≡ ok_or (spec.flag_of table.cancel_flags (view item.now)) ReadCause.Field }
+{
+    let name = item.as_str().ok_or(ReadCause::Field)?;
+    CancelFlags::from_name(name).ok_or(ReadCause::Field)
 }

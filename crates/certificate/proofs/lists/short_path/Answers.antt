@@ -1,6 +1,6 @@
 use Rattle.std.proofs.Common.{arith}
 use Rattle.certificate.proofs.RecordLemmas.{path-too_long, path-read}
-use Rattle.certificate.proofs.lines.short_path.Goals as goal
+use Rattle.certificate.proofs.lists.short_path.Goals as goal
 
 pub returns-then-len-gt-MAX_DEPTH : goal.returns-then-len-gt-MAX_DEPTH
 returns-then-len-gt-MAX_DEPTH c = λ _. path-too_long c.args.numbers.now.items c.requires (omega arith)

@@ -1,0 +1,99 @@
+//! The members of each callback's record (OpenMP 5.2, 19.5.2), by the names that they have in a file.
+
+// Each table stands once. Its call names the shape that its rows are put into, and what the shape is given.
+//
+// A row of members is `field: kind "member"`, in the order of the Rust fields. The kinds are these.
+// - `id`: a whole number of 64 bits; `short`: one of at most 32 bits; `thread`: one of at most 8 bits.
+// - `id_or_null`: an id, or none. `next`: the same, where the status says which.
+// - `truth`: true or false.
+// - `status`, `endpoint`, `begin_or_end`, `sync_kind`, `thread_kind`, `dep_kind`: a name.
+// - `task_flags`, `cancel_flags`: a list of names.
+// - `path`: a list of numbers of at most 32 bits. `deps`: a list of objects with the members of `Dep`.
+// - `claim`: the members of `Claim`, where the record finishes a task.
+
+// The callbacks: the function that is named like it, its name, and its variant of `Body`.
+macro_rules! callbacks {
+    ($shape:ident $given:tt) => {
+        $shape! {
+            $given "cb":
+            thread_begin = "thread_begin" ThreadBegin,
+            thread_end = "thread_end" ThreadEnd,
+            parallel_begin = "parallel_begin" ParallelBegin,
+            parallel_end = "parallel_end" ParallelEnd,
+            implicit_task = "implicit_task" ImplicitTask,
+            task_create = "task_create" TaskCreate,
+            dependences = "dependences" Dependences,
+            task_schedule = "task_schedule" TaskSchedule,
+            sync_region = "sync_region" SyncRegion,
+            cancel = "cancel" Cancel
+        }
+    };
+}
+
+// The members of a variant of `Body`, and of the parts of a record.
+macro_rules! members {
+    (Record $shape:ident $given:tt) => {
+        $shape! { $given Record { thread: thread "thread", seq: short "seq", seen: short "seen" } }
+    };
+    (ThreadBegin $shape:ident $given:tt) => {
+        $shape! { $given ThreadBegin { kind: thread_kind "kind" } }
+    };
+    (ThreadEnd $shape:ident $given:tt) => {
+        $shape! { $given ThreadEnd {} }
+    };
+    (ParallelBegin $shape:ident $given:tt) => {
+        $shape! {
+            $given ParallelBegin { requested: short "requested", task: id "task", parallel: id "parallel" }
+        }
+    };
+    (ParallelEnd $shape:ident $given:tt) => {
+        $shape! { $given ParallelEnd { task: id "task", parallel: id "parallel" } }
+    };
+    (ImplicitTask $shape:ident $given:tt) => {
+        $shape! {
+            $given ImplicitTask {
+                endpoint: begin_or_end "endpoint",
+                actual: short "actual",
+                index: short "index",
+                flags: task_flags "flags",
+                parallel: id "parallel",
+                task: id "task"
+            }
+        }
+    };
+    (TaskCreate $shape:ident $given:tt) => {
+        $shape! {
+            $given TaskCreate { deps: truth "deps", flags: task_flags "flags", task: id "task", child: id "child" }
+        }
+    };
+    (Dependences $shape:ident $given:tt) => {
+        $shape! { $given Dependences { task: id "task", list: deps "list" } }
+    };
+    (Dep $shape:ident $given:tt) => {
+        $shape! { $given Dep { kind: dep_kind "type", var: id "var" } }
+    };
+    (TaskSchedule $shape:ident $given:tt) => {
+        $shape! {
+            $given TaskSchedule { status: status "status", prior: id "prior", next: next "next", share: claim }
+        }
+    };
+    (SyncRegion $shape:ident $given:tt) => {
+        $shape! {
+            $given SyncRegion {
+                kind: sync_kind "kind",
+                endpoint: endpoint "endpoint",
+                parallel: id_or_null "parallel",
+                task: id "task"
+            }
+        }
+    };
+    (Cancel $shape:ident $given:tt) => {
+        $shape! { $given Cancel { flags: cancel_flags "flags", task: id "task", share: claim } }
+    };
+    (Claim $shape:ident $given:tt) => {
+        $shape! { $given Claim { kept: short "kept", root: id "root", path: path "path" } }
+    };
+}
+
+pub(crate) use callbacks;
+pub(crate) use members;
