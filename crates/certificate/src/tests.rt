@@ -1,3 +1,5 @@
+mod callbacks;
+
 use crate::{
     FromRead, MemSink, MemSource, ReadCause, ReadFault, Sink, ToWrite, WriteFault, read,
     write_bytes,
@@ -235,7 +237,7 @@ const FIELD: Option<ReadCause> = Some(ReadCause::Field);
 const LIMIT: Option<ReadCause> = Some(ReadCause::Limit);
 
 /// What more members make of a record.
-const MEMBERS: [(&str, &str, Option<ReadCause>); 43] = [
+const MEMBERS: [(&str, &str, Option<ReadCause>); 53] = [
     (BEGINS, "\"thread\":255", None),
     (BEGINS, "\"thread\":256", LIMIT),
     (
@@ -262,25 +264,41 @@ const MEMBERS: [(&str, &str, Option<ReadCause>); 43] = [
     (BEGINS, "\"t\\u0061sk\":\"x\"", FIELD),
     (BEGINS, "\"unknown\":{\"task\":null}", None),
     (BEGINS, "\"thread\":256,\"task\":null", FIELD),
-    (BEGINS, "\"seq\":4294967296,\"endpoint\":\"end\"", FIELD),
-    (BEGINS, "\"cb\":\"thread_end\"", FIELD),
+    (
+        BEGINS,
+        "\"seq\":4294967296,\"endpoint\":\"beginend\"",
+        FIELD,
+    ),
+    (BEGINS, "\"cb\":\"thread_end\"", None),
+    (BEGINS, "\"cb\":\"thread_ends\"", FIELD),
+    (BEGINS, "\"endpoint\":\"end\"", None),
     (BEGINS, "\"endpoint\":\"beginend\"", FIELD),
     (
         BEGINS,
         "\"flags\":[\"initial\",\"undeferred\",\"initial\",\"merged\"]",
         None,
     ),
-    (BEGINS, "\"flags\":[\"implicit\"]", FIELD),
+    (BEGINS, "\"flags\":[\"implicit\"]", None),
+    (BEGINS, "\"flags\":[]", None),
     (BEGINS, "\"flags\":[\"initial\",\"Initial\"]", FIELD),
-    (BEGINS, "\"flags\":[\"initial\",\"target\"]", FIELD),
+    (BEGINS, "\"flags\":[\"initial\",\"target\"]", None),
     (BEGINS, "\"flags\":\"initial\"", FIELD),
     (CREATES, "\"flags\":[]", None),
-    (CREATES, "\"flags\":[\"taskwait\"]", FIELD),
-    (CREATES, "\"deps\":true", FIELD),
+    (CREATES, "\"flags\":[\"taskwait\"]", None),
+    (CREATES, "\"deps\":true", None),
     (CREATES, "\"deps\":0", FIELD),
     (SWITCHES, "\"root\":null,\"path\":0,\"kept\":-1", None),
     (SWITCHES, "\"next\":null", FIELD),
-    (SWITCHES, "\"status\":\"yield\"", FIELD),
+    (SWITCHES, "\"status\":\"yield\"", None),
+    (SWITCHES, "\"status\":\"detach\"", FIELD),
+    (SWITCHES, "\"status\":\"early_fulfill\"", FIELD),
+    (SWITCHES, "\"status\":\"early_fulfill\",\"next\":null", None),
+    (COMPLETES, "\"status\":\"taskwait_complete\"", FIELD),
+    (
+        COMPLETES,
+        "\"status\":\"taskwait_complete\",\"next\":null",
+        None,
+    ),
     (COMPLETES, "\"path\":[]", None),
     (COMPLETES, "\"path\":[0,4294967296]", LIMIT),
     (COMPLETES, "\"path\":[4294967296,null]", FIELD),
@@ -289,8 +307,10 @@ const MEMBERS: [(&str, &str, Option<ReadCause>); 43] = [
     (COMPLETES, "\"root\":null", FIELD),
     (WAITS, "\"parallel\":7", None),
     (WAITS, "\"parallel\":\"7\"", FIELD),
-    (WAITS, "\"kind\":\"barrier\"", FIELD),
+    (WAITS, "\"kind\":\"barrier\"", None),
+    (WAITS, "\"kind\":\"barriers\"", FIELD),
     (WAITS, "\"endpoint\":\"end\"", None),
+    (WAITS, "\"endpoint\":\"beginend\"", None),
 ];
 
 #[test]
