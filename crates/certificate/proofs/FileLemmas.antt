@@ -60,11 +60,11 @@ window-parts window len at =
     let line_feed : get_or window len 0 ≡ 10 = eqb-true _ _ at.1 in
     sym (take-append-drop len window) ∙ ap (λ bytes. take len window ++ bytes) (drop_more window len 0 within ∙ ap (λ b. b ∷ drop (len + 1) window) line_feed)
 
-cut-line : (line bytes : List ℕ) → IsUnbroken line → cut (line ++ (10 ∷ bytes)) ≡ record { lines = line ∷ (cut bytes).lines; rest = (cut bytes).rest }
+pub cut-line : (line bytes : List ℕ) → IsUnbroken line → cut (line ++ (10 ∷ bytes)) ≡ record { lines = line ∷ (cut bytes).lines; rest = (cut bytes).rest }
 unfolding cut
 cut-line line bytes all = cut-front line (10 ∷ bytes) all ∙ rw (append-nil line) refl
 
-cut-unbroken : (bytes : List ℕ) → IsUnbroken bytes → cut bytes ≡ record { lines = []; rest = bytes }
+pub cut-unbroken : (bytes : List ℕ) → IsUnbroken bytes → cut bytes ≡ record { lines = []; rest = bytes }
 unfolding cut
 cut-unbroken bytes all = ap cut (sym (append-nil bytes)) ∙ cut-front bytes [] all ∙ rw (append-nil bytes) refl
 

@@ -9,3 +9,9 @@ mod ReadingLemmas
 mod WritingLemmas
 mod KeptLemmas
 mod LawLemmas
+mod JsonLemmas
+mod ObjectLemmas
+mod FlagLemmas
+mod TextLemmas
+mod SaysLemmas
+mod LineLemmas

@@ -120,11 +120,11 @@ share-short : (sh : Option Claim) → share_fits sh ≡ true → IfSome sh (λ (
 share-short None fits = tt
 share-short (Some c) fits = leb-true _ _ (both-first _ _ (both-first _ _ fits))
 
-is_some-map : {A B : Type 0} (f : A → B) (o : Option A) → is_some (option_map f o) ≡ is_some o
+pub is_some-map : {A B : Type 0} (f : A → B) (o : Option A) → is_some (option_map f o) ≡ is_some o
 is_some-map f None = refl
 is_some-map f (Some a) = refl
 
-is_some-cond : {A : Type 0} (b : Bool) (a : A) → is_some (cond b (Some a) None) ≡ b
+pub is_some-cond : {A : Type 0} (b : Bool) (a : A) → is_some (cond b (Some a) None) ≡ b
 is_some-cond true a = refl
 is_some-cond false a = refl
 

@@ -3,6 +3,7 @@ pub mod Windows
 pub mod FaultNames
 pub mod Members
 pub mod RecordLines
+pub mod Texts
 pub mod Files
 pub mod Keeping
 pub mod Reading

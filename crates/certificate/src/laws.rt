@@ -1,9 +1,10 @@
 //! What follows from the definitions of a file alone. The functions do nothing: their contracts are the laws.
-ghost use Rattle.std.specs.Prelude.{◌≡◌, ◌↔◌, ℕ, List, Ok, Err, Result};
+ghost use Rattle.std.specs.Prelude.{◌≡◌, ◌↔◌, ℕ, List, Ok, Err, Result, All};
 ghost use Rattle.ompt_events.specs.declared.records.Record.{Record};
 ghost use Rattle.ompt_events.specs.Traces.{IsTrace, IsSound};
 ghost use Rattle.certificate.specs.declared.faults.ReadFault.{ReadFault};
 ghost use Rattle.certificate.specs.RecordLines.{line_says};
+ghost use Rattle.certificate.specs.Texts.{trace_text, IsInRange};
 ghost use Rattle.certificate.specs.Files.{file_says, StandsFor, IsFirstFault};
 
 /// A file stands for at most one list of records.
@@ -32,4 +33,11 @@ pub fn first_fault_is_said()
 /// What a line stands for can stand in a trace.
 pub fn lines_are_sound()
     ensures { (line : List ℕ) (event : Record) → line_says line ≡ Ok event → IsSound event.body }
+{}
+
+/// The text of a trace is a file that stands for it, and for no other trace.
+pub fn text_stands_for_its_trace()
+    ensures { (records : List Record) → IsTrace records → All IsInRange records
+        → StandsFor (trace_text records) records
+        × ((other : List Record) → StandsFor (trace_text records) other → other ≡ records) }
 {}

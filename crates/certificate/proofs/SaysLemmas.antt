@@ -1,0 +1,189 @@
+-- What the object of each record says: the record.
+use Rattle.std.proofs.Common.{◌≡◌, ℕ, Bool, Option, Some, None, List, [], ◌∷◌, true, false, refl, sym, ◌∙◌, cond, map}
+use Rattle.std.specs.Prelude.{option_map, is_some}
+use Rattle.ompt_events.specs.declared.deps.Dep.{Dep}
+use Rattle.ompt_events.specs.declared.records.Record.{Record}
+use Rattle.ompt_events.specs.declared.records.Claim.{Claim}
+use Rattle.ompt_events.specs.declared.records.Part.{Part}
+use Rattle.ompt_events.specs.declared.records.Part.TheVariants.{Whole}
+use Rattle.ompt_events.specs.declared.flags.TaskFlags.{TaskFlags}
+use Rattle.ompt_events.specs.declared.flags.CancelFlags.{CancelFlags}
+use Rattle.ompt_events.specs.declared.records.Body.{Body}
+use Rattle.ompt_events.specs.declared.records.Body.TheVariants.{ThreadBegin, ThreadEnd, ParallelBegin, ParallelEnd, ImplicitTask, TaskCreate, Dependences, TaskSchedule, SyncRegion}
+use Rattle.ompt_events.specs.declared.records.Body.TheVariants as body
+use Rattle.ompt_events.specs.declared.names.Status.{Status}
+use Rattle.ompt_events.specs.declared.names.Status.TheVariants.{Complete, Yield, Cancel, Detach, EarlyFulfill, LateFulfill, Switch, TaskwaitComplete}
+use Rattle.ompt_events.specs.declared.names.Endpoint.{Endpoint}
+use Rattle.ompt_events.specs.declared.names.Endpoint.TheVariants.{Begin, End, BeginEnd}
+use Rattle.ompt_events.specs.declared.names.SyncKind.{SyncKind}
+use Rattle.ompt_events.specs.declared.names.SyncKind.TheVariants.{Barrier, BarrierImplicit, BarrierExplicit, BarrierImplementation, Taskwait, Taskgroup, Reduction, BarrierImplicitWorkshare, BarrierImplicitParallel, BarrierTeams}
+use Rattle.ompt_events.specs.declared.names.DepKind.{DepKind}
+use Rattle.ompt_events.specs.declared.names.DepKind.TheVariants.{In, Out, Inout, Mutexinoutset, Inoutset}
+use Rattle.ompt_events.specs.declared.names.ThreadKind.{ThreadKind}
+use Rattle.ompt_events.specs.declared.names.ThreadKind.TheVariants.{Initial, Worker, Other, Unknown}
+use Rattle.ompt_events.specs.Names.{status_name, endpoint_name, sync_kind_name, dep_kind_name, thread_kind_name, status_part, demands_next}
+use Rattle.ompt_events.specs.Flags.{has_flag}
+use Rattle.ompt_events.specs.Flags as table
+use Rattle.ompt_events.specs.Traces.{AreNamed, IsSound}
+use Rattle.serde_json.specs.View.{items_of}
+use Rattle.certificate.specs.Members.{named, nullable, not_both, no_id, each, dep_of}
+use Rattle.certificate.specs.RecordLines.{unbounded, body_named, thread_begin, thread_end, parallel_begin, parallel_end, implicit_task, task_create, dependences, claim, share, task_schedule, sync_region, cancel}
+use Rattle.certificate.specs.Texts.{with_member, data_of, dep_data, number_or_null}
+use Rattle.certificate.proofs.FlagLemmas.{task_flags-read, cancel_flags-read}
+use Rattle.certificate.proofs.SoundLemmas.{is_some-map, is_some-cond}
+use Rattle.certificate.proofs.TextLemmas.{each-items_of, wholes-items_of}
+
+-- ---- names are read back
+
+named-status : (s : Status) → named status_name (Complete ∷ Yield ∷ Cancel ∷ Detach ∷ EarlyFulfill ∷ LateFulfill ∷ Switch ∷ TaskwaitComplete ∷ []) (status_name s) ≡ Some s
+unfolding named
+named-status Complete = refl
+named-status Yield = refl
+named-status Cancel = refl
+named-status Detach = refl
+named-status EarlyFulfill = refl
+named-status LateFulfill = refl
+named-status Switch = refl
+named-status TaskwaitComplete = refl
+
+named-endpoint : (e : Endpoint) → named endpoint_name (Begin ∷ End ∷ BeginEnd ∷ []) (endpoint_name e) ≡ Some e
+unfolding named
+named-endpoint Begin = refl
+named-endpoint End = refl
+named-endpoint BeginEnd = refl
+
+named-sync_kind : (k : SyncKind)
+    → named sync_kind_name (Barrier ∷ BarrierImplicit ∷ BarrierExplicit ∷ BarrierImplementation ∷ Taskwait ∷ Taskgroup ∷ Reduction ∷ BarrierImplicitWorkshare ∷ BarrierImplicitParallel ∷ BarrierTeams ∷ []) (sync_kind_name k) ≡ Some k
+unfolding named
+named-sync_kind Barrier = refl
+named-sync_kind BarrierImplicit = refl
+named-sync_kind BarrierExplicit = refl
+named-sync_kind BarrierImplementation = refl
+named-sync_kind Taskwait = refl
+named-sync_kind Taskgroup = refl
+named-sync_kind Reduction = refl
+named-sync_kind BarrierImplicitWorkshare = refl
+named-sync_kind BarrierImplicitParallel = refl
+named-sync_kind BarrierTeams = refl
+
+named-dep_kind : (k : DepKind) → named dep_kind_name (In ∷ Out ∷ Inout ∷ Mutexinoutset ∷ Inoutset ∷ []) (dep_kind_name k) ≡ Some k
+unfolding named
+named-dep_kind In = refl
+named-dep_kind Out = refl
+named-dep_kind Inout = refl
+named-dep_kind Mutexinoutset = refl
+named-dep_kind Inoutset = refl
+
+named-thread_kind : (k : ThreadKind) → named thread_kind_name (Initial ∷ Worker ∷ Other ∷ Unknown ∷ []) (thread_kind_name k) ≡ Some k
+unfolding named
+named-thread_kind Initial = refl
+named-thread_kind Worker = refl
+named-thread_kind Other = refl
+named-thread_kind Unknown = refl
+
+-- ---- so are the other parts
+
+nullable-number_or_null : (o : Option ℕ) → nullable (Some (number_or_null o)) ≡ Some o
+nullable-number_or_null None = refl
+nullable-number_or_null (Some n) = refl
+
+next-read : (demanded : Bool) (o : Option ℕ) → is_some o ≡ demanded → cond demanded (option_map Some o) (no_id o) ≡ Some o
+next-read true None is = absurd (let h : false ≡ true = is in cc)
+next-read true (Some n) is = refl
+next-read false None is = refl
+next-read false (Some n) is = absurd (let h : true ≡ false = is in cc)
+
+dep-read : (d : Dep) → dep_of (dep_data d) ≡ Some d
+unfolding with_member
+dep-read d = rw (named-dep_kind d.kind) refl
+
+deps-read : (ds : List Dep) → each dep_of (items_of (map dep_data ds)) ≡ Some ds
+deps-read ds = each-items_of dep_of dep_data dep-read ds
+
+-- ---- what each record's object says
+
+-- the record's object says the record
+abbrev pub Says : Record → Type 0
+Says r = unbounded (data_of r) ≡ Some r
+
+abbrev of_body : ℕ → ℕ → ℕ → Body → Record
+of_body thread seq seen body = record { thread = thread; seq = seq; seen = seen; body = body }
+
+says-thread_begin : (thread seq seen : ℕ) (kind : ThreadKind) → Says (of_body thread seq seen (ThreadBegin kind))
+unfolding with_member unbounded body_named thread_begin
+says-thread_begin thread seq seen kind = rw (named-thread_kind kind) refl
+
+says-thread_end : (thread seq seen : ℕ) → Says (of_body thread seq seen ThreadEnd)
+unfolding with_member unbounded body_named thread_end
+says-thread_end thread seq seen = refl
+
+says-parallel_begin : (thread seq seen requested task parallel : ℕ) → Says (of_body thread seq seen (ParallelBegin requested task parallel))
+unfolding with_member unbounded body_named parallel_begin
+says-parallel_begin thread seq seen requested task parallel = refl
+
+says-parallel_end : (thread seq seen task parallel : ℕ) → Says (of_body thread seq seen (ParallelEnd task parallel))
+unfolding with_member unbounded body_named parallel_end
+says-parallel_end thread seq seen task parallel = refl
+
+says-implicit_task : (thread seq seen : ℕ) (endpoint : Endpoint) (actual index : ℕ) (flags : TaskFlags) (parallel task : ℕ) → AreNamed table.task_flags flags.0 → not_both endpoint ≡ Some endpoint
+    → Says (of_body thread seq seen (ImplicitTask endpoint actual index flags parallel task))
+unfolding with_member unbounded body_named implicit_task
+says-implicit_task thread seq seen endpoint actual index flags parallel task named one = rw (named-endpoint endpoint, one, task_flags-read flags.0 named) refl
+
+says-task_create : (thread seq seen : ℕ) (deps : Bool) (flags : TaskFlags) (task child : ℕ) → AreNamed table.task_flags flags.0 → Says (of_body thread seq seen (TaskCreate deps flags task child))
+unfolding with_member unbounded body_named task_create
+says-task_create thread seq seen deps flags task child named = rw (task_flags-read flags.0 named) refl
+
+says-dependences : (thread seq seen task : ℕ) (list : List Dep) → Says (of_body thread seq seen (Dependences task list))
+unfolding with_member unbounded body_named dependences
+says-dependences thread seq seen task list = rw (deps-read list) refl
+
+says-finishing : (thread seq seen : ℕ) (status : Status) (prior : ℕ) (next : Option ℕ) (c : Claim) → is_some next ≡ demands_next status → is_some (status_part status) ≡ true
+    → Says (of_body thread seq seen (TaskSchedule status prior next (Some c)))
+unfolding with_member unbounded body_named task_schedule share claim
+says-finishing thread seq seen status prior next c follows finishes =
+    rw (named-status status, nullable-number_or_null next, next-read (demands_next status) next follows, finishes, wholes-items_of c.path) refl
+
+says-switching : (thread seq seen : ℕ) (status : Status) (prior : ℕ) (next : Option ℕ) → is_some next ≡ demands_next status → is_some (status_part status) ≡ false
+    → Says (of_body thread seq seen (TaskSchedule status prior next None))
+unfolding with_member unbounded body_named task_schedule share
+says-switching thread seq seen status prior next follows goes_on =
+    rw (named-status status, nullable-number_or_null next, next-read (demands_next status) next follows, goes_on) refl
+
+says-sync_region : (thread seq seen : ℕ) (kind : SyncKind) (endpoint : Endpoint) (parallel : Option ℕ) (task : ℕ) → Says (of_body thread seq seen (SyncRegion kind endpoint parallel task))
+unfolding with_member unbounded body_named sync_region
+says-sync_region thread seq seen kind endpoint parallel task = rw (named-sync_kind kind, named-endpoint endpoint, nullable-number_or_null parallel) refl
+
+says-discard : (thread seq seen : ℕ) (flags : CancelFlags) (task : ℕ) (c : Claim) → AreNamed table.cancel_flags flags.0 → has_flag flags.0 0x40 ≡ true
+    → Says (of_body thread seq seen (body.Cancel flags task (Some c)))
+unfolding with_member unbounded body_named cancel share claim
+says-discard thread seq seen flags task c named discards = rw (cancel_flags-read flags.0 named, discards, wholes-items_of c.path) refl
+
+says-cancel : (thread seq seen : ℕ) (flags : CancelFlags) (task : ℕ) → AreNamed table.cancel_flags flags.0 → has_flag flags.0 0x40 ≡ false
+    → Says (of_body thread seq seen (body.Cancel flags task None))
+unfolding with_member unbounded body_named cancel share
+says-cancel thread seq seen flags task named others = rw (cancel_flags-read flags.0 named, others) refl
+
+-- every record that can stand in a trace is one of these
+says-body : (thread seq seen : ℕ) (b : Body) → IsSound b → Says (of_body thread seq seen b)
+says-body thread seq seen (ThreadBegin kind) sound = says-thread_begin thread seq seen kind
+says-body thread seq seen ThreadEnd sound = says-thread_end thread seq seen
+says-body thread seq seen (ParallelBegin requested task parallel) sound = says-parallel_begin thread seq seen requested task parallel
+says-body thread seq seen (ParallelEnd task parallel) sound = says-parallel_end thread seq seen task parallel
+says-body thread seq seen (ImplicitTask Begin actual index flags parallel task) sound = says-implicit_task thread seq seen Begin actual index flags parallel task sound.named_flags refl
+says-body thread seq seen (ImplicitTask End actual index flags parallel task) sound = says-implicit_task thread seq seen End actual index flags parallel task sound.named_flags refl
+says-body thread seq seen (ImplicitTask BeginEnd actual index flags parallel task) sound = absurd sound.begins_or_ends
+says-body thread seq seen (TaskCreate deps flags task child) sound = says-task_create thread seq seen deps flags task child sound.named_flags
+says-body thread seq seen (Dependences task list) sound = says-dependences thread seq seen task list
+says-body thread seq seen (TaskSchedule status prior next (Some c)) sound =
+    says-finishing thread seq seen status prior next c sound.next (sym (is_some-map (λ (part : Part). (prior, part)) (status_part status)) ∙ sym sound.claimed)
+says-body thread seq seen (TaskSchedule status prior next None) sound =
+    says-switching thread seq seen status prior next sound.next (sym (is_some-map (λ (part : Part). (prior, part)) (status_part status)) ∙ sym sound.claimed)
+says-body thread seq seen (SyncRegion kind endpoint parallel task) sound = says-sync_region thread seq seen kind endpoint parallel task
+says-body thread seq seen (body.Cancel flags task (Some c)) sound =
+    says-discard thread seq seen flags task c sound.named_cancellation (sym (is_some-cond (has_flag flags.0 0x40) (task, Whole)) ∙ sym sound.claimed)
+says-body thread seq seen (body.Cancel flags task None) sound =
+    says-cancel thread seq seen flags task sound.named_cancellation (sym (is_some-cond (has_flag flags.0 0x40) (task, Whole)) ∙ sym sound.claimed)
+
+pub Says-sound : (r : Record) → IsSound r.body → Says r
+Says-sound r sound = says-body r.thread r.seq r.seen r.body sound

@@ -1,0 +1,168 @@
+-- Why a file of the lines of a trace stands for that trace.
+use Rattle.std.proofs.Common.{◌≡◌, ℕ, suc, ◌+◌, ◌*◌, ◌<◌, ◌≤◌, ◌^◌, Bool, true, false, not, cond, ◌||◌, List, [], ◌∷◌, ◌++◌, length, map, Option, Some, None, is_some, Ok, arith, refl, sym, ap, ◌∙◌, append_assoc, append-nil, length-append}
+use Rattle.std.specs.Prelude.{◌==◌, nat_lt, All, codes}
+use Rattle.std.specs.List.{AllByRecursion}
+use Rattle.std.proofs.lemmas.Bool.{ne_eqb, lt-ltb}
+use Rattle.std.proofs.lemmas.List.Sums.{sum_by-cons, sum_by-append}
+use Rattle.ompt_events.specs.declared.records.Record.{Record}
+use Rattle.ompt_events.specs.Records.{made}
+use Rattle.ompt_events.specs.Traces.{tasks_in, IsTrace}
+use Rattle.serde_json.specs.Data.{Data, number, string, unsigned}
+use Rattle.serde_json.specs.Read.{max_depth}
+use Rattle.serde_json.specs.View.{items_of}
+use Rattle.serde_json.specs.Written.{compact_text, has_float, items_have_float}
+use Rattle.certificate.specs.Texts.{ended, names, whole_number, number_or_null, claim_members, dep_data, body_members, record_members, data_of, flag_names, header_members, header_data}
+use Rattle.ompt_events.specs.Flags.{task_flags, cancel_flags}
+use Rattle.ompt_events.specs.Names.{dep_kind_name}
+use Rattle.certificate.proofs.ObjectLemmas.{has_float-object_of}
+use Rattle.ompt_events.specs.declared.records.Claim.{Claim}
+use Rattle.ompt_events.specs.declared.records.Body.{Body}
+use Rattle.ompt_events.specs.declared.records.Body.TheVariants.{ThreadBegin, ThreadEnd, ParallelBegin, ParallelEnd, ImplicitTask, TaskCreate, Dependences, TaskSchedule, SyncRegion, Cancel}
+use Rattle.ompt_events.specs.declared.deps.Dep.{Dep}
+use Rattle.certificate.specs.Members.{each, whole_of}
+use Rattle.certificate.specs.RecordLines.{line_says, header_says, said_of}
+use Rattle.certificate.specs.Files.{Cut, cut, is_long, has_room, from_line, file_says}
+use Rattle.certificate.proofs.FileLemmas.{IsUnbroken, cut-line}
+use Rattle.certificate.proofs.JsonLemmas.{IsPlain, ArePlain, size, items_size, value_of-compact_text, unbroken-compact_text, length-compact_text}
+
+pub cut-ended : (lines : List (List ℕ)) → AllByRecursion IsUnbroken lines → cut (ended lines) ≡ record { lines = lines; rest = [] }
+unfolding cut
+cut-ended [] all = refl
+cut-ended (line ∷ lines) all =
+    ap cut (append_assoc line (10 ∷ []) (ended lines)) ∙ cut-line line (ended lines) all.0
+    ∙ ap (λ (c : Cut). let later : Cut = record { lines = line ∷ c.lines; rest = c.rest } in later) (cut-ended lines all.1)
+
+-- the line can stand in a file, and stands for the record
+pub record IsLineOf (line : List ℕ) (r : Record) : Type 0 where
+  pub says : line_says line ≡ Ok r
+  pub short : length line ≤ 65536
+  pub unbroken : IsUnbroken line
+
+-- ---- room for the records of a trace
+
+tasks_in-append : (before more : List Record) → tasks_in (before ++ more) ≡ tasks_in before + tasks_in more
+tasks_in-append before more = sum_by-append (λ r. cond (is_some (made r.body)) 1 0) before more
+
+tasks_in-cons : (r : Record) (rs : List Record) → tasks_in (r ∷ rs) ≡ cond (is_some (made r.body)) 1 0 + tasks_in rs
+tasks_in-cons r rs = sum_by-cons (λ r. cond (is_some (made r.body)) 1 0) r rs
+
+room-tasks : (makes : Bool) (few more : ℕ) → few + (cond makes 1 0 + more) ≤ 2 ^ 20 → (not makes || nat_lt few (2 ^ 20)) ≡ true
+room-tasks false few more h = refl
+room-tasks true few more h = lt-ltb few (2 ^ 20) (omega arith)
+
+has_room-before : (before : List Record) (r : Record) (rs : List Record) → length (before ++ r ∷ rs) ≤ 2 ^ 22 → tasks_in (before ++ r ∷ rs) ≤ 2 ^ 20 → has_room before r ≡ true
+has_room-before before r rs few tasks =
+    let records : length before < 2 ^ 22 = omega (arith, length-append before (r ∷ rs)) in
+    let task : tasks_in before + (cond (is_some (made r.body)) 1 0 + tasks_in rs) ≤ 2 ^ 20 = omega (arith, tasks_in-append before (r ∷ rs), tasks_in-cons r rs) in
+    rw (lt-ltb (length before) (2 ^ 22) records) (room-tasks (is_some (made r.body)) (tasks_in before) (tasks_in rs) task)
+
+-- ---- line after line
+
+not_first : (n : ℕ) → 2 ≤ n → (n == 1) ≡ false
+not_first n later = ne_eqb n 1 (λ e. omega arith)
+
+not_long : (line : List ℕ) → length line ≤ 65536 → is_long line ≡ false
+not_long line short = grind arith
+
+pub from_line-records : (line : Record → List ℕ) (n : ℕ) (before rs : List Record) → 2 ≤ n → AllByRecursion (λ r. IsLineOf (line r) r) rs → length (before ++ rs) ≤ 2 ^ 22 → tasks_in (before ++ rs) ≤ 2 ^ 20
+    → from_line n before (map line rs) [] ≡ Ok (before ++ rs)
+unfolding from_line
+from_line-records line n before [] later all few tasks = rw (not_first n later) (ap Ok (sym (append-nil before)))
+from_line-records line n before (r ∷ rs) later all few tasks =
+    let whole : (before ++ r ∷ []) ++ rs ≡ before ++ r ∷ rs = append_assoc before (r ∷ []) rs in
+    let rest = from_line-records line (n + 1) (before ++ r ∷ []) rs (omega arith) all.1 (rw whole few) (rw whole tasks) in
+    rw (not_long (line r) all.0.short, not_first n later, all.0.says, has_room-before before r rs few tasks) (rest ∙ ap Ok whole)
+
+-- the text of a trace, given its lines, stands for it
+pub file_says-ended : (header : List ℕ) (line : Record → List ℕ) (rs : List Record) → header_says header ≡ Ok tt → length header ≤ 65536 → IsUnbroken header → AllByRecursion (λ r. IsLineOf (line r) r) rs
+    → length rs ≤ 2 ^ 22 → tasks_in rs ≤ 2 ^ 20 → file_says (ended (header ∷ map line rs)) ≡ Ok rs
+unfolding from_line
+file_says-ended header line rs says short unbroken all few tasks =
+    ap (λ (c : Cut). from_line 1 [] c.lines c.rest) (cut-ended (header ∷ map line rs) (unbroken, lines rs all))
+    ∙ rw (not_long header short, says) (from_line-records line 2 [] rs (omega arith) all few tasks)
+  where
+    lines : (rs : List Record) → AllByRecursion (λ r. IsLineOf (line r) r) rs → AllByRecursion IsUnbroken (map line rs)
+    lines [] all = tt
+    lines (r ∷ rs) all = (all.0.unbroken, lines rs all.1)
+
+-- what holds of each element, one after another
+pub AllByRecursion-from : {X : Type 0} (P : X → Type 0) (xs : List X) → All P xs → AllByRecursion P xs
+AllByRecursion-from P [] all = tt
+AllByRecursion-from P (x ∷ xs) all = (all 0 x (omega arith), AllByRecursion-from P xs (λ k d h. all (suc k) d (omega arith)))
+
+-- the same where each record of a trace has its line
+pub file_says-trace : (header : List ℕ) (line : Record → List ℕ) (rs : List Record) → header_says header ≡ Ok tt → length header ≤ 65536 → IsUnbroken header → All (λ r. IsLineOf (line r) r) rs → IsTrace rs
+    → file_says (ended (header ∷ map line rs)) ≡ Ok rs
+file_says-trace header line rs says short unbroken all trace = file_says-ended header line rs says short unbroken (AllByRecursion-from _ rs all) trace.few_records trace.few_tasks
+
+-- ---- the line of a value
+
+pub IsLineOf-plain : (d : Data) (n : ℕ) (r : Record) → IsPlain d n → n ≤ max_depth → size d ≤ 65536 → said_of (Some d) ≡ Ok r → IsLineOf (compact_text d) r
+IsLineOf-plain d n r plain shallow small says = record {
+  says = ap said_of (value_of-compact_text d n plain shallow) ∙ says;
+  short = omega (arith, length-compact_text d n plain);
+  unbroken = unbroken-compact_text d n plain;
+}
+
+-- arrays of any length
+pub ArePlain-items_of : {X : Type 0} (f : X → Data) (xs : List X) (n : ℕ) → AllByRecursion (λ x. IsPlain (f x) n) xs → ArePlain (items_of (map f xs)) n
+ArePlain-items_of f [] n all = tt
+ArePlain-items_of f (x ∷ xs) n all = (all.0, ArePlain-items_of f xs n all.1)
+
+pub items_size-items_of : {X : Type 0} (f : X → Data) (xs : List X) (k : ℕ) → AllByRecursion (λ x. size (f x) ≤ k) xs → items_size (items_of (map f xs)) ≤ (k + 1) * length xs
+items_size-items_of f [] k all = omega arith
+items_size-items_of f (x ∷ xs) k all = omega (arith, all.0, items_size-items_of f xs k all.1)
+
+-- an array of whole numbers
+pub ArePlain-wholes : (ns : List ℕ) (n : ℕ) → AllByRecursion (λ m. m < 2 ^ 64) ns → ArePlain (items_of (map (λ m. number (unsigned m)) ns)) n
+ArePlain-wholes ns n all = ArePlain-items_of (λ m. number (unsigned m)) ns n all
+
+pub items_size-wholes : (ns : List ℕ) → items_size (items_of (map (λ m. number (unsigned m)) ns)) ≡ 21 * length ns
+items_size-wholes [] = refl
+items_size-wholes (m ∷ ns) = omega (arith, items_size-wholes ns)
+
+-- each value of a list is read back
+pub each-items_of : {X : Type 0} (says : Data → Option X) (f : X → Data) → ((x : X) → says (f x) ≡ Some x) → (xs : List X) → each says (items_of (map f xs)) ≡ Some xs
+each-items_of says f back [] = refl
+each-items_of says f back (x ∷ xs) = rw (back x, each-items_of says f back xs) refl
+
+pub wholes-items_of : (ns : List ℕ) → each whole_of (items_of (map whole_number ns)) ≡ Some ns
+wholes-items_of ns = each-items_of whole_of whole_number (λ n. refl) ns
+
+-- ---- no float is written
+
+has_float-items_of : {X : Type 0} (f : X → Data) (xs : List X) → ((x : X) → has_float (f x) ≡ false) → items_have_float (items_of (map f xs)) ≡ false
+has_float-items_of f [] each = refl
+has_float-items_of f (x ∷ xs) each = rw (each x, has_float-items_of f xs each) refl
+
+has_float-number_or_null : (o : Option ℕ) → has_float (number_or_null o) ≡ false
+has_float-number_or_null None = refl
+has_float-number_or_null (Some n) = refl
+
+has_float-claim : (share : Option Claim) → AllByRecursion (λ m. has_float m.1 ≡ false) (claim_members share)
+has_float-claim None = tt
+has_float-claim (Some c) = (refl, (refl, (has_float-items_of whole_number c.path (λ _. refl), tt)))
+
+has_float-names : (texts : List (List ℕ)) → has_float (names texts) ≡ false
+has_float-names texts = has_float-items_of string texts (λ _. refl)
+
+has_float-dep : (d : Dep) → has_float (dep_data d) ≡ false
+has_float-dep d = has_float-object_of ((codes "type", string (dep_kind_name d.kind)) ∷ (codes "var", whole_number d.var) ∷ []) (refl, (refl, tt))
+
+has_float-body : (body : Body) → AllByRecursion (λ m. has_float m.1 ≡ false) (body_members body)
+has_float-body (ThreadBegin kind) = (refl, (refl, tt))
+has_float-body ThreadEnd = (refl, tt)
+has_float-body (ParallelBegin requested task parallel) = (refl, (refl, (refl, (refl, tt))))
+has_float-body (ParallelEnd task parallel) = (refl, (refl, (refl, tt)))
+has_float-body (ImplicitTask endpoint actual index flags parallel task) = (refl, (refl, (refl, (refl, (has_float-names (flag_names task_flags flags.0), (refl, (refl, tt)))))))
+has_float-body (TaskCreate deps flags task child) = (refl, (refl, (has_float-names (flag_names task_flags flags.0), (refl, (refl, tt)))))
+has_float-body (Dependences task list) = (refl, (refl, (has_float-items_of dep_data list has_float-dep, tt)))
+has_float-body (TaskSchedule status prior next share) = (refl, (refl, (refl, (has_float-number_or_null next, has_float-claim share))))
+has_float-body (SyncRegion kind endpoint parallel task) = (refl, (refl, (refl, (has_float-number_or_null parallel, (refl, tt)))))
+has_float-body (Cancel flags task share) = (refl, (has_float-names (flag_names cancel_flags flags.0), (refl, has_float-claim share)))
+
+pub data_has_no_float : (r : Record) → has_float (data_of r) ≡ false
+data_has_no_float r = has_float-object_of (record_members r) (refl, (refl, (refl, has_float-body r.body)))
+
+pub header_has_no_float : has_float header_data ≡ false
+header_has_no_float = has_float-object_of header_members (refl, (refl, tt))

@@ -1,0 +1,124 @@
+-- The text of a trace: a header, and then a line for each record.
+use Rattle.std.specs.Prelude.{ℕ, ⊤, ◌<◌, ◌^◌, All, IfSome, List, [], ◌∷◌, ◌++◌, map, flat_map, Option, Some, None, codes, if◌then◌else◌}
+use Rattle.serde_json.specs.Data.{Data, null, boolean, number, string, array, object, unsigned, Members, no_members, put}
+use Rattle.serde_json.specs.View.{items_of}
+use Rattle.serde_json.specs.Written.{compact_text}
+use Rattle.ompt_events.specs.declared.records.Record.{Record}
+use Rattle.ompt_events.specs.declared.records.Claim.{Claim}
+use Rattle.ompt_events.specs.declared.records.Body.{Body}
+use Rattle.ompt_events.specs.declared.records.Body.TheVariants.{ThreadBegin, ThreadEnd, ParallelBegin, ParallelEnd, ImplicitTask, TaskCreate, Dependences, TaskSchedule, SyncRegion, Cancel}
+use Rattle.ompt_events.specs.declared.deps.Dep.{Dep}
+use Rattle.ompt_events.specs.Flags.{task_flags, cancel_flags, has_flag}
+use Rattle.ompt_events.specs.Names.{status_name, endpoint_name, sync_kind_name, dep_kind_name, thread_kind_name}
+
+-- the members of an object with one more, in the order of their names
+unfoldable pub with_member : List ℕ → Data → Members → Members
+with_member name d ms = put name d ms
+
+-- the same with each of these
+abbrev pub with_members : List (List ℕ × Data) → Members → Members
+with_members [] ms = ms
+with_members (m ∷ more) ms = with_members more (with_member m.0 m.1 ms)
+
+-- the object of these members
+abbrev pub object_of : List (List ℕ × Data) → Data
+object_of ms = object (with_members ms no_members)
+
+abbrev pub whole_number : ℕ → Data
+whole_number n = number (unsigned n)
+
+abbrev pub number_or_null : Option ℕ → Data
+number_or_null None = null
+number_or_null (Some n) = whole_number n
+
+-- the names of the flags that are among the bits, in the order of the table
+unfoldable pub flag_names : List (List ℕ × ℕ) → ℕ → List (List ℕ)
+flag_names [] bits = []
+flag_names (row ∷ rows) bits = if has_flag bits row.1 then row.0 ∷ flag_names rows bits else flag_names rows bits
+
+abbrev pub names : List (List ℕ) → Data
+names texts = array (items_of (map string texts))
+
+-- what a finishing record says of its task's place
+abbrev pub claim_members : Option Claim → List (List ℕ × Data)
+claim_members None = []
+claim_members (Some c) = (codes "kept", whole_number c.kept) ∷ (codes "root", whole_number c.root) ∷ (codes "path", array (items_of (map whole_number c.path))) ∷ []
+
+-- one dependence
+abbrev pub dep_data : Dep → Data
+dep_data d = object_of ((codes "type", string (dep_kind_name d.kind)) ∷ (codes "var", whole_number d.var) ∷ [])
+
+-- the name of the callback, and its arguments
+abbrev pub body_members : Body → List (List ℕ × Data)
+body_members (ThreadBegin kind) = (codes "cb", string (codes "thread_begin")) ∷ (codes "kind", string (thread_kind_name kind)) ∷ []
+body_members ThreadEnd = (codes "cb", string (codes "thread_end")) ∷ []
+body_members (ParallelBegin requested task parallel) =
+    (codes "cb", string (codes "parallel_begin")) ∷ (codes "requested", whole_number requested) ∷ (codes "task", whole_number task) ∷ (codes "parallel", whole_number parallel) ∷ []
+body_members (ParallelEnd task parallel) = (codes "cb", string (codes "parallel_end")) ∷ (codes "task", whole_number task) ∷ (codes "parallel", whole_number parallel) ∷ []
+body_members (ImplicitTask endpoint actual index flags parallel task) =
+    (codes "cb", string (codes "implicit_task")) ∷ (codes "endpoint", string (endpoint_name endpoint)) ∷ (codes "actual", whole_number actual) ∷ (codes "index", whole_number index)
+    ∷ (codes "flags", names (flag_names task_flags flags.0)) ∷ (codes "parallel", whole_number parallel) ∷ (codes "task", whole_number task) ∷ []
+body_members (TaskCreate deps flags task child) =
+    (codes "cb", string (codes "task_create")) ∷ (codes "deps", boolean deps) ∷ (codes "flags", names (flag_names task_flags flags.0)) ∷ (codes "task", whole_number task) ∷ (codes "child", whole_number child) ∷ []
+body_members (Dependences task list) = (codes "cb", string (codes "dependences")) ∷ (codes "task", whole_number task) ∷ (codes "list", array (items_of (map dep_data list))) ∷ []
+body_members (TaskSchedule status prior next share) =
+    (codes "cb", string (codes "task_schedule")) ∷ (codes "status", string (status_name status)) ∷ (codes "prior", whole_number prior) ∷ (codes "next", number_or_null next) ∷ claim_members share
+body_members (SyncRegion kind endpoint parallel task) =
+    (codes "cb", string (codes "sync_region")) ∷ (codes "kind", string (sync_kind_name kind)) ∷ (codes "endpoint", string (endpoint_name endpoint))
+    ∷ (codes "parallel", number_or_null parallel) ∷ (codes "task", whole_number task) ∷ []
+body_members (Cancel flags task share) =
+    (codes "cb", string (codes "cancel")) ∷ (codes "flags", names (flag_names cancel_flags flags.0)) ∷ (codes "task", whole_number task) ∷ claim_members share
+
+-- what its thread says of it, and then the callback
+abbrev pub record_members : Record → List (List ℕ × Data)
+record_members r = (codes "thread", whole_number r.thread) ∷ (codes "seq", whole_number r.seq) ∷ (codes "seen", whole_number r.seen) ∷ body_members r.body
+
+-- the JSON object of a record
+abbrev pub data_of : Record → Data
+data_of r = object_of (record_members r)
+
+-- the line of a record
+abbrev pub line_of : Record → List ℕ
+line_of r = compact_text (data_of r)
+
+abbrev pub header_members : List (List ℕ × Data)
+header_members = (codes "format", string (codes "task-credit-audit")) ∷ (codes "version", whole_number 1) ∷ []
+
+-- the header of version 1
+abbrev pub header_data : Data
+header_data = object_of header_members
+
+abbrev pub header_line : List ℕ
+header_line = compact_text header_data
+
+-- the lines, each ended by a line feed
+abbrev pub ended : List (List ℕ) → List ℕ
+ended lines = flat_map (λ line. line ++ 10 ∷ []) lines
+
+-- the text of a trace
+abbrev pub trace_text : List Record → List ℕ
+trace_text rs = ended (header_line ∷ map line_of rs)
+
+-- ---- the records that Rust can hold
+
+abbrev pub ClaimInRange : Claim → Type 0
+ClaimInRange c = (c.kept < 2 ^ 32) × (c.root < 2 ^ 64) × All (λ n. n < 2 ^ 32) c.path
+
+abbrev pub BodyInRange : Body → Type 0
+BodyInRange (ThreadBegin kind) = ⊤
+BodyInRange ThreadEnd = ⊤
+BodyInRange (ParallelBegin requested task parallel) = (requested < 2 ^ 32) × (task < 2 ^ 64) × (parallel < 2 ^ 64)
+BodyInRange (ParallelEnd task parallel) = (task < 2 ^ 64) × (parallel < 2 ^ 64)
+BodyInRange (ImplicitTask endpoint actual index flags parallel task) = (actual < 2 ^ 32) × (index < 2 ^ 32) × (parallel < 2 ^ 64) × (task < 2 ^ 64)
+BodyInRange (TaskCreate deps flags task child) = (task < 2 ^ 64) × (child < 2 ^ 64)
+BodyInRange (Dependences task list) = (task < 2 ^ 64) × All (λ d. d.var < 2 ^ 64) list
+BodyInRange (TaskSchedule status prior next share) = (prior < 2 ^ 64) × IfSome next (λ n. n < 2 ^ 64) × IfSome share ClaimInRange
+BodyInRange (SyncRegion kind endpoint parallel task) = IfSome parallel (λ n. n < 2 ^ 64) × (task < 2 ^ 64)
+BodyInRange (Cancel flags task share) = (task < 2 ^ 64) × IfSome share ClaimInRange
+
+-- each number is one of its type
+pub record IsInRange (r : Record) : Type 0 where
+  pub thread : r.thread < 2 ^ 8
+  pub seq : r.seq < 2 ^ 32
+  pub seen : r.seen < 2 ^ 32
+  pub body : BodyInRange r.body
