@@ -1,8 +1,10 @@
 -- Counters of 64 bits, counted up.
-use Rattle.std.proofs.Common.{◌≡◌, ◌≢◌, ◌==◌, false, Ok, ℕ, zero, suc, ◌+◌, ◌-◌, ◌≤◌, arith, refl, ap, ◌∙◌, Option, Some, None}
+use Rattle.std.proofs.Common.{◌≡◌, ◌≢◌, ◌==◌, false, Ok, Err, Result, ℕ, zero, suc, ◌+◌, ◌-◌, ◌≤◌, arith, refl, ap, ◌∙◌, Option, Some, None}
 use Rattle.certificate.specs.declared.faults.ReadCause.{ReadCause}
 use Rattle.certificate.specs.declared.faults.ReadCause.TheVariants.{TurnsSpent}
-use Rattle.certificate.specs.Counts.{next_count, count_more, stalls_after, TakesTurns}
+use Rattle.certificate.specs.declared.faults.WriteFault.{WriteFault}
+use Rattle.certificate.specs.declared.faults.WriteFault.TheVariants as write
+use Rattle.certificate.specs.Counts.{next_count, count_more, stalls_after, TakesTurns, TakesStalls}
 
 pub count_more-none : (count n : ℕ) → count ≡ count_more count (n - n)
 unfolding count_more
@@ -68,3 +70,18 @@ pub stalls-some : (count before stalls stalls' taken : ℕ) → stalls ≡ count
 stalls-some count before stalls stalls' taken was is some =
     let other : (taken == 0) ≡ false = grind arith in
     (rw other at is) ∙ was
+
+-- a call that ends before the last turn
+pub TakesStalls-ok : (turns start stalls : ℕ) → turns ≤ 10000 → stalls ≡ count_more start turns → TakesStalls (Ok tt) turns start stalls
+TakesStalls-ok turns start stalls few is = record {
+  within = omega arith;
+  counted = is;
+  spent = ((λ spent. absurd (let h : ◌≡◌ {A = Result (Unit {0}) WriteFault} (Ok tt) (Err write.TurnsSpent) = spent in cc)), (λ last. absurd (omega arith)));
+}
+
+pub TakesStalls-memory : (turns start stalls : ℕ) → turns ≤ 10000 → stalls ≡ count_more start turns → TakesStalls (Err write.Memory) turns start stalls
+TakesStalls-memory turns start stalls few is = record {
+  within = omega arith;
+  counted = is;
+  spent = ((λ spent. absurd (let h : ◌≡◌ {A = Result (Unit {0}) WriteFault} (Err write.Memory) (Err write.TurnsSpent) = spent in cc)), (λ last. absurd (omega arith)));
+}

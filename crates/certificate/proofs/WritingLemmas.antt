@@ -1,7 +1,11 @@
 -- Bytes that go out piece by piece.
-use Rattle.std.proofs.Common.{ℕ, ◌+◌, List, [], ◌++◌, take, drop, Option, None, Some, sym, ap, ◌∙◌, append-nil, append_assoc}
+use Rattle.std.proofs.Common.{ℕ, ◌≡◌, ◌<◌, ◌≤◌, ◌+◌, List, [], ◌∷◌, ◌++◌, length, map, get_or, take, drop, Option, None, Some, sym, ap, subst, ◌∙◌, append-nil, append_assoc}
+use Rattle.std.proofs.lemmas.Grind.{flat_map-append}
+use Rattle.std.proofs.lemmas.List.{map-append, take_more, take_all, take-append-drop}
 use Rattle.std.specs.Io.KnownBytes.{Appends, Keeps}
-use Rattle.std.proofs.Math.Seq.{take-add}
+use Rattle.ompt_events.specs.declared.records.Record.{Record}
+use Rattle.certificate.specs.Texts.{ended, header_line, line_of, trace_text}
+use Rattle.std.proofs.Math.Seq.{take-add, take-append_seam}
 
 pub Appends-none : (a : Option (List ℕ)) → Appends a a []
 Appends-none None = tt
@@ -19,3 +23,52 @@ Appends-more (Some xs) None c bytes at n first next = absurd first
 Appends-more (Some xs) (Some ys) None bytes at n first next = absurd next
 Appends-more (Some xs) (Some ys) (Some zs) bytes at n first next =
     next ∙ ap (λ l. l ++ take n (drop at bytes)) first ∙ append_assoc xs (take at bytes) (take n (drop at bytes)) ∙ ap (λ l. xs ++ l) (sym (take-add at n bytes))
+
+-- bytes behind bytes
+pub Appends-both : (a b c : Option (List ℕ)) (xs ys : List ℕ) → Appends a b xs → Appends b c ys → Appends a c (xs ++ ys)
+Appends-both None b c xs ys first next = tt
+Appends-both (Some old) None c xs ys first next = absurd first
+Appends-both (Some old) (Some bs) None xs ys first next = absurd next
+Appends-both (Some old) (Some bs) (Some cs) xs ys first next = next ∙ ap (λ l. l ++ ys) first ∙ append_assoc old xs ys
+
+-- ---- the text of a trace, line after line
+
+-- one more line waits
+pub text-more : (sent block more : List ℕ) (rs : List Record) (i : ℕ) (r : Record) → sent ++ block ≡ ended (header_line ∷ map line_of (take i rs)) → i < length rs → r ≡ get_or rs i r → more ≡ block ++ (line_of r ++ 10 ∷ []) → sent ++ more ≡ ended (header_line ∷ map line_of (take (i + 1) rs))
+text-more sent block more rs i r text within read is =
+    ap (λ l. sent ++ l) is ∙ sym (append_assoc sent block (line_of r ++ 10 ∷ [])) ∙ ap (λ l. l ++ (line_of r ++ 10 ∷ [])) text
+    ∙ ap (λ l. ended (header_line ∷ map line_of (take i rs)) ++ l) (sym (append-nil (line_of r ++ 10 ∷ [])))
+    ∙ sym (flat_map-append (λ line. line ++ 10 ∷ []) (header_line ∷ map line_of (take i rs)) (line_of r ∷ []))
+    ∙ ap (λ lines. ended (header_line ∷ lines)) (sym (map-append line_of (take i rs) (r ∷ [])) ∙ ap (map line_of) (sym (take_more rs i r within ∙ ap (λ q. take i rs ++ q ∷ []) (sym read))))
+
+-- what went out and a part of what waits is a part of the whole
+text-prefix : (sent block : List ℕ) (rs : List Record) (i n : ℕ) → sent ++ block ≡ ended (header_line ∷ map line_of (take i rs)) → sent ++ take n block ≡ take (length (sent ++ take n block)) (trace_text rs)
+text-prefix sent block rs i n text = sym (ap (take (length (sent ++ take n block))) whole ∙ take-append_seam (sent ++ take n block) (drop n block ++ rest))
+  where
+    rest : List ℕ
+    rest = ended (map line_of (drop i rs))
+
+    cut_in_two : sent ++ block ≡ (sent ++ take n block) ++ drop n block
+    cut_in_two = ap (λ l. sent ++ l) (sym (take-append-drop n block)) ∙ sym (append_assoc sent (take n block) (drop n block))
+
+    whole : trace_text rs ≡ (sent ++ take n block) ++ (drop n block ++ rest)
+    whole =
+        ap (λ list. ended (header_line ∷ map line_of list)) (sym (take-append-drop i rs))
+        ∙ ap (λ lines. ended (header_line ∷ lines)) (map-append line_of (take i rs) (drop i rs))
+        ∙ flat_map-append (λ line. line ++ 10 ∷ []) (header_line ∷ map line_of (take i rs)) (map line_of (drop i rs))
+        ∙ ap (λ l. l ++ rest) (sym text ∙ cut_in_two) ∙ append_assoc (sent ++ take n block) (drop n block) rest
+
+pub part-out : (a b c : Option (List ℕ)) (sent block : List ℕ) (rs : List Record) (i n : ℕ) → sent ++ block ≡ ended (header_line ∷ map line_of (take i rs)) → Appends a b sent → Appends b c (take n block) → (m : ℕ) × Appends a c (take m (trace_text rs))
+part-out a b c sent block rs i n text first next = (
+  length (sent ++ take n block),
+  (let P : List ℕ → Type 0 = λ bytes. Appends a c bytes in subst P (text-prefix sent block rs i n text) (Appends-both a b c sent (take n block) first next)),
+)
+
+pub sent-out : (a b : Option (List ℕ)) (sent block : List ℕ) (rs : List Record) (i : ℕ) → sent ++ block ≡ ended (header_line ∷ map line_of (take i rs)) → Appends a b sent → (m : ℕ) × Appends a b (take m (trace_text rs))
+sent-out a b sent block rs i text first = part-out a b b sent block rs i 0 text first (Appends-none b)
+
+-- all the lines are the text
+pub whole-out : (a b c : Option (List ℕ)) (sent block : List ℕ) (rs : List Record) (i : ℕ) → sent ++ block ≡ ended (header_line ∷ map line_of (take i rs)) → length rs ≤ i → Appends a b sent → Appends b c block → Appends a c (trace_text rs)
+whole-out a b c sent block rs i text all first next =
+    let P : List ℕ → Type 0 = λ bytes. Appends a c bytes in
+    subst P (text ∙ ap (λ list. ended (header_line ∷ map line_of list)) (take_all i rs all)) (Appends-both a b c sent block first next)

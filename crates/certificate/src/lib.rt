@@ -1,4 +1,4 @@
-//! The trace file: what its lines stand for, a reader of it from any source, and plain bytes written to any sink.
+//! The trace file: what its lines stand for, a reader of it from any source, and traces and plain bytes written to any sink.
 #![tactic(auto)]
 
 mod callbacks;
@@ -12,6 +12,7 @@ mod members;
 mod memory;
 mod reading;
 mod streams;
+mod texts;
 mod window;
 mod writing;
 
@@ -20,7 +21,7 @@ pub use faults::{ReadCause, ReadFault, WriteFault};
 pub use memory::{MemSink, MemSource};
 pub use reading::read;
 pub use streams::{FromRead, ToWrite};
-pub use writing::write_bytes;
+pub use writing::{write, write_bytes};
 
 #[cfg(test)]
 mod tests;

@@ -18,10 +18,10 @@ use serde_json::Value;
 use std::alloc::Global;
 
 /// The format that the header names.
-const FORMAT: &str = "task-credit-audit";
+pub(crate) const FORMAT: &str = "task-credit-audit";
 
 /// The version that the header names.
-const VERSION: u64 = 1;
+pub(crate) const VERSION: u64 = 1;
 
 // The shapes into which the rows of a callback's members are put. Each member is looked up before any number is
 // brought within its bounds: a member that is missing or of the wrong kind is told before a limit.

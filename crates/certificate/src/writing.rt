@@ -1,13 +1,70 @@
-//! Bytes written to a sink.
-ghost use Rattle.std.specs.Prelude.{◌≡◌, ◌≢◌, ◌≤◌, ℕ, length, take, Ok, Err, OnOk, OnErr, IfOk, IfErr};
+//! Traces and bytes written to a sink.
+ghost use Rattle.std.specs.Prelude.{◌≡◌, ◌≢◌, ◌≤◌, ◌++◌, ◌∷◌, [], ℕ, length, take, Ok, Err, OnOk, OnErr, IfOk, IfErr};
 ghost use Rattle.std.specs.Io.KnownBytes.{Appends, Keeps};
-ghost use Rattle.certificate.specs.Counts.{TakesStalls, breaks_written, next_count, stalls_after};
+ghost use Rattle.certificate.specs.Counts.{TakesStalls, breaks_written, count_more, next_count, stalls_after};
+ghost use Rattle.certificate.specs.Texts.{header_line, line_of, trace_text};
 
 use crate::device::{DeviceFault, Sink};
 use crate::faults::WriteFault;
+use crate::texts::{header_line, line_of};
+use ompt_events::{Record, Trace};
+use std::alloc::Global;
 
 /// How often a sink may answer `Again` or take no byte in one call. The next such answer ends it.
 const MAX_TURNS: u32 = 10_000;
+
+/// The lines that wait are handed over once they have so many bytes.
+const BLOCK: usize = 65_536;
+
+/// Writes the text of the trace: the header, then the line of each record. After a fault a prefix of it went out.
+/// The lines are put together in blocks of some 64 KiB.
+pub fn write<S: Sink>(alloc: Global, trace: &Trace, sink: &mut S) -> Result<(), WriteFault>
+    ensures ok { OnOk result
+        (Appends (S.contents sink.old) (S.contents sink.new) (trace_text trace.now.records)) }
+    ensures prefix { OnErr result
+        ((n : ℕ) × Appends (S.contents sink.old) (S.contents sink.new) (take n (trace_text trace.now.records))) }
+
+    // Each answer `Again` or that no byte was taken is a turn, and the 10,001st ends the call.
+    ensures turns { (turns : ℕ) × TakesStalls result turns (S.stalls sink.old) (S.stalls sink.new) }
+
+    // `Device` is told exactly where the sink broke.
+    ensures breaks { S.breaks sink.new ≡ breaks_written result (S.breaks sink.old) }
+{
+    let mut block = header(alloc)?;
+    let mut turns = 0;
+    'records: for event in trace.records() {
+        add_line(&mut block, alloc, event)?;
+        if block.len() >= BLOCK {
+            turns = send(block.as_slice(), sink, turns)?;
+            block.clear();
+        }
+    }
+    send(block.as_slice(), sink, turns)?;
+    Ok(())
+}
+
+/// The header line with its line feed.
+fn header(alloc: Global) -> Result<Vec<u8>, WriteFault>
+    ensures line { IfOk result (λ block. block.items ≡ header_line ++ 10 ∷ []) }
+    ensures fault { IfErr result (λ fault. fault ≡ WriteFault.Memory) }
+{
+    let mut block = header_line(alloc).map_err(|_| WriteFault::Memory)?;
+    block.push(b'\n').map_err(|_| WriteFault::Memory)?;
+    Ok(block)
+}
+
+/// Adds the line of the record with its line feed.
+fn add_line(block: &mut Vec<u8>, alloc: Global, event: &Record) -> Result<(), WriteFault>
+    ensures line { OnOk result (block.new.items ≡ block.old.items ++ (line_of event.now ++ 10 ∷ [])) }
+    ensures fault { IfErr result (λ fault. fault ≡ WriteFault.Memory) }
+{
+    let mut line = line_of(alloc, event).map_err(|_| WriteFault::Memory)?;
+    line.push(b'\n').map_err(|_| WriteFault::Memory)?;
+    block
+        .extend_from_slice(line.as_slice())
+        .map_err(|_| WriteFault::Memory)?;
+    Ok(())
+}
 
 /// Writes just these bytes. After a fault a prefix of them went out. Takes no memory.
 pub fn write_bytes<S: Sink>(bytes: &[u8], sink: &mut S) -> Result<(), WriteFault>
@@ -22,8 +79,25 @@ pub fn write_bytes<S: Sink>(bytes: &[u8], sink: &mut S) -> Result<(), WriteFault
     ensures breaks { S.breaks sink.new ≡ breaks_written result (S.breaks sink.old) }
     ensures memory { result ≢ Err WriteFault.Memory }
 {
+    send(bytes, sink, 0)?;
+    Ok(())
+}
+
+/// Hands all the bytes to the sink, in a call that has taken so many turns already. Says how many it has taken then.
+fn send<S: Sink>(bytes: &[u8], sink: &mut S, before: u32) -> Result<u32, WriteFault>
+    requires { before ≤ MAX_TURNS }
+    ensures ok { OnOk result (Appends (S.contents sink.old) (S.contents sink.new) bytes.now) }
+    ensures prefix { OnErr result
+        ((n : ℕ) × Appends (S.contents sink.old) (S.contents sink.new) (take n bytes.now)) }
+    ensures few { IfOk result (λ turns. turns ≤ MAX_TURNS) }
+    ensures counted { IfOk result (λ turns. (start : ℕ) → S.stalls sink.old ≡ count_more start before → S.stalls sink.new ≡ count_more start turns) }
+    ensures ended { IfErr result (λ fault. (start : ℕ) → S.stalls sink.old ≡ count_more start before → (turns : ℕ) × TakesStalls (Err fault) turns start (S.stalls sink.new)) }
+    ensures kept { OnOk result (S.breaks sink.new ≡ S.breaks sink.old) }
+    ensures breaks { IfErr result (λ fault. S.breaks sink.new ≡ breaks_written (Err fault) (S.breaks sink.old)) }
+    ensures memory { result ≢ Err WriteFault.Memory }
+{
     let mut at = 0;
-    let mut turns = 0;
+    let mut turns = before;
     'bytes: while at < bytes.len() {
         let taken = offer(&bytes[at..], sink)?;
         if taken == 0 {
@@ -34,7 +108,7 @@ pub fn write_bytes<S: Sink>(bytes: &[u8], sink: &mut S) -> Result<(), WriteFault
         }
         at += taken;
     }
-    Ok(())
+    Ok(turns)
 }
 
 /// Hands the bytes to the sink once, and says how many it took: none too where it wants to be asked again.

@@ -1,0 +1,10 @@
+-- The items so far are the names of the first flags.
+use Rattle.std.proofs.Common.{◌≡◌, map, take}
+use Rattle.serde_json.specs.Data.{string}
+use Rattle.serde_json.specs.View.{view}
+use Rattle.ompt_events.specs.Flags.{cancel_flags}
+use Rattle.certificate.specs.Texts.{flag_names}
+use Rattle.certificate.proofs.texts.cancel_flags.Given as goal
+
+abbrev pub invariant-named : goal.invariant-named
+invariant-named l = map view l.items.items ≡ map string (flag_names (take l.flag-index cancel_flags) l.flags.0)
