@@ -1,0 +1,2 @@
+mod NumberingLemmas
+mod TargetLemmas

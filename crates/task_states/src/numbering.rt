@@ -1,0 +1,23 @@
+//! Whether each thread numbers its records without a gap.
+ghost use Rattle.std.specs.Prelude.{MatchOption};
+ghost use Rattle.ompt_events.specs.declared.cause.Cause.TheVariants.{SeqGap};
+ghost use Rattle.ompt_events.specs.Causes.{IsFreeOf, IsFirstWith};
+
+use ompt_events::Trace;
+
+/// The first record whose `seq` is not the number of earlier records of its thread. Each thread's events reach a tool
+/// in the order in which they happen (OpenMP 5.2, 19.5), and the file format numbers them from 0 in that order.
+/// Takes no memory, and one step for each record.
+pub fn gap(trace: &Trace) -> Option<usize>
+    ensures { MatchOption result (IsFreeOf trace.now.records SeqGap) (IsFirstWith trace.now.records SeqGap) }
+{
+    let mut counts = [0u32; 256];
+    for (at, event) in trace.records().iter().enumerate() {
+        let thread = usize::from(event.thread);
+        if event.seq != counts[thread] {
+            return Some(at);
+        }
+        counts[thread] += 1;
+    }
+    None
+}

@@ -1,0 +1,36 @@
+//! Whether a task is to run on a device.
+ghost use Rattle.std.specs.Prelude.{MatchOption, IsTrue, ◌↔◌};
+ghost use Rattle.ompt_events.specs.declared.cause.Cause.TheVariants.{TargetTask};
+ghost use Rattle.ompt_events.specs.Causes.{IsFreeOf, IsFirstWith};
+ghost use Rattle.task_states.specs.Targets.{IsTargetMade};
+
+use bitflags::Flags;
+use ompt_events::{Body, Endpoint, TaskFlags, Trace};
+
+/// The first record that makes a target task, one with the flag `target` (OpenMP 5.2, 13.8 and `ompt_task_flag_t`).
+/// It runs on a device, whose events are no part of the file. Takes no memory.
+pub fn target(trace: &Trace) -> Option<usize>
+    ensures { MatchOption result (IsFreeOf trace.now.records TargetTask) (IsFirstWith trace.now.records TargetTask) }
+{
+    for (at, event) in trace.records().iter().enumerate() {
+        if makes_target(&event.body) {
+            return Some(at);
+        }
+    }
+    None
+}
+
+/// Whether the record makes a target task.
+fn makes_target(body: &Body) -> bool
+    ensures { IsTrue result ↔ IsTargetMade body.now }
+{
+    match body {
+        Body::ImplicitTask {
+            endpoint: Endpoint::Begin,
+            flags,
+            ..
+        } => flags.contains(TaskFlags::TARGET),
+        Body::TaskCreate { flags, .. } => flags.contains(TaskFlags::TARGET),
+        _ => false,
+    }
+}
