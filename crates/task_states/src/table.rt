@@ -70,8 +70,8 @@ macro_rules! after_discard {
 
 /// The state of a task after a task_schedule event that has it as `prior` with this status (OpenMP 5.2, 19.5.2.10
 /// and `ompt_task_status_t`); none where its state allows no such event. How early and late fulfilment of an event
-/// (12.5.2) meet the end of the task's body is the file format's own rule: an event that is fulfilled early leaves
-/// the task to be complete with its body, and one that is fulfilled late completes it.
+/// (12.5.2) meet the end of the task's body is the file format's own rule: after an early one the task is complete
+/// with the end of its body, and a late one completes it.
 pub fn next_state(state: State, status: Status) -> Option<State>
     ensures { result ≡ next_state_of state status }
 {
@@ -86,7 +86,8 @@ pub fn start_state(state: State) -> Option<State>
     states!(after_start state)
 }
 
-/// The state of a task after it is discarded (OpenMP 5.2, 11.5 and `ompt_cancel_discarded_task`). None where it has begun.
+/// The state of a task after it is discarded (OpenMP 5.2, 11.5 and `ompt_cancel_discarded_task`).
+/// None where it has begun, or its event was fulfilled already.
 pub fn discard_state(state: State) -> Option<State>
     ensures { result ≡ discard_state_of state }
 {

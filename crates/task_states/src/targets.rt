@@ -8,7 +8,8 @@ use bitflags::Flags;
 use ompt_events::{Body, Endpoint, TaskFlags, Trace};
 
 /// The first record that makes a target task, one with the flag `target` (OpenMP 5.2, 13.8 and `ompt_task_flag_t`).
-/// It runs on a device, whose events are no part of the file. Takes no memory.
+/// It runs on a device, whose events are no part of the file. Takes no memory from the heap,
+/// and one step for each record.
 pub fn target(trace: &Trace) -> Option<usize>
     ensures { MatchOption result (IsFreeOf trace.now.records TargetTask) (IsFirstWith trace.now.records TargetTask) }
 {
