@@ -164,7 +164,7 @@ fn statuses_say_what_the_format_says(rt: HostRuntime) {
 }
 
 #[test]
-fn names_are_those_of_a_file(rt: HostRuntime) {
+fn regions_are_named_as_in_a_file(rt: HostRuntime) {
     for (endpoint, name) in [
         (Endpoint::Begin, "begin"),
         (Endpoint::End, "end"),
@@ -194,6 +194,14 @@ fn names_are_those_of_a_file(rt: HostRuntime) {
         assert_eq!(rt; kind.name(), name);
         assert_eq!(rt; SyncKind::from_name(name), Some(kind));
     }
+    for name in ["", "Begin", "scope", "begin_end", "barriers", "in"] {
+        assert_eq!(rt; Endpoint::from_name(name), None, "{name}");
+        assert_eq!(rt; SyncKind::from_name(name), None, "{name}");
+    }
+}
+
+#[test]
+fn dependences_and_threads_are_named_as_in_a_file(rt: HostRuntime) {
     for (kind, name) in [
         (DepKind::In, "in"),
         (DepKind::Out, "out"),
@@ -213,17 +221,7 @@ fn names_are_those_of_a_file(rt: HostRuntime) {
         assert_eq!(rt; kind.name(), name);
         assert_eq!(rt; ThreadKind::from_name(name), Some(kind));
     }
-    for name in [
-        "",
-        "Begin",
-        "scope",
-        "begin_end",
-        "depobj",
-        "source",
-        "barriers",
-    ] {
-        assert_eq!(rt; Endpoint::from_name(name), None, "{name}");
-        assert_eq!(rt; SyncKind::from_name(name), None, "{name}");
+    for name in ["", "In", "depobj", "source", "initia", "begin"] {
         assert_eq!(rt; DepKind::from_name(name), None, "{name}");
         assert_eq!(rt; ThreadKind::from_name(name), None, "{name}");
     }

@@ -2,7 +2,7 @@
 use crate::State::*;
 use crate::{State, discard_state, gap, next_state, start_state, target};
 use ompt_events::{Body, Endpoint, Record, Status, TaskFlags, Trace};
-use std::alloc::{AllocError, Global};
+use std::alloc::Global;
 use std::test::Fail;
 
 /// The statuses in the order of the table's columns.
@@ -20,45 +20,47 @@ const STATUSES: [Status; 8] = [
 /// An entry of the table that allows no such event.
 const NO: Option<State> = None;
 
+/// The file format's table: of each state, what it becomes after an event with each status.
+const TABLE: [(State, [Option<State>; 8]); 7] = [
+    (
+        Created,
+        [NO, NO, NO, NO, Some(EarlyWaiting), NO, NO, Some(Done)],
+    ),
+    (
+        Running,
+        [
+            Some(Done),
+            Some(Suspended),
+            Some(Done),
+            Some(Detached),
+            Some(EarlyRunning),
+            NO,
+            Some(Suspended),
+            NO,
+        ],
+    ),
+    (Suspended, [NO, NO, NO, NO, Some(EarlyWaiting), NO, NO, NO]),
+    (
+        EarlyRunning,
+        [
+            Some(Done),
+            Some(EarlyWaiting),
+            NO,
+            NO,
+            NO,
+            NO,
+            Some(EarlyWaiting),
+            NO,
+        ],
+    ),
+    (EarlyWaiting, [NO; 8]),
+    (Detached, [NO, NO, NO, NO, NO, Some(Done), NO, NO]),
+    (Done, [NO; 8]),
+];
+
 #[test]
 fn each_status_leads_where_the_format_says(rt: HostRuntime) {
-    let table = [
-        (
-            Created,
-            [NO, NO, NO, NO, Some(EarlyWaiting), NO, NO, Some(Done)],
-        ),
-        (
-            Running,
-            [
-                Some(Done),
-                Some(Suspended),
-                Some(Done),
-                Some(Detached),
-                Some(EarlyRunning),
-                NO,
-                Some(Suspended),
-                NO,
-            ],
-        ),
-        (Suspended, [NO, NO, NO, NO, Some(EarlyWaiting), NO, NO, NO]),
-        (
-            EarlyRunning,
-            [
-                Some(Done),
-                Some(EarlyWaiting),
-                NO,
-                NO,
-                NO,
-                NO,
-                Some(EarlyWaiting),
-                NO,
-            ],
-        ),
-        (EarlyWaiting, [NO; 8]),
-        (Detached, [NO, NO, NO, NO, NO, Some(Done), NO, NO]),
-        (Done, [NO; 8]),
-    ];
-    for (state, row) in table {
+    for (state, row) in TABLE {
         for (status, want) in STATUSES.into_iter().zip(row) {
             assert_eq!(rt; next_state(state, status), want, "{state:?} {status:?}");
         }
