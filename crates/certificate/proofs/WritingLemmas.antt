@@ -1,7 +1,8 @@
 -- Bytes that go out piece by piece.
-use Rattle.std.proofs.Common.{ℕ, ◌≡◌, ◌<◌, ◌≤◌, ◌+◌, List, [], ◌∷◌, ◌++◌, length, map, get_or, take, drop, Option, None, Some, sym, ap, subst, ◌∙◌, append-nil, append_assoc}
+use Rattle.std.proofs.Common.{ℕ, ◌≡◌, ◌<◌, ◌≤◌, ◌+◌, List, [], ◌∷◌, ◌++◌, length, map, get_or, take, drop, Option, None, Some, Result, Ok, Err, sym, ap, subst, ◌∙◌, append-nil, append_assoc}
 use Rattle.std.proofs.lemmas.Grind.{flat_map-append}
 use Rattle.std.proofs.lemmas.List.{map-append, take_more, take_all, take-append-drop}
+use Rattle.std.specs.Prelude.{OnErr}
 use Rattle.std.specs.Io.KnownBytes.{Appends, Keeps}
 use Rattle.ompt_events.specs.declared.records.Record.{Record}
 use Rattle.certificate.specs.Texts.{ended, header_line, line_of, trace_text}
@@ -72,3 +73,8 @@ pub whole-out : (a b c : Option (List ℕ)) (sent block : List ℕ) (rs : List R
 whole-out a b c sent block rs i text all first next =
     let P : List ℕ → Type 0 = λ bytes. Appends a c bytes in
     subst P (text ∙ ap (λ list. ended (header_line ∷ map line_of list)) (take_all i rs all)) (Appends-both a b c sent block first next)
+
+-- what holds anyway holds where the answer is a fault
+pub on_err : {A E : Type 0} (r : Result A E) (P : Type 0) → P → OnErr r P
+on_err (Ok x) P holds = tt
+on_err (Err e) P holds = holds

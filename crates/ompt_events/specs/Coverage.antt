@@ -29,5 +29,5 @@ pub data Covers (rs : List Record) (i task : ℕ) : Type 0 where
   -- a barrier waits, for each member of the team, for the children created before the member's barrier of the same number
   -- began, and for their descendants (15.3)
   synchronised : {own begin member child : ℕ} {kind : SyncKind} (start : ℕ) → IsRegion rs i own kind begin → is_barrier kind ≡ true
-    → IsTeammate rs own member → begins_barrier rs member start ≡ true → barrier_number rs member start ≡ barrier_number rs own begin
-    → IsChildBefore rs start member child → IsFamily rs child task → Covers rs i task
+      → IsTeammate rs own member → begins_barrier rs member start ≡ true → barrier_number rs member start ≡ barrier_number rs own begin
+      → IsChildBefore rs start member child → IsFamily rs child task → Covers rs i task

@@ -33,7 +33,9 @@ pub struct Claim {
 #[derive(Debug, Drop, PartialEq)]
 pub enum Body {
     /// A thread begins (19.5.2.1).
-    ThreadBegin { kind: ThreadKind },
+    ThreadBegin {
+        kind: ThreadKind,
+    },
     /// A thread ends (19.5.2.2).
     ThreadEnd,
     /// `task` begins a parallel region, for which it asks for so many threads (19.5.2.3).
@@ -43,7 +45,10 @@ pub enum Body {
         parallel: u64,
     },
     /// `task` ends a parallel region (19.5.2.4).
-    ParallelEnd { task: u64, parallel: u64 },
+    ParallelEnd {
+        task: u64,
+        parallel: u64,
+    },
     /// An initial or implicit task begins or ends (19.5.2.11). With the flag `initial` it is an initial task;
     /// else it is a member of the team of `parallel`, `actual` is the size of that team, and `index` its number there.
     ImplicitTask {
@@ -62,7 +67,10 @@ pub enum Body {
         child: u64,
     },
     /// What `task` depends on, at most 64 items (19.5.2.8).
-    Dependences { task: u64, list: Deps },
+    Dependences {
+        task: u64,
+        list: Deps,
+    },
     /// `prior` stops running or is fulfilled with this status (19.5.2.10), and `next`, where there is one,
     /// runs from here on. A finishing record has a `share`.
     TaskSchedule {

@@ -90,7 +90,9 @@ fn is_sound(body: &Body) -> bool
 {
     match body {
         Body::ImplicitTask {
-            endpoint, flags, ..
+            endpoint,
+            flags,
+            ..
         } => *endpoint != Endpoint::BeginEnd && are_named(*flags),
         Body::TaskCreate { flags, .. } => are_named(*flags),
         Body::Dependences { list, .. } => list.as_slice().len() <= MAX_DEPENDENCES,

@@ -2,7 +2,7 @@ use Rattle.std.proofs.Common.{◌≡◌, ◌+◌, ◌++◌, ◌∷◌, [], arith
 use Rattle.std.proofs.lemmas.Result.{err_from_is_err_and}
 use Rattle.certificate.specs.Texts.{ended, header_line, line_of}
 use Rattle.certificate.proofs.CountLemmas.{count_more-zero, TakesStalls-memory}
-use Rattle.certificate.proofs.WritingLemmas.{Appends-none, Appends-both, text-more, part-out, sent-out, whole-out}
+use Rattle.certificate.proofs.WritingLemmas.{Appends-none, Appends-both, text-more, part-out, sent-out, whole-out, on_err}
 use Rattle.certificate.proofs.writing.write.Goals as goal
 use Rattle.certificate.proofs.writing.write.Goals.{then-len-ge-BLOCK+in_ok-turns, else-len-ge-BLOCK}
 
@@ -24,21 +24,19 @@ records-init g c = record {
 pub returns-in_err-add_line-clause-prefix : goal.returns-in_err-add_line-clause-prefix
 returns-in_err-add_line-clause-prefix g c =
     let now = c.records.invariant in
-    let p = err_from_is_err_and c.from_residual-in_err-add_line.result c.from_residual-in_err-add_line.ensures.1 in
-    rw (p.1, p.2) (sent-out _ _ now.sent c.records.block.items c.args.trace.now.records c.records.event-index now.text now.out)
+    on_err _ _ (sent-out _ _ now.sent c.records.block.items c.args.trace.now.records c.records.event-index now.text now.out)
 
 pub returns-in_err-turns-clause-prefix : goal.returns-in_err-turns-clause-prefix
 returns-in_err-turns-clause-prefix g c =
     let now = c.records.invariant in
-    let p = err_from_is_err_and c.from_residual-in_err-turns.result c.from_residual-in_err-turns.ensures.1 in
-    let text = text-more now.sent c.records.block.items c.add_line.new.block.items c.args.trace.now.records c.records.event-index c.event-item.result now.text c.records-test.true c.event-item.is c.in_ok-add_line.ensures.line in
+    let text = text-more now.sent c.records.block.items c.add_line.new.block.items c.args.trace.now.records c.records.event-index c.event-item.result now.text (rw c.records-event-items.ensures.value at c.records-test.true) (rw c.records-event-items.ensures.value at c.event-item.is) c.in_ok-add_line.ensures.line in
     let part = rw c.as_slice.ensures.value at c.in_err-turns.ensures.prefix in
-    rw (p.1, p.2) (part-out _ _ _ now.sent c.add_line.new.block.items c.args.trace.now.records (c.records.event-index + 1) part.0 text now.out part.1)
+    on_err _ _ (part-out _ _ _ now.sent c.add_line.new.block.items c.args.trace.now.records (c.records.event-index + 1) part.0 text now.out part.1)
 
 pub records-preserved : goal.records-preserved
 records-preserved g c =
     let now = c.records.invariant in
-    let text = text-more now.sent c.records.block.items c.add_line.new.block.items c.args.trace.now.records c.records.event-index c.event-item.result now.text c.records-test.true c.event-item.is c.in_ok-add_line.ensures.line in
+    let text = text-more now.sent c.records.block.items c.add_line.new.block.items c.args.trace.now.records c.records.event-index c.event-item.result now.text (rw c.records-event-items.ensures.value at c.records-test.true) (rw c.records-event-items.ensures.value at c.event-item.is) c.in_ok-add_line.ensures.line in
     elim c.if-len-ge-BLOCK.branch [
       | then-len-ge-BLOCK+in_ok-turns w ↦ record {
         sent = now.sent ++ c.add_line.new.block.items;
@@ -61,11 +59,11 @@ records-preserved g c =
 pub returns-in_err-send-clause-prefix : goal.returns-in_err-send-clause-prefix
 returns-in_err-send-clause-prefix g c =
     let now = c.records.invariant in
-    let p = err_from_is_err_and c.from_residual-in_err-send.result c.from_residual-in_err-send.ensures.1 in
     let part = rw c.as_slice-2.ensures.value at c.in_err-send.ensures.prefix in
-    rw (p.1, p.2) (part-out _ _ _ now.sent c.records.block.items c.args.trace.now.records c.records.event-index part.0 now.text now.out part.1)
+    on_err _ _ (part-out _ _ _ now.sent c.records.block.items c.args.trace.now.records c.records.event-index part.0 now.text now.out part.1)
 
 pub returns-clause-ok : goal.returns-clause-ok
 returns-clause-ok g c =
     let now = c.records.invariant in
-    whole-out _ _ _ now.sent c.records.block.items c.args.trace.now.records c.records.event-index now.text (omega (arith, c.records-test.false)) now.out (rw c.as_slice-2.ensures.value at c.in_ok-send.ensures.ok)
+    let all = rw c.records-event-items.ensures.value at c.records-test.false in
+    whole-out _ _ _ now.sent c.records.block.items c.args.trace.now.records c.records.event-index now.text (omega (arith, all)) now.out (rw c.as_slice-2.ensures.value at c.in_ok-send.ensures.ok)
