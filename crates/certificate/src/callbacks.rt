@@ -2,7 +2,8 @@
 
 // Each table stands once. Its call names the shape that its rows are put into, and what the shape is given.
 //
-// A row of members is `field: kind "member"`, in the order of the Rust fields. The kinds are these.
+// A row of members is `field: kind "member"`, in the order of the Rust fields. A list whose items are kept stands last:
+// it is brought within its limit as it is looked up, and the other members must have been looked up before. The kinds:
 // - `id`: a whole number of 64 bits; `short`: one of at most 32 bits; `thread`: one of at most 8 bits.
 // - `id_or_null`: an id, or none. `next`: the same, where the status says which.
 // - `truth`: true or false.

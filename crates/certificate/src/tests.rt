@@ -1,10 +1,11 @@
 mod callbacks;
+mod names;
 
 use crate::{
     FromRead, MemSink, MemSource, ReadCause, ReadFault, Sink, ToWrite, WriteFault, read,
     write_bytes,
 };
-use ompt_events::Body;
+use ompt_events::{Body, Claim, Path};
 use std::alloc::Global;
 use std::process::Abort;
 use std::test::Fail;
@@ -63,6 +64,27 @@ fn second_line(
     let text = String::from_utf8_lossy(alloc, line)?;
     assert_eq!(rt; records_in(alloc, &bytes)?, want, "{text:?}");
     Ok(())
+}
+
+/// The line, after the header, is read as a record of this body.
+fn says(rt: &impl Abort, alloc: Global, line: &str, body: &Body) -> Result<(), Fail> {
+    let mut bytes = Vec::from_slice(alloc, HEADER.as_bytes())?;
+    bytes.extend_from_slice(line.as_bytes())?;
+    bytes.push(b'\n')?;
+    let mut source = MemSource::new(bytes, 65_536, 0, None);
+    let trace = read(alloc, &mut source)?;
+    let read = trace.records().first().map(|event| &event.body);
+    assert_eq!(rt; read, Some(body), "{line}");
+    Ok(())
+}
+
+/// A claim of the place that these numbers give below task 1.
+fn claim(alloc: Global, path: &[u32], kept: u32) -> Result<Option<Claim>, Fail> {
+    Ok(Some(Claim {
+        kept,
+        root: 1,
+        path: Path::from_vec(Vec::from_slice(alloc, path)?),
+    }))
 }
 
 #[test]
