@@ -1,5 +1,6 @@
 mod callbacks;
 mod names;
+mod writing;
 
 use crate::{
     FromRead, MemSink, MemSource, ReadCause, ReadFault, Sink, ToWrite, WriteFault, read,

@@ -117,12 +117,12 @@ fn put_maybe(
     members: &mut Members,
     alloc: Global,
     name: &str,
-    number: Option<u64>,
+    found: Option<u64>,
 ) -> Result<(), AllocError>
     ensures { OnOk result (members_view members.new.entries
-        ≡ with_member name.now (number_or_null number) (members_view members.old.entries)) }
+        ≡ with_member name.now (number_or_null found) (members_view members.old.entries)) }
 {
-    put(members, alloc, name, Value::from(number))
+    put(members, alloc, name, Value::from(found))
 }
 
 /// One more member, a text.
