@@ -1,1 +1,2 @@
 pub mod CommandLemmas
+mod PlaceLemmas

@@ -323,6 +323,33 @@ fn tells_what_is_unreadable(rt: HostRuntime) -> Result<(), Fail> {
     expect_unreadable(&rt, done.as_bytes(), "unreadable: line 2: 6 Field\n")
 }
 
+/// Members of lines that are read and that a check does not take.
+const NOT_TAKEN: [&str; 8] = [
+    r#""cb":"sync_region","kind":"taskgroup","endpoint":"begin","parallel":null,"task":1"#,
+    r#""cb":"sync_region","kind":"taskwait","endpoint":"beginend","parallel":null,"task":1"#,
+    r#""cb":"task_schedule","prior":1,"status":"yield","next":2"#,
+    r#""cb":"task_create","task":1,"child":2,"flags":["explicit"],"deps":true"#,
+    r#""cb":"task_create","task":1,"child":2,"flags":["target"],"deps":false"#,
+    r#""cb":"implicit_task","endpoint":"end","parallel":0,"task":1,"actual":1,"index":0,"flags":["initial"]"#,
+    r#""cb":"parallel_begin","task":1,"parallel":5,"requested":2"#,
+    r#""cb":"thread_end""#,
+];
+
+#[test]
+fn names_the_line_that_is_not_taken(rt: HostRuntime) -> Result<(), Fail> {
+    let alloc = rt.alloc();
+    let begun = file_of(alloc, &[(0, 0, Initial(1))])?;
+    for members in NOT_TAKEN {
+        let line = format!(in alloc; r#"{{"thread":0,"seq":1,"seen":0,{members}}}"#)?;
+        let file = format!(in alloc; "{begun}{line}\n{line}\n")?;
+        expect_unreadable(&rt, file.as_bytes(), "unreadable: line 3: 6 Field\n")?;
+        // A fault of the reading goes first, wherever it stands.
+        let file = format!(in alloc; "{begun}{line}\n\n")?;
+        expect_unreadable(&rt, file.as_bytes(), "unreadable: line 4: 5 NotJson\n")?;
+    }
+    Ok(())
+}
+
 #[test]
 fn tells_what_is_unwritten(rt: HostRuntime) -> Result<(), Fail> {
     let alloc = rt.alloc();

@@ -144,7 +144,6 @@ fn writes_a_prefix_to_a_failing_sink(rt: HostRuntime) -> Result<(), Fail> {
         (10_000, None, None, Ok(()), 10_000),
         (100, None, None, Err(WriteFault::Device), 100),
         (100, Some(0), None, Err(WriteFault::Device), 0),
-        (100, None, Some(1), Err(WriteFault::TurnsSpent), 100),
         (100, None, Some(0), Err(WriteFault::TurnsSpent), 0),
     ] {
         let mut sink = MemSink::new(rt.alloc(), room, broken, idle)?;
