@@ -8,7 +8,7 @@ use memchr::memchr;
 use serde_json::Value;
 use std::alloc::Global;
 use std::env;
-use std::io::Read;
+use std::io::{self, Read};
 
 /// Whether the first `len` bytes of `rest` are a JSON object.
 fn is_object(alloc: Global, rest: &[u8], len: usize) -> Result<bool> {
@@ -56,7 +56,7 @@ fn records(rt: &HostRuntime) -> Result<()> {
 /// Reads the records of standard input, and writes them to standard output.
 fn rewrite(rt: &HostRuntime) -> Result<()> {
     match read(rt.alloc(), &mut FromRead::new(rt.reader())) {
-        Ok(trace) => match write(rt.alloc(), &trace, &mut ToWrite::new(rt.writer())) {
+        Ok(trace) => match write(rt.alloc(), &trace, &mut ToWrite::new(io::writer(rt))) {
             Ok(()) => Ok(()),
             Err(fault) => bail!("{fault}"),
         },
