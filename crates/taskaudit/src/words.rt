@@ -31,7 +31,10 @@ were known; of an event that finishes one, its number among them), cb, and with 
   implicit_task  endpoint, parallel, task, actual, index, flags
   task_create    task, child, flags, deps
   task_schedule  prior, status, next; with status complete also root, path, kept
-  sync_region    kind, endpoint, parallel, task"#;
+  sync_region    kind, endpoint, parallel, task
+These are checked with the statuses complete and switch, for initial tasks that begin, tasks
+without dependences, and taskwaits. Any other event of OMPT is read too; a file that has one
+is told as unreadable, 6 Field, at the line of the first."#;
 
 /// The job that the words ask for; the first of them is the program's name.
 pub fn job<'a, S: AsStr>(alloc: Global, words: &'a [S]) -> Result<Job, Error>
