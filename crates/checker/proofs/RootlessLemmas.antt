@@ -1,5 +1,5 @@
 -- Which records speak of a task without a root.
-use Rattle.std.proofs.Common.{◌≡◌, ◌≢◌, ◌∙◌, ℕ, zero, suc, ◌<◌, ◌≤◌, List, [], ◌∷◌, length, get_or, Option, Some, None, true, false, refl, sym, ap, subst, arith, inl, inr}
+use Rattle.std.proofs.Common.{◌≡◌, ◌≢◌, ◌∙◌, ℕ, zero, suc, ◌<◌, ◌≤◌, List, [], ◌∷◌, length, get_or, Option, Some, None, true, refl, sym, ap, subst, arith, inl, inr}
 use Rattle.std.proofs.lemmas.Option.{none-some, same_Some, slice_get_within}
 use Rattle.std.specs.Prelude.{is_some, Contains}
 use Rattle.std.specs.Ordering.{nat_cmp}
@@ -16,7 +16,7 @@ use Rattle.checker.specs.Audited.{AreAudited}
 use Rattle.checker.specs.Searches.{AreMakers}
 use Rattle.checker.proofs.AuditedLemmas.{no_region_named}
 use Rattle.checker.specs.Marks.{mark_at, AreMarks, AnyUnmade}
-use Rattle.checker.proofs.Reading.{at_within, at_read, read_get}
+use Rattle.checker.proofs.Reading.{at_within, read_get}
 use Rattle.checker.proofs.Bodies.{begun_at_made, created_at_made, creation_at_created, created_at_creation}
 use Rattle.checker.proofs.MarkLemmas.{contains_none}
 

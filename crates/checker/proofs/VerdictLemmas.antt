@@ -9,16 +9,14 @@ use Rattle.ompt_events.specs.declared.records.Part.TheVariants as part
 use Rattle.ompt_events.specs.declared.cause.Cause.{Cause}
 use Rattle.ompt_events.specs.declared.cause.Cause.TheVariants.{CreatedTwice, Rootless, NotCurrent, Moved, RegionOrder, NoOrder}
 use Rattle.ompt_events.specs.CauseNames.{cause_number}
-use Rattle.ompt_events.specs.declared.names.Endpoint.{Endpoint}
 use Rattle.ompt_events.specs.declared.names.Endpoint.TheVariants.{End}
-use Rattle.ompt_events.specs.declared.names.SyncKind.{SyncKind}
 use Rattle.ompt_events.specs.declared.names.SyncKind.TheVariants.{Taskwait}
-use Rattle.ompt_events.specs.Records.{finish, region}
+use Rattle.ompt_events.specs.Records.{finish}
 use Rattle.ompt_events.specs.Places.{at, places, seen_at}
 use Rattle.ompt_events.specs.HappensBefore.{IsStep, ledger, step}
 use Rattle.ompt_events.specs.Linearization.{IsLinearization, IsGreedy, IsFirstReady}
 use Rattle.ompt_events.specs.Completion.{IsPartFinished, CountsIn, CountsAt, IsCompleteIn, IsCompleteAt}
-use Rattle.ompt_events.specs.Violations.{IsRequired, IsUnfinished}
+use Rattle.ompt_events.specs.Violations.{IsUnfinished}
 use Rattle.ompt_events.specs.Causes.{IsFreeOf, no_order, IsMalformed, IsWellFormed}
 use Rattle.checker.specs.declared.search.SearchFault.{SearchFault}
 use Rattle.checker.specs.declared.search.SearchFault.TheVariants.{Memory, Malformed}

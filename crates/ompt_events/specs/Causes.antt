@@ -1,6 +1,6 @@
 -- The causes for which a list of records is no account of a run. Each is a fact about the list alone.
 -- What is said of a cause matters where no cause with a smaller number occurs.
-use Rattle.std.specs.Prelude.{false, true, ℕ, ◌≡◌, ◌≢◌, ◌<◌, ◌≤◌, ◌+◌, ◌==◌, List, [], length, take, Some, None, Contains, count_by, slice_get, is_some, if◌then◌else◌}
+use Rattle.std.specs.Prelude.{true, ℕ, ◌≡◌, ◌≢◌, ◌<◌, ◌≤◌, ◌+◌, ◌==◌, List, [], length, take, Some, None, Contains, count_by, slice_get, is_some, if◌then◌else◌}
 use Rattle.ompt_events.specs.declared.records.Record.{Record}
 use Rattle.ompt_events.specs.declared.records.Claim.{Claim}
 use Rattle.ompt_events.specs.declared.records.Part.{Part}
