@@ -1,6 +1,6 @@
 use Rattle.std.proofs.Common.{◌≡◌, ◌+◌, ◌≤◌, refl, arith, ◌∙◌, length, length-drop}
 use Rattle.std.proofs.lemmas.List.{take_rest}
-use Rattle.certificate.proofs.CountLemmas.{count_more-zero, stalls-none, stalls-some}
+use Rattle.certificate.proofs.CountLemmas.{stalls-none, stalls-some}
 use Rattle.certificate.proofs.WritingLemmas.{Appends-none, Appends-more}
 use Rattle.certificate.proofs.writing.send.Goals as goal
 use Rattle.certificate.proofs.writing.send.Goals.{then-taken-eq0+else-turns-gt-MAX_TURNS, else-taken-eq0}
