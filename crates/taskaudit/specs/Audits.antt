@@ -10,7 +10,7 @@ use Rattle.certificate.specs.declared.faults.ReadCause.TheVariants.{Field}
 use Rattle.certificate.specs.Files.{file_says, fault_in}
 use Rattle.certificate.specs.Reading.{IsToldRightly}
 use Rattle.checker.specs.declared.verdict.Verdict.{Verdict}
-use Rattle.checker.specs.Audited.{IsFirstUnaudited}
+use Rattle.checker.specs.Audited.{AreAudited, IsFirstUnaudited}
 use Rattle.checker.specs.Verdicts.{IsVerdict, IsAlwaysComplete}
 use Rattle.taskaudit.specs.declared.work.Outcome.{Outcome}
 use Rattle.taskaudit.specs.declared.work.Outcome.TheVariants.{Yes}
@@ -25,9 +25,11 @@ pub record KeepsItsWaits (rs : List Record) : Type 0 where
   pub has_order : IsLinearization rs order
   pub always_complete : IsAlwaysComplete rs
 
--- the bytes that were read, where they are known, are a file for the records, and this is the records' verdict
+-- the bytes that were read, where they are known, are a file for the records, each of a form that a check takes,
+-- and this is the records' verdict
 pub record IsJudged (bytes : Option (List ℕ)) (rs : List Record) (verdict : Verdict) : Type 0 where
   pub file : IfSome bytes (λ known. file_says known ≡ Ok rs)
+  pub taken : AreAudited rs
   pub right : IsVerdict rs verdict
 
 -- the report of the verdict was written, and nothing else, and the outcome is the verdict's kind
