@@ -5,7 +5,7 @@ use Rattle.std.specs.Int.{bit_at}
 use Rattle.std.specs.Int.RustNames.{bit_and, bit_or}
 use Rattle.std.proofs.lemmas.Nat.{and_le_r}
 use Rattle.std.proofs.lemmas.Nat.Bits.{and_pow, bit_at-lt, bit_at_and, bit_at_or, bit_at-zero, same_from_bits}
-use Rattle.std.proofs.lemmas.List.{take_more, map-append, get_or_default, append-nil}
+use Rattle.std.proofs.lemmas.List.{take_more, map-append, append-nil}
 use Rattle.bitflags.proofs.Tables.{row-at}
 use Rattle.bitflags.specs.Sets.{Row, find_row, find_name, known_from}
 use Rattle.serde_json.specs.Data.{string}
@@ -91,24 +91,23 @@ flag_names-more (first ∷ rows) row bits = by_flag (has_flag bits first.1) (fla
     by_flag false same = same
 
 -- the names up to one place more
-flag_names-step : {X : Type 0} (row : X → Row) (flags : List X) (table : List Row) (bits i : ℕ) (d : X) → map row flags ≡ table → i < length flags
-    → flag_names (take (i + 1) table) bits ≡ flag_names (take i table) bits ++ cond (has_flag bits (row (get_or flags i d)).1) ((row (get_or flags i d)).0 ∷ []) []
-flag_names-step row flags table bits i d same within =
-    let x = get_or flags i d in
-    let at = row-at row flags table i x same within (get_or_default flags i d x within) in
+flag_names-step : {X : Type 0} (row : X → Row) (flags : List X) (table : List Row) (bits i : ℕ) (x : X) → map row flags ≡ table → i < length flags → x ≡ get_or flags i x
+    → flag_names (take (i + 1) table) bits ≡ flag_names (take i table) bits ++ cond (has_flag bits (row x).1) ((row x).0 ∷ []) []
+flag_names-step row flags table bits i x same within here =
+    let at = row-at row flags table i x same within here in
     rw (take_more table i (row x) at.0, at.1) (flag_names-more (take i table) (row x) bits)
 
 -- the values of the names, where the next flag is among the bits
-pub flag_names-with : {X : Type 0} (row : X → Row) (flags : List X) (table : List Row) (bits i : ℕ) (d : X) (old new : List Value) (v : Value) → map row flags ≡ table → i < length flags
-    → map view old ≡ map string (flag_names (take i table) bits) → new ≡ old ++ v ∷ [] → view v ≡ string (row (get_or flags i d)).0 → has_flag bits (row (get_or flags i d)).1 ≡ true
+pub flag_names-with : {X : Type 0} (row : X → Row) (flags : List X) (table : List Row) (bits i : ℕ) (x : X) (old new : List Value) (v : Value) → map row flags ≡ table → i < length flags → x ≡ get_or flags i x
+    → map view old ≡ map string (flag_names (take i table) bits) → new ≡ old ++ v ∷ [] → view v ≡ string (row x).0 → has_flag bits (row x).1 ≡ true
     → map view new ≡ map string (flag_names (take (i + 1) table) bits)
-flag_names-with row flags table bits i d old new v same within so_far is name has =
+flag_names-with row flags table bits i x old new v same within here so_far is name has =
     ap (map view) is ∙ map-append view old (v ∷ []) ∙ ap (λ ds. ds ++ view v ∷ []) so_far
-    ∙ sym (ap (map string) (flag_names-step row flags table bits i d same within) ∙ rw (has, name) (map-append string (flag_names (take i table) bits) _))
+    ∙ sym (ap (map string) (flag_names-step row flags table bits i x same within here) ∙ rw (has, name) (map-append string (flag_names (take i table) bits) _))
 
 -- the same where it is not
-pub flag_names-without : {X : Type 0} (row : X → Row) (flags : List X) (table : List Row) (bits i : ℕ) (d : X) (old : List Value) → map row flags ≡ table → i < length flags
-    → map view old ≡ map string (flag_names (take i table) bits) → has_flag bits (row (get_or flags i d)).1 ≡ false
+pub flag_names-without : {X : Type 0} (row : X → Row) (flags : List X) (table : List Row) (bits i : ℕ) (x : X) (old : List Value) → map row flags ≡ table → i < length flags → x ≡ get_or flags i x
+    → map view old ≡ map string (flag_names (take i table) bits) → has_flag bits (row x).1 ≡ false
     → map view old ≡ map string (flag_names (take (i + 1) table) bits)
-flag_names-without row flags table bits i d old same within so_far lacks =
-    so_far ∙ sym (ap (map string) (flag_names-step row flags table bits i d same within) ∙ rw (lacks, append-nil (flag_names (take i table) bits)) refl)
+flag_names-without row flags table bits i x old same within here so_far lacks =
+    so_far ∙ sym (ap (map string) (flag_names-step row flags table bits i x same within here) ∙ rw (lacks, append-nil (flag_names (take i table) bits)) refl)

@@ -1,6 +1,6 @@
 -- The line of each record is plain and short, within the reader's bounds, and says the record.
 use Rattle.std.proofs.Common.{◌≡◌, ℕ, get_or, Ok, Err, ◌+◌, ◌≤◌, length, ◌<◌, ◌^◌, Bool, cond, map, arith, Option, Some, None, List, [], ◌∷◌, true, false, refl, ap, ◌∙◌}
-use Rattle.std.specs.Prelude.{IfSome, All, codes}
+use Rattle.std.specs.Prelude.{IfSome, All}
 use Rattle.std.specs.List.{AllByRecursion, list_all}
 use Rattle.std.specs.Option.{option_map_or}
 use Rattle.std.proofs.lemmas.Bool.{lt-ltb, le-leb}
@@ -34,6 +34,7 @@ use Rattle.certificate.proofs.JsonLemmas.{is_plain_text, IsPlain, ArePlain, size
 use Rattle.certificate.proofs.ObjectLemmas.{IsPlainMember, IsPlain-object_of, added_size, size-object_of}
 use Rattle.certificate.proofs.TextLemmas.{AllByRecursion-from, file_says-trace, IsLineOf-plain, items_size-items_of, items_size-wholes, ArePlain-items_of, ArePlain-wholes}
 use Rattle.certificate.proofs.SaysLemmas.{Says-sound}
+use Rattle.certificate.specs.MemberNames as member
 
 -- ---- its text is plain and short
 
@@ -101,7 +102,7 @@ plain-claim None h = tt
 plain-claim (Some c) h = ((refl, omega (arith, h.0)), ((refl, h.1), ((refl, ArePlain-wholes c.path 1 (AllByRecursion-from _ c.path (λ k d l. omega (arith, h.2 k d l)))), tt)))
 
 plain-dep : (d : Dep) → d.var < 2 ^ 64 → IsPlain (dep_data d) 1
-plain-dep d h = IsPlain-object_of ((codes "type", string (dep_kind_name d.kind)) ∷ (codes "var", whole_number d.var) ∷ []) 0 ((refl, plain-dep_kind d.kind), ((refl, h), tt))
+plain-dep d h = IsPlain-object_of ((member.type, string (dep_kind_name d.kind)) ∷ (member.var, whole_number d.var) ∷ []) 0 ((refl, plain-dep_kind d.kind), ((refl, h), tt))
 
 plain-deps : (ds : List Dep) → All (λ d. d.var < 2 ^ 64) ds → ArePlain (items_of (map dep_data ds)) 1
 plain-deps ds h = ArePlain-items_of dep_data ds 1 (AllByRecursion-from (λ d. IsPlain (dep_data d) 1) ds (λ k d l. plain-dep (get_or ds k d) (h k d l)))
@@ -195,7 +196,7 @@ size-claim None h = omega arith
 size-claim (Some c) h = omega (arith, items_size-wholes c.path)
 
 size-dep : (d : Dep) → size (dep_data d) ≤ 80
-size-dep d = omega (arith, size-object_of ((codes "type", string (dep_kind_name d.kind)) ∷ (codes "var", whole_number d.var) ∷ []), size-dep_kind d.kind)
+size-dep d = omega (arith, size-object_of ((member.type, string (dep_kind_name d.kind)) ∷ (member.var, whole_number d.var) ∷ []), size-dep_kind d.kind)
 
 size-deps : (ds : List Dep) → length ds ≤ 64 → items_size (items_of (map dep_data ds)) ≤ 6000
 size-deps ds few = omega (arith, items_size-items_of dep_data ds 80 (AllByRecursion-from (λ d. size (dep_data d) ≤ 80) ds (λ k d l. size-dep (get_or ds k d))))

@@ -1,6 +1,6 @@
 -- What the members of a record add up to, and which cause is told.
 use Rattle.std.proofs.Common.{◌≡◌, ◌≢◌, ℕ, ◌<◌, ◌≤◌, ◌^◌, ◌&&◌, List, [], ◌∷◌, ◌++◌, length, drop, Option, Some, None, Result, Ok, Err, Bool, true, false, cond, arith, refl, sym, ap, ◌∙◌, append-nil}
-use Rattle.std.specs.Prelude.{ok_or, option_and_then, option_map, is_some, IsSome, codes, nat_le, nat_lt}
+use Rattle.std.specs.Prelude.{ok_or, option_and_then, option_map, is_some, IsSome, nat_le, nat_lt}
 use Rattle.std.specs.List.{list_all}
 use Rattle.std.specs.Str.{bytes_eq}
 use Rattle.std.proofs.lemmas.Slice.Eq.{bytes_eq-Decides}
@@ -18,6 +18,8 @@ use Rattle.certificate.specs.declared.faults.ReadCause.TheVariants.{Field, Limit
 use Rattle.certificate.specs.Members.{whole, whole_of, each, list, path, status, next}
 use Rattle.certificate.specs.RecordLines.{bounded, body, body_named, body_fits, share, share_fits, task_schedule, unbounded, record_fits, path_fits, is_short}
 use Rattle.certificate.proofs.MemberLemmas.{ok_or-some}
+use Rattle.certificate.specs.MemberNames as member
+use Rattle.certificate.specs.CallbackNames as callback
 
 pub ok_not_err : {X : Type 0} (x : X) (e : ReadCause) → ◌≡◌ {A = Result X ReadCause} (Ok x) (Err e) → ⊥
 ok_not_err x e h = cc
@@ -112,17 +114,17 @@ path-not_whole name d items found missing = rw (ok_or-some _ items found) (by_wh
 
 -- ---- records
 
-pub unbounded-body : (d : Data) (thread seq seen : ℕ) → Ok thread ≡ ok_or (whole (codes "thread") d) Field → Ok seq ≡ ok_or (whole (codes "seq") d) Field → Ok seen ≡ ok_or (whole (codes "seen") d) Field
+pub unbounded-body : (d : Data) (thread seq seen : ℕ) → Ok thread ≡ ok_or (whole member.thread d) Field → Ok seq ≡ ok_or (whole member.seq d) Field → Ok seen ≡ ok_or (whole member.seen d) Field
     → unbounded d ≡ option_and_then (λ b. Some (record { thread = thread; seq = seq; seen = seen; body = b })) (body d)
 unfolding unbounded
 unbounded-body d thread seq seen t q s = rw (ok_or-some _ thread t, ok_or-some _ seq q, ok_or-some _ seen s)
 
-pub record-body_err : (d : Data) (thread seq seen : ℕ) (e : ReadCause) → Ok thread ≡ ok_or (whole (codes "thread") d) Field → Ok seq ≡ ok_or (whole (codes "seq") d) Field → Ok seen ≡ ok_or (whole (codes "seen") d) Field
+pub record-body_err : (d : Data) (thread seq seen : ℕ) (e : ReadCause) → Ok thread ≡ ok_or (whole member.thread d) Field → Ok seq ≡ ok_or (whole member.seq d) Field → Ok seen ≡ ok_or (whole member.seen d) Field
     → Err e ≡ bounded body_fits (body d) → Err e ≡ bounded record_fits (unbounded d)
 record-body_err d thread seq seen e t q s err =
     rw (unbounded-body d thread seq seen t q s) (bounded-err body_fits record_fits (λ b. record { thread = thread; seq = seq; seen = seen; body = b }) (body d) e (λ b no. rw no) err)
 
-pub record-read : (d : Data) (thread seq seen t q s : ℕ) (b : Body) → Ok thread ≡ ok_or (whole (codes "thread") d) Field → Ok seq ≡ ok_or (whole (codes "seq") d) Field → Ok seen ≡ ok_or (whole (codes "seen") d) Field
+pub record-read : (d : Data) (thread seq seen t q s : ℕ) (b : Body) → Ok thread ≡ ok_or (whole member.thread d) Field → Ok seq ≡ ok_or (whole member.seq d) Field → Ok seen ≡ ok_or (whole member.seen d) Field
     → Ok b ≡ bounded body_fits (body d) → Ok t ≡ cond (nat_lt thread 256) (Ok thread) (Err Limit) → Ok q ≡ cond (nat_lt seq (2 ^ 32)) (Ok seq) (Err Limit) → Ok s ≡ cond (nat_lt seen (2 ^ 32)) (Ok seen) (Err Limit)
     → Ok (record { thread = t; seq = q; seen = s; body = b }) ≡ bounded record_fits (unbounded d)
 record-read d thread seq seen t q s b is_thread is_seq is_seen is_body fits_thread fits_seq fits_seen =
@@ -134,18 +136,18 @@ record-read d thread seq seen t q s b is_thread is_seq is_seen is_body fits_thre
 
 -- ---- callbacks
 
-pub task_schedule-share : (d : Data) (st : Status) (prior : ℕ) (nx : Option ℕ) → Ok st ≡ ok_or (status (codes "status") d) Field → Ok prior ≡ ok_or (whole (codes "prior") d) Field → Ok nx ≡ ok_or (next st (codes "next") d) Field
+pub task_schedule-share : (d : Data) (st : Status) (prior : ℕ) (nx : Option ℕ) → Ok st ≡ ok_or (status member.status d) Field → Ok prior ≡ ok_or (whole member.prior d) Field → Ok nx ≡ ok_or (next st member.next d) Field
     → task_schedule d ≡ option_and_then (λ sh. Some (TaskSchedule st prior nx sh)) (share (is_some (status_part st)) d)
 unfolding task_schedule
 task_schedule-share d st prior nx s p n = rw (ok_or-some _ st s, ok_or-some _ prior p, ok_or-some _ nx n)
 
 -- how the claim ends the reading of a schedule, or does not
-pub schedule-err : (d : Data) (st : Status) (prior : ℕ) (nx : Option ℕ) (e : ReadCause) → Ok st ≡ ok_or (status (codes "status") d) Field → Ok prior ≡ ok_or (whole (codes "prior") d) Field → Ok nx ≡ ok_or (next st (codes "next") d) Field
+pub schedule-err : (d : Data) (st : Status) (prior : ℕ) (nx : Option ℕ) (e : ReadCause) → Ok st ≡ ok_or (status member.status d) Field → Ok prior ≡ ok_or (whole member.prior d) Field → Ok nx ≡ ok_or (next st member.next d) Field
     → Err e ≡ bounded share_fits (share (is_some (status_part st)) d) → Err e ≡ bounded body_fits (task_schedule d)
 schedule-err d st prior nx e s p n err =
     rw (task_schedule-share d st prior nx s p n) (bounded-err share_fits body_fits (TaskSchedule st prior nx) (share (is_some (status_part st)) d) e (λ sh no. no) err)
 
-pub schedule-ok : (d : Data) (st : Status) (prior : ℕ) (nx : Option ℕ) (sh : Option Claim) → Ok st ≡ ok_or (status (codes "status") d) Field → Ok prior ≡ ok_or (whole (codes "prior") d) Field → Ok nx ≡ ok_or (next st (codes "next") d) Field
+pub schedule-ok : (d : Data) (st : Status) (prior : ℕ) (nx : Option ℕ) (sh : Option Claim) → Ok st ≡ ok_or (status member.status d) Field → Ok prior ≡ ok_or (whole member.prior d) Field → Ok nx ≡ ok_or (next st member.next d) Field
     → Ok sh ≡ bounded share_fits (share (is_some (status_part st)) d) → Ok (TaskSchedule st prior nx sh) ≡ bounded body_fits (task_schedule d)
 schedule-ok d st prior nx sh s p n read =
     rw (task_schedule-share d st prior nx s p n) (bounded-in share_fits body_fits (TaskSchedule st prior nx) (share (is_some (status_part st)) d) sh (λ fits. fits) read)
@@ -158,7 +160,7 @@ bytes_eq-other a b other =
       | false ↦ λ _. refl
     ] (bytes_eq-Decides a b).0
 
-pub body_named-none : (name : List ℕ) (d : Data) → name ≢ codes "thread_begin" → name ≢ codes "thread_end" → name ≢ codes "parallel_begin" → name ≢ codes "parallel_end" → name ≢ codes "implicit_task" → name ≢ codes "task_create" → name ≢ codes "dependences" → name ≢ codes "task_schedule" → name ≢ codes "sync_region" → name ≢ codes "cancel" → body_named name d ≡ None
+pub body_named-none : (name : List ℕ) (d : Data) → name ≢ callback.thread_begin → name ≢ callback.thread_end → name ≢ callback.parallel_begin → name ≢ callback.parallel_end → name ≢ callback.implicit_task → name ≢ callback.task_create → name ≢ callback.dependences → name ≢ callback.task_schedule → name ≢ callback.sync_region → name ≢ callback.cancel → body_named name d ≡ None
 unfolding body_named
 body_named-none name d no0 no1 no2 no3 no4 no5 no6 no7 no8 no9 =
     let other = bytes_eq-other name in

@@ -154,12 +154,12 @@ says-sync_region : (thread seq seen : ℕ) (kind : SyncKind) (endpoint : Endpoin
 unfolding with_member unbounded body_named sync_region
 says-sync_region thread seq seen kind endpoint parallel task = rw (named-sync_kind kind, named-endpoint endpoint, nullable-number_or_null parallel) refl
 
-says-discard : (thread seq seen : ℕ) (flags : CancelFlags) (task : ℕ) (c : Claim) → AreNamed table.cancel_flags flags.0 → has_flag flags.0 0x40 ≡ true
+says-discard : (thread seq seen : ℕ) (flags : CancelFlags) (task : ℕ) (c : Claim) → AreNamed table.cancel_flags flags.0 → has_flag flags.0 table.discarded_task ≡ true
     → Says (of_body thread seq seen (body.Cancel flags task (Some c)))
 unfolding with_member unbounded body_named cancel share claim
 says-discard thread seq seen flags task c named discards = rw (cancel_flags-read flags.0 named, discards, wholes-items_of c.path) refl
 
-says-cancel : (thread seq seen : ℕ) (flags : CancelFlags) (task : ℕ) → AreNamed table.cancel_flags flags.0 → has_flag flags.0 0x40 ≡ false
+says-cancel : (thread seq seen : ℕ) (flags : CancelFlags) (task : ℕ) → AreNamed table.cancel_flags flags.0 → has_flag flags.0 table.discarded_task ≡ false
     → Says (of_body thread seq seen (body.Cancel flags task None))
 unfolding with_member unbounded body_named cancel share
 says-cancel thread seq seen flags task named others = rw (cancel_flags-read flags.0 named, others) refl
@@ -181,9 +181,9 @@ says-body thread seq seen (TaskSchedule status prior next None) sound =
     says-switching thread seq seen status prior next sound.next (sym (is_some-map (λ (part : Part). (prior, part)) (status_part status)) ∙ sym sound.claimed)
 says-body thread seq seen (SyncRegion kind endpoint parallel task) sound = says-sync_region thread seq seen kind endpoint parallel task
 says-body thread seq seen (body.Cancel flags task (Some c)) sound =
-    says-discard thread seq seen flags task c sound.named_cancellation (sym (is_some-cond (has_flag flags.0 0x40) (task, Whole)) ∙ sym sound.claimed)
+    says-discard thread seq seen flags task c sound.named_cancellation (sym (is_some-cond (has_flag flags.0 table.discarded_task) (task, Whole)) ∙ sym sound.claimed)
 says-body thread seq seen (body.Cancel flags task None) sound =
-    says-cancel thread seq seen flags task sound.named_cancellation (sym (is_some-cond (has_flag flags.0 0x40) (task, Whole)) ∙ sym sound.claimed)
+    says-cancel thread seq seen flags task sound.named_cancellation (sym (is_some-cond (has_flag flags.0 table.discarded_task) (task, Whole)) ∙ sym sound.claimed)
 
 pub Says-sound : (r : Record) → IsSound r.body → Says r
 Says-sound r sound = says-body r.thread r.seq r.seen r.body sound

@@ -1,6 +1,6 @@
 -- Why a file of the lines of a trace stands for that trace.
 use Rattle.std.proofs.Common.{◌≡◌, ℕ, suc, ◌+◌, ◌*◌, ◌<◌, ◌≤◌, ◌^◌, Bool, true, false, not, cond, ◌||◌, List, [], ◌∷◌, ◌++◌, length, map, Option, Some, None, is_some, Ok, arith, refl, sym, ap, ◌∙◌, append_assoc, append-nil, length-append}
-use Rattle.std.specs.Prelude.{◌==◌, nat_lt, All, codes}
+use Rattle.std.specs.Prelude.{◌==◌, nat_lt, All}
 use Rattle.std.specs.List.{AllByRecursion}
 use Rattle.std.proofs.lemmas.Bool.{ne_eqb, lt-ltb}
 use Rattle.std.proofs.lemmas.List.Sums.{sum_by-cons, sum_by-append}
@@ -24,6 +24,7 @@ use Rattle.certificate.specs.RecordLines.{line_says, header_says, said_of}
 use Rattle.certificate.specs.Files.{Cut, cut, is_long, has_room, from_line, file_says}
 use Rattle.certificate.proofs.FileLemmas.{IsUnbroken, cut-line}
 use Rattle.certificate.proofs.JsonLemmas.{IsPlain, ArePlain, size, items_size, value_of-compact_text, unbroken-compact_text, length-compact_text}
+use Rattle.certificate.specs.MemberNames as member
 
 pub cut-ended : (lines : List (List ℕ)) → AllByRecursion IsUnbroken lines → cut (ended lines) ≡ record { lines = lines; rest = [] }
 unfolding cut
@@ -147,7 +148,7 @@ has_float-names : (texts : List (List ℕ)) → has_float (names texts) ≡ fals
 has_float-names texts = has_float-items_of string texts (λ _. refl)
 
 has_float-dep : (d : Dep) → has_float (dep_data d) ≡ false
-has_float-dep d = has_float-object_of ((codes "type", string (dep_kind_name d.kind)) ∷ (codes "var", whole_number d.var) ∷ []) (refl, (refl, tt))
+has_float-dep d = has_float-object_of ((member.type, string (dep_kind_name d.kind)) ∷ (member.var, whole_number d.var) ∷ []) (refl, (refl, tt))
 
 has_float-body : (body : Body) → AllByRecursion (λ m. has_float m.1 ≡ false) (body_members body)
 has_float-body (ThreadBegin kind) = (refl, (refl, tt))

@@ -1,6 +1,8 @@
 pub mod Counts
 pub mod Windows
 pub mod FaultNames
+pub mod MemberNames
+pub mod CallbackNames
 pub mod Members
 pub mod RecordLines
 pub mod Texts

@@ -1,5 +1,5 @@
 -- What the members of a line's object say, looked up by name.
-use Rattle.std.specs.Prelude.{ℕ, Bool, List, [], ◌∷◌, Option, Some, None, option_map, option_and_then, codes, if◌then◌else◌}
+use Rattle.std.specs.Prelude.{ℕ, Bool, List, [], ◌∷◌, Option, Some, None, option_map, option_and_then, if◌then◌else◌}
 use Rattle.std.specs.Int.RustNames.{bit_or}
 use Rattle.bitflags.specs.Sets.{find_name}
 use Rattle.serde_json.specs.Data.{Data, null, boolean, number, string, array, object, Items, no_items, item}
@@ -18,6 +18,7 @@ use Rattle.ompt_events.specs.declared.names.ThreadKind.TheVariants.{Initial, Wor
 use Rattle.ompt_events.specs.Names.{status_name, endpoint_name, sync_kind_name, dep_kind_name, thread_kind_name, demands_next}
 use Rattle.ompt_events.specs.Flags as table
 use Rattle.std.specs.Str.{bytes_eq}
+use Rattle.certificate.specs.MemberNames as member
 
 infixl 10 ◌>>=◌
 -- what is read of a value, if there is one; a block of such steps is a `do`
@@ -100,11 +101,14 @@ abbrev pub flags_from : List (List ℕ × ℕ) → ℕ → Items → Option ℕ
 flags_from flags found no_items = Some found
 flags_from flags found (item d ds) = option_and_then (λ bit. flags_from flags (bit_or found bit) ds) (flag_of flags d)
 
+abbrev pub flags : List (List ℕ × ℕ) → List ℕ → Data → Option ℕ
+flags table name d = list name d >>= flags_from table 0
+
 abbrev pub task_flags : List ℕ → Data → Option ℕ
-task_flags name d = list name d >>= flags_from table.task_flags 0
+task_flags = flags table.task_flags
 
 abbrev pub cancel_flags : List ℕ → Data → Option ℕ
-cancel_flags name d = list name d >>= flags_from table.cancel_flags 0
+cancel_flags = flags table.cancel_flags
 
 -- ---- what stands under a condition
 
@@ -126,8 +130,8 @@ path name d = list name d >>= each whole_of
 -- one dependence: how it is used, and the location
 abbrev pub dep_of : Data → Option Dep
 dep_of d = do
-  kind ← dep_kind (codes "type") d
-  var ← whole (codes "var") d
+  kind ← dep_kind member.type d
+  var ← whole member.var d
   Some (record { var = var; kind = kind })
 
 abbrev pub deps : List ℕ → Data → Option (List Dep)

@@ -10,11 +10,14 @@ use Rattle.ompt_events.specs.declared.records.Record.{Record}
 use Rattle.ompt_events.specs.declared.records.Claim.{Claim}
 use Rattle.ompt_events.specs.declared.records.Body.{Body}
 use Rattle.ompt_events.specs.declared.records.Body.TheVariants.{ThreadBegin, ThreadEnd, ParallelBegin, ParallelEnd, ImplicitTask, TaskCreate, Dependences, TaskSchedule, SyncRegion, Cancel}
+use Rattle.ompt_events.specs.Flags as flag
 use Rattle.ompt_events.specs.Flags.{has_flag}
 use Rattle.ompt_events.specs.Names.{status_part}
 use Rattle.certificate.specs.declared.faults.ReadCause.{ReadCause}
 use Rattle.certificate.specs.declared.faults.ReadCause.TheVariants.{Memory, Header, NotJson, Field, Limit}
 use Rattle.certificate.specs.Members.{◌>>=◌, whole, whole_or_null, text, truth, status, endpoint, begin_or_end, sync_kind, thread_kind, task_flags, cancel_flags, next, path, deps}
+use Rattle.certificate.specs.MemberNames as member
+use Rattle.certificate.specs.CallbackNames as callback
 
 -- the JSON value of a line of UTF-8
 abbrev pub value_of : List ℕ → Option Data
@@ -25,7 +28,7 @@ value_of line = if is_utf8 line then read line else None
 -- a thread begins
 unfoldable pub thread_begin : Data → Option Body
 thread_begin d = do
-  kind ← thread_kind (codes "kind") d
+  kind ← thread_kind member.kind d
   Some (ThreadBegin kind)
 
 -- a thread ends
@@ -35,51 +38,51 @@ thread_end d = Some ThreadEnd
 -- a task begins a parallel region
 unfoldable pub parallel_begin : Data → Option Body
 parallel_begin d = do
-  requested ← whole (codes "requested") d
-  task ← whole (codes "task") d
-  parallel ← whole (codes "parallel") d
+  requested ← whole member.requested d
+  task ← whole member.task d
+  parallel ← whole member.parallel d
   Some (ParallelBegin requested task parallel)
 
 -- a task ends a parallel region
 unfoldable pub parallel_end : Data → Option Body
 parallel_end d = do
-  task ← whole (codes "task") d
-  parallel ← whole (codes "parallel") d
+  task ← whole member.task d
+  parallel ← whole member.parallel d
   Some (ParallelEnd task parallel)
 
 -- an initial or implicit task begins or ends
 unfoldable pub implicit_task : Data → Option Body
 implicit_task d = do
-  endpoint ← begin_or_end (codes "endpoint") d
-  actual ← whole (codes "actual") d
-  index ← whole (codes "index") d
-  bits ← task_flags (codes "flags") d
-  parallel ← whole (codes "parallel") d
-  task ← whole (codes "task") d
+  endpoint ← begin_or_end member.endpoint d
+  actual ← whole member.actual d
+  index ← whole member.index d
+  bits ← task_flags member.flags d
+  parallel ← whole member.parallel d
+  task ← whole member.task d
   Some (ImplicitTask endpoint actual index (record { 0 = bits }) parallel task)
 
 -- a task is created
 unfoldable pub task_create : Data → Option Body
 task_create d = do
-  deps ← truth (codes "deps") d
-  bits ← task_flags (codes "flags") d
-  task ← whole (codes "task") d
-  child ← whole (codes "child") d
+  deps ← truth member.deps d
+  bits ← task_flags member.flags d
+  task ← whole member.task d
+  child ← whole member.child d
   Some (TaskCreate deps (record { 0 = bits }) task child)
 
 -- what a task depends on
 unfoldable pub dependences : Data → Option Body
 dependences d = do
-  task ← whole (codes "task") d
-  list ← deps (codes "list") d
+  task ← whole member.task d
+  list ← deps member.list d
   Some (Dependences task list)
 
 -- what a finishing record claims of its task's place
 unfoldable pub claim : Data → Option Claim
 claim d = do
-  kept ← whole (codes "kept") d
-  root ← whole (codes "root") d
-  path ← path (codes "path") d
+  kept ← whole member.kept d
+  root ← whole member.root d
+  path ← path member.path d
   Some (record { kept = kept; root = root; path = path })
 
 -- a claim is read where the record finishes a task, and nowhere else
@@ -89,55 +92,55 @@ share finishes d = if finishes then option_map Some (claim d) else Some None
 -- a task stops running or is fulfilled
 unfoldable pub task_schedule : Data → Option Body
 task_schedule d = do
-  status ← status (codes "status") d
-  prior ← whole (codes "prior") d
-  next ← next status (codes "next") d
+  status ← status member.status d
+  prior ← whole member.prior d
+  next ← next status member.next d
   share ← share (is_some (status_part status)) d
   Some (TaskSchedule status prior next share)
 
 -- a region of synchronisation begins or ends
 unfoldable pub sync_region : Data → Option Body
 sync_region d = do
-  kind ← sync_kind (codes "kind") d
-  endpoint ← endpoint (codes "endpoint") d
-  parallel ← whole_or_null (codes "parallel") d
-  task ← whole (codes "task") d
+  kind ← sync_kind member.kind d
+  endpoint ← endpoint member.endpoint d
+  parallel ← whole_or_null member.parallel d
+  task ← whole member.task d
   Some (SyncRegion kind endpoint parallel task)
 
 -- a task cancels a region or sees it cancelled, or is itself discarded
 unfoldable pub cancel : Data → Option Body
 cancel d = do
-  bits ← cancel_flags (codes "flags") d
-  task ← whole (codes "task") d
-  share ← share (has_flag bits 0x40) d
+  bits ← cancel_flags member.flags d
+  task ← whole member.task d
+  share ← share (has_flag bits flag.discarded_task) d
   Some (Cancel (record { 0 = bits }) task share)
 
 -- the members of a callback, by its name
 unfoldable pub body_named : List ℕ → Data → Option Body
 body_named name d =
-    if bytes_eq name (codes "thread_begin") then thread_begin d
-    else if bytes_eq name (codes "thread_end") then thread_end d
-    else if bytes_eq name (codes "parallel_begin") then parallel_begin d
-    else if bytes_eq name (codes "parallel_end") then parallel_end d
-    else if bytes_eq name (codes "implicit_task") then implicit_task d
-    else if bytes_eq name (codes "task_create") then task_create d
-    else if bytes_eq name (codes "dependences") then dependences d
-    else if bytes_eq name (codes "task_schedule") then task_schedule d
-    else if bytes_eq name (codes "sync_region") then sync_region d
-    else if bytes_eq name (codes "cancel") then cancel d
+    if bytes_eq name callback.thread_begin then thread_begin d
+    else if bytes_eq name callback.thread_end then thread_end d
+    else if bytes_eq name callback.parallel_begin then parallel_begin d
+    else if bytes_eq name callback.parallel_end then parallel_end d
+    else if bytes_eq name callback.implicit_task then implicit_task d
+    else if bytes_eq name callback.task_create then task_create d
+    else if bytes_eq name callback.dependences then dependences d
+    else if bytes_eq name callback.task_schedule then task_schedule d
+    else if bytes_eq name callback.sync_region then sync_region d
+    else if bytes_eq name callback.cancel then cancel d
     else None
 
 abbrev pub body : Data → Option Body
-body d = text (codes "cb") d >>= λ name. body_named name d
+body d = text member.cb d >>= λ name. body_named name d
 
 -- ---- records
 
 -- the record of an object, its numbers without their bounds
 unfoldable pub unbounded : Data → Option Record
 unbounded d = do
-  thread ← whole (codes "thread") d
-  seq ← whole (codes "seq") d
-  seen ← whole (codes "seen") d
+  thread ← whole member.thread d
+  seq ← whole member.seq d
+  seen ← whole member.seen d
   body ← body d
   Some (record { thread = thread; seq = seq; seen = seen; body = body })
 
@@ -184,9 +187,16 @@ line_says line = said_of (value_of line)
 abbrev pub value_or_cause : List ℕ → Result Data ReadCause
 value_or_cause line = ok_or (value_of line) NotJson
 
+-- what the header says
+abbrev pub format_name : List ℕ
+format_name = codes "task-credit-audit"
+
+abbrev pub version_number : ℕ
+version_number = 1
+
 -- the header of a trace file of version 1
 abbrev pub names_format : Data → Bool
-names_format d = option_map_or (λ s. bytes_eq s (codes "task-credit-audit")) (text (codes "format") d) false && option_map_or (λ n. n == 1) (whole (codes "version") d) false
+names_format d = option_map_or (λ s. bytes_eq s format_name) (text member.format d) false && option_map_or (λ n. n == version_number) (whole member.version d) false
 
 abbrev pub is_header : List ℕ → Bool
 is_header line = option_map_or names_format (value_of line) false

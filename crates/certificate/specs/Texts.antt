@@ -1,5 +1,5 @@
 -- The text of a trace: a header, and then a line for each record.
-use Rattle.std.specs.Prelude.{ℕ, ⊤, ◌<◌, ◌^◌, All, IfSome, List, [], ◌∷◌, ◌++◌, map, flat_map, Option, Some, None, codes, if◌then◌else◌}
+use Rattle.std.specs.Prelude.{ℕ, ⊤, ◌<◌, ◌^◌, All, IfSome, List, [], ◌∷◌, ◌++◌, map, flat_map, Option, Some, None, if◌then◌else◌}
 use Rattle.serde_json.specs.Data.{Data, null, boolean, number, string, array, object, unsigned, Members, no_members, put}
 use Rattle.serde_json.specs.View.{items_of}
 use Rattle.serde_json.specs.Written.{compact_text}
@@ -10,6 +10,9 @@ use Rattle.ompt_events.specs.declared.records.Body.TheVariants.{ThreadBegin, Thr
 use Rattle.ompt_events.specs.declared.deps.Dep.{Dep}
 use Rattle.ompt_events.specs.Flags.{task_flags, cancel_flags, has_flag}
 use Rattle.ompt_events.specs.Names.{status_name, endpoint_name, sync_kind_name, dep_kind_name, thread_kind_name}
+use Rattle.certificate.specs.MemberNames as member
+use Rattle.certificate.specs.CallbackNames as callback
+use Rattle.certificate.specs.RecordLines.{format_name, version_number}
 
 -- the members of an object with one more, in the order of their names
 unfoldable pub with_member : List ℕ → Data → Members → Members
@@ -42,36 +45,36 @@ names texts = array (items_of (map string texts))
 -- what a finishing record says of its task's place
 abbrev pub claim_members : Option Claim → List (List ℕ × Data)
 claim_members None = []
-claim_members (Some c) = (codes "kept", whole_number c.kept) ∷ (codes "root", whole_number c.root) ∷ (codes "path", array (items_of (map whole_number c.path))) ∷ []
+claim_members (Some c) = (member.kept, whole_number c.kept) ∷ (member.root, whole_number c.root) ∷ (member.path, array (items_of (map whole_number c.path))) ∷ []
 
 -- one dependence
 abbrev pub dep_data : Dep → Data
-dep_data d = object_of ((codes "type", string (dep_kind_name d.kind)) ∷ (codes "var", whole_number d.var) ∷ [])
+dep_data d = object_of ((member.type, string (dep_kind_name d.kind)) ∷ (member.var, whole_number d.var) ∷ [])
 
 -- the name of the callback, and its arguments
 abbrev pub body_members : Body → List (List ℕ × Data)
-body_members (ThreadBegin kind) = (codes "cb", string (codes "thread_begin")) ∷ (codes "kind", string (thread_kind_name kind)) ∷ []
-body_members ThreadEnd = (codes "cb", string (codes "thread_end")) ∷ []
+body_members (ThreadBegin kind) = (member.cb, string callback.thread_begin) ∷ (member.kind, string (thread_kind_name kind)) ∷ []
+body_members ThreadEnd = (member.cb, string callback.thread_end) ∷ []
 body_members (ParallelBegin requested task parallel) =
-    (codes "cb", string (codes "parallel_begin")) ∷ (codes "requested", whole_number requested) ∷ (codes "task", whole_number task) ∷ (codes "parallel", whole_number parallel) ∷ []
-body_members (ParallelEnd task parallel) = (codes "cb", string (codes "parallel_end")) ∷ (codes "task", whole_number task) ∷ (codes "parallel", whole_number parallel) ∷ []
+    (member.cb, string callback.parallel_begin) ∷ (member.requested, whole_number requested) ∷ (member.task, whole_number task) ∷ (member.parallel, whole_number parallel) ∷ []
+body_members (ParallelEnd task parallel) = (member.cb, string callback.parallel_end) ∷ (member.task, whole_number task) ∷ (member.parallel, whole_number parallel) ∷ []
 body_members (ImplicitTask endpoint actual index flags parallel task) =
-    (codes "cb", string (codes "implicit_task")) ∷ (codes "endpoint", string (endpoint_name endpoint)) ∷ (codes "actual", whole_number actual) ∷ (codes "index", whole_number index)
-    ∷ (codes "flags", names (flag_names task_flags flags.0)) ∷ (codes "parallel", whole_number parallel) ∷ (codes "task", whole_number task) ∷ []
+    (member.cb, string callback.implicit_task) ∷ (member.endpoint, string (endpoint_name endpoint)) ∷ (member.actual, whole_number actual) ∷ (member.index, whole_number index)
+    ∷ (member.flags, names (flag_names task_flags flags.0)) ∷ (member.parallel, whole_number parallel) ∷ (member.task, whole_number task) ∷ []
 body_members (TaskCreate deps flags task child) =
-    (codes "cb", string (codes "task_create")) ∷ (codes "deps", boolean deps) ∷ (codes "flags", names (flag_names task_flags flags.0)) ∷ (codes "task", whole_number task) ∷ (codes "child", whole_number child) ∷ []
-body_members (Dependences task list) = (codes "cb", string (codes "dependences")) ∷ (codes "task", whole_number task) ∷ (codes "list", array (items_of (map dep_data list))) ∷ []
+    (member.cb, string callback.task_create) ∷ (member.deps, boolean deps) ∷ (member.flags, names (flag_names task_flags flags.0)) ∷ (member.task, whole_number task) ∷ (member.child, whole_number child) ∷ []
+body_members (Dependences task list) = (member.cb, string callback.dependences) ∷ (member.task, whole_number task) ∷ (member.list, array (items_of (map dep_data list))) ∷ []
 body_members (TaskSchedule status prior next share) =
-    (codes "cb", string (codes "task_schedule")) ∷ (codes "status", string (status_name status)) ∷ (codes "prior", whole_number prior) ∷ (codes "next", number_or_null next) ∷ claim_members share
+    (member.cb, string callback.task_schedule) ∷ (member.status, string (status_name status)) ∷ (member.prior, whole_number prior) ∷ (member.next, number_or_null next) ∷ claim_members share
 body_members (SyncRegion kind endpoint parallel task) =
-    (codes "cb", string (codes "sync_region")) ∷ (codes "kind", string (sync_kind_name kind)) ∷ (codes "endpoint", string (endpoint_name endpoint))
-    ∷ (codes "parallel", number_or_null parallel) ∷ (codes "task", whole_number task) ∷ []
+    (member.cb, string callback.sync_region) ∷ (member.kind, string (sync_kind_name kind)) ∷ (member.endpoint, string (endpoint_name endpoint))
+    ∷ (member.parallel, number_or_null parallel) ∷ (member.task, whole_number task) ∷ []
 body_members (Cancel flags task share) =
-    (codes "cb", string (codes "cancel")) ∷ (codes "flags", names (flag_names cancel_flags flags.0)) ∷ (codes "task", whole_number task) ∷ claim_members share
+    (member.cb, string callback.cancel) ∷ (member.flags, names (flag_names cancel_flags flags.0)) ∷ (member.task, whole_number task) ∷ claim_members share
 
 -- what its thread says of it, and then the callback
 abbrev pub record_members : Record → List (List ℕ × Data)
-record_members r = (codes "thread", whole_number r.thread) ∷ (codes "seq", whole_number r.seq) ∷ (codes "seen", whole_number r.seen) ∷ body_members r.body
+record_members r = (member.thread, whole_number r.thread) ∷ (member.seq, whole_number r.seq) ∷ (member.seen, whole_number r.seen) ∷ body_members r.body
 
 -- the JSON object of a record
 abbrev pub data_of : Record → Data
@@ -82,7 +85,7 @@ abbrev pub line_of : Record → List ℕ
 line_of r = compact_text (data_of r)
 
 abbrev pub header_members : List (List ℕ × Data)
-header_members = (codes "format", string (codes "task-credit-audit")) ∷ (codes "version", whole_number 1) ∷ []
+header_members = (member.format, string format_name) ∷ (member.version, whole_number version_number) ∷ []
 
 -- the header of version 1
 abbrev pub header_data : Data

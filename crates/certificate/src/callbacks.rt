@@ -8,7 +8,7 @@
 // - `id_or_null`: an id, or none. `next`: the same, where the status says which.
 // - `truth`: true or false.
 // - `status`, `endpoint`, `begin_or_end`, `sync_kind`, `thread_kind`, `dep_kind`: a name.
-// - `task_flags`, `cancel_flags`: a list of names.
+// - `flags`: a list of names.
 // - `path`: a list of numbers of at most 32 bits. `deps`: a list of objects with the members of `Dep`.
 // - `claim`: the members of `Claim`, where the record finishes a task.
 
@@ -56,7 +56,7 @@ macro_rules! members {
                 endpoint: begin_or_end "endpoint",
                 actual: short "actual",
                 index: short "index",
-                flags: task_flags "flags",
+                flags: flags "flags",
                 parallel: id "parallel",
                 task: id "task"
             }
@@ -64,7 +64,7 @@ macro_rules! members {
     };
     (TaskCreate $shape:ident $given:tt) => {
         $shape! {
-            $given TaskCreate { deps: truth "deps", flags: task_flags "flags", task: id "task", child: id "child" }
+            $given TaskCreate { deps: truth "deps", flags: flags "flags", task: id "task", child: id "child" }
         }
     };
     (Dependences $shape:ident $given:tt) => {
@@ -89,7 +89,7 @@ macro_rules! members {
         }
     };
     (Cancel $shape:ident $given:tt) => {
-        $shape! { $given Cancel { flags: cancel_flags "flags", task: id "task", share: claim } }
+        $shape! { $given Cancel { flags: flags "flags", task: id "task", share: claim } }
     };
     (Claim $shape:ident $given:tt) => {
         $shape! { $given Claim { kept: short "kept", root: id "root", path: path "path" } }

@@ -9,8 +9,8 @@ use crate::callbacks::{callbacks, members};
 use crate::faults::ReadCause;
 use crate::lists::{deps, path};
 use crate::members::{
-    begin_or_end, byte, cancel_flags, endpoint, id, id_or_null, next, short, status, sync_kind,
-    task_flags, text, thread_kind, truth,
+    begin_or_end, byte, endpoint, flags, id, id_or_null, next, short, status, sync_kind, text,
+    thread_kind, truth,
 };
 use bitflags::Flags;
 use ompt_events::{Body, CancelFlags, Claim, Record};
@@ -93,12 +93,12 @@ macro_rules! read_cancel {
     (
         ($value:ident $alloc:ident)
         $variant:ident {
-            $flags:ident: cancel_flags $flags_name:literal,
+            $flags:ident: flags $flags_name:literal,
             $task:ident: id $task_name:literal,
             $share:ident: claim
         }
     ) => {{
-        let $flags = cancel_flags($value, $flags_name)?;
+        let $flags: CancelFlags = flags($value, $flags_name)?;
         let $task = id($value, $task_name)?;
         let $share = share($alloc, $value, $flags.contains(CancelFlags::DISCARDED_TASK))?;
         Ok(Body::$variant { $flags, $task, $share })

@@ -2,12 +2,11 @@
 ghost use Rattle.std.specs.Prelude.{◌≡◌, ◌<◌, ◌^◌, ok_or, option_map, Ok, Err, nat_lt, if◌then◌else◌};
 ghost use Rattle.std.specs.Result.{result_map_both};
 ghost use Rattle.serde_json.specs.View.{view, items_view};
-ghost use Rattle.ompt_events.specs.Flags as table;
 ghost use Rattle.certificate.specs.Members as spec;
 
 use crate::faults::ReadCause;
 use bitflags::Flags;
-use ompt_events::{CancelFlags, DepKind, Endpoint, Status, SyncKind, TaskFlags, ThreadKind};
+use ompt_events::{DepKind, Endpoint, Status, SyncKind, ThreadKind};
 use serde_json::Value;
 
 /// A whole number from 0 to 2^64 - 1.
@@ -136,46 +135,26 @@ pub(crate) fn thread_kind(value: &Value, name: &str) -> Result<ThreadKind, ReadC
     ThreadKind::from_name(text(value, name)?).ok_or(ReadCause::Field)
 }
 
-/// The set of a task's flags that the list names, in any order and with repeats.
-pub(crate) fn task_flags(value: &Value, name: &str) -> Result<TaskFlags, ReadCause>
-    ensures { result_map_both (λ flags. flags.0) (λ e. e) result
-        ≡ ok_or (spec.task_flags name.now (view value.now)) ReadCause.Field }
+/// The set of the flags that the list names, in any order and with repeats.
+pub(crate) fn flags<F: Flags>(value: &Value, name: &str) -> Result<F, ReadCause>
+    requires { F.exact }
+    ensures { result_map_both F.set_of (λ e. e) result
+        ≡ ok_or (spec.flags F.table name.now (view value.now)) ReadCause.Field }
 {
     let names = list(value, name)?;
-    let mut flags = TaskFlags(0);
+    let mut flags = F::empty();
     'names: for name in names {
-        flags.insert(task_flag(name)?);
+        flags.insert(flag(name)?);
     }
     Ok(flags)
 }
 
-/// The task's flag that the item names.
-fn task_flag(item: &Value) -> Result<TaskFlags, ReadCause>
-    ensures { result_map_both (λ flags. flags.0) (λ e. e) result
-        ≡ ok_or (spec.flag_of table.task_flags (view item.now)) ReadCause.Field }
+/// The flag that the item names.
+fn flag<F: Flags>(item: &Value) -> Result<F, ReadCause>
+    requires { F.exact }
+    ensures { result_map_both F.set_of (λ e. e) result
+        ≡ ok_or (spec.flag_of F.table (view item.now)) ReadCause.Field }
 {
     let name = item.as_str().ok_or(ReadCause::Field)?;
-    TaskFlags::from_name(name).ok_or(ReadCause::Field)
-}
-
-/// The set of a cancellation's flags that the list names, in any order and with repeats.
-pub(crate) fn cancel_flags(value: &Value, name: &str) -> Result<CancelFlags, ReadCause>
-    ensures { result_map_both (λ flags. flags.0) (λ e. e) result
-        ≡ ok_or (spec.cancel_flags name.now (view value.now)) ReadCause.Field }
-{
-    let names = list(value, name)?;
-    let mut flags = CancelFlags(0);
-    'names: for name in names {
-        flags.insert(cancel_flag(name)?);
-    }
-    Ok(flags)
-}
-
-/// The cancellation's flag that the item names.
-fn cancel_flag(item: &Value) -> Result<CancelFlags, ReadCause>
-    ensures { result_map_both (λ flags. flags.0) (λ e. e) result
-        ≡ ok_or (spec.flag_of table.cancel_flags (view item.now)) ReadCause.Field }
-{
-    let name = item.as_str().ok_or(ReadCause::Field)?;
-    CancelFlags::from_name(name).ok_or(ReadCause::Field)
+    F::from_name(name).ok_or(ReadCause::Field)
 }

@@ -15,11 +15,13 @@ pub struct FromRead<R> {
 }
 
 impl<R> FromRead<R> {
-    ghost use Rattle.certificate.specs.Streams.{reader_of};
+    ghost use Rattle.certificate.specs.Streams.{reader_of, agains_of, source_breaks};
 
-    /// A source that gives what the reader gives.
+    /// A source that gives what the reader gives. It has not failed so far.
     pub fn new(reader: R) -> FromRead<R>
-        ensures { reader_of result ≡ reader }
+        ensures reader { reader_of result ≡ reader }
+        ensures agains { agains_of result ≡ 0 }
+        ensures breaks { source_breaks result ≡ 0 }
     {
         FromRead {
             reader,
@@ -53,11 +55,13 @@ pub struct ToWrite<W> {
 }
 
 impl<W> ToWrite<W> {
-    ghost use Rattle.certificate.specs.Streams.{writer_of};
+    ghost use Rattle.certificate.specs.Streams.{writer_of, stalls_of, sink_breaks};
 
-    /// A sink that hands its bytes to the writer.
+    /// A sink that hands its bytes to the writer. It has not failed so far.
     pub fn new(writer: W) -> ToWrite<W>
-        ensures { writer_of result ≡ writer }
+        ensures writer { writer_of result ≡ writer }
+        ensures stalls { stalls_of result ≡ 0 }
+        ensures breaks { sink_breaks result ≡ 0 }
     {
         ToWrite {
             writer,

@@ -2,13 +2,12 @@
 ghost use Rattle.std.specs.Prelude.{◌≡◌, IfOk, OnOk, map};
 ghost use Rattle.serde_json.specs.Data.{string, array};
 ghost use Rattle.serde_json.specs.View.{view, items_of, members_view};
-ghost use Rattle.ompt_events.specs.Flags as table;
 ghost use Rattle.certificate.specs.Texts.{data_of, line_of, header_data, header_line, record_members, body_members, claim_members, dep_data, with_member, with_members, number_or_null, whole_number, names, flag_names};
 
 use crate::callbacks::{callbacks, members};
 use crate::lines::{FORMAT, VERSION};
 use bitflags::Flags;
-use ompt_events::{Body, CancelFlags, Claim, Dep, Deps, Path, Record, TaskFlags};
+use ompt_events::{Body, Claim, Dep, Deps, Path, Record};
 use serde_json::{Map, Value};
 use std::alloc::{AllocError, Global};
 
@@ -37,11 +36,8 @@ macro_rules! put_member {
     (truth $field:ident $name:literal ($members:ident $alloc:ident)) => {
         put($members, $alloc, $name, Value::from(*$field))?
     };
-    (task_flags $field:ident $name:literal ($members:ident $alloc:ident)) => {
-        put($members, $alloc, $name, task_flags($alloc, *$field)?)?
-    };
-    (cancel_flags $field:ident $name:literal ($members:ident $alloc:ident)) => {
-        put($members, $alloc, $name, cancel_flags($alloc, *$field)?)?
+    (flags $field:ident $name:literal ($members:ident $alloc:ident)) => {
+        put($members, $alloc, $name, flags($alloc, *$field)?)?
     };
     (path $field:ident $name:literal ($members:ident $alloc:ident)) => {
         put($members, $alloc, $name, path($alloc, $field)?)?
@@ -61,7 +57,7 @@ macro_rules! put_member {
 macro_rules! put_variant {
     (($body:ident $given:tt) $variant:ident { $($field:ident: $kind:ident $($name:literal)?),* }) => {{
         let Body::$variant { $($field),* } = $body else {
-            return Ok(());
+            unreachable!()
         };
         $(put_member!($kind $field $($name)? $given);)*
     }};
@@ -177,25 +173,13 @@ fn dep(alloc: Global, item: &Dep) -> Result<Value, AllocError>
     Ok(Value::Object(object))
 }
 
-/// The names of a task's flags.
-fn task_flags(alloc: Global, flags: TaskFlags) -> Result<Value, AllocError>
-    ensures { IfOk result (λ v. view v ≡ names (flag_names table.task_flags flags.0)) }
+/// The names of the flags, in the order of their table.
+fn flags<F: Flags + Copy>(alloc: Global, flags: F) -> Result<Value, AllocError>
+    requires { F.exact }
+    ensures { IfOk result (λ v. view v ≡ names (flag_names F.table (F.set_of flags))) }
 {
     let mut items = Vec::new(alloc);
-    'named: for flag in TaskFlags::flags() {
-        if flags.contains(flag.value) {
-            items.push(Value::try_from_str(alloc, flag.name)?)?;
-        }
-    }
-    Ok(Value::Array(items))
-}
-
-/// The names of a cancellation's flags.
-fn cancel_flags(alloc: Global, flags: CancelFlags) -> Result<Value, AllocError>
-    ensures { IfOk result (λ v. view v ≡ names (flag_names table.cancel_flags flags.0)) }
-{
-    let mut items = Vec::new(alloc);
-    'named: for flag in CancelFlags::flags() {
+    'named: for flag in F::flags() {
         if flags.contains(flag.value) {
             items.push(Value::try_from_str(alloc, flag.name)?)?;
         }

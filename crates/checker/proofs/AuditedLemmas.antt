@@ -16,6 +16,7 @@ use Rattle.ompt_events.specs.declared.names.Endpoint.TheVariants.{Begin, End, Be
 use Rattle.ompt_events.specs.declared.names.SyncKind.{SyncKind}
 use Rattle.ompt_events.specs.declared.names.SyncKind.TheVariants.{Taskwait}
 use Rattle.ompt_events.specs.declared.deps.Dep.{Dep}
+use Rattle.ompt_events.specs.Flags as flag
 use Rattle.ompt_events.specs.Flags.{has_flag}
 use Rattle.ompt_events.specs.Records.{discarded, fulfilled, wait_completed, forked, region_named, dependences, finish, region}
 use Rattle.ompt_events.specs.Places.{at}
@@ -69,7 +70,7 @@ forks_none _ x ok says = none-some x says
 names_no_region : (b : Body) (x : ℕ) → is_audited b ≡ true → region_named b ≡ Some x → ⊥
 names_no_region (ParallelEnd task parallel) x ok says = false≢true ok
 names_no_region (ImplicitTask Begin actual index flags parallel task) x ok says =
-    let initial : has_flag flags.0 0x1 ≡ true = both_left (has_flag flags.0 0x1) (is_host_task flags.0) ok in
+    let initial : has_flag flags.0 flag.initial ≡ true = both_left (has_flag flags.0 flag.initial) (is_host_task flags.0) ok in
     none-some x (rw initial at says)
 names_no_region _ x ok says = none-some x says
 

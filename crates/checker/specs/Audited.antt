@@ -6,15 +6,16 @@ use Rattle.ompt_events.specs.declared.records.Body.TheVariants.{ImplicitTask, Ta
 use Rattle.ompt_events.specs.declared.names.Status.TheVariants.{Complete, Switch}
 use Rattle.ompt_events.specs.declared.names.Endpoint.TheVariants.{Begin, End}
 use Rattle.ompt_events.specs.declared.names.SyncKind.TheVariants.{Taskwait}
+use Rattle.ompt_events.specs.Flags as flag
 use Rattle.ompt_events.specs.Flags.{has_flag}
 
 -- neither a target task nor a taskwait with dependences
 abbrev pub is_host_task : ℕ → Bool
-is_host_task flags = not (has_flag flags 0x8) && not (has_flag flags 0x10)
+is_host_task flags = not (has_flag flags flag.target) && not (has_flag flags flag.taskwait)
 
 -- initial tasks that begin, creations without dependences, completions and switches, and taskwaits
 abbrev pub is_audited : Body → Bool
-is_audited (ImplicitTask Begin actual index flags parallel task) = has_flag flags.0 0x1 && is_host_task flags.0
+is_audited (ImplicitTask Begin actual index flags parallel task) = has_flag flags.0 flag.initial && is_host_task flags.0
 is_audited (TaskCreate deps flags task child) = not deps && is_host_task flags.0
 is_audited (TaskSchedule Complete prior next share) = true
 is_audited (TaskSchedule Switch prior next share) = true

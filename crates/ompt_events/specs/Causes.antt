@@ -10,6 +10,7 @@ use Rattle.ompt_events.specs.declared.names.SyncKind.{SyncKind}
 use Rattle.ompt_events.specs.declared.names.Endpoint.{Endpoint}
 use Rattle.ompt_events.specs.declared.deps.Dep.{Dep}
 use Rattle.ompt_events.specs.CauseNames.{cause_number}
+use Rattle.ompt_events.specs.Flags as flag
 use Rattle.ompt_events.specs.Flags.{has_flag}
 use Rattle.ompt_events.specs.Records.{Membership, made, created, created_with_deps, dependences, started, finish, claim, flags, named, forked, region_named, joined, begun_initial, region}
 use Rattle.ompt_events.specs.Places.{at, thread_at, seen_at, places}
@@ -167,7 +168,7 @@ pub record HasNoOrder (rs : List Record) (i : ℕ) : Type 0 where
 
 -- a task is made that is to run on a device (OpenMP 5.2, 13.8)
 abbrev pub MakesTarget : List Record → ℕ → Type 0
-MakesTarget rs i = (task bits : ℕ) × (at made rs i ≡ Some task) × (at flags rs i ≡ Some bits) × (has_flag bits 0x8 ≡ true)
+MakesTarget rs i = (task bits : ℕ) × (at made rs i ≡ Some task) × (at flags rs i ≡ Some bits) × (has_flag bits flag.target ≡ true)
 
 -- The record has the cause.
 pub data HasCause (rs : List Record) (i : ℕ) : Cause → Type 0 where

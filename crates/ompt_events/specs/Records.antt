@@ -10,6 +10,7 @@ use Rattle.ompt_events.specs.declared.names.Status.TheVariants.{EarlyFulfill, La
 use Rattle.ompt_events.specs.declared.names.Endpoint.{Endpoint}
 use Rattle.ompt_events.specs.declared.names.Endpoint.TheVariants.{Begin, End}
 use Rattle.ompt_events.specs.declared.names.SyncKind.{SyncKind}
+use Rattle.ompt_events.specs.Flags as flag
 use Rattle.ompt_events.specs.Flags.{has_flag}
 use Rattle.ompt_events.specs.Names.{status_part, demands_next}
 
@@ -32,12 +33,12 @@ pub record Membership : Type 0 where
 
 -- the member of a team that begins; with the flag `initial` the task is none
 abbrev pub joined : Body → Option Membership
-joined (ImplicitTask Begin actual index flags parallel task) = if has_flag flags.0 0x1 then None else Some (record { parallel = parallel; actual = actual; index = index; member = task })
+joined (ImplicitTask Begin actual index flags parallel task) = if has_flag flags.0 flag.initial then None else Some (record { parallel = parallel; actual = actual; index = index; member = task })
 joined _ = None
 
 -- the initial task that begins, which is a team of one
 abbrev pub begun_initial : Body → Option ℕ
-begun_initial (ImplicitTask Begin actual index flags parallel task) = if has_flag flags.0 0x1 then Some task else None
+begun_initial (ImplicitTask Begin actual index flags parallel task) = if has_flag flags.0 flag.initial then Some task else None
 begun_initial _ = None
 
 -- the task that begins a parallel region, and the region (19.5.2.3)
@@ -48,7 +49,7 @@ forked _ = None
 -- the parallel region that a record ends (19.5.2.4), or whose team a task joins
 abbrev pub region_named : Body → Option ℕ
 region_named (ParallelEnd task parallel) = Some parallel
-region_named (ImplicitTask Begin actual index flags parallel task) = if has_flag flags.0 0x1 then None else Some parallel
+region_named (ImplicitTask Begin actual index flags parallel task) = if has_flag flags.0 flag.initial then None else Some parallel
 region_named _ = None
 
 -- the task that creates, and the explicit task that it creates (19.5.2.7)
@@ -94,13 +95,13 @@ wait_completed _ = None
 
 -- the task that is discarded before it began (11.5: cancellation of a taskgroup)
 abbrev pub discarded : Body → Option ℕ
-discarded (Cancel flags task share) = if has_flag flags.0 0x40 then Some task else None
+discarded (Cancel flags task share) = if has_flag flags.0 flag.discarded_task then Some task else None
 discarded _ = None
 
 -- the task that is finished, and its part
 abbrev pub finish : Body → Option (ℕ × Part)
 finish (TaskSchedule status prior next share) = option_map (λ part. (prior, part)) (status_part status)
-finish (Cancel flags task share) = if has_flag flags.0 0x40 then Some (task, Whole) else None
+finish (Cancel flags task share) = if has_flag flags.0 flag.discarded_task then Some (task, Whole) else None
 finish _ = None
 
 -- what the record claims of the place of the task that it finishes
@@ -133,7 +134,7 @@ running (ImplicitTask End actual index given parallel task) = Some task
 running (TaskCreate deps given task child) = Some task
 running (TaskSchedule status prior next share) = if demands_next status then Some prior else None
 running (SyncRegion kind endpoint parallel task) = Some task
-running (Cancel given task share) = if has_flag given.0 0x40 then None else Some task
+running (Cancel given task share) = if has_flag given.0 flag.discarded_task then None else Some task
 running _ = None
 
 -- each member that is a task

@@ -9,6 +9,7 @@ use Rattle.ompt_events.specs.declared.names.Status.{Status}
 use Rattle.ompt_events.specs.declared.names.Status.TheVariants as status
 use Rattle.ompt_events.specs.declared.state.State.{State}
 use Rattle.ompt_events.specs.declared.state.State.TheVariants.{Created, Running, Suspended, EarlyRunning, EarlyWaiting, Detached, Done}
+use Rattle.ompt_events.specs.Flags as flag
 use Rattle.ompt_events.specs.Flags.{has_flag}
 use Rattle.ompt_events.specs.Records.{begun_root, started, discarded}
 use Rattle.ompt_events.specs.Places.{at, thread_at, places}
@@ -132,7 +133,7 @@ abbrev pub state_of : Nature → List (ℕ × Move) → Option State
 state_of nature moves = fold (state_after nature) (Some (first_state nature)) moves
 
 abbrev pub creates_wait : ℕ → Body → Bool
-creates_wait task (TaskCreate deps flags parent child) = (child == task) && has_flag flags.0 0x10
+creates_wait task (TaskCreate deps flags parent child) = (child == task) && has_flag flags.0 flag.taskwait
 creates_wait task _ = false
 
 abbrev pub is_made_so : (Body → Bool) → List Record → Bool

@@ -1,5 +1,6 @@
 //! One recorded event.
 ghost use Rattle.std.specs.Prelude.{◌≡◌};
+ghost use Rattle.ompt_events.specs.Flags as flag;
 ghost use Rattle.ompt_events.specs.Flags.{has_flag};
 ghost use Rattle.ompt_events.specs.Records.{begun_root, ended_root, creation, made, started, running, region, discarded, finish};
 
@@ -226,7 +227,7 @@ pub fn finish(event: &Record) -> Option<(u64, Part)>
 
 /// Whether a cancellation discards its task.
 fn discards(flags: CancelFlags) -> bool
-    ensures { result ≡ has_flag flags.0 0x40 }
+    ensures { result ≡ has_flag flags.0 flag.discarded_task }
 {
     flags.contains(CancelFlags::DISCARDED_TASK)
 }

@@ -22,6 +22,9 @@ pub returns-in_ok-put_share-in-TaskSchedule : goal.returns-in_ok-put_share-in-Ta
 unfolding with_member
 returns-in_ok-put_share-in-TaskSchedule c = rw c.in-TaskSchedule-body.is (search rules)
 
+pub returns-in_ok-put_share-in-Cancel : goal.returns-in_ok-put_share-in-Cancel
+returns-in_ok-put_share-in-Cancel c = rw c.in-Cancel-body.is (search rules)
+
 pub returns-in_ok-put_whole-in-SyncRegion : goal.returns-in_ok-put_whole-in-SyncRegion
 returns-in_ok-put_whole-in-SyncRegion c = rw c.in-SyncRegion-body.is (search rules)
 
