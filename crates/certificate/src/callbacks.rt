@@ -1,4 +1,4 @@
-//! The members of each callback's record (OpenMP 5.2, 19.5.2), by the names that they have in a file.
+//! The members of the header and of each callback's record (OpenMP 5.2, 19.5.2), by the names that they have in a file.
 
 // Each table stands once. Its call names the shape that its rows are put into, and what the shape is given.
 //
@@ -11,6 +11,13 @@
 // - `flags`: a list of names.
 // - `path`: a list of numbers of at most 32 bits. `deps`: a list of objects with the members of `Dep`.
 // - `claim`: the members of `Claim`, where the record finishes a task.
+
+// The header: its members, and what each says.
+macro_rules! header {
+    ($shape:ident $given:tt) => {
+        $shape! { $given text "format" = "task-credit-audit", id "version" = 1 }
+    };
+}
 
 // The callbacks: the function that is named like it, its name, and its variant of `Body`.
 macro_rules! callbacks {
@@ -97,4 +104,5 @@ macro_rules! members {
 }
 
 pub(crate) use callbacks;
+pub(crate) use header;
 pub(crate) use members;

@@ -5,7 +5,7 @@ ghost use Rattle.serde_json.specs.View.{view};
 ghost use Rattle.certificate.specs.RecordLines as spec;
 ghost use Rattle.certificate.specs.RecordLines.{IsSaid, bounded};
 
-use crate::callbacks::{callbacks, members};
+use crate::callbacks::{callbacks, header, members};
 use crate::faults::ReadCause;
 use crate::lists::{deps, path};
 use crate::members::{
@@ -16,12 +16,6 @@ use bitflags::Flags;
 use ompt_events::{Body, CancelFlags, Claim, Record};
 use serde_json::Value;
 use std::alloc::Global;
-
-/// The format that the header names.
-pub(crate) const FORMAT: &str = "task-credit-audit";
-
-/// The version that the header names.
-pub(crate) const VERSION: u64 = 1;
 
 // The shapes into which the rows of a callback's members are put. Each member is looked up before any number is
 // brought within its bounds: a member that is missing or of the wrong kind is told before a limit.
@@ -40,6 +34,13 @@ macro_rules! bring_within {
     (thread $found:ident) => { byte($found)? };
     (short $found:ident) => { short($found)? };
     ($kind:ident $found:ident) => { $found };
+}
+
+// Whether each of the header's members says what it must.
+macro_rules! has_header {
+    (($value:ident) $($kind:ident $name:literal = $said:literal),*) => {
+        $($kind($value, $name).is_ok_and(|found| found == $said))&&*
+    };
 }
 
 // A record, whose callback says the rest.
@@ -128,10 +129,7 @@ pub(crate) fn header(alloc: Global, line: &[u8]) -> Result<(), ReadCause>
 fn is_header(value: &Value) -> bool
     ensures { result ≡ spec.names_format (view value.now) }
 {
-    let (Ok(format), Ok(version)) = (text(value, "format"), id(value, "version")) else {
-        return false;
-    };
-    format == FORMAT && version == VERSION
+    header!(has_header(value))
 }
 
 /// The record that a line stands for.

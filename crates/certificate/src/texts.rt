@@ -4,8 +4,7 @@ ghost use Rattle.serde_json.specs.Data.{string, array};
 ghost use Rattle.serde_json.specs.View.{view, items_of, members_view};
 ghost use Rattle.certificate.specs.Texts.{data_of, line_of, header_data, header_line, record_members, body_members, claim_members, dep_data, with_member, with_members, number_or_null, whole_number, names, flag_names};
 
-use crate::callbacks::{callbacks, members};
-use crate::lines::{FORMAT, VERSION};
+use crate::callbacks::{callbacks, header, members};
 use bitflags::Flags;
 use ompt_events::{Body, Claim, Dep, Deps, Path, Record};
 use serde_json::{Map, Value};
@@ -84,6 +83,23 @@ macro_rules! put_struct {
         let $kind_of { $($field,)* .. } = $value;
         $(put_member!($kind $field $name $given);)*
     }};
+}
+
+// A member of the header.
+macro_rules! put_said {
+    (text $name:literal $said:literal ($members:ident $alloc:ident)) => {
+        put_text($members, $alloc, $name, $said)?
+    };
+    (id $name:literal $said:literal ($members:ident $alloc:ident)) => {
+        put_whole($members, $alloc, $name, $said)?
+    };
+}
+
+// The members of the header.
+macro_rules! put_header {
+    ($given:tt $($kind:ident $name:literal = $said:literal),*) => {
+        $(put_said!($kind $name $said $given);)*
+    };
 }
 
 /// One more member, of any value.
@@ -219,10 +235,10 @@ pub(crate) fn line_of(alloc: Global, event: &Record) -> Result<Vec<u8>, AllocErr
 fn header_value(alloc: Global) -> Result<Value, AllocError>
     ensures { IfOk result (λ v. view v ≡ header_data) }
 {
-    let mut members = Map::new(alloc);
-    put_text(&mut members, alloc, "format", FORMAT)?;
-    put_whole(&mut members, alloc, "version", VERSION)?;
-    Ok(Value::Object(members))
+    let mut object = Map::new(alloc);
+    let members = &mut object;
+    header!(put_header (members alloc));
+    Ok(Value::Object(object))
 }
 
 /// The header line, without its line feed.
