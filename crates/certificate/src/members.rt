@@ -135,7 +135,7 @@ pub(crate) fn thread_kind(value: &Value, name: &str) -> Result<ThreadKind, ReadC
     ThreadKind::from_name(text(value, name)?).ok_or(ReadCause::Field)
 }
 
-/// The set of the flags that the list names, in any order and with repeats.
+/// The set of the flags that the list names, in any order and with repeats; of a type that tells its table.
 pub(crate) fn flags<F: Flags>(value: &Value, name: &str) -> Result<F, ReadCause>
     requires { F.exact }
     ensures { result_map_both F.set_of (λ e. e) result

@@ -189,7 +189,7 @@ fn dep(alloc: Global, item: &Dep) -> Result<Value, AllocError>
     Ok(Value::Object(object))
 }
 
-/// The names of the flags, in the order of their table.
+/// The names of the flags, in the order of their table, of a type that tells it.
 fn flags<F: Flags + Copy>(alloc: Global, flags: F) -> Result<Value, AllocError>
     requires { F.exact }
     ensures { IfOk result (λ v. view v ≡ names (flag_names F.table (F.set_of flags))) }
