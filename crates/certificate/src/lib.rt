@@ -22,6 +22,3 @@ pub use memory::{MemSink, MemSource};
 pub use reading::read;
 pub use streams::{FromRead, ToWrite};
 pub use writing::{write, write_bytes};
-
-#[cfg(test)]
-mod tests;

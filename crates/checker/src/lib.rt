@@ -11,8 +11,6 @@ mod regions;
 mod rooted;
 mod schedule;
 mod search;
-#[cfg(test)]
-mod tests;
 mod verdict;
 mod waits;
 

@@ -7,8 +7,6 @@ mod fault;
 pub mod laws;
 mod purse;
 mod share;
-#[cfg(test)]
-mod tests;
 
 pub use fault::CreditFault;
 pub use purse::Purse;

@@ -8,8 +8,6 @@ mod names;
 mod path;
 mod records;
 mod state;
-#[cfg(test)]
-mod tests;
 mod trace;
 
 pub use cause::Cause;

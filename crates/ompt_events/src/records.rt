@@ -231,3 +231,6 @@ fn discards(flags: CancelFlags) -> bool
 {
     flags.contains(CancelFlags::DISCARDED_TASK)
 }
+
+// A record takes at most 96 bytes beside its lists.
+const _: () = prove!(std::mem::size_of::<Record>() <= 96);

@@ -4,8 +4,6 @@
 mod numbering;
 mod table;
 mod targets;
-#[cfg(test)]
-mod tests;
 
 pub use numbering::gap;
 pub use ompt_events::State;

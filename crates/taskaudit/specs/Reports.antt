@@ -71,26 +71,29 @@ report_of rs (Yes order) = yes_text rs
 report_of rs (No i (Unfinished task)) = no_text rs i task
 report_of rs (Malformed i cause) = malformed_text rs i cause
 
--- the text of any want of memory
-abbrev pub no_memory_text : List ℕ
-no_memory_text = codes "out of memory\n"
+-- the text of a fault, one line: any lack of memory has the same
+abbrev pub no_memory_line : List ℕ
+no_memory_line = codes "out of memory"
 
 -- the input could not be read
-abbrev pub unreadable_text : ℕ → ReadCause → List ℕ
-unreadable_text line read.Memory = no_memory_text
-unreadable_text line cause = codes "unreadable: line " ++ (decimal line ++ (codes ": " ++ (decimal (read_cause_number cause) ++ (codes " " ++ (read_cause_name cause ++ codes "\n")))))
+abbrev pub unreadable_line : ℕ → ReadCause → List ℕ
+unreadable_line line read.Memory = no_memory_line
+unreadable_line line cause = codes "unreadable: line " ++ (decimal line ++ (codes ": " ++ (decimal (read_cause_number cause) ++ (codes " " ++ read_cause_name cause))))
 
 -- the report could not be written
-abbrev pub unwritten_text : WriteFault → List ℕ
-unwritten_text write.Memory = no_memory_text
-unwritten_text cause = codes "unwritten: " ++ (decimal (write_fault_number cause) ++ (codes " " ++ (write_fault_name cause ++ codes "\n")))
+abbrev pub unwritten_line : WriteFault → List ℕ
+unwritten_line write.Memory = no_memory_line
+unwritten_line cause = codes "unwritten: " ++ (decimal (write_fault_number cause) ++ (codes " " ++ write_fault_name cause))
 
--- the text of a fault
+abbrev pub fault_line : AuditFault → List ℕ
+fault_line (fault.Read f) = unreadable_line f.line f.cause
+fault_line (fault.Write f) = unwritten_line f
+fault_line (fault.Check check.Memory) = no_memory_line
+fault_line fault.Memory = no_memory_line
+
+-- what is printed of a fault
 abbrev pub fault_text_of : AuditFault → List ℕ
-fault_text_of (fault.Read f) = unreadable_text f.line f.cause
-fault_text_of (fault.Write f) = unwritten_text f
-fault_text_of (fault.Check check.Memory) = no_memory_text
-fault_text_of fault.Memory = no_memory_text
+fault_text_of fault = fault_line fault ++ codes "\n"
 
 -- the kind of a verdict
 abbrev pub outcome_of : Verdict → Outcome

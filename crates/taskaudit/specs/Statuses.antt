@@ -1,5 +1,5 @@
 -- The exit statuses of the program.
-use Rattle.std.specs.Prelude.{ℕ}
+use Rattle.std.specs.Prelude.{ℕ, Result, Ok, Err}
 use Rattle.certificate.specs.declared.faults.ReadCause.{ReadCause}
 use Rattle.certificate.specs.declared.faults.ReadCause.TheVariants as read
 use Rattle.certificate.specs.declared.faults.WriteFault.{WriteFault}
@@ -11,6 +11,9 @@ use Rattle.taskaudit.specs.declared.work.Outcome.{Outcome}
 use Rattle.taskaudit.specs.declared.work.Outcome.TheVariants as outcome
 use Rattle.taskaudit.specs.declared.work.AuditFault.{AuditFault}
 use Rattle.taskaudit.specs.declared.work.AuditFault.TheVariants as fault
+use Rattle.taskaudit.specs.declared.work.Refusal.{Refusal}
+use Rattle.taskaudit.specs.declared.work.Refusal.TheVariants.{NotText, Words, Audit}
+use Rattle.clap.specs.Words.{kind_of}
 
 -- a verdict was given
 abbrev pub outcome_status : Outcome → ℕ
@@ -41,3 +44,10 @@ usage_status_of DisplayHelp = 0
 usage_status_of DisplayVersion = 0
 usage_status_of OutOfMemory = 5
 usage_status_of _ = 4
+
+-- how the program ends
+abbrev pub exit_status_of : Result Outcome Refusal → ℕ
+exit_status_of (Ok outcome) = outcome_status outcome
+exit_status_of (Err NotText) = 4
+exit_status_of (Err (Words error)) = usage_status_of (kind_of error)
+exit_status_of (Err (Audit fault)) = fault_status_of fault

@@ -3,7 +3,7 @@ ghost use Rattle.std.specs.Prelude.{◌≡◌, ◌<◌, ◌≤◌, ◌^◌, IfOk
 ghost use Rattle.ompt_events.specs.Causes.{entries_in};
 ghost use Rattle.checker.specs.Verdicts.{IsVerdict};
 ghost use Rattle.clap.specs.Words.{kind_of};
-ghost use Rattle.taskaudit.specs.Reports.{report_of, fault_text_of, yes_text, no_text, malformed_text, place_text, place_of, ends_wait, waits_for_tasks, creates_in, waits_in, unreadable_text, unwritten_text, no_memory_text};
+ghost use Rattle.taskaudit.specs.Reports.{report_of, fault_text_of, yes_text, no_text, malformed_text, place_text, place_of, ends_wait, waits_for_tasks, creates_in, waits_in};
 ghost use Rattle.taskaudit.specs.Statuses.{fault_status_of, usage_status_of};
 
 use crate::work::AuditFault;
@@ -17,10 +17,10 @@ use std::fmt;
 /// The exit status where the input is not read or the report is not written.
 const NOT_REPORTED: u8 = 3;
 
-/// The exit status where the words of the command line name no work.
+/// The exit status of wrong command-line arguments.
 pub const WRONG_WORDS: u8 = 4;
 
-/// The exit status of any want of memory.
+/// The exit status where memory ran out.
 const NO_MEMORY: u8 = 5;
 
 /// The report of the trace's verdict: one line, with its line feed.
@@ -166,49 +166,12 @@ fn waits_for_tasks(kind: SyncKind) -> bool
     }
 }
 
-/// The text of the fault: one line, with its line feed. Any want of memory has one text.
+/// The text of the fault: one line, with its line feed. Any lack of memory has one text.
 pub fn fault_text(alloc: Global, fault: &AuditFault) -> Result<String, AuditFault>
     ensures text { IfOk result (λ text. string_bytes text ≡ fault_text_of fault.now) }
     ensures memory { IsOkUnless result AuditFault.Memory }
 {
-    let text = match fault {
-        AuditFault::Read(fault) => unreadable_text(alloc, *fault),
-        AuditFault::Write(fault) => unwritten_text(alloc, *fault),
-        AuditFault::Check(CheckFault::Memory) | AuditFault::Memory => no_memory_text(alloc),
-    };
-    text.map_err(|_| AuditFault::Memory)
-}
-
-/// The text of a fault of the input.
-fn unreadable_text(alloc: Global, fault: ReadFault) -> Result<String, AllocError>
-    ensures { IfOk result (λ text. string_bytes text ≡ unreadable_text fault.line fault.cause) }
-{
-    if fault.cause == ReadCause::Memory {
-        return no_memory_text(alloc);
-    }
-    let line = fault.line;
-    let number = fault.cause.number();
-    let name = fault.cause.name();
-    format!(in alloc; "unreadable: line {line}: {number} {name}\n")
-}
-
-/// The text of a fault of the output.
-fn unwritten_text(alloc: Global, fault: WriteFault) -> Result<String, AllocError>
-    ensures { IfOk result (λ text. string_bytes text ≡ unwritten_text fault) }
-{
-    if fault == WriteFault::Memory {
-        return no_memory_text(alloc);
-    }
-    let number = fault.number();
-    let name = fault.name();
-    format!(in alloc; "unwritten: {number} {name}\n")
-}
-
-/// The text of a want of memory.
-fn no_memory_text(alloc: Global) -> Result<String, AllocError>
-    ensures { IfOk result (λ text. string_bytes text ≡ no_memory_text) }
-{
-    String::from_str(alloc, "out of memory\n")
+    format!(in alloc; "{fault}\n").map_err(|_| AuditFault::Memory)
 }
 
 /// The exit status of the program where no verdict is reported.

@@ -1,4 +1,4 @@
-//! The words of the command line.
+//! The command line.
 ghost use Rattle.std.specs.Prelude.{◌≡◌, true, false, map, IfOk, IfErr};
 ghost use Rattle.clap.specs.Words.{app_of, fault_of, kind_of, takes, FailsBy};
 ghost use Rattle.clap.specs.declared.builder.command.Command.TheViews.{out-Command};
@@ -11,36 +11,40 @@ use std::alloc::{AllocError, Global};
 use std::convert::AsStr;
 
 /// What stands below the options in the help.
-const EXPLANATION: &str = r#"Verdicts, one line on standard output:
+const EXPLANATION: &str = r#"Answers, one line on standard output:
   yes: 6 records, 1 entries, 1 tasks, 1 waits
-      each task that a taskwait waits for is complete when the wait ends,
-      in every order of the events that the records allow
+      in every order of the events that the file allows, each task that a
+      taskwait waits for is complete when the wait ends
   no: line 5, thread 0, seq 3: task 2 unfinished
-      the first wait that ended while a task that it waits for was not finished
+      the first wait in the file that ended before a task that it waits for
+      was known to be finished, and that task
   malformed: line 4, thread 0, seq 2: cause 2 CreatedTwice
-      the records are no account of a run, for this cause
+      no real run can produce these events: the cause, and the first event
+      that shows it
 
-Exit status: 0 yes, 1 no, 2 malformed, 3 unreadable or unwritten, 4 wrong words,
-  5 out of memory. Faults are told on standard error.
+Exit status: 0 yes, 1 no, 2 malformed, 3 input not read or answer not written,
+  4 wrong arguments, 5 out of memory. Errors go to standard error.
 
-Input: JSON objects in UTF-8, each on a line of its own that LF ends. The first is
+Input: one JSON object a line, in UTF-8. The first line is
   {"format":"task-credit-audit","version":1}
-and each other one an event of OpenMP's tool interface (OMPT). Its members are
-thread, seq (how many events its thread had before), seen (how many finished tasks
-were known; of an event that finishes one, its number among them), cb, and with cb
+and each other one an event of OpenMP's tool interface (OMPT), with the members
+  cb, thread, seq (0, 1, .. in each thread), seen, and with cb
   implicit_task  endpoint, parallel, task, actual, index, flags
   task_create    task, child, flags, deps
   task_schedule  prior, status, next; with status complete also root, path, kept
   sync_region    kind, endpoint, parallel, task
-These are checked with the statuses complete and switch, for initial tasks that begin, tasks
-without dependences, and taskwaits. Any other event of OMPT is read too; a file that has one
-is told as unreadable, 6 Field, at the line of the first."#;
+seen is how many finished tasks the thread knew of; for an event that finishes a
+task, how many were finished before it. docs/FORMAT.md has the whole format.
 
-/// The job that the words ask for; the first of them is the program's name.
+Supported so far: initial tasks that begin, tasks without dependences, the
+statuses complete and switch, and taskwaits. A file with another event is
+answered 'unreadable: line L: 6 Field', where L is the first such line."#;
+
+/// What the command line asks for; its first word is the program's name.
 pub fn job<'a, S: AsStr>(alloc: Global, words: &'a [S]) -> Result<Job, Error>
     ensures asked { IfOk result (AsksFor (map S.text words.entry.now)) }
 
-    // Words that clap takes are refused for want of memory alone.
+    // Words that clap accepts are refused only where memory runs out.
     ensures passes { IfErr result (λ e. takes command_line (map S.text words.entry.now) ≡ true
         → kind_of e ≡ ErrorKind.OutOfMemory) }
     ensures kinds { FailsBy (fault_of command_line (map S.text words.entry.now)) result }
@@ -58,10 +62,10 @@ fn command<'a>(alloc: Global) -> Result<Command<'a>, AllocError>
     ensures local { IfOk result (λ c. (out-Command c).has_globals ≡ false) }
 {
     let check = Command::new(alloc, "check")
-        .about("Judges the events on standard input")
+        .about("Checks the trace file on standard input")
         .after_help(EXPLANATION);
     Command::new(alloc, "taskaudit")
-        .about("Judges recorded OpenMP tasks: did each wait end only when it was allowed to?")
+        .about("Checks recorded OpenMP tasks: did each wait end only when it was allowed to?")
         .after_help(EXPLANATION)
         .disable_help_subcommand(true)
         .subcommand_required(true)

@@ -2,9 +2,10 @@
 ghost use Rattle.std.specs.Prelude.{◌≡◌};
 ghost use Rattle.taskaudit.specs.Statuses.{outcome_status};
 
-use certificate::{ReadFault, WriteFault};
+use certificate::{ReadCause, ReadFault, WriteFault};
 use checker::{CheckFault, Verdict};
-use thiserror::Error;
+use std::error::Error;
+use std::fmt;
 
 /// What the words of the command line ask for.
 #[derive(Clone, Copy, Debug, PartialEq, Eq)]
@@ -20,7 +21,7 @@ pub enum Outcome {
     Yes,
     /// Some wait ended too early.
     No,
-    /// The records are no account of a run.
+    /// No real run can produce these records.
     Malformed,
 }
 
@@ -50,19 +51,52 @@ impl Outcome {
     }
 }
 
-/// Why no verdict was reported.
-#[derive(Clone, Copy, Debug, PartialEq, Eq, Error)]
+/// Why no verdict was reported. Its text is what the program prints, without the line feed.
+#[derive(Clone, Copy, Debug, PartialEq, Eq)]
 pub enum AuditFault {
     /// The input is not read.
-    #[error("unreadable: {0}")]
     Read(ReadFault),
     /// The report is not written, or not to its end.
-    #[error("unwritten: {0}")]
     Write(WriteFault),
     /// The trace has no verdict.
-    #[error("{0}")]
     Check(CheckFault),
-    /// No memory was found for the report.
-    #[error("out of memory")]
+    /// Out of memory for the report.
     Memory,
+}
+
+impl fmt::Display for AuditFault {
+    ghost use Rattle.std.specs.Prelude.{Some};
+    ghost use Rattle.taskaudit.specs.Reports.{fault_line};
+
+    ghost output = { λ fault. Some (fault_line fault) };
+
+    fn fmt<W: fmt::Write>(&self, f: &mut fmt::Formatter<W>) -> fmt::Result {
+        match self {
+            AuditFault::Read(fault) if fault.cause != ReadCause::Memory => {
+                let line = fault.line;
+                let number = fault.cause.number();
+                let name = fault.cause.name();
+                write!(f, "unreadable: line {line}: {number} {name}")
+            }
+            AuditFault::Write(fault) if *fault != WriteFault::Memory => {
+                let number = fault.number();
+                let name = fault.name();
+                write!(f, "unwritten: {number} {name}")
+            }
+            _ => write!(f, "out of memory"),
+        }
+    }
+}
+
+impl Error for AuditFault {}
+
+/// Why the program gives no verdict.
+#[derive(Drop)]
+pub enum Refusal {
+    /// An argument of the command line is not UTF-8.
+    NotText,
+    /// The arguments name no work: they are wrong, or ask for help.
+    Words(clap::Error),
+    /// The audit has this fault.
+    Audit(AuditFault),
 }

@@ -1,66 +1,36 @@
-//! Times one layer alone: `values` reads each line of standard input as a JSON value and nothing else, `read` reads
-//! the file of records, and `write` reads it and writes it to standard output.
+//! Runs one layer alone on standard input. `bench/` times the words `values`, `read` and `write`; `tests/` compares
+//! what the other words print. Nothing is promised but safety. Begin at `run`.
 #![tactic(auto)]
 
+mod devices;
+mod layers;
+mod lines;
+mod names;
+mod refusals;
+mod shares;
+mod tables;
+mod verdict;
+
 use anyhow::{Result, bail};
-use certificate::{FromRead, ToWrite, read, write};
-use memchr::memchr;
-use serde_json::Value;
-use std::alloc::Global;
 use std::env;
-use std::io::{self, Read};
 
-/// Whether the first `len` bytes of `rest` are a JSON object.
-fn is_object(alloc: Global, rest: &[u8], len: usize) -> Result<bool> {
-    if len > rest.len() {
-        return Ok(false);
-    }
-    let value = Value::from_slice(alloc, &rest[..len])?;
-    Ok(value.is_object())
-}
+const WORDS: &str =
+    "values, read, write, lines, names, tables, shares, devices, refusals or verdict";
 
-/// Reads each line of standard input as a JSON value.
-fn values(rt: &HostRuntime) -> Result<()> {
-    let mut bytes = Vec::new(rt.alloc());
-    rt.reader().read_to_end(&mut bytes)?;
-    let mut at = 0usize;
-    let mut count = 0u64;
-    for _ in 0..u64::MAX {
-        if at >= bytes.len() {
-            break;
-        }
-        let Some(len) = memchr(b'\n', &bytes[at..]) else {
-            break;
-        };
-        if is_object(rt.alloc(), &bytes[at..], len)? {
-            count = count.wrapping_add(1);
-        }
-        at = at.saturating_add(len).saturating_add(1);
-    }
-    println!(rt; "{count} values")?;
-    Ok(())
-}
-
-/// Reads the records of standard input.
-fn records(rt: &HostRuntime) -> Result<()> {
-    match read(rt.alloc(), &mut FromRead::new(rt.reader())) {
-        Ok(trace) => {
-            let count = trace.records().len();
-            println!(rt; "{count} records")?;
-            Ok(())
-        }
-        Err(fault) => bail!("{fault}"),
-    }
-}
-
-/// Reads the records of standard input, and writes them to standard output.
-fn rewrite(rt: &HostRuntime) -> Result<()> {
-    match read(rt.alloc(), &mut FromRead::new(rt.reader())) {
-        Ok(trace) => match write(rt.alloc(), &trace, &mut ToWrite::new(io::writer(rt))) {
-            Ok(()) => Ok(()),
-            Err(fault) => bail!("{fault}"),
-        },
-        Err(fault) => bail!("{fault}"),
+/// Does what the word asks for.
+fn run(rt: &HostRuntime, word: &str) -> Result<()> {
+    match word {
+        "values" => layers::values(rt),
+        "read" => layers::records(rt),
+        "write" => layers::rewrite(rt),
+        "lines" => lines::each(rt),
+        "names" => names::each(rt),
+        "tables" => tables::all(rt),
+        "shares" => shares::each(rt),
+        "devices" => devices::all(rt),
+        "refusals" => refusals::all(rt),
+        "verdict" => verdict::of_input(rt),
+        _ => bail!("the word must be {WORDS}"),
     }
 }
 
@@ -68,12 +38,7 @@ fn main(rt: HostRuntime) -> Result<()> {
     let mut words = env::args(&rt)?;
     let _program = words.next();
     let Some(word) = words.next() else {
-        bail!("the word must be values, read or write");
+        bail!("the word must be {WORDS}");
     };
-    match word.as_str() {
-        "values" => values(&rt),
-        "read" => records(&rt),
-        "write" => rewrite(&rt),
-        _ => bail!("the word must be values, read or write"),
-    }
+    run(&rt, word.as_str())
 }

@@ -1,0 +1,47 @@
+//! One layer of the audit alone, for its time.
+use crate::lines::{input, split_line};
+use anyhow::{Result, bail};
+use certificate::{FromRead, ToWrite, read, write};
+use serde_json::Value;
+use std::io;
+
+/// Reads each line of standard input as a JSON value.
+pub fn values(rt: &HostRuntime) -> Result<()> {
+    let bytes = input(rt)?;
+    let mut rest = bytes.as_slice();
+    let mut count = 0u64;
+    for _ in 0..u64::MAX {
+        let Some((line, behind)) = split_line(rest) else {
+            break;
+        };
+        if Value::from_slice(rt.alloc(), line)?.is_object() {
+            count = count.wrapping_add(1);
+        }
+        rest = behind;
+    }
+    println!(rt; "{count} values")?;
+    Ok(())
+}
+
+/// Reads the records of standard input.
+pub fn records(rt: &HostRuntime) -> Result<()> {
+    match read(rt.alloc(), &mut FromRead::new(rt.reader())) {
+        Ok(trace) => {
+            let count = trace.records().len();
+            println!(rt; "{count} records")?;
+            Ok(())
+        }
+        Err(fault) => bail!("{fault}"),
+    }
+}
+
+/// Reads the records of standard input, and writes them to standard output.
+pub fn rewrite(rt: &HostRuntime) -> Result<()> {
+    match read(rt.alloc(), &mut FromRead::new(rt.reader())) {
+        Ok(trace) => match write(rt.alloc(), &trace, &mut ToWrite::new(io::writer(rt))) {
+            Ok(()) => Ok(()),
+            Err(fault) => bail!("{fault}"),
+        },
+        Err(fault) => bail!("{fault}"),
+    }
+}

@@ -1,0 +1,71 @@
+//! What single lines stand for.
+use anyhow::Result;
+use certificate::{FromRead, ReadFault, ToWrite, read, write};
+use memchr::memchr;
+use std::alloc::Global;
+use std::io::Read;
+
+/// The first line of a trace file.
+const HEADER: &str = "{\"format\":\"task-credit-audit\",\"version\":1}\n";
+
+/// Standard input to its end.
+pub fn input(rt: &HostRuntime) -> Result<Vec<u8>> {
+    let mut bytes = Vec::new(rt.alloc());
+    rt.reader().read_to_end(&mut bytes)?;
+    Ok(bytes)
+}
+
+/// The first line without its line feed, and the bytes after it; none where no line feed is left.
+pub fn split_line(bytes: &[u8]) -> Option<(&[u8], &[u8])> {
+    let at = memchr(b'\n', bytes)?;
+    if at >= bytes.len() {
+        return None;
+    }
+    Some((&bytes[..at], &bytes[at + 1..]))
+}
+
+/// For each line of standard input, as line 2 of a file: the line that is written of its record, or the fault.
+pub fn each(rt: &HostRuntime) -> Result<()> {
+    let bytes = input(rt)?;
+    let mut rest = bytes.as_slice();
+    for _ in 0..u64::MAX {
+        let Some((line, behind)) = split_line(rest) else {
+            break;
+        };
+        let answer = written(rt.alloc(), line)?;
+        println!(rt; "{answer}")?;
+        rest = behind;
+    }
+    Ok(())
+}
+
+/// The line that is written of the record that the line stands for, or the fault.
+fn written(alloc: Global, line: &[u8]) -> Result<String> {
+    let mut file = Vec::from_slice(alloc, HEADER.as_bytes())?;
+    file.extend_from_slice(line)?;
+    file.push(b'\n')?;
+    match read(alloc, &mut FromRead::new(file.as_slice())) {
+        Ok(trace) => {
+            let mut text = Vec::new(alloc);
+            write(alloc, &trace, &mut ToWrite::new(&mut text))?;
+            Ok(last_line(alloc, &text)?)
+        }
+        Err(fault) => Ok(told(alloc, fault)?),
+    }
+}
+
+/// The second line of the text.
+fn last_line(alloc: Global, text: &[u8]) -> Result<String> {
+    let line = split_line(text)
+        .and_then(|(_, behind)| split_line(behind))
+        .map_or(b"".as_slice(), |(line, _)| line);
+    Ok(String::from_utf8_lossy(alloc, line)?)
+}
+
+/// The fault with its line, number and name.
+pub fn told(alloc: Global, fault: ReadFault) -> Result<String> {
+    let number = fault.cause.number();
+    let name = fault.cause.name();
+    let line = fault.line;
+    Ok(format!(in alloc; "line {line}: {number} {name}")?)
+}

@@ -1,0 +1,110 @@
+//! Lists of records that are no trace for a reason that no file has.
+use anyhow::Result;
+use ompt_events::{Body, CancelFlags, Claim, Endpoint, Path, Record, Status, TaskFlags, Trace};
+use std::alloc::{AllocError, Global};
+
+/// Prints of each list where it is refused, and how many records come back.
+pub fn all(rt: &HostRuntime) -> Result<()> {
+    for number in 0..9u8 {
+        let (what, last) = last_record(rt.alloc(), number)?;
+        let mut records = Vec::new(rt.alloc());
+        records.push(begins(TaskFlags::INITIAL, Endpoint::Begin))?;
+        records.push(last)?;
+        match Trace::from_records(records) {
+            Ok(trace) => {
+                let count = trace.records().len();
+                println!(rt; "{what}: a trace of {count}")?;
+            }
+            Err((records, at)) => {
+                let count = records.len();
+                println!(rt; "{what}: refused at {at} of {count}")?;
+            }
+        }
+    }
+    Ok(())
+}
+
+/// A record that stands after the begin of an initial task, and what it shows.
+fn last_record(alloc: Global, number: u8) -> Result<(&'static str, Record), AllocError> {
+    let claim = Claim {
+        kept: 0,
+        root: 1,
+        path: Path::from_vec(Vec::new(alloc)),
+    };
+    Ok(match number {
+        0 => ("every task flag", creates(TaskFlags(0xf800_001f))),
+        1 => ("a task flag without a name", creates(TaskFlags(0x24))),
+        2 => (
+            "such a flag of a task that ends",
+            begins(TaskFlags(0x21), Endpoint::End),
+        ),
+        3 => (
+            "every cancel flag but discarded_task",
+            cancels(CancelFlags(0x3f), None),
+        ),
+        4 => (
+            "a cancel flag without a name",
+            cancels(CancelFlags(0x80), None),
+        ),
+        5 => (
+            "an implicit task that begins and ends at once",
+            begins(TaskFlags::INITIAL, Endpoint::BeginEnd),
+        ),
+        6 => (
+            "a completion without a claim",
+            stops(Status::Complete, None),
+        ),
+        7 => ("a switch with a claim", stops(Status::Switch, Some(claim))),
+        _ => (
+            "a discard without a claim",
+            cancels(CancelFlags::DISCARDED_TASK, None),
+        ),
+    })
+}
+
+/// A record of thread 0.
+fn record(body: Body) -> Record {
+    Record {
+        thread: 0,
+        seq: 0,
+        seen: 0,
+        body,
+    }
+}
+
+fn begins(flags: TaskFlags, endpoint: Endpoint) -> Record {
+    record(Body::ImplicitTask {
+        endpoint,
+        actual: 1,
+        index: 0,
+        flags,
+        parallel: 0,
+        task: 1,
+    })
+}
+
+fn creates(flags: TaskFlags) -> Record {
+    record(Body::TaskCreate {
+        deps: false,
+        flags,
+        task: 1,
+        child: 2,
+    })
+}
+
+fn cancels(flags: CancelFlags, share: Option<Claim>) -> Record {
+    record(Body::Cancel {
+        flags,
+        task: 1,
+        share,
+    })
+}
+
+fn stops(status: Status, share: Option<Claim>) -> Record {
+    record(Body::TaskSchedule {
+        status,
+        prior: 2,
+        next: Some(1),
+        share,
+    })
+}
