@@ -21,7 +21,7 @@ outcome_status outcome.Yes = 0
 outcome_status outcome.No = 1
 outcome_status outcome.Malformed = 2
 
--- the input could not be read: for want of memory, or for another cause
+-- the input could not be read: memory ran out, or another cause
 abbrev pub read_status : ReadCause → ℕ
 read_status read.Memory = 5
 read_status _ = 3
@@ -38,7 +38,7 @@ fault_status_of (fault.Write f) = write_status f
 fault_status_of (fault.Check check.Memory) = 5
 fault_status_of fault.Memory = 5
 
--- the words name no work: help or the version was asked for, memory ran out, or they are wrong
+-- the command line names nothing to do: help or the version was asked for, memory ran out, or it is wrong
 abbrev pub usage_status_of : ErrorKind → ℕ
 usage_status_of DisplayHelp = 0
 usage_status_of DisplayVersion = 0

@@ -72,8 +72,10 @@ fn tell_words<R: Print + Eprint + AllocGlobal>(rt: &R, error: clap::Error) -> Re
         return Refusal::Audit(tell_fault(rt, AuditFault::Memory));
     }
     match error.print(rt) {
-        Ok(()) => Refusal::Words(error),
-        Err(_) => Refusal::Audit(tell_fault(rt, AuditFault::Write(WriteFault::Device))),
+        Err(_) if usage_status(&error) == 0 => {
+            Refusal::Audit(tell_fault(rt, AuditFault::Write(WriteFault::Device)))
+        }
+        _ => Refusal::Words(error),
     }
 }
 

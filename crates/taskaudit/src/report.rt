@@ -186,7 +186,7 @@ pub fn fault_status(fault: &AuditFault) -> u8
     }
 }
 
-/// The exit status of the program where the words of the command line name no work:
+/// The exit status where the command line names nothing to do:
 /// 0 where they ask for help.
 pub fn usage_status(error: &clap::Error) -> u8
     ensures { result ≡ usage_status_of (kind_of error.now) }

@@ -95,7 +95,7 @@ impl Error for AuditFault {}
 pub enum Refusal {
     /// An argument of the command line is not UTF-8.
     NotText,
-    /// The arguments name no work: they are wrong, or ask for help.
+    /// The arguments are wrong, or ask for help.
     Words(clap::Error),
     /// The audit has this fault.
     Audit(AuditFault),
