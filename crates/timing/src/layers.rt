@@ -1,5 +1,5 @@
 //! One layer of the audit alone, for its time.
-use crate::lines::{input, split_line};
+use crate::lines::{input, lines_of};
 use anyhow::{Result, bail};
 use certificate::{FromRead, ToWrite, read, write};
 use serde_json::Value;
@@ -8,16 +8,11 @@ use std::io;
 /// Reads each line of standard input as a JSON value.
 pub fn values(rt: &HostRuntime) -> Result<()> {
     let bytes = input(rt)?;
-    let mut rest = bytes.as_slice();
     let mut count = 0u64;
-    for _ in 0..u64::MAX {
-        let Some((line, behind)) = split_line(rest) else {
-            break;
-        };
-        if Value::from_slice(rt.alloc(), line)?.is_object() {
+    for line in lines_of(rt.alloc(), &bytes)?.iter() {
+        if Value::from_slice(rt.alloc(), *line)?.is_object() {
             count = count.wrapping_add(1);
         }
-        rest = behind;
     }
     println!(rt; "{count} values")?;
     Ok(())

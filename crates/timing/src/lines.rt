@@ -16,7 +16,7 @@ pub fn input(rt: &HostRuntime) -> Result<Vec<u8>> {
 }
 
 /// The first line without its line feed, and the bytes after it; none where no line feed is left.
-pub fn split_line(bytes: &[u8]) -> Option<(&[u8], &[u8])> {
+fn split_line(bytes: &[u8]) -> Option<(&[u8], &[u8])> {
     let at = memchr(b'\n', bytes)?;
     if at >= bytes.len() {
         return None;
@@ -24,17 +24,26 @@ pub fn split_line(bytes: &[u8]) -> Option<(&[u8], &[u8])> {
     Some((&bytes[..at], &bytes[at + 1..]))
 }
 
-/// For each line of standard input, as line 2 of a file: the line that is written of its record, or the fault.
-pub fn each(rt: &HostRuntime) -> Result<()> {
-    let bytes = input(rt)?;
-    let mut rest = bytes.as_slice();
+/// The lines that a line feed ends, without it.
+pub fn lines_of(alloc: Global, bytes: &[u8]) -> Result<Vec<&[u8]>> {
+    let mut lines = Vec::new(alloc);
+    let mut rest = bytes;
     for _ in 0..u64::MAX {
         let Some((line, behind)) = split_line(rest) else {
             break;
         };
-        let answer = written(rt.alloc(), line)?;
-        println!(rt; "{answer}")?;
+        lines.push(line)?;
         rest = behind;
+    }
+    Ok(lines)
+}
+
+/// For each line of standard input, as line 2 of a file: the line that is written of its record, or the fault.
+pub fn each(rt: &HostRuntime) -> Result<()> {
+    let bytes = input(rt)?;
+    for line in lines_of(rt.alloc(), &bytes)?.iter() {
+        let answer = written(rt.alloc(), *line)?;
+        println!(rt; "{answer}")?;
     }
     Ok(())
 }
@@ -56,9 +65,8 @@ fn written(alloc: Global, line: &[u8]) -> Result<String> {
 
 /// The second line of the text.
 fn last_line(alloc: Global, text: &[u8]) -> Result<String> {
-    let line = split_line(text)
-        .and_then(|(_, behind)| split_line(behind))
-        .map_or(b"".as_slice(), |(line, _)| line);
+    let lines = lines_of(alloc, text)?;
+    let line = lines.get(1).copied().unwrap_or(b"".as_slice());
     Ok(String::from_utf8_lossy(alloc, line)?)
 }
 

@@ -1,5 +1,5 @@
 //! Which values have a name.
-use crate::lines::{input, split_line};
+use crate::lines::{input, lines_of};
 use anyhow::Result;
 use bitflags::Flags;
 use certificate::{ReadCause, WriteFault};
@@ -9,46 +9,49 @@ use std::alloc::Global;
 /// For each line of standard input, a name: the values that have it, each with its own name, and what it says by itself.
 pub fn each(rt: &HostRuntime) -> Result<()> {
     let bytes = input(rt)?;
-    let mut rest = bytes.as_slice();
-    for _ in 0..u64::MAX {
-        let Some((line, behind)) = split_line(rest) else {
-            break;
-        };
-        let name = String::from_utf8_lossy(rt.alloc(), line)?;
+    for line in lines_of(rt.alloc(), &bytes)?.iter() {
+        let name = String::from_utf8_lossy(rt.alloc(), *line)?;
         let values = values_named(rt.alloc(), &name)?;
+        let flags = flags_named(rt.alloc(), &name)?;
         let faults = faults_named(rt.alloc(), &name)?;
-        println!(rt; "{name}:{values}{faults}")?;
-        rest = behind;
+        println!(rt; "{name}:{values}{flags}{faults}")?;
     }
     Ok(())
+}
+
+// The value of the type that has the name, with its own name.
+macro_rules! push_named {
+    ($text:ident, $alloc:ident, $name:ident, $($type:ident),*) => {
+        $(if let Some(value) = $type::from_name($name) {
+            let own = value.name();
+            $text.push_str(&format!(in $alloc; " {value:?} {own}")?)?;
+        })*
+    };
+}
+
+// The cause or fault that has the name, with its number and its own name.
+macro_rules! push_numbered {
+    ($text:ident, $alloc:ident, $name:ident, $($what:literal $type:ident),*) => {
+        $(if let Some(value) = $type::from_name($name) {
+            let own = value.name();
+            let number = value.number();
+            let what = $what;
+            $text.push_str(&format!(in $alloc; " {what} {number} {own}")?)?;
+        })*
+    };
 }
 
 /// The values of a record that have the name.
 fn values_named(alloc: Global, name: &str) -> Result<String> {
     let mut text = String::new(alloc);
+    push_named!(
+        text, alloc, name, Status, Endpoint, SyncKind, DepKind, ThreadKind
+    );
     if let Some(status) = Status::from_name(name) {
-        let own = status.name();
         let next = status.demands_next();
         let part = status.part();
-        text.push_str(&format!(in alloc; " {status:?} {own} next {next} part {part:?}")?)?;
+        text.push_str(&format!(in alloc; " next {next} part {part:?}")?)?;
     }
-    if let Some(endpoint) = Endpoint::from_name(name) {
-        let own = endpoint.name();
-        text.push_str(&format!(in alloc; " {endpoint:?} {own}")?)?;
-    }
-    if let Some(kind) = SyncKind::from_name(name) {
-        let own = kind.name();
-        text.push_str(&format!(in alloc; " {kind:?} {own}")?)?;
-    }
-    if let Some(kind) = DepKind::from_name(name) {
-        let own = kind.name();
-        text.push_str(&format!(in alloc; " {kind:?} {own}")?)?;
-    }
-    if let Some(kind) = ThreadKind::from_name(name) {
-        let own = kind.name();
-        text.push_str(&format!(in alloc; " {kind:?} {own}")?)?;
-    }
-    text.push_str(&flags_named(alloc, name)?)?;
     Ok(text)
 }
 
@@ -69,20 +72,6 @@ fn flags_named(alloc: Global, name: &str) -> Result<String> {
 /// The causes and faults that have the name.
 fn faults_named(alloc: Global, name: &str) -> Result<String> {
     let mut text = String::new(alloc);
-    if let Some(cause) = Cause::from_name(name) {
-        let own = cause.name();
-        let number = cause.number();
-        text.push_str(&format!(in alloc; " cause {number} {own}")?)?;
-    }
-    if let Some(cause) = ReadCause::from_name(name) {
-        let own = cause.name();
-        let number = cause.number();
-        text.push_str(&format!(in alloc; " read {number} {own}")?)?;
-    }
-    if let Some(fault) = WriteFault::from_name(name) {
-        let own = fault.name();
-        let number = fault.number();
-        text.push_str(&format!(in alloc; " write {number} {own}")?)?;
-    }
+    push_numbered!(text, alloc, name, "cause" Cause, "read" ReadCause, "write" WriteFault);
     Ok(text)
 }

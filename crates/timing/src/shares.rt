@@ -1,5 +1,5 @@
 //! Shares and a purse, by commands.
-use crate::lines::{input, split_line};
+use crate::lines::{input, lines_of};
 use anyhow::{Result, bail};
 use credit::{Purse, Share};
 use std::alloc::Global;
@@ -8,16 +8,11 @@ use std::alloc::Global;
 /// K for one that is kept and G for one that is given away; `whole` is the share without halves.
 pub fn each(rt: &HostRuntime) -> Result<()> {
     let bytes = input(rt)?;
-    let mut rest = bytes.as_slice();
     let mut purse = Purse::new(rt.alloc());
-    for _ in 0..u64::MAX {
-        let Some((line, behind)) = split_line(rest) else {
-            break;
-        };
-        let text = String::from_utf8_lossy(rt.alloc(), line)?;
+    for line in lines_of(rt.alloc(), &bytes)?.iter() {
+        let text = String::from_utf8_lossy(rt.alloc(), *line)?;
         let answer = answer(rt.alloc(), &mut purse, &text)?;
         println!(rt; "{text}: {answer}")?;
-        rest = behind;
     }
     Ok(())
 }
