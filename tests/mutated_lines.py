@@ -14,11 +14,36 @@ PIECES = [b' ', b'\t', b'\r', b'"', b'\\', b'\\u0061', b',', b':', b'{', b'}', b
           b'"flags":[],', b'"path":[1,2],', b'"seen":1,']
 
 
+def with_a_digit(line, source):
+    """The line with one digit replaced by another."""
+    places = [i for i, b in enumerate(line) if b in b'0123456789']
+    if not places:
+        return line
+    at = source.choice(places)
+    return line[:at] + source.choice([b'0', b'1', b'5', b'9', b'12']) + line[at + 1:]
+
+
+def with_a_space(line, source):
+    """The line with white space beside a sign of JSON's."""
+    places = [i for i, b in enumerate(line) if b in b'{}[],:']
+    if not places:
+        return line
+    at = source.choice(places) + source.randrange(2)
+    return line[:at] + source.choice([b' ', b'\t', b'\r', b'  ']) + line[at:]
+
+
+def with_members_exchanged(line, source):
+    """The line with what stands between two commas moved elsewhere."""
+    parts = line.strip(b'{}').split(b',"')
+    source.shuffle(parts)
+    return b'{"' + b',"'.join(part.lstrip(b'"') for part in parts) + b'}'
+
+
 def changed(line, source):
     """The line with one change: a piece put in, bytes taken out, doubled or exchanged, or a byte replaced."""
     at = source.randrange(len(line) + 1)
     end = min(len(line), at + source.choice([1, 1, 2, 5, 20]))
-    kind = source.randrange(6)
+    kind = source.randrange(12)
     if kind == 0:
         return line[:at] + source.choice(PIECES) + line[at:]
     if kind == 1:
@@ -29,6 +54,12 @@ def changed(line, source):
         return line[:at] + source.choice(PIECES) + line[end:]
     if kind == 4:
         return line[:at] + bytes([source.choice([b for b in range(256) if b != 10])]) + line[at + 1:]
+    if kind in (5, 6):
+        return with_a_digit(line, source)
+    if kind in (7, 8):
+        return with_a_space(line, source)
+    if kind in (9, 10):
+        return with_members_exchanged(line, source)
     other = source.randrange(len(line) + 1)
     first, second = sorted([at, other])
     return line[:first] + line[second:second + 8] + line[first:second] + line[second + 8:]
