@@ -1,6 +1,3 @@
-mod Reading
-mod Ranges
-mod Bodies
 mod AuditedLemmas
 mod NumberMaps
 mod MakerLemmas
@@ -12,7 +9,6 @@ mod RootlessLemmas
 mod LinkLemmas
 mod MergeLemmas
 mod EntryLemmas
-mod OrderLemmas
 mod MergingLemmas
 mod ScheduleLemmas
 mod VerdictLemmas

@@ -16,8 +16,8 @@ use Rattle.checker.specs.Audited.{AreAudited}
 use Rattle.checker.proofs.AuditedLemmas.{no_discard, no_fulfilment}
 use Rattle.checker.specs.Searches.{AreMakers}
 use Rattle.checker.proofs.NumberMaps.{updated_here, updated_there}
-use Rattle.checker.proofs.Reading.{at_within}
-use Rattle.checker.proofs.Bodies.{created_at_made}
+use Rattle.ompt_events.proofs.PlaceLemmas.{at_within}
+use Rattle.ompt_events.proofs.RecordLemmas.{created_at_made}
 
 -- the tasks that were next in the first n records are the keys
 pub record AreStarted (rs : List Record) (n : ℕ) (starts : BTreeMap ℕ ℕ) : Type 0 where

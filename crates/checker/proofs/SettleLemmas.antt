@@ -7,7 +7,7 @@ use Rattle.std.proofs.Math.ListN.{set}
 use Rattle.std.specs.Prelude.{is_some, Contains, map, if◌then◌else◌}
 use Rattle.ompt_events.specs.Tree.{IsRooted, root}
 use Rattle.checker.specs.Searches.{AreMakers}
-use Rattle.checker.proofs.Bodies.{begun_at_made}
+use Rattle.ompt_events.proofs.RecordLemmas.{begun_at_made}
 use Rattle.std.specs.BTreeMap.{BTreeMap}
 use Rattle.ompt_events.specs.declared.records.Record.{Record}
 use Rattle.ompt_events.specs.Records.{begun_root, made}

@@ -1,5 +1,6 @@
 -- What is known of the tasks' chains of parents while they are climbed.
-use Rattle.std.specs.Prelude.{ℕ, ◌≡◌, ◌≢◌, ◌<◌, ◌⊎◌, List, [], ◌∷◌, length, Some, None, true, false, is_some, Bool, Contains, slice_index_or}
+use Rattle.std.specs.Prelude.{ℕ, ◌≡◌, ◌≢◌, ◌<◌, ◌⊎◌, List, length, Some, None, true, false, is_some, Bool, Contains, slice_index_or}
+use Rattle.std.specs.List.{Any}
 use Rattle.std.specs.Ordering.{nat_cmp}
 use Rattle.std.specs.BTreeMap.{BTreeMap, get}
 use Rattle.ompt_events.specs.declared.records.Record.{Record}
@@ -49,5 +50,4 @@ pub record IsSettled (rs : List Record) (makers : BTreeMap ℕ ℕ) (old new : L
 
 -- some of the tasks has no maker
 abbrev pub AnyUnmade : BTreeMap ℕ ℕ → List ℕ → Type 0
-AnyUnmade makers [] = ⊥
-AnyUnmade makers (task ∷ tasks) = (get nat_cmp makers task ≡ None) ⊎ AnyUnmade makers tasks
+AnyUnmade makers tasks = Any (λ task. get nat_cmp makers task ≡ None) tasks

@@ -10,7 +10,7 @@ ghost use Rattle.checker.specs.Searches.{IsFound, AreMakers};
 
 use crate::makers::is_root;
 use crate::search::SearchFault;
-use ompt_events::{Body, Cause, Endpoint, Record};
+use ompt_events::{Body, Cause, Record};
 use std::alloc::{AllocError, Global};
 use std::collections::BTreeMap;
 use std::marker::Model;
@@ -49,26 +49,18 @@ impl ThreadWalk {
     fn advance(&mut self, body: &Body) -> Result<(), AllocError>
         ensures { OnOk result (self.new ≡ after_body self.old body.now) }
     {
-        match body {
-            Body::ImplicitTask {
-                endpoint: Endpoint::Begin,
-                task,
-                ..
-            } => {
-                self.roots.push(*task)?;
-                self.current = Some(*task);
+        if let Some(root) = body.begun_root() {
+            self.roots.push(root)?;
+            self.current = Some(root);
+        }
+        if body.ended_root().is_some() {
+            self.roots.pop();
+            self.current = self.roots.last().copied();
+        }
+        if let Some((status, _, next)) = body.schedule() {
+            if status.demands_next() {
+                self.current = next;
             }
-            Body::ImplicitTask {
-                endpoint: Endpoint::End,
-                ..
-            } => {
-                self.roots.pop();
-                self.current = self.roots.last().copied();
-            }
-            Body::TaskSchedule { status, next, .. } if status.demands_next() => {
-                self.current = *next;
-            }
-            _ => {}
         }
         Ok(())
     }

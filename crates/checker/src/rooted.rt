@@ -1,6 +1,5 @@
 //! Whether each task's chain of parents reaches a root.
-ghost use Rattle.std.specs.Prelude.{◌⊎◌, ◌≡◌, ◌≢◌, ◌<◌, ◌↔◌, ℕ, Some, true, false, is_some, option_map, if◌then◌else◌, IsTrue, IfOk, IfErr, OnOk, length, map};
-ghost use Rattle.std.specs.Option.{option_to_list};
+ghost use Rattle.std.specs.Prelude.{◌⊎◌, ◌≡◌, ◌≢◌, ◌<◌, ◌↔◌, ℕ, Some, true, false, is_some, if◌then◌else◌, IsTrue, IfOk, IfErr, OnOk, length, map};
 ghost use Rattle.ompt_events.specs.declared.cause.Cause.TheVariants.{Rootless};
 ghost use Rattle.ompt_events.specs.Records.{begun_root, creation, named};
 ghost use Rattle.ompt_events.specs.Places.{at};
@@ -10,7 +9,7 @@ ghost use Rattle.checker.specs.Marks.{mark_at, AreMarks, IsClimbed, IsSettled, A
 ghost use Rattle.checker.specs.Audited.{AreAudited};
 
 use crate::search::SearchFault;
-use ompt_events::{Body, Cause, Claim, Record};
+use ompt_events::{Body, Cause, Record};
 use std::alloc::{AllocError, Global};
 use std::collections::BTreeMap;
 
@@ -161,48 +160,8 @@ fn is_marked(mark: Mark, other: Mark) -> bool
 fn names_unmade(body: &Body, makers: &BTreeMap<u64, usize>) -> bool
     ensures { IsTrue result ↔ AnyUnmade makers.now (named body.now) }
 {
-    match body {
-        Body::ParallelBegin { task, .. }
-        | Body::ParallelEnd { task, .. }
-        | Body::ImplicitTask { task, .. }
-        | Body::Dependences { task, .. }
-        | Body::SyncRegion { task, .. } => is_unmade(Some(*task), makers),
-        Body::TaskCreate { task, child, .. } => {
-            is_unmade(Some(*task), makers) || is_unmade(Some(*child), makers)
-        }
-        Body::TaskSchedule {
-            prior,
-            next,
-            share,
-            ..
-        } => {
-            is_unmade(Some(*prior), makers)
-                || is_unmade(*next, makers)
-                || is_unmade(root_of(share), makers)
-        }
-        Body::Cancel { task, share, .. } => {
-            is_unmade(Some(*task), makers) || is_unmade(root_of(share), makers)
-        }
-        Body::ThreadBegin { .. } | Body::ThreadEnd => false,
-    }
-}
-
-/// Whether there is a task, and no record makes it.
-fn is_unmade(task: Option<u64>, makers: &BTreeMap<u64, usize>) -> bool
-    ensures { IsTrue result ↔ AnyUnmade makers.now (option_to_list task) }
-{
-    match task {
-        Some(id) => !makers.contains_key(&id),
-        None => false,
-    }
-}
-
-/// The root that is claimed.
-fn root_of(share: &Option<Claim>) -> Option<u64>
-    ensures { result ≡ option_map (λ c. c.root) share.now }
-{
-    match share {
-        Some(claim) => Some(claim.root),
-        None => None,
-    }
+    body.named()
+        .as_slice()
+        .iter()
+        .any(|task| !makers.contains_key(task))
 }

@@ -91,7 +91,7 @@ fn are_entered_before(records: &[Record]) -> bool
         if event.seen > least {
             return false;
         }
-        if finish(event).is_some() && event.seen < least {
+        if finish(event).is_some() {
             least = event.seen;
         }
     }

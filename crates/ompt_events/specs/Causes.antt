@@ -12,13 +12,14 @@ use Rattle.ompt_events.specs.declared.deps.Dep.{Dep}
 use Rattle.ompt_events.specs.CauseNames.{cause_number}
 use Rattle.ompt_events.specs.Flags as flag
 use Rattle.ompt_events.specs.Flags.{has_flag}
-use Rattle.ompt_events.specs.Records.{Membership, made, created, created_with_deps, dependences, started, finish, claim, flags, named, forked, region_named, joined, begun_initial, region}
-use Rattle.ompt_events.specs.Places.{at, thread_at, seen_at, places}
-use Rattle.ompt_events.specs.Tree.{IsExplicit, IsRooted, HasPath, creates_for}
+use Rattle.ompt_events.specs.declared.records.Membership.{Membership}
+use Rattle.ompt_events.specs.Records.{made, created, created_with_deps, dependences, started, finish, claim, flags, named, forked, region_named, joined, begun_initial, region}
+use Rattle.ompt_events.specs.Places.{at, thread_at, seen_at}
+use Rattle.ompt_events.specs.Tree.{IsExplicit, IsRooted, HasPath, children}
 use Rattle.ompt_events.specs.Threads.{Walk, walk_of, MisfitsAt}
 use Rattle.ompt_events.specs.States.{Move, moves_of, nature_of, state_of}
-use Rattle.ompt_events.specs.Regions.{EndsNoRegion, IsRegion, is_barrier, is_called_barrier, barrier_number, barriers_of}
-use Rattle.ompt_events.specs.Teams.{IsMember, IsInitial, IsTeammate, team_size}
+use Rattle.ompt_events.specs.Regions.{EndsNoRegion, IsRegion, IsBarrierBegin, is_barrier, is_called_barrier}
+use Rattle.ompt_events.specs.Teams.{IsMember, IsInitial, IsTeammate, members, members_before}
 use Rattle.ompt_events.specs.HappensBefore.{IsProgramStep, IsFinishing}
 use Rattle.ompt_events.specs.Linearization.{IsGrounded}
 
@@ -81,18 +82,20 @@ HasNoBegin rs i = (task : ℕ) × (kind : SyncKind) × EndsNoRegion rs i task ki
 abbrev pub HasBarrier : List Record → ℕ → Type 0
 HasBarrier rs i = (task : ℕ) × (kind : SyncKind) × (endpoint : Endpoint) × (at region rs i ≡ Some (task, kind, endpoint)) × (is_called_barrier kind ≡ true) × IsExplicit rs task
 
--- a team or one of its barriers lacks a member
+-- a team or one of its barriers lacks a member (OpenMP 5.2, 10.1 and 15.3)
 pub data IsShort (rs : List Record) (i : ℕ) : Type 0 where
   -- the member's number isn't one of its team
   outside : (m : Membership) → at joined rs i ≡ Some m → m.actual ≤ m.index → IsShort rs i
   -- an earlier member of the team has the same number
-  same_index : (m e : Membership) (k : ℕ) → at joined rs i ≡ Some m → k < i → at joined rs k ≡ Some e → e.parallel ≡ m.parallel → e.index ≡ m.index → IsShort rs i
+  same_index : (m e : Membership) → at joined rs i ≡ Some m → Contains (members_before rs m.parallel i) e → e.index ≡ m.index → IsShort rs i
   -- an earlier member names another size of the team
-  other_size : (m e : Membership) (k : ℕ) → at joined rs i ≡ Some m → k < i → at joined rs k ≡ Some e → e.parallel ≡ m.parallel → e.actual ≢ m.actual → IsShort rs i
+  other_size : (m e : Membership) → at joined rs i ≡ Some m → Contains (members_before rs m.parallel i) e → e.actual ≢ m.actual → IsShort rs i
   -- the team has fewer members than its size
-  few : (m : Membership) → at joined rs i ≡ Some m → team_size rs m.parallel < m.actual → IsShort rs i
-  -- a barrier ends that a member of the team doesn't begin
-  missed : (task member begin : ℕ) (kind : SyncKind) → IsRegion rs i task kind begin → is_barrier kind ≡ true → IsTeammate rs task member → barriers_of rs member ≤ barrier_number rs task begin → IsShort rs i
+  few : (m : Membership) → at joined rs i ≡ Some m → length (members rs m.parallel) < m.actual → IsShort rs i
+  -- a barrier ends that a member of the team doesn't begin: the member has no barrier of the same number (15.3)
+  missed : (task member begin number : ℕ) (kind : SyncKind) → IsRegion rs i task kind begin → is_barrier kind ≡ true
+      → IsBarrierBegin rs task number begin → IsTeammate rs task member
+      → ((start : ℕ) → IsBarrierBegin rs member number start → ⊥) → IsShort rs i
 
 -- where the thread of the record stands before it
 abbrev pub IsWalkAt : List Record → ℕ → Walk → Type 0
@@ -127,14 +130,10 @@ pub data HasMisplacedDeps (rs : List Record) (i : ℕ) : Type 0 where
   stray : is_some (at dependences rs i) ≡ true → ((a : ℕ) → AreFollowed rs a i → ⊥) → HasMisplacedDeps rs i
   missing : is_some (at created_with_deps rs i) ≡ true → ((b : ℕ) → AreFollowed rs i b → ⊥) → HasMisplacedDeps rs i
 
--- how many children the task created
-abbrev pub children_of : List Record → ℕ → ℕ
-children_of rs task = count_by (creates_for rs task) (places rs)
-
 -- the claim is right: the task stands there below its root, and has so many children
 pub record IsRightClaim (rs : List Record) (task : ℕ) (claimed : Claim) : Type 0 where
   pub stands : HasPath rs claimed.root task claimed.path
-  pub children : claimed.kept ≡ children_of rs task
+  pub kept : claimed.kept ≡ length (children rs task)
 
 -- a task is finished with a claim that isn't right
 abbrev pub HasWrongShare : List Record → ℕ → Type 0

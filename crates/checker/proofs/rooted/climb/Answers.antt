@@ -7,7 +7,7 @@ use Rattle.ompt_events.specs.Records.{creation}
 use Rattle.ompt_events.specs.Places.{at}
 use Rattle.checker.specs.declared.rooted.Mark.TheVariants.{Unknown}
 use Rattle.checker.specs.Marks.{mark_at}
-use Rattle.checker.proofs.Reading.{at_index}
+use Rattle.ompt_events.proofs.PlaceLemmas.{at_index}
 use Rattle.checker.proofs.MarkLemmas.{climbing_creates, climbed_unmade, climbing_more, climbed_marked, mark_read}
 use Rattle.checker.proofs.rooted.climb.Goals as goal
 

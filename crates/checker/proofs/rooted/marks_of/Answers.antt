@@ -3,7 +3,7 @@ use Rattle.std.proofs.lemmas.Bool.{false≢true}
 use Rattle.std.specs.Prelude.{is_some}
 use Rattle.ompt_events.specs.Records.{creation}
 use Rattle.ompt_events.specs.Places.{at}
-use Rattle.checker.proofs.Reading.{at_read}
+use Rattle.ompt_events.proofs.PlaceLemmas.{at_read}
 use Rattle.checker.proofs.MarkLemmas.{creates_within}
 use Rattle.checker.proofs.SettleLemmas.{marks_first}
 use Rattle.checker.proofs.rooted.marks_of.Goals as goal
