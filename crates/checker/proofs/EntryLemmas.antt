@@ -10,7 +10,7 @@ use Rattle.ompt_events.specs.declared.records.Record.{Record}
 use Rattle.ompt_events.specs.Records.{finish}
 use Rattle.ompt_events.specs.Places.{at, seen_at}
 use Rattle.ompt_events.specs.HappensBefore.{IsFinishing}
-use Rattle.checker.specs.Merging.{Stands, IsLeastEntry, AreEntries}
+use Rattle.checker.specs.Merge.{Stands, IsLeastEntry, AreEntries}
 use Rattle.ompt_events.proofs.HappensBeforeLemmas.{finishing_within}
 
 -- the entries of the first n records

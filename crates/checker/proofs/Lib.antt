@@ -2,11 +2,11 @@ mod AuditedLemmas
 mod NumberMaps
 mod MakerLemmas
 mod HomeLemmas
-mod WalkLemmas
-mod MarkLemmas
+mod CurrentLemmas
+mod RootedLemmas
 mod SettleLemmas
 mod RootlessLemmas
-mod LinkLemmas
+mod RegionLemmas
 mod MergeLemmas
 mod EntryLemmas
 mod MergingLemmas

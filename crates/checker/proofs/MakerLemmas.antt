@@ -12,7 +12,7 @@ use Rattle.ompt_events.specs.Places.{at}
 use Rattle.ompt_events.specs.Tree.{IsRoot, IsExplicit}
 use Rattle.ompt_events.specs.Causes.{IsMadeAgain, HasCause, created_twice, forked_twice, IsFirstWith, IsFreeOf}
 use Rattle.checker.specs.Audited.{AreAudited}
-use Rattle.checker.specs.Searches.{AreMakers}
+use Rattle.checker.specs.Search.{AreMakers}
 use Rattle.checker.proofs.AuditedLemmas.{no_fork}
 use Rattle.checker.proofs.NumberMaps.{updated_here, updated_there}
 use Rattle.ompt_events.proofs.PlaceLemmas.{at_within}

@@ -17,8 +17,8 @@ use Rattle.ompt_events.specs.HappensBefore.{step}
 use Rattle.ompt_events.specs.declared.cause.Cause.TheVariants.{NoOrder}
 use Rattle.ompt_events.specs.Causes.{HasCause, no_order, HasNoOrder, IsFirstWith}
 use Rattle.ompt_events.specs.Linearization.{IsDue, IsReady, IsFirstReady, IsGreedy, IsGrounded, IsLinearization}
-use Rattle.checker.specs.Merging.{Stands, MayFollow, AreHeads, AreFirstHeads}
-use Rattle.checker.proofs.MarkLemmas.{contains_none}
+use Rattle.checker.specs.Merge.{Stands, MayFollow, AreHeads, AreFirstHeads}
+use Rattle.checker.proofs.RootedLemmas.{contains_none}
 use Rattle.checker.proofs.MergeLemmas.{stands_or_not, is_head}
 use Rattle.ompt_events.proofs.LinearizationLemmas.{IsClosed, due_from_steps, closed_more, greedy_more, greedy_grounded, grounded_rising}
 use Rattle.ompt_events.proofs.HappensBeforeLemmas.{before_to, before_from}

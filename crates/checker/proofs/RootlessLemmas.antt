@@ -13,9 +13,9 @@ use Rattle.ompt_events.specs.Causes.{IsMade, HasNoRoot, unmade, unrooted, no_reg
 use Rattle.checker.specs.declared.rooted.Mark.{Mark}
 use Rattle.checker.specs.declared.rooted.Mark.TheVariants.{Unknown, Rooted, Unrooted}
 use Rattle.checker.specs.Audited.{AreAudited}
-use Rattle.checker.specs.Searches.{AreMakers}
+use Rattle.checker.specs.Search.{AreMakers}
 use Rattle.checker.proofs.AuditedLemmas.{no_region_named}
-use Rattle.checker.specs.Marks.{mark_at, AreMarks, AnyUnmade}
+use Rattle.checker.specs.Rooted.{mark_at, AreMarks, AnyUnmade}
 use Rattle.ompt_events.proofs.PlaceLemmas.{at_within, read_get}
 use Rattle.ompt_events.proofs.RecordLemmas.{begun_at_made, created_at_made, creation_at_created, created_at_creation}
 

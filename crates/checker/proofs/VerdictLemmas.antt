@@ -21,7 +21,7 @@ use Rattle.ompt_events.specs.Causes.{IsFreeOf, no_order, IsMalformed, IsWellForm
 use Rattle.checker.specs.declared.search.SearchFault.{SearchFault}
 use Rattle.checker.specs.declared.search.SearchFault.TheVariants.{Memory, Malformed}
 use Rattle.checker.specs.Verdicts.{sought, IsAlwaysComplete}
-use Rattle.checker.specs.Searches.{IsFound, IsLeastFound}
+use Rattle.checker.specs.Search.{IsFound, IsLeastFound}
 use Rattle.std.proofs.lemmas.List.{length-take, get_or-take}
 use Rattle.std.proofs.lemmas.List.FromFn.{length-range_with_len, get_or-range_with_len}
 use Rattle.std.proofs.lemmas.List.Sorted.{IsPermutation-refl}

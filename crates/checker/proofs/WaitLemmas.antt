@@ -25,7 +25,7 @@ use Rattle.ompt_events.proofs.TreeLemmas.{child_before, before_child}
 use Rattle.ompt_events.specs.Violations.{IsRequired, covered, preceding, awaited, IsUnfinished, IsFirstUnfinished}
 use Rattle.ompt_events.specs.Causes.{created_twice, IsFreeOf}
 use Rattle.checker.specs.Audited.{AreAudited}
-use Rattle.checker.specs.Links.{AreLinked}
+use Rattle.checker.specs.Regions.{AreLinked}
 use Rattle.checker.specs.Waits.{length_of, latest_of, AreDone, IsRaised, AreLimits, IsLateAt, IsFirstLate, IsFirstCreated}
 use Rattle.ompt_events.proofs.PlaceLemmas.{at_read, at_within}
 use Rattle.checker.proofs.AuditedLemmas.{only_whole, only_waits, no_wait_completed, no_dependences}

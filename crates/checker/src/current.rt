@@ -6,7 +6,7 @@ ghost use Rattle.ompt_events.specs.Tree.{IsRoot};
 ghost use Rattle.ompt_events.specs.Threads.{Misfits, at_start, after_body};
 ghost use Rattle.ompt_events.specs.Causes.{IsFreeOf};
 ghost use Rattle.checker.specs.Audited.{is_audited, AreAudited};
-ghost use Rattle.checker.specs.Searches.{IsFound, AreMakers};
+ghost use Rattle.checker.specs.Search.{IsFound, AreMakers};
 
 use crate::makers::is_root;
 use crate::search::SearchFault;
@@ -98,7 +98,8 @@ fn differs(task: Option<u64>, from: Option<u64>) -> bool
 /// The root that runs next, if one does.
 fn root_start(records: &[Record], makers: &BTreeMap<u64, usize>, body: &Body) -> Option<u64>
     requires { AreMakers records.now (length records.now) makers.now }
-    ensures { (task : ℕ) → (result ≡ Some task) ↔ ((started body.now ≡ Some task) × IsRoot records.now task) }
+    ensures { (task : ℕ) → (result ≡ Some task)
+        ↔ ((started body.now ≡ Some task) × IsRoot records.now task) }
 {
     match body.started() {
         Some(task) => {

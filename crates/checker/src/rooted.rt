@@ -4,8 +4,8 @@ ghost use Rattle.ompt_events.specs.declared.cause.Cause.TheVariants.{Rootless};
 ghost use Rattle.ompt_events.specs.Records.{begun_root, creation, named};
 ghost use Rattle.ompt_events.specs.Places.{at};
 ghost use Rattle.ompt_events.specs.Causes.{IsFreeOf};
-ghost use Rattle.checker.specs.Searches.{IsFound, AreMakers};
-ghost use Rattle.checker.specs.Marks.{mark_at, AreMarks, IsClimbed, IsSettled, AnyUnmade};
+ghost use Rattle.checker.specs.Search.{IsFound, AreMakers};
+ghost use Rattle.checker.specs.Rooted.{mark_at, AreMarks, IsClimbed, IsSettled, AnyUnmade};
 ghost use Rattle.checker.specs.Audited.{AreAudited};
 
 use crate::search::SearchFault;
@@ -24,8 +24,8 @@ pub(crate) enum Mark {
     Unrooted,
 }
 
-/// Searches for the first record that names a task which no record makes, or that creates a task whose chain of parents
-/// reaches no root.
+/// Searches for the first record that names a task which no record makes, or that creates a task whose
+/// chain of parents reaches no root.
 pub(crate) fn find_rootless(
     alloc: Global,
     records: &[Record],
@@ -63,7 +63,8 @@ fn marks_of(
 ) -> Result<Vec<Mark>, AllocError>
     requires { AreMakers records.now (length records.now) makers.now }
     ensures marks { IfOk result (λ marks. AreMarks records.now makers.now marks.items) }
-    ensures known { IfOk result (λ marks. (i : ℕ) → is_some (at creation records.now i) ≡ true → mark_at marks.items i ≢ Mark.Unknown) }
+    ensures known { IfOk result (λ marks. (i : ℕ) → is_some (at creation records.now i) ≡ true
+        → mark_at marks.items i ≢ Mark.Unknown) }
 {
     let mut marks = root_marks(alloc, records)?;
     for (at, event) in records.iter().enumerate() {
@@ -76,7 +77,8 @@ fn marks_of(
 
 /// The roots are rooted, and of the other tasks nothing is known yet.
 fn root_marks(alloc: Global, records: &[Record]) -> Result<Vec<Mark>, AllocError>
-    ensures { IfOk result (λ marks. marks.items ≡ map (λ r. if is_some (begun_root r.body) then Mark.Rooted else Mark.Unknown) records.now) }
+    ensures { IfOk result (λ marks. marks.items ≡ map (λ r. if is_some
+        (begun_root r.body) then Mark.Rooted else Mark.Unknown) records.now) }
 {
     records
         .iter()
@@ -117,9 +119,9 @@ fn settle(
     Ok(())
 }
 
-/// Climbs from the task that is created at `from` to the first one that has a mark, or has no parent that is made.
-/// Gives the places on the way, which are marked as unrooted for now, so that a circle ends,
-/// and whether the climb reached a root.
+/// Climbs from the task that is created at `from` to the first one that has a mark, or has no parent that
+/// is made. Gives the places on the way, which are marked as unrooted for now, so that a circle ends, and
+/// whether the climb reached a root.
 fn climb(
     alloc: Global,
     records: &[Record],

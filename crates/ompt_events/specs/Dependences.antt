@@ -9,7 +9,8 @@ use Rattle.ompt_events.specs.Tree.{IsChild}
 
 -- the task has this dependence
 abbrev pub DependsOn : List Record → ℕ → Dep → Type 0
-DependsOn rs task dep = (i : ℕ) × (list : List Dep) × (at dependences rs i ≡ Some (task, list)) × Contains list dep
+DependsOn rs task dep =
+    (i : ℕ) × (list : List Dep) × (at dependences rs i ≡ Some (task, list)) × Contains list dep
 
 -- the predecessor is a sibling that was created before the task, with an item that conflicts
 -- with one of the task's at the same location

@@ -29,12 +29,14 @@ ended_root _ = None
 -- the member of a team that begins; with the flag `initial` the task is none
 abbrev pub joined : Body → Option Membership
 joined (ImplicitTask Begin actual index flags parallel task) =
-    if has_flag flags.0 flag.initial then None else Some (record { parallel = parallel; actual = actual; index = index; member = task })
+    if has_flag flags.0 flag.initial then None
+    else Some (record { parallel = parallel; actual = actual; index = index; member = task })
 joined _ = None
 
 -- the initial task that begins, which is a team of one
 abbrev pub begun_initial : Body → Option ℕ
-begun_initial (ImplicitTask Begin actual index flags parallel task) = if has_flag flags.0 flag.initial then Some task else None
+begun_initial (ImplicitTask Begin actual index flags parallel task) =
+    if has_flag flags.0 flag.initial then Some task else None
 begun_initial _ = None
 
 -- the task that begins a parallel region, and the region (19.5.2.3)
@@ -45,7 +47,8 @@ forked _ = None
 -- the parallel region that a record ends (19.5.2.4), or whose team a task joins
 abbrev pub region_named : Body → Option ℕ
 region_named (ParallelEnd task parallel) = Some parallel
-region_named (ImplicitTask Begin actual index flags parallel task) = if has_flag flags.0 flag.initial then None else Some parallel
+region_named (ImplicitTask Begin actual index flags parallel task) =
+    if has_flag flags.0 flag.initial then None else Some parallel
 region_named _ = None
 
 -- the task that creates, and the explicit task that it creates (19.5.2.7)
@@ -145,7 +148,8 @@ named (ParallelEnd task parallel) = task ∷ []
 named (ImplicitTask endpoint actual index given parallel task) = task ∷ []
 named (TaskCreate deps given task child) = task ∷ child ∷ []
 named (Dependences task list) = task ∷ []
-named (TaskSchedule status prior next share) = prior ∷ option_to_list next ++ option_to_list (option_map (λ (c : Claim). c.root) share)
+named (TaskSchedule status prior next share) =
+    prior ∷ option_to_list next ++ option_to_list (option_map (λ (c : Claim). c.root) share)
 named (SyncRegion kind endpoint parallel task) = task ∷ []
 named (Cancel given task share) = task ∷ option_to_list (option_map (λ (c : Claim). c.root) share)
 named _ = []

@@ -33,7 +33,8 @@ pub record EndsRegion (rs : List Record) (i task : ℕ) (kind : SyncKind) (begin
   pub innermost : slice_get (open_regions rs task i) 0 ≡ Some begin
   pub same_kind : kind_at rs begin ≡ Some kind
 
--- a region of this kind, of the task, ends at i; it began at the place begin, which is i itself for a begin and end in one
+-- a region of this kind, of the task, ends at i; it began at the place begin, which is i itself for a begin
+-- and end in one
 pub data IsRegion (rs : List Record) (i task : ℕ) (kind : SyncKind) : ℕ → Type 0 where
   ended : {begin : ℕ} → EndsRegion rs i task kind begin → IsRegion rs i task kind begin
   at_once : at region rs i ≡ Some (task, kind, BeginEnd) → IsRegion rs i task kind i

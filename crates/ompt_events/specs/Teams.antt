@@ -8,7 +8,8 @@ use Rattle.ompt_events.specs.Places.{at}
 
 -- the members of the parallel region's team that began before the place i, in file order
 abbrev pub members_before : List Record → ℕ → ℕ → List Membership
-members_before rs parallel i = filter (λ (m : Membership). m.parallel == parallel) (filter_map (at joined rs) (range_with_len 0 i))
+members_before rs parallel i =
+    filter (λ (m : Membership). m.parallel == parallel) (filter_map (at joined rs) (range_with_len 0 i))
 
 -- all members of the team
 abbrev pub members : List Record → ℕ → List Membership
@@ -24,4 +25,5 @@ IsInitial rs task = (i : ℕ) × (at begun_initial rs i ≡ Some task)
 -- the other task is in the task's team; an initial task is a team of one
 pub data IsTeammate (rs : List Record) (task : ℕ) : ℕ → Type 0 where
   alone : IsInitial rs task → IsTeammate rs task task
-  together : (parallel : ℕ) (own other : Membership) → Contains (members rs parallel) own → own.member ≡ task → Contains (members rs parallel) other → IsTeammate rs task other.member
+  together : (parallel : ℕ) (own other : Membership) → Contains (members rs parallel) own
+      → own.member ≡ task → Contains (members rs parallel) other → IsTeammate rs task other.member

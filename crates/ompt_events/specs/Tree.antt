@@ -25,11 +25,13 @@ pub data IsRooted (rs : List Record) : ℕ → Type 0 where
 -- the children of the ancestor, and the children of its descendants
 pub data IsDescendant (rs : List Record) (ancestor : ℕ) : ℕ → Type 0 where
   child : (i : ℕ) {task : ℕ} → IsCreatedAt rs i ancestor task → IsDescendant rs ancestor task
-  deeper : (i : ℕ) {parent task : ℕ} → IsDescendant rs ancestor parent → IsCreatedAt rs i parent task → IsDescendant rs ancestor task
+  deeper : (i : ℕ) {parent task : ℕ} → IsDescendant rs ancestor parent → IsCreatedAt rs i parent task
+      → IsDescendant rs ancestor task
 
 -- the child that the record creates for the task
 abbrev pub child_at : List Record → ℕ → ℕ → Option ℕ
-child_at rs parent i = option_and_then (λ (p : ℕ × ℕ). if p.0 == parent then Some p.1 else None) (at creation rs i)
+child_at rs parent i =
+    option_and_then (λ (p : ℕ × ℕ). if p.0 == parent then Some p.1 else None) (at creation rs i)
 
 -- the children that the task created before the place i, in the order in which it created them
 abbrev pub children_before : List Record → ℕ → ℕ → List ℕ
@@ -54,4 +56,5 @@ IsChild rs parent number task = slice_get (children rs parent) number ≡ Some t
 -- the task stands below the root at this path, the numbers of the children from the root down
 pub data HasPath (rs : List Record) (root : ℕ) : ℕ → List ℕ → Type 0 where
   top : IsRoot rs root → HasPath rs root root []
-  below : (number : ℕ) {parent task : ℕ} {path : List ℕ} → HasPath rs root parent path → IsChild rs parent number task → HasPath rs root task (path ++ number ∷ [])
+  below : (number : ℕ) {parent task : ℕ} {path : List ℕ} → HasPath rs root parent path
+      → IsChild rs parent number task → HasPath rs root task (path ++ number ∷ [])

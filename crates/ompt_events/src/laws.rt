@@ -1,4 +1,5 @@
-//! What follows from the definitions of causes and moves alone. The functions do nothing: their contracts are the laws.
+//! What follows from the definitions of causes and moves alone. The functions do nothing: their contracts
+//! are the laws.
 ghost use Rattle.std.specs.Prelude.{◌≡◌, ◌==◌, ◌↔◌, ◌⊎◌, ◌<◌, ℕ, List, length, filter};
 ghost use Rattle.ompt_events.specs.declared.records.Record.{Record};
 ghost use Rattle.ompt_events.specs.HappensBefore.{HappensBefore};
@@ -12,7 +13,8 @@ pub fn no_order_is_a_circle()
         ↔ ((a : ℕ) × HappensBefore records a a × ((a ≡ i) ⊎ HappensBefore records a i)) }
 {}
 
-/// A task's moves at a place are those that the record there makes, each as often as it makes it, and in its order.
+/// A task's moves at a place are those that the record there makes, each as often as it makes it, and in
+/// its order.
 pub fn moves_are_those_of_records()
     ensures { (records : List Record) (task i : ℕ)
         → filter (λ (step : ℕ × Move). step.0 == i) (moves_of records task) ≡ moves_at records task i }

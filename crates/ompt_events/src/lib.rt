@@ -1,4 +1,8 @@
-//! The recorded events of an OpenMP 5.2 runtime's tool interface (OMPT), and the words in which their rules are stated.
+//! The recorded events of an OpenMP 5.2 runtime's tool interface (OMPT), and what they mean.
+//!
+//! Each call here says what one record says (`records`), or builds a checked list of records (`trace`).
+//! Read `records`, then `names` and `flags`, then `trace`; the definitions stand in `specs/`, in the order
+//! that `specs/Lib.antt` gives, and `laws` says what follows from the two hardest of them.
 #![tactic(auto)]
 
 mod cause;

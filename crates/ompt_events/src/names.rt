@@ -282,8 +282,8 @@ impl ThreadKind {
     }
 }
 
-/// Whether a task with the one dependence waits for an earlier sibling that has the other one at the same location
-/// (OpenMP 5.2, 15.9.5).
+/// Whether a task with the one dependence waits for an earlier sibling that has the other one at the same
+/// location (OpenMP 5.2, 15.9.5).
 pub fn conflicts(a: DepKind, b: DepKind) -> bool
     ensures { result ≡ conflict a b }
 {

@@ -65,8 +65,9 @@ pub enum Body {
         task: u64,
         parallel: u64,
     },
-    /// An initial or implicit task begins or ends (19.5.2.11). With the flag `initial` it is an initial task;
-    /// else it is a member of the team of `parallel`, `actual` is the size of that team, and `index` its number there.
+    /// An initial or implicit task begins or ends (19.5.2.11). With the flag `initial` it is an initial
+    /// task; else it is a member of the team of `parallel`, `actual` is the size of that team, and `index`
+    /// its number there.
     ImplicitTask {
         endpoint: Endpoint,
         actual: u32,
@@ -75,7 +76,8 @@ pub enum Body {
         parallel: u64,
         task: u64,
     },
-    /// `task` creates the explicit task `child` (19.5.2.7). With `deps` its dependences follow in the thread.
+    /// `task` creates the explicit task `child` (19.5.2.7). With `deps` its dependences follow in the
+    /// thread.
     TaskCreate {
         deps: bool,
         flags: TaskFlags,
@@ -102,7 +104,8 @@ pub enum Body {
         parallel: Option<u64>,
         task: u64,
     },
-    /// `task` cancels a region or sees it cancelled, or is itself discarded (19.5.2.18). Discarded, it has a `share`.
+    /// `task` cancels a region or sees it cancelled, or is itself discarded (19.5.2.18). Discarded, it has
+    /// a `share`.
     Cancel {
         flags: CancelFlags,
         task: u64,

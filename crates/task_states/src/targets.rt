@@ -10,11 +10,12 @@ ghost use Rattle.task_states.specs.Targets.{IsTargetMade};
 use bitflags::Flags;
 use ompt_events::{Body, TaskFlags, Trace};
 
-/// The first record that makes a target task, one with the flag `target` (OpenMP 5.2, 13.8 and `ompt_task_flag_t`).
-/// It runs on a device, whose events are no part of the file. Takes no memory from the heap,
-/// and one step for each record.
+/// The first record that makes a target task, one with the flag `target` (OpenMP 5.2, 13.8 and
+/// `ompt_task_flag_t`). It runs on a device, whose events are no part of the file. Takes no memory from the
+/// heap, and one step for each record.
 pub fn target(trace: &Trace) -> Option<usize>
-    ensures { MatchOption result (IsFreeOf trace.now.records TargetTask) (IsFirstWith trace.now.records TargetTask) }
+    ensures { MatchOption result (IsFreeOf trace.now.records TargetTask)
+        (IsFirstWith trace.now.records TargetTask) }
 {
     for (at, event) in trace.records().iter().enumerate() {
         if makes_target(&event.body) {

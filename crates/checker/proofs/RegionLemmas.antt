@@ -19,7 +19,7 @@ use Rattle.ompt_events.specs.Regions.{after_region, open_regions, kind_at, is_ca
 use Rattle.ompt_events.specs.Causes.{HasNoBegin, HasCause, region_order, barrier_order, IsFirstWith, IsFreeOf}
 use Rattle.checker.specs.Audited.{AreAudited}
 use Rattle.ompt_events.proofs.RegionLemmas.{open_none, open_other, open_own}
-use Rattle.checker.specs.Links.{below_of, top_after, IsStack, SetsTo, AreLinked}
+use Rattle.checker.specs.Regions.{below_of, top_after, IsStack, SetsTo, AreLinked}
 use Rattle.ompt_events.proofs.PlaceLemmas.{at_within}
 use Rattle.checker.proofs.AuditedLemmas.{only_waits}
 
