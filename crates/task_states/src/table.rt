@@ -11,8 +11,7 @@ macro_rules! states {
     ($shape:ident $($value:ident)+) => {
         $shape! {
             $($value)+;
-            // complete yield        cancel detach   early_fulfill late_fulfill switch      
-            // taskwait_complete  start        discard
+            //           complete yield        cancel detach   early_fulfill late_fulfill switch       taskwait_complete  start        discard
             Created      (-       -            -      -        EarlyWaiting  -            -            Done)              Running      Done;
             Running      (Done    Suspended    Done   Detached EarlyRunning  -            Suspended    -)                 -            -;
             Suspended    (-       -            -      -        EarlyWaiting  -            -            -)                 Running      -;
