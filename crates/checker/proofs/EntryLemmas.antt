@@ -1,21 +1,17 @@
 -- The finishing records and the entries that they make.
-use Rattle.std.proofs.Common.{◌≡◌, ◌∙◌, ℕ, ◌<◌, ◌≤◌, ◌+◌, List, [], ◌∷◌, ◌++◌, length, get_or, Option, Bool, true, false, sym, ap, subst, arith, inl, inr}
+use Rattle.std.proofs.Common.{◌≡◌, ◌∙◌, ℕ, ◌<◌, ◌≤◌, ◌+◌, List, [], ◌∷◌, ◌++◌, length, get_or, Bool, true, false, sym, ap, subst, arith, inl, inr}
 use Rattle.std.proofs.lemmas.Bool.{cases_eq, cases_lt, false≢true}
 use Rattle.std.proofs.lemmas.Option.{slice_get-get_or, slice_get_past, none-some, same_Some}
 use Rattle.std.proofs.lemmas.List.Elements.{Contains-push, Contains-push_cases, Contains-append_left, Contains-get_or}
 use Rattle.std.proofs.lemmas.List.Sorted.{Contains-permutation, IsPermutation-sym}
 use Rattle.std.specs.List.Sorted.{IsPermutation, IsNonDecreasingBy}
-use Rattle.std.specs.Prelude.{is_some, slice_get, Contains, option_map, option_and_then}
-use Rattle.std.specs.Option.{option_map_or}
+use Rattle.std.specs.Prelude.{is_some, slice_get, Contains, option_map}
 use Rattle.ompt_events.specs.declared.records.Record.{Record}
 use Rattle.ompt_events.specs.Records.{finish}
 use Rattle.ompt_events.specs.Places.{at, seen_at}
 use Rattle.ompt_events.specs.HappensBefore.{IsFinishing}
-use Rattle.checker.specs.Merging.{Stands, IsLeastEntry, AreEntries}
-use Rattle.checker.proofs.Reading.{read_get}
-
-pub seen_read : (rs : List Record) (i : ℕ) (r : Record) → i < length rs → r ≡ get_or rs i r → seen_at rs i ≡ r.seen
-seen_read rs i r within read = ap (λ o. option_map_or (λ (q : Record). q.seen) o 0) (read_get rs i r within read)
+use Rattle.checker.specs.Merge.{Stands, IsLeastEntry, AreEntries}
+use Rattle.ompt_events.proofs.HappensBeforeLemmas.{finishing_within}
 
 -- the entries of the first n records
 pub record AreEntriesBelow (rs : List Record) (n : ℕ) (entries : List (ℕ × ℕ)) : Type 0 where
@@ -52,12 +48,6 @@ entries_sorted rs n entries sorted all are permutation rises = record {
   each = λ i finishes. Contains-permutation entries sorted (seen_at rs i, i) permutation (are.each i (let inside = finishing_within rs i finishes in omega arith) finishes);
   only = λ entry c. are.only entry (Contains-permutation sorted entries entry (IsPermutation-sym entries sorted permutation) c);
 }
-  where
-    finishing_within : (rs' : List Record) (i : ℕ) → IsFinishing rs' i → i < length rs'
-    finishing_within rs' i finishes = elim (cases_lt i (length rs')) [
-      | inl inside ↦ inside
-      | inr past ↦ absurd (false≢true (sym (ap (λ (o : Option Record). is_some (option_and_then (λ (r : Record). finish r.body) o)) (slice_get_past rs' i past)) ∙ finishes))
-    ]
 
 -- the first entry of which the record doesn't stand is the least one
 pub least_entry : (rs : List Record) (placed : List Bool) (entries : List (ℕ × ℕ)) (low : ℕ) → AreEntries rs entries → ((j : ℕ) (d : ℕ × ℕ) → j < low → Stands placed (get_or entries j d).1) → ((d : ℕ × ℕ) → low < length entries → Stands placed (get_or entries low d).1 → ⊥) → IsLeastEntry rs placed (option_map (λ (entry : ℕ × ℕ). entry.0) (slice_get entries low))

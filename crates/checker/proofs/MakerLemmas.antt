@@ -12,11 +12,11 @@ use Rattle.ompt_events.specs.Places.{at}
 use Rattle.ompt_events.specs.Tree.{IsRoot, IsExplicit}
 use Rattle.ompt_events.specs.Causes.{IsMadeAgain, HasCause, created_twice, forked_twice, IsFirstWith, IsFreeOf}
 use Rattle.checker.specs.Audited.{AreAudited}
-use Rattle.checker.specs.Searches.{AreMakers}
+use Rattle.checker.specs.Search.{AreMakers}
 use Rattle.checker.proofs.AuditedLemmas.{no_fork}
 use Rattle.checker.proofs.NumberMaps.{updated_here, updated_there}
-use Rattle.checker.proofs.Reading.{at_within}
-use Rattle.checker.proofs.Bodies.{begun_at_made, created_at_made, creation_at_created, created_at_creation}
+use Rattle.ompt_events.proofs.PlaceLemmas.{at_within}
+use Rattle.ompt_events.proofs.RecordLemmas.{begun_at_made, created_at_made, creation_at_created, created_at_creation}
 
 pub is_made_again : (rs : List Record) → AreAudited rs → (i : ℕ) → HasCause rs i CreatedTwice → IsMadeAgain rs i
 is_made_again rs are i (created_twice again) = again

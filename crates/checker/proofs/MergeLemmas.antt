@@ -8,7 +8,7 @@ use Rattle.ompt_events.specs.Places.{thread_at, seen_at}
 use Rattle.ompt_events.specs.HappensBefore.{thread_order, creation, discard, fulfilment, IsStep, program, ledger}
 use Rattle.checker.specs.Audited.{AreAudited}
 use Rattle.checker.proofs.AuditedLemmas.{no_discard, no_fulfilment}
-use Rattle.checker.specs.Merging.{AreAwaited, Stands, MayFollow, AreHeads, IsLeastEntry, IsReadyHead}
+use Rattle.checker.specs.Merge.{AreAwaited, Stands, MayFollow, AreHeads, IsLeastEntry, IsReadyHead}
 
 pub stands_same : (placed : List Bool) (a b : ℕ) → a ≡ b → Stands placed a → Stands placed b
 stands_same placed a b same stands = ap (slice_get placed) (sym same) ∙ stands

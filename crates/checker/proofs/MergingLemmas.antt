@@ -7,7 +7,7 @@ use Rattle.std.proofs.lemmas.List.Elements.{Contains-push, Contains-push_cases, 
 use Rattle.std.proofs.lemmas.List.Sorted.{IsPermutation-refl, IsPermutation-more, Contains-permutation}
 use Rattle.std.specs.List.Sorted.{IsPermutation}
 use Rattle.std.specs.List.{remove}
-use Rattle.checker.proofs.Ranges.{contains_place, nothing_left}
+use Rattle.ompt_events.proofs.PlaceLemmas.{contains_place, nothing_left}
 use Rattle.std.proofs.Math.ListN.{set}
 use Rattle.std.specs.Prelude.{slice_get, slice_index, Contains, ⊤, replicate, sum_by}
 use Rattle.std.proofs.lemmas.List.Sums.{sum_by-set}
@@ -17,10 +17,11 @@ use Rattle.ompt_events.specs.HappensBefore.{step}
 use Rattle.ompt_events.specs.declared.cause.Cause.TheVariants.{NoOrder}
 use Rattle.ompt_events.specs.Causes.{HasCause, no_order, HasNoOrder, IsFirstWith}
 use Rattle.ompt_events.specs.Linearization.{IsDue, IsReady, IsFirstReady, IsGreedy, IsGrounded, IsLinearization}
-use Rattle.checker.specs.Merging.{Stands, MayFollow, AreHeads, AreFirstHeads}
-use Rattle.checker.proofs.MarkLemmas.{contains_none}
+use Rattle.checker.specs.Merge.{Stands, MayFollow, AreHeads, AreFirstHeads}
+use Rattle.checker.proofs.RootedLemmas.{contains_none}
 use Rattle.checker.proofs.MergeLemmas.{stands_or_not, is_head}
-use Rattle.checker.proofs.OrderLemmas.{IsClosed, due_from_steps, closed_more, greedy_more, greedy_grounded, grounded_rising, before_to, before_from}
+use Rattle.ompt_events.proofs.LinearizationLemmas.{IsClosed, due_from_steps, closed_more, greedy_more, greedy_grounded, grounded_rising}
+use Rattle.ompt_events.proofs.HappensBeforeLemmas.{before_to, before_from}
 
 -- what stands is one of the places
 pub stands_within : (placed : List Bool) (i : ℕ) → Stands placed i → i < length placed

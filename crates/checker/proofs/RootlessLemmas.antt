@@ -1,5 +1,5 @@
 -- Which records speak of a task without a root.
-use Rattle.std.proofs.Common.{◌≡◌, ◌≢◌, ◌∙◌, ℕ, zero, suc, ◌<◌, ◌≤◌, List, [], ◌∷◌, length, get_or, Option, Some, None, true, refl, sym, ap, subst, arith, inl, inr}
+use Rattle.std.proofs.Common.{◌≡◌, ◌≢◌, ◌∙◌, ℕ, ◌<◌, ◌≤◌, List, length, get_or, Option, Some, None, true, refl, sym, ap, subst, arith}
 use Rattle.std.proofs.lemmas.Option.{none-some, same_Some, slice_get_within}
 use Rattle.std.specs.Prelude.{is_some, Contains}
 use Rattle.std.specs.Ordering.{nat_cmp}
@@ -13,12 +13,11 @@ use Rattle.ompt_events.specs.Causes.{IsMade, HasNoRoot, unmade, unrooted, no_reg
 use Rattle.checker.specs.declared.rooted.Mark.{Mark}
 use Rattle.checker.specs.declared.rooted.Mark.TheVariants.{Unknown, Rooted, Unrooted}
 use Rattle.checker.specs.Audited.{AreAudited}
-use Rattle.checker.specs.Searches.{AreMakers}
+use Rattle.checker.specs.Search.{AreMakers}
 use Rattle.checker.proofs.AuditedLemmas.{no_region_named}
-use Rattle.checker.specs.Marks.{mark_at, AreMarks, AnyUnmade}
-use Rattle.checker.proofs.Reading.{at_within, read_get}
-use Rattle.checker.proofs.Bodies.{begun_at_made, created_at_made, creation_at_created, created_at_creation}
-use Rattle.checker.proofs.MarkLemmas.{contains_none}
+use Rattle.checker.specs.Rooted.{mark_at, AreMarks, AnyUnmade}
+use Rattle.ompt_events.proofs.PlaceLemmas.{at_within, read_get}
+use Rattle.ompt_events.proofs.RecordLemmas.{begun_at_made, created_at_made, creation_at_created, created_at_creation}
 
 -- a task with a root is made
 pub rooted_made : (rs : List Record) (task : ℕ) → IsRooted rs task → IsMade rs task
@@ -42,21 +41,15 @@ no_root_below rs makers marks are known task (child i {parent = parent} creates 
 
 -- some of the listed tasks is unmade
 any_unmade : (rs : List Record) (makers : BTreeMap ℕ ℕ) → AreMakers rs (length rs) makers → (tasks : List ℕ) → AnyUnmade makers tasks → (task : ℕ) × Contains tasks task × (IsMade rs task → ⊥)
-any_unmade rs makers are [] h = absurd h
-any_unmade rs makers are (t ∷ ts) (inl none) = (t, (0, omega arith, refl), λ made_at. none-some made_at.0 (sym none ∙ are.each t made_at.0 (at_within made rs made_at.0 t made_at.1) made_at.1))
-any_unmade rs makers are (t ∷ ts) (inr h) =
-    let later = any_unmade rs makers are ts h in
-    (later.0, (suc later.1.0, omega (arith, later.1.1), later.1.2), later.2)
+any_unmade rs makers are tasks (k, task, below, is, none) = (task, (k, below, is), λ made_at. none-some made_at.0 (sym none ∙ are.each task made_at.0 (at_within made rs made_at.0 task made_at.1) made_at.1))
 
 -- and back
 unmade_any : (rs : List Record) (makers : BTreeMap ℕ ℕ) → AreMakers rs (length rs) makers → (tasks : List ℕ) (task : ℕ) → Contains tasks task → (IsMade rs task → ⊥) → AnyUnmade makers tasks
-unmade_any rs makers are [] task c none = absurd (contains_none task c)
-unmade_any rs makers are (t ∷ ts) task (zero, below, is) none = inl (not_found (get nat_cmp makers t) refl)
+unmade_any rs makers are tasks task (k, below, is) none = (k, task, below, is, not_found (get nat_cmp makers task) refl)
   where
-    not_found : (o : Option ℕ) → get nat_cmp makers t ≡ o → get nat_cmp makers t ≡ None
-    not_found None e = e
-    not_found (Some k) e = absurd (none (k, (are.only task k (ap (get nat_cmp makers) (sym is) ∙ e)).1))
-unmade_any rs makers are (t ∷ ts) task (suc k, below, is) none = inr (unmade_any rs makers are ts task (k, omega arith, is) none)
+    not_found : (o : Option ℕ) → get nat_cmp makers task ≡ o → o ≡ None
+    not_found None e = refl
+    not_found (Some m) e = absurd (none (m, (are.only task m e).1))
 
 pub is_rootless : (rs : List Record) (i : ℕ) → HasCause rs i Rootless → HasNoRoot rs i
 is_rootless rs i (rootless h) = h

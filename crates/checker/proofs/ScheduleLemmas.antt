@@ -11,13 +11,13 @@ use Rattle.ompt_events.specs.Records.{created, started, made}
 use Rattle.ompt_events.specs.Places.{at, seen_at}
 use Rattle.ompt_events.specs.Tree.{IsExplicit}
 use Rattle.ompt_events.specs.HappensBefore.{IsStart, IsFinishing, thread_order, creation, discard, fulfilment, IsStep, program, ledger, HappensBefore, step, chain}
-use Rattle.checker.specs.Merging.{IsAwaited, AreAwaited}
+use Rattle.checker.specs.Merge.{IsAwaited, AreAwaited}
 use Rattle.checker.specs.Audited.{AreAudited}
 use Rattle.checker.proofs.AuditedLemmas.{no_discard, no_fulfilment}
-use Rattle.checker.specs.Searches.{AreMakers}
+use Rattle.checker.specs.Search.{AreMakers}
 use Rattle.checker.proofs.NumberMaps.{updated_here, updated_there}
-use Rattle.checker.proofs.Reading.{at_within}
-use Rattle.checker.proofs.Bodies.{created_at_made}
+use Rattle.ompt_events.proofs.PlaceLemmas.{at_within}
+use Rattle.ompt_events.proofs.RecordLemmas.{created_at_made}
 
 -- the tasks that were next in the first n records are the keys
 pub record AreStarted (rs : List Record) (n : ℕ) (starts : BTreeMap ℕ ℕ) : Type 0 where

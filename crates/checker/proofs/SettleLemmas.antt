@@ -6,16 +6,16 @@ use Rattle.std.proofs.lemmas.List.Elements.{Contains-push, Contains-push_cases, 
 use Rattle.std.proofs.Math.ListN.{set}
 use Rattle.std.specs.Prelude.{is_some, Contains, map, if◌then◌else◌}
 use Rattle.ompt_events.specs.Tree.{IsRooted, root}
-use Rattle.checker.specs.Searches.{AreMakers}
-use Rattle.checker.proofs.Bodies.{begun_at_made}
+use Rattle.checker.specs.Search.{AreMakers}
+use Rattle.ompt_events.proofs.RecordLemmas.{begun_at_made}
 use Rattle.std.specs.BTreeMap.{BTreeMap}
 use Rattle.ompt_events.specs.declared.records.Record.{Record}
 use Rattle.ompt_events.specs.Records.{begun_root, made}
 use Rattle.ompt_events.specs.Places.{at}
 use Rattle.checker.specs.declared.rooted.Mark.{Mark}
 use Rattle.checker.specs.declared.rooted.Mark.TheVariants.{Unknown, Rooted, Unrooted}
-use Rattle.checker.specs.Marks.{mark_at, AreMarks, MarksChain, IsClimbed, IsSettled}
-use Rattle.checker.proofs.MarkLemmas.{contains_none}
+use Rattle.checker.specs.Rooted.{mark_at, AreMarks, MarksChain, IsClimbed, IsSettled}
+use Rattle.checker.proofs.RootedLemmas.{contains_none}
 
 unknown_rooted : {m : Mark} → m ≡ Unknown → m ≡ Rooted → ⊥
 unknown_rooted a b = let e : Unknown ≡ Rooted = sym a ∙ b in cc

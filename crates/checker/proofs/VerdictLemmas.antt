@@ -21,13 +21,14 @@ use Rattle.ompt_events.specs.Causes.{IsFreeOf, no_order, IsMalformed, IsWellForm
 use Rattle.checker.specs.declared.search.SearchFault.{SearchFault}
 use Rattle.checker.specs.declared.search.SearchFault.TheVariants.{Memory, Malformed}
 use Rattle.checker.specs.Verdicts.{sought, IsAlwaysComplete}
-use Rattle.checker.specs.Searches.{IsFound, IsLeastFound}
+use Rattle.checker.specs.Search.{IsFound, IsLeastFound}
 use Rattle.std.proofs.lemmas.List.{length-take, get_or-take}
 use Rattle.std.proofs.lemmas.List.FromFn.{length-range_with_len, get_or-range_with_len}
 use Rattle.std.proofs.lemmas.List.Sorted.{IsPermutation-refl}
-use Rattle.checker.proofs.Reading.{at_within}
-use Rattle.checker.proofs.Ranges.{contains_place}
-use Rattle.checker.proofs.OrderLemmas.{before_to, greedy_grounded}
+use Rattle.ompt_events.proofs.PlaceLemmas.{at_within}
+use Rattle.ompt_events.proofs.PlaceLemmas.{contains_place}
+use Rattle.ompt_events.proofs.HappensBeforeLemmas.{before_to}
+use Rattle.ompt_events.proofs.LinearizationLemmas.{greedy_grounded}
 use Rattle.checker.proofs.ScheduleLemmas.{before_less}
 use Rattle.checker.proofs.WaitLemmas.{whole_at, only_awaited}
 use Rattle.checker.specs.Audited.{AreAudited}

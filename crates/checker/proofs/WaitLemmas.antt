@@ -1,18 +1,12 @@
 -- When a task is finished, and what the end of a taskwait covers.
-use Rattle.std.proofs.Common.{◌≡◌, ◌≢◌, ◌∙◌, ℕ, zero, suc, ◌<◌, ◌≤◌, ◌+◌, ◌^◌, List, [], ◌∷◌, ◌++◌, length, get_or, Option, Some, None, true, false, Bool, cond, refl, sym, ap, subst, arith, inl, inr, add-one}
-use Rattle.std.proofs.lemmas.Bool.{false≢true, cases_eq, cases_lt, cases_order, eq-eqb}
+use Rattle.std.proofs.Common.{◌≡◌, ◌≢◌, ◌∙◌, ℕ, ◌<◌, ◌≤◌, ◌+◌, ◌^◌, List, [], ◌∷◌, ◌++◌, length, get_or, Option, Some, None, true, refl, sym, ap, subst, arith, inl, inr}
+use Rattle.std.proofs.lemmas.Bool.{false≢true, cases_eq, cases_lt, cases_order}
 use Rattle.std.proofs.lemmas.Option.{none-some, same_Some, slice_get-get_or, slice_get_within}
 use Rattle.std.proofs.lemmas.List.{get_or_append_left, get_or_push}
-use Rattle.std.proofs.lemmas.List.Elements.{All-nil, All-cons, All-drop, All-same, All-weaker, All-get_or, All-filter, All-contains, Contains-append_right}
-use Rattle.std.proofs.lemmas.List.FromFn.{length-range_with_len, get_or-range_with_len}
-use Rattle.std.specs.Prelude.{◌==◌, min, MatchOption, All, Contains, slice_get, slice_index, filter, option_and_then, unwrap_or}
-use Rattle.std.specs.List.{range_with_len}
-use Rattle.std.specs.Option.{option_map_or}
+use Rattle.std.specs.Prelude.{min, MatchOption, Contains, slice_get, slice_index, unwrap_or}
 use Rattle.std.specs.Ordering.{nat_cmp}
 use Rattle.std.specs.BTreeMap.{BTreeMap, get, Updates}
 use Rattle.ompt_events.specs.declared.records.Record.{Record}
-use Rattle.ompt_events.specs.declared.records.Body.{Body}
-use Rattle.ompt_events.specs.declared.records.Body.TheVariants.{SyncRegion}
 use Rattle.ompt_events.specs.declared.records.Part.{Part}
 use Rattle.ompt_events.specs.declared.records.Part.TheVariants.{Whole, Body as BodyPart}
 use Rattle.ompt_events.specs.declared.names.Endpoint.{Endpoint}
@@ -20,37 +14,23 @@ use Rattle.ompt_events.specs.declared.names.Endpoint.TheVariants.{Begin, End, Be
 use Rattle.ompt_events.specs.declared.names.SyncKind.{SyncKind}
 use Rattle.ompt_events.specs.declared.names.SyncKind.TheVariants.{Taskwait, Taskgroup}
 use Rattle.ompt_events.specs.declared.cause.Cause.TheVariants.{CreatedTwice}
-use Rattle.ompt_events.specs.Records.{created, creation, finish, region, started}
-use Rattle.ompt_events.specs.Places.{at, seen_at, is_own, own_before}
-use Rattle.ompt_events.specs.Regions.{after_region, open_regions, is_barrier, EndsRegion, IsRegion, ended, at_once}
-use Rattle.ompt_events.specs.Completion.{IsCompleteAt, StartsTask}
-use Rattle.ompt_events.specs.Coverage.{IsChildBefore, waited, grouped, synchronised}
+use Rattle.ompt_events.specs.Records.{created, creation, finish, region}
+use Rattle.ompt_events.specs.Places.{at, seen_at}
+use Rattle.ompt_events.specs.Regions.{open_regions, is_barrier, EndsRegion, IsRegion, ended, at_once}
+use Rattle.ompt_events.specs.Completion.{IsCompleteAt}
+use Rattle.ompt_events.specs.Tree.{children_before}
+use Rattle.ompt_events.specs.Coverage.{waited, grouped, synchronised}
+use Rattle.ompt_events.proofs.RegionLemmas.{region_starts_none, own_begin}
+use Rattle.ompt_events.proofs.TreeLemmas.{child_before, before_child}
 use Rattle.ompt_events.specs.Violations.{IsRequired, covered, preceding, awaited, IsUnfinished, IsFirstUnfinished}
 use Rattle.ompt_events.specs.Causes.{created_twice, IsFreeOf}
 use Rattle.checker.specs.Audited.{AreAudited}
-use Rattle.checker.specs.Links.{AreLinked}
+use Rattle.checker.specs.Regions.{AreLinked}
 use Rattle.checker.specs.Waits.{length_of, latest_of, AreDone, IsRaised, AreLimits, IsLateAt, IsFirstLate, IsFirstCreated}
-use Rattle.checker.proofs.Reading.{at_read, at_within, read_get}
+use Rattle.ompt_events.proofs.PlaceLemmas.{at_read, at_within}
 use Rattle.checker.proofs.AuditedLemmas.{only_whole, only_waits, no_wait_completed, no_dependences}
 use Rattle.checker.proofs.NumberMaps.{updated_here, updated_there}
-use Rattle.checker.proofs.Bodies.{creation_at_created, creation_at_running, created_at_made}
-use Rattle.checker.proofs.LinkLemmas.{open_none, open_other, open_own}
-
--- the length that a record names, where the record was read
-pub seen_read : (rs : List Record) (i : ℕ) (r : Record) → i < length rs → r ≡ get_or rs i r → seen_at rs i ≡ r.seen
-seen_read rs i r within read = ap (λ (o : Option Record). option_map_or (λ (q : Record). q.seen) o 0) (read_get rs i r within read)
-
--- a record of a region starts no task
-region_starts : (task : ℕ) (kind : SyncKind) (endpoint : Endpoint) (b : Body) → region b ≡ Some (task, kind, endpoint) → started b ≡ None
-region_starts task kind endpoint (SyncRegion k e parallel own) says = refl
-region_starts task kind endpoint _ says = absurd (none-some (task, kind, endpoint) says)
-
-region_starts_none : (rs : List Record) (i task : ℕ) (kind : SyncKind) (endpoint : Endpoint) → at region rs i ≡ Some (task, kind, endpoint) → StartsTask rs i → ⊥
-region_starts_none rs i task kind endpoint says (next, explicit, start) = none-some next (sym (there (slice_get rs i) says) ∙ start.starts)
-  where
-    there : (o : Option Record) → option_and_then (λ (r : Record). region r.body) o ≡ Some (task, kind, endpoint) → option_and_then (λ (r : Record). started r.body) o ≡ None
-    there None says' = refl
-    there (Some r) says' = region_starts task kind endpoint r.body says'
+use Rattle.ompt_events.proofs.RecordLemmas.{creation_at_created, created_at_made}
 
 -- a task that is complete at a record of a region was finished whole by an entry that is seen there
 pub whole_at : (rs : List Record) → AreAudited rs → (i own task : ℕ) (kind : SyncKind) (endpoint : Endpoint) → at region rs i ≡ Some (own, kind, endpoint) → IsCompleteAt rs task i → (k : ℕ) × (at finish rs k ≡ Some (task, Whole)) × (seen_at rs k < seen_at rs i)
@@ -184,78 +164,6 @@ limits_more rs done i limit latest limits all are latest_are is k task kind endp
       omega (arith, here, within)
 ]
 
--- an element at which the test holds is kept
-Contains-filter : (p : ℕ → Bool) (xs : List ℕ) (x : ℕ) → Contains xs x → p x ≡ true → Contains (filter p xs) x
-Contains-filter p [] x (k, below, is) holds = absurd (omega arith)
-Contains-filter p (y ∷ ys) x (zero, below, is) holds = rw (ap p is ∙ holds) (0, omega arith, is)
-Contains-filter p (y ∷ ys) x (suc k, below, is) holds = after (p y) (Contains-filter p ys x (k, omega arith, is) holds)
-  where
-    after : (b : Bool) → Contains (filter p ys) x → Contains (cond b (y ∷ filter p ys) (filter p ys)) x
-    after true rest = Contains-append_right (y ∷ []) (filter p ys) x rest
-    after false rest = rest
-
--- a creation is a record of the parent's own
-own_creation : (rs : List Record) (parent child n c : ℕ) → c < n → at creation rs c ≡ Some (parent, child) → Contains (own_before rs parent n) c
-own_creation rs parent child n c below creates = Contains-filter (is_own rs parent) (range_with_len 0 n) c (c, rw (length-range_with_len 0 n) below, get_or-range_with_len 0 n c c below ∙ omega arith) own
-  where
-    own : is_own rs parent c ≡ true
-    own = ap (λ (o : Option ℕ). option_map_or (λ t. t == parent) o false) (creation_at_running parent child rs c creates) ∙ eq-eqb parent parent refl
-
--- the records before a place stand at lesser places
-own_below : (rs : List Record) (task n c : ℕ) → Contains (own_before rs task n) c → c < n
-own_below rs task n c own = All-contains (λ k. k < n) (own_before rs task n) c (All-filter (is_own rs task) (λ k. k < n) (range_with_len 0 n) below) own
-  where
-    below : All (λ k. k < n) (range_with_len 0 n)
-    below k d within =
-        let short : k < n = rw (length-range_with_len 0 n) at within in
-        rw (get_or-range_with_len 0 n k d short) (omega arith)
-
--- a region of the task begins there, before n
-record IsOwnBegin (rs : List Record) (task n begin : ℕ) : Type 0 where
-  before : begin < n
-  kind : SyncKind
-  begins : at region rs begin ≡ Some (task, kind, Begin)
-
-later : (rs : List Record) (task n begin : ℕ) → IsOwnBegin rs task n begin → IsOwnBegin rs task (n + 1) begin
-later rs task n begin is = record { before = let h = is.before in omega arith; kind = is.kind; begins = is.begins }
-
--- one more record keeps it so that the open regions of a task are its own
-own_begins_more : (rs : List Record) (task n : ℕ) → All (IsOwnBegin rs task n) (open_regions rs task n) → All (IsOwnBegin rs task (n + 1)) (open_regions rs task (n + 1))
-own_begins_more rs task n all = more (at region rs n) refl
-  where
-    so_far : All (IsOwnBegin rs task (n + 1)) (open_regions rs task n)
-    so_far = All-weaker (IsOwnBegin rs task n) (IsOwnBegin rs task (n + 1)) (later rs task n) (open_regions rs task n) all
-
-    after : (kind : SyncKind) (endpoint : Endpoint) → at region rs n ≡ Some (task, kind, endpoint) → All (IsOwnBegin rs task (n + 1)) (after_region (open_regions rs task n) n (Some (task, kind, endpoint)))
-    after kind Begin says = All-cons (IsOwnBegin rs task (n + 1)) n (open_regions rs task n) (record { before = omega arith; kind = kind; begins = says }) so_far
-    after kind BeginEnd says = so_far
-    after kind End says = All-drop (IsOwnBegin rs task (n + 1)) 1 (open_regions rs task n) so_far
-
-    more : (o : Option (ℕ × SyncKind × Endpoint)) → at region rs n ≡ o → All (IsOwnBegin rs task (n + 1)) (open_regions rs task (n + 1))
-    more None e = All-same (IsOwnBegin rs task (n + 1)) (open_regions rs task (n + 1)) (open_regions rs task n) (open_none rs task n e) so_far
-    more (Some (own, kind, endpoint)) e = elim (cases_eq task own) [
-      | inl same ↦
-          let says : at region rs n ≡ Some (task, kind, endpoint) = e ∙ ap (λ t. Some (t, kind, endpoint)) (sym same) in
-          All-same (IsOwnBegin rs task (n + 1)) (open_regions rs task (n + 1)) (after_region (open_regions rs task n) n (Some (task, kind, endpoint))) (open_own rs task n kind endpoint says) (after kind endpoint says)
-      | inr apart ↦ All-same (IsOwnBegin rs task (n + 1)) (open_regions rs task (n + 1)) (open_regions rs task n) (open_other rs task own n kind endpoint e apart) so_far
-    ]
-
-open_own_begins : (rs : List Record) (task n : ℕ) → All (IsOwnBegin rs task n) (open_regions rs task n)
-open_own_begins rs task zero = All-nil (IsOwnBegin rs task zero)
-open_own_begins rs task (suc n) = let P : ℕ → Type 0 = λ m. All (IsOwnBegin rs task m) (open_regions rs task m) in subst P (add-one n) (own_begins_more rs task n (open_own_begins rs task n))
-
--- the begin that an end belongs to is earlier, and of the same task
-own_begin : (rs : List Record) (i task begin : ℕ) → EndsRegion rs i task Taskwait begin → IsOwnBegin rs task i begin
-own_begin rs i task begin is_end =
-    let stack = open_regions rs task i in
-    let within = slice_get_within stack 0 begin is_end.innermost in
-    let is : get_or stack 0 begin ≡ begin = same_Some (get_or stack 0 begin) begin (sym (slice_get-get_or stack 0 begin within) ∙ is_end.innermost) in
-    let P : ℕ → Type 0 = λ b. IsOwnBegin rs task i b in
-    subst P is (All-get_or (IsOwnBegin rs task i) stack 0 begin within (open_own_begins rs task i))
-
-pub begin_before : (rs : List Record) (i task begin : ℕ) → EndsRegion rs i task Taskwait begin → begin < i
-begin_before rs i task begin is_end = (own_begin rs i task begin is_end).before
-
 -- an end that was read has a link
 pub link_within : (rs : List Record) (links : List (Option ℕ)) (i task : ℕ) (r : Record) → AreLinked rs (length rs) links → i < length rs → r ≡ get_or rs i r → region r.body ≡ Some (task, Taskwait, End) → i < length links
 link_within rs links i task r linked inside read says =
@@ -282,7 +190,7 @@ pub record IsAwaited (rs : List Record) (i task : ℕ) : Type 0 where
   pub parent : ℕ
   pub begin : ℕ
   pub is_end : EndsRegion rs i parent Taskwait begin
-  pub child : IsChildBefore rs begin parent task
+  pub child : Contains (children_before rs parent begin) task
 
 region_kind : (rs : List Record) → AreAudited rs → (i own begin : ℕ) (kind : SyncKind) → IsRegion rs i own kind begin → kind ≡ Taskwait
 region_kind rs audited i own begin kind (ended is_end) = (only_waits rs audited i own kind End is_end.ends).0
@@ -293,7 +201,7 @@ pub only_awaited : (rs : List Record) → AreAudited rs → (i task : ℕ) → I
 only_awaited rs audited i task (covered (waited {parent = own} {begin = opened} (ended is_end) child)) = record { parent = own; begin = opened; is_end = is_end; child = child }
 only_awaited rs audited i task (covered (waited {parent = own} (at_once says) child)) = absurd ((only_waits rs audited i own Taskwait BeginEnd says).1 refl)
 only_awaited rs audited i task (covered (grouped {parent = own} {begin = opened} region between family)) = let never : Taskgroup ≡ Taskwait = region_kind rs audited i own opened Taskgroup region in cc
-only_awaited rs audited i task (covered (synchronised {own = own} {begin = opened} {kind = kind} start region barrier team begins number child family)) =
+only_awaited rs audited i task (covered (synchronised {own = own} {begin = opened} {kind = kind} number region barrier begins team starts child family)) =
     let waits : is_barrier Taskwait ≡ true = rw (region_kind rs audited i own opened kind region) at barrier in
     absurd (false≢true waits)
 only_awaited rs audited i task (preceding explicit start before) = absurd (no_dependences rs audited before.depends.0 (_, before.depends.1) before.depends.2)
@@ -302,13 +210,13 @@ only_awaited rs audited i task (awaited {dependent = dependent} completes before
 -- what an end covers: the children that were created before its begin
 required_child : (rs : List Record) → AreAudited rs → (i parent begin task : ℕ) → EndsRegion rs i parent Taskwait begin → IsRequired rs i task → (c : ℕ) × (c < begin) × (at creation rs c ≡ Some (parent, task))
 required_child rs audited i parent begin task is_end required =
-    (child.0, let below = own_below rs is.parent is.begin child.0 child.1 in omega (arith, below, same_begin), child.2 ∙ ap (λ t. Some (t, task)) same_parent)
+    (child.0, omega (arith, child.1, same_begin), child.2 ∙ ap (λ t. Some (t, task)) same_parent)
   where
     is : IsAwaited rs i task
     is = only_awaited rs audited i task required
 
-    child : IsChildBefore rs is.begin is.parent task
-    child = is.child
+    child : (c : ℕ) × (c < is.begin) × (at creation rs c ≡ Some (is.parent, task))
+    child = before_child rs is.parent task is.begin is.child
 
     same_parent : is.parent ≡ parent
     same_parent = ap (λ (p : ℕ × SyncKind × Endpoint). p.0) (same_Some (is.parent, Taskwait, End) (parent, Taskwait, End) (sym is.is_end.ends ∙ is_end.ends))
@@ -317,7 +225,7 @@ required_child rs audited i parent begin task is_end required =
     same_begin = same_Some is.begin begin (sym is.is_end.innermost ∙ ap (λ t. slice_get (open_regions rs t i) 0) same_parent ∙ is_end.innermost)
 
 child_required : (rs : List Record) (i parent begin task c : ℕ) → EndsRegion rs i parent Taskwait begin → c < begin → at creation rs c ≡ Some (parent, task) → IsRequired rs i task
-child_required rs i parent begin task c is_end below creates = covered (waited (ended is_end) (c, own_creation rs parent task begin c below creates, creates))
+child_required rs i parent begin task c is_end below creates = covered (waited (ended is_end) (child_before rs parent task begin c below creates))
 
 -- where a task is unfinished, a taskwait ends
 wait_ends : (rs : List Record) → AreAudited rs → (i task : ℕ) → IsUnfinished rs i task → (parent : ℕ) × (at region rs i ≡ Some (parent, Taskwait, End))
@@ -343,7 +251,7 @@ none_above rs audited done i parent begin seen limits inside are limits_are is_e
   where
     none : (c child : ℕ) → c < begin → IsLateAt rs done parent seen c child → ⊥
     none c child below late =
-        let own = own_begin rs i parent begin is_end in
+        let own = own_begin rs i parent begin Taskwait is_end in
         let within = limits_are begin parent own.kind Begin (let before = own.before in omega arith) own.begins c child below late.0 in
         let above = late.1 in
         omega arith

@@ -15,7 +15,8 @@ is_host_task flags = not (has_flag flags flag.target) && not (has_flag flags fla
 
 -- initial tasks that begin, creations without dependences, completions and switches, and taskwaits
 abbrev pub is_audited : Body → Bool
-is_audited (ImplicitTask Begin actual index flags parallel task) = has_flag flags.0 flag.initial && is_host_task flags.0
+is_audited (ImplicitTask Begin actual index flags parallel task) =
+    has_flag flags.0 flag.initial && is_host_task flags.0
 is_audited (TaskCreate deps flags task child) = not deps && is_host_task flags.0
 is_audited (TaskSchedule Complete prior next share) = true
 is_audited (TaskSchedule Switch prior next share) = true

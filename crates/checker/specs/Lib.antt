@@ -1,7 +1,9 @@
+-- What a check answers. Read Verdicts first: what a yes, a no and a malformed say; then Audited: which
+-- records a check takes so far. The others say what the phases of the check know while they run.
 pub mod Verdicts
-pub mod Searches
-pub mod Marks
-pub mod Links
-pub mod Merging
-pub mod Waits
 pub mod Audited
+pub mod Search
+pub mod Rooted
+pub mod Regions
+pub mod Merge
+pub mod Waits

@@ -17,7 +17,9 @@ sought = CreatedTwice ∷ Rootless ∷ NotCurrent ∷ Moved ∷ RegionOrder ∷ 
 
 -- in every order that the records allow, every task that must be complete at a record is complete there
 abbrev pub IsAlwaysComplete : List Record → Type 0
-IsAlwaysComplete rs = (order : List ℕ) → IsLinearization rs order → (i task : ℕ) → IsRequired rs i task → IsCompleteIn rs order task i
+IsAlwaysComplete rs =
+    (order : List ℕ) → IsLinearization rs order → (i task : ℕ) → IsRequired rs i task
+    → IsCompleteIn rs order task i
 
 -- what a yes with this order says
 pub record IsApproved (rs : List Record) (order : List ℕ) : Type 0 where

@@ -5,7 +5,7 @@ ghost use Rattle.ompt_events.specs.Places.{places};
 ghost use Rattle.ompt_events.specs.Linearization.{IsLinearization, IsGreedy};
 ghost use Rattle.ompt_events.specs.Causes.{IsFreeOf};
 ghost use Rattle.checker.specs.Audited.{AreAudited};
-ghost use Rattle.checker.specs.Searches.{IsFound, IsLeastFound, AreMakers};
+ghost use Rattle.checker.specs.Search.{IsFound, IsLeastFound, AreMakers};
 ghost use Rattle.checker.specs.Verdicts.{IsVerdict};
 
 use crate::current::find_misfit;
@@ -22,9 +22,9 @@ use ompt_events::{Record, Trace};
 use std::alloc::{AllocError, Global};
 use std::collections::BTreeMap;
 
-/// The verdict on the records: malformed with the least of the causes that occur, at the first record that has it;
-/// else no at the first end of a taskwait that covers an unfinished task; else yes with the greedy order.
-/// Refused for want of memory alone. It takes the traces of which `unaudited` names no record.
+/// The verdict on the records: malformed with the lowest-numbered cause that occurs, at the first record that
+/// shows it; else no at the first end of a taskwait that covers an unfinished task; else yes with the greedy
+/// order. Fails only when out of memory. Every record must be of a supported form: `unaudited` finds no other.
 pub fn check(alloc: Global, trace: &Trace) -> Result<Verdict, CheckFault>
     requires { AreAudited trace.now.records }
     ensures { IfOk result (IsVerdict trace.now.records) }

@@ -6,11 +6,11 @@ ghost use Rattle.ompt_events.specs.Tree.{IsRoot};
 ghost use Rattle.ompt_events.specs.Threads.{Misfits, at_start, after_body};
 ghost use Rattle.ompt_events.specs.Causes.{IsFreeOf};
 ghost use Rattle.checker.specs.Audited.{is_audited, AreAudited};
-ghost use Rattle.checker.specs.Searches.{IsFound, AreMakers};
+ghost use Rattle.checker.specs.Search.{IsFound, AreMakers};
 
 use crate::makers::is_root;
 use crate::search::SearchFault;
-use ompt_events::{Body, Cause, Endpoint, Record};
+use ompt_events::{Body, Cause, Record};
 use std::alloc::{AllocError, Global};
 use std::collections::BTreeMap;
 use std::marker::Model;
@@ -49,26 +49,18 @@ impl ThreadWalk {
     fn advance(&mut self, body: &Body) -> Result<(), AllocError>
         ensures { OnOk result (self.new ≡ after_body self.old body.now) }
     {
-        match body {
-            Body::ImplicitTask {
-                endpoint: Endpoint::Begin,
-                task,
-                ..
-            } => {
-                self.roots.push(*task)?;
-                self.current = Some(*task);
+        if let Some(root) = body.begun_root() {
+            self.roots.push(root)?;
+            self.current = Some(root);
+        }
+        if body.ended_root().is_some() {
+            self.roots.pop();
+            self.current = self.roots.last().copied();
+        }
+        if let Some((status, _, next)) = body.schedule() {
+            if status.demands_next() {
+                self.current = next;
             }
-            Body::ImplicitTask {
-                endpoint: Endpoint::End,
-                ..
-            } => {
-                self.roots.pop();
-                self.current = self.roots.last().copied();
-            }
-            Body::TaskSchedule { status, next, .. } if status.demands_next() => {
-                self.current = *next;
-            }
-            _ => {}
         }
         Ok(())
     }
@@ -106,7 +98,8 @@ fn differs(task: Option<u64>, from: Option<u64>) -> bool
 /// The root that runs next, if one does.
 fn root_start(records: &[Record], makers: &BTreeMap<u64, usize>, body: &Body) -> Option<u64>
     requires { AreMakers records.now (length records.now) makers.now }
-    ensures { (task : ℕ) → (result ≡ Some task) ↔ ((started body.now ≡ Some task) × IsRoot records.now task) }
+    ensures { (task : ℕ) → (result ≡ Some task)
+        ↔ ((started body.now ≡ Some task) × IsRoot records.now task) }
 {
     match body.started() {
         Some(task) => {

@@ -4,7 +4,7 @@ ghost use Rattle.ompt_events.specs.declared.cause.Cause.TheVariants.{Moved};
 ghost use Rattle.ompt_events.specs.Records.{started};
 ghost use Rattle.ompt_events.specs.Tree.{IsExplicit};
 ghost use Rattle.ompt_events.specs.Causes.{IsFreeOf};
-ghost use Rattle.checker.specs.Searches.{IsFound, AreMakers};
+ghost use Rattle.checker.specs.Search.{IsFound, AreMakers};
 
 use crate::makers::is_explicit;
 use crate::search::SearchFault;
@@ -40,7 +40,8 @@ pub(crate) fn find_moved(
 /// The explicit task that runs next, if one does.
 fn explicit_start(records: &[Record], makers: &BTreeMap<u64, usize>, body: &Body) -> Option<u64>
     requires { AreMakers records.now (length records.now) makers.now }
-    ensures { (task : ℕ) → (result ≡ Some task) ↔ ((started body.now ≡ Some task) × IsExplicit records.now task) }
+    ensures { (task : ℕ) → (result ≡ Some task)
+        ↔ ((started body.now ≡ Some task) × IsExplicit records.now task) }
 {
     match body.started() {
         Some(task) => {

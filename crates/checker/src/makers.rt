@@ -6,7 +6,7 @@ ghost use Rattle.ompt_events.specs.Tree.{IsRoot, IsExplicit};
 ghost use Rattle.ompt_events.specs.declared.cause.Cause.TheVariants.{CreatedTwice};
 ghost use Rattle.ompt_events.specs.Causes.{IsFreeOf};
 ghost use Rattle.checker.specs.Audited.{AreAudited};
-ghost use Rattle.checker.specs.Searches.{IsFound, AreMakers};
+ghost use Rattle.checker.specs.Search.{IsFound, AreMakers};
 
 use crate::search::SearchFault;
 use ompt_events::{Cause, Record};
@@ -64,7 +64,8 @@ pub(crate) fn creation_of(
     task: u64,
 ) -> Option<usize>
     requires { AreMakers records.now (length records.now) makers.now }
-    ensures { MatchOption result (IsExplicit records.now task → ⊥) (λ place. at created records.now place ≡ Some task) }
+    ensures { MatchOption result (IsExplicit records.now task
+        → ⊥) (λ place. at created records.now place ≡ Some task) }
 {
     match makers.get(&task) {
         Some(place) => {

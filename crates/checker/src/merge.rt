@@ -5,15 +5,15 @@ ghost use Rattle.ompt_events.specs.Places.{thread_at};
 ghost use Rattle.ompt_events.specs.Linearization.{IsLinearization, IsGreedy};
 ghost use Rattle.ompt_events.specs.Causes.{IsFreeOf};
 ghost use Rattle.checker.specs.Audited.{AreAudited};
-ghost use Rattle.checker.specs.Searches.{IsFound};
-ghost use Rattle.checker.specs.Merging.{AreAwaited, Stands, MayFollow, AreHeads, IsLeastEntry, IsReadyHead, AreFirstHeads, AreEntries};
+ghost use Rattle.checker.specs.Search.{IsFound};
+ghost use Rattle.checker.specs.Merge.{AreAwaited, Stands, MayFollow, AreHeads, IsLeastEntry, IsReadyHead, AreFirstHeads, AreEntries};
 
 use crate::search::SearchFault;
 use ompt_events::{Cause, Record, finish};
 use std::alloc::{AllocError, Global};
 
-/// The greedy order: again and again the first record in file order of which all that happens before it stands already.
-/// Searches for the first record that has no place in it.
+/// The greedy order: again and again the first record in file order of which all that happens before it
+/// stands already. Searches for the first record that has no place in it.
 pub(crate) fn find_order(
     alloc: Global,
     records: &[Record],
@@ -156,7 +156,8 @@ fn first_ready(
     requires awaited { AreAwaited records.now (length records.now) awaited.now }
     requires heads { AreHeads records.now placed.now heads.now }
     requires least { IsLeastEntry records.now placed.now least }
-    ensures none { MatchOption result ((i : ℕ) → MayFollow records.now placed.now i → ⊥) (λ place. (i : ℕ) → i < place → MayFollow records.now placed.now i → ⊥) }
+    ensures none { MatchOption result ((i : ℕ) → MayFollow records.now placed.now i → ⊥) (λ place. (i : ℕ)
+        → i < place → MayFollow records.now placed.now i → ⊥) }
     ensures found { IfSome result (MayFollow records.now placed.now) }
 {
     let mut first = None;
@@ -230,8 +231,10 @@ fn first_missing(placed: &[bool], entries: &[(u32, usize)], from: usize) -> usiz
     requires { from ≤ length entries.now }
     ensures from { from ≤ result }
     ensures within { result ≤ length entries.now }
-    ensures passed { (j : ℕ) (d : ℕ × ℕ) → from ≤ j → j < result → Stands placed.now (slice_index_or entries.now j d).1 }
-    ensures missing { (d : ℕ × ℕ) → result < length entries.now → Stands placed.now (slice_index_or entries.now result d).1 → ⊥ }
+    ensures passed { (j : ℕ) (d : ℕ × ℕ) → from ≤ j → j < result
+        → Stands placed.now (slice_index_or entries.now j d).1 }
+    ensures missing { (d : ℕ × ℕ) → result < length entries.now
+        → Stands placed.now (slice_index_or entries.now result d).1 → ⊥ }
 {
     for at in from..entries.len() {
         if !stands(placed, entries[at].1) {

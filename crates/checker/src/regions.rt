@@ -4,8 +4,8 @@ ghost use Rattle.ompt_events.specs.declared.cause.Cause.TheVariants.{RegionOrder
 ghost use Rattle.ompt_events.specs.Regions.{kind_at};
 ghost use Rattle.ompt_events.specs.Causes.{IsFreeOf};
 ghost use Rattle.checker.specs.Audited.{AreAudited};
-ghost use Rattle.checker.specs.Searches.{IsFound};
-ghost use Rattle.checker.specs.Links.{AreLinked, SetsTo, top_after};
+ghost use Rattle.checker.specs.Search.{IsFound};
+ghost use Rattle.checker.specs.Regions.{AreLinked, SetsTo, top_after};
 
 use crate::search::SearchFault;
 use ompt_events::{Cause, Endpoint, Record, SyncKind};
@@ -50,8 +50,10 @@ fn misses_begin(
     kind: SyncKind,
     endpoint: Endpoint,
 ) -> bool
-    ensures misses { IsTrue result → (endpoint ≡ Endpoint.End) × ((begin : ℕ) → opened ≡ Some begin → kind_at records.now begin ≢ Some kind) }
-    ensures finds { result ≡ false → endpoint ≡ Endpoint.End → (begin : ℕ) × (opened ≡ Some begin) × (kind_at records.now begin ≡ Some kind) }
+    ensures misses { IsTrue result → (endpoint ≡ Endpoint.End)
+        × ((begin : ℕ) → opened ≡ Some begin → kind_at records.now begin ≢ Some kind) }
+    ensures finds { result ≡ false → endpoint ≡ Endpoint.End → (begin : ℕ) × (opened ≡ Some begin)
+        × (kind_at records.now begin ≡ Some kind) }
 {
     match endpoint {
         Endpoint::Begin | Endpoint::BeginEnd => false,

@@ -1,16 +1,15 @@
 //! Whether each task's chain of parents reaches a root.
-ghost use Rattle.std.specs.Prelude.{◌⊎◌, ◌≡◌, ◌≢◌, ◌<◌, ◌↔◌, ℕ, Some, true, false, is_some, option_map, if◌then◌else◌, IsTrue, IfOk, IfErr, OnOk, length, map};
-ghost use Rattle.std.specs.Option.{option_to_list};
+ghost use Rattle.std.specs.Prelude.{◌⊎◌, ◌≡◌, ◌≢◌, ◌<◌, ◌↔◌, ℕ, Some, true, false, is_some, if◌then◌else◌, IsTrue, IfOk, IfErr, OnOk, length, map};
 ghost use Rattle.ompt_events.specs.declared.cause.Cause.TheVariants.{Rootless};
 ghost use Rattle.ompt_events.specs.Records.{begun_root, creation, named};
 ghost use Rattle.ompt_events.specs.Places.{at};
 ghost use Rattle.ompt_events.specs.Causes.{IsFreeOf};
-ghost use Rattle.checker.specs.Searches.{IsFound, AreMakers};
-ghost use Rattle.checker.specs.Marks.{mark_at, AreMarks, IsClimbed, IsSettled, AnyUnmade};
+ghost use Rattle.checker.specs.Search.{IsFound, AreMakers};
+ghost use Rattle.checker.specs.Rooted.{mark_at, AreMarks, IsClimbed, IsSettled, AnyUnmade};
 ghost use Rattle.checker.specs.Audited.{AreAudited};
 
 use crate::search::SearchFault;
-use ompt_events::{Body, Cause, Claim, Record};
+use ompt_events::{Body, Cause, Record};
 use std::alloc::{AllocError, Global};
 use std::collections::BTreeMap;
 
@@ -25,8 +24,8 @@ pub(crate) enum Mark {
     Unrooted,
 }
 
-/// Searches for the first record that names a task which no record makes, or that creates a task whose chain of parents
-/// reaches no root.
+/// Searches for the first record that names a task which no record makes, or that creates a task whose
+/// chain of parents reaches no root.
 pub(crate) fn find_rootless(
     alloc: Global,
     records: &[Record],
@@ -64,7 +63,8 @@ fn marks_of(
 ) -> Result<Vec<Mark>, AllocError>
     requires { AreMakers records.now (length records.now) makers.now }
     ensures marks { IfOk result (λ marks. AreMarks records.now makers.now marks.items) }
-    ensures known { IfOk result (λ marks. (i : ℕ) → is_some (at creation records.now i) ≡ true → mark_at marks.items i ≢ Mark.Unknown) }
+    ensures known { IfOk result (λ marks. (i : ℕ) → is_some (at creation records.now i) ≡ true
+        → mark_at marks.items i ≢ Mark.Unknown) }
 {
     let mut marks = root_marks(alloc, records)?;
     for (at, event) in records.iter().enumerate() {
@@ -77,7 +77,8 @@ fn marks_of(
 
 /// The roots are rooted, and of the other tasks nothing is known yet.
 fn root_marks(alloc: Global, records: &[Record]) -> Result<Vec<Mark>, AllocError>
-    ensures { IfOk result (λ marks. marks.items ≡ map (λ r. if is_some (begun_root r.body) then Mark.Rooted else Mark.Unknown) records.now) }
+    ensures { IfOk result (λ marks. marks.items ≡ map (λ r. if is_some
+        (begun_root r.body) then Mark.Rooted else Mark.Unknown) records.now) }
 {
     records
         .iter()
@@ -118,9 +119,9 @@ fn settle(
     Ok(())
 }
 
-/// Climbs from the task that is created at `from` to the first one that has a mark, or has no parent that is made.
-/// Gives the places on the way, which are marked as unrooted for now, so that a circle ends,
-/// and whether the climb reached a root.
+/// Climbs from the task that is created at `from` to the first one that has a mark, or has no parent that
+/// is made. Gives the places on the way, which are marked as unrooted for now, so that a circle ends, and
+/// whether the climb reached a root.
 fn climb(
     alloc: Global,
     records: &[Record],
@@ -161,48 +162,8 @@ fn is_marked(mark: Mark, other: Mark) -> bool
 fn names_unmade(body: &Body, makers: &BTreeMap<u64, usize>) -> bool
     ensures { IsTrue result ↔ AnyUnmade makers.now (named body.now) }
 {
-    match body {
-        Body::ParallelBegin { task, .. }
-        | Body::ParallelEnd { task, .. }
-        | Body::ImplicitTask { task, .. }
-        | Body::Dependences { task, .. }
-        | Body::SyncRegion { task, .. } => is_unmade(Some(*task), makers),
-        Body::TaskCreate { task, child, .. } => {
-            is_unmade(Some(*task), makers) || is_unmade(Some(*child), makers)
-        }
-        Body::TaskSchedule {
-            prior,
-            next,
-            share,
-            ..
-        } => {
-            is_unmade(Some(*prior), makers)
-                || is_unmade(*next, makers)
-                || is_unmade(root_of(share), makers)
-        }
-        Body::Cancel { task, share, .. } => {
-            is_unmade(Some(*task), makers) || is_unmade(root_of(share), makers)
-        }
-        Body::ThreadBegin { .. } | Body::ThreadEnd => false,
-    }
-}
-
-/// Whether there is a task, and no record makes it.
-fn is_unmade(task: Option<u64>, makers: &BTreeMap<u64, usize>) -> bool
-    ensures { IsTrue result ↔ AnyUnmade makers.now (option_to_list task) }
-{
-    match task {
-        Some(id) => !makers.contains_key(&id),
-        None => false,
-    }
-}
-
-/// The root that is claimed.
-fn root_of(share: &Option<Claim>) -> Option<u64>
-    ensures { result ≡ option_map (λ c. c.root) share.now }
-{
-    match share {
-        Some(claim) => Some(claim.root),
-        None => None,
-    }
+    body.named()
+        .as_slice()
+        .iter()
+        .any(|task| !makers.contains_key(task))
 }

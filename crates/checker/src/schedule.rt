@@ -8,8 +8,8 @@ ghost use Rattle.ompt_events.specs.Places.{at as says_at};
 ghost use Rattle.ompt_events.specs.Tree.{IsExplicit};
 ghost use Rattle.ompt_events.specs.HappensBefore.{IsFinishing, IsStep};
 ghost use Rattle.checker.specs.Audited.{AreAudited};
-ghost use Rattle.checker.specs.Searches.{AreMakers};
-ghost use Rattle.checker.specs.Merging.{AreAwaited};
+ghost use Rattle.checker.specs.Search.{AreMakers};
+ghost use Rattle.checker.specs.Merge.{AreAwaited};
 
 use crate::makers::creation_of;
 use ompt_events::{Record, finish};
@@ -47,8 +47,11 @@ fn note_start(
 ) -> Result<Option<usize>, AllocError>
     requires { AreMakers records.now (length records.now) makers.now }
     ensures noted { OnOk result (Updates nat_cmp starts.old starts.new task (Some at)) }
-    ensures first { IfOk result (λ creation. get nat_cmp starts.old task ≡ None → MatchOption creation (IsExplicit records.now task → ⊥) (λ place. says_at created records.now place ≡ Some task)) }
-    ensures later { IfOk result (λ creation. (k : ℕ) → get nat_cmp starts.old task ≡ Some k → creation ≡ None) }
+    ensures first { IfOk result (λ creation. get nat_cmp starts.old task ≡ None
+        → MatchOption creation (IsExplicit records.now task
+        → ⊥) (λ place. says_at created records.now place ≡ Some task)) }
+    ensures later { IfOk result (λ creation. (k : ℕ) → get nat_cmp starts.old task ≡ Some k
+        → creation ≡ None) }
 {
     let before = starts.insert(task, at)?;
     if before.is_none() {
@@ -82,7 +85,8 @@ fn are_created_before(awaited: &[Option<usize>]) -> bool
 
 /// Whether each ledger entry is made before every record that names a length above it.
 fn are_entered_before(records: &[Record]) -> bool
-    ensures { IsTrue result → (a b : ℕ) → IsFinishing records.now a → seen_at records.now a < seen_at records.now b → a < b }
+    ensures { IsTrue result → (a b : ℕ) → IsFinishing records.now a
+        → seen_at records.now a < seen_at records.now b → a < b }
 {
     // The least entry that a record behind makes.
     let mut least: u32 = u32::MAX;
@@ -91,7 +95,7 @@ fn are_entered_before(records: &[Record]) -> bool
         if event.seen > least {
             return false;
         }
-        if finish(event).is_some() && event.seen < least {
+        if finish(event).is_some() {
             least = event.seen;
         }
     }

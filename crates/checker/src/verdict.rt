@@ -58,7 +58,7 @@ pub enum Verdict {
     Yes { order: Order },
     /// The first record at which a task that must be finished is not.
     No { at: usize, why: Why },
-    /// The records are no account of a run, for this cause; `at` is the first record that has it.
+    /// No real run can produce the records, for this cause; `at` is the first record that shows it.
     Malformed { at: usize, cause: Cause },
 }
 

@@ -5,7 +5,7 @@ ghost use Rattle.ompt_events.specs.Records.{creation, region, finish};
 ghost use Rattle.ompt_events.specs.Causes.{IsFreeOf};
 ghost use Rattle.ompt_events.specs.Violations.{IsUnfinished, IsFirstUnfinished};
 ghost use Rattle.checker.specs.Audited.{AreAudited};
-ghost use Rattle.checker.specs.Links.{AreLinked};
+ghost use Rattle.checker.specs.Regions.{AreLinked};
 ghost use Rattle.checker.specs.Waits.{length_of, latest_of, AreDone, AreLimits, IsRaised, IsLateAt, IsFirstLate, IsFirstCreated};
 
 use ompt_events::{Body, Endpoint, Part, Record, SyncKind, finish};
@@ -24,7 +24,8 @@ pub(crate) fn find_unfinished(
     requires audited { AreAudited records.now }
     requires linked { AreLinked records.now (length records.now) links.now }
     requires created_once { IsFreeOf records.now CreatedTwice }
-    ensures { IfOk result (λ found. MatchOption found ((i task : ℕ) → IsUnfinished records.now i task → ⊥) (λ f. IsFirstUnfinished records.now f.0 f.1)) }
+    ensures { IfOk result (λ found. MatchOption found ((i task : ℕ) → IsUnfinished records.now i task
+        → ⊥) (λ f. IsFirstUnfinished records.now f.0 f.1)) }
 {
     let done = done_lengths(alloc, records)?;
     let limits = wait_limits(alloc, records, &done)?;
@@ -75,7 +76,8 @@ fn wait_limits(
     records: &[Record],
     done: &BTreeMap<u64, u64>,
 ) -> Result<Vec<u64>, AllocError>
-    ensures limits { IfOk result (λ limits. AreLimits records.now done.now (length records.now) limits.items) }
+    ensures limits { IfOk result (λ limits. AreLimits records.now done.now
+        (length records.now) limits.items) }
     ensures all { IfOk result (λ limits. length limits.items ≡ length records.now) }
 {
     let mut latest: BTreeMap<u64, u64> = BTreeMap::new(alloc);
@@ -91,7 +93,8 @@ fn wait_limits(
 
 /// The limit at a record: the greatest length so far of the task that begins or ends a region; 0 elsewhere.
 fn limit_of(latest: &BTreeMap<u64, u64>, body: &Body) -> u64
-    ensures { (task : ℕ) (kind : SyncKind) (endpoint : Endpoint) → region body.now ≡ Some (task, kind, endpoint) → result ≡ latest_of latest.now task }
+    ensures { (task : ℕ) (kind : SyncKind) (endpoint : Endpoint)
+        → region body.now ≡ Some (task, kind, endpoint) → result ≡ latest_of latest.now task }
 {
     match body.region() {
         Some((task, _, _)) => latest_length(latest, task),
@@ -130,7 +133,8 @@ fn unfinished_at(
     requires are_done { AreDone records.now (length records.now) done.now }
     requires are_limits { AreLimits records.now done.now (length records.now) limits.now }
     requires each_limit { length limits.now ≡ length records.now }
-    ensures { MatchOption result ((task : ℕ) → IsUnfinished records.now at task → ⊥) (IsFirstCreated records.now at) }
+    ensures { MatchOption result ((task : ℕ) → IsUnfinished records.now at task
+        → ⊥) (IsFirstCreated records.now at) }
 {
     let event = &records[at];
     let task = ended_wait(&event.body)?;
@@ -144,7 +148,8 @@ fn unfinished_at(
 
 /// The task whose taskwait ends by this record.
 fn ended_wait(body: &Body) -> Option<u64>
-    ensures { (task : ℕ) → (result ≡ Some task) ↔ (region body.now ≡ Some (task, SyncKind.Taskwait, Endpoint.End)) }
+    ensures { (task : ℕ) → (result ≡ Some task)
+        ↔ (region body.now ≡ Some (task, SyncKind.Taskwait, Endpoint.End)) }
 {
     match body.region() {
         Some((task, SyncKind::Taskwait, Endpoint::End)) => Some(task),
@@ -152,7 +157,8 @@ fn ended_wait(body: &Body) -> Option<u64>
     }
 }
 
-/// The first child that the task creates before the place, and that is not finished by entries below the length seen.
+/// The first child that the task creates before the place, and that is not finished by entries below the
+/// length seen.
 fn first_late_child(
     records: &[Record],
     done: &BTreeMap<u64, u64>,
@@ -161,7 +167,9 @@ fn first_late_child(
     seen: u32,
 ) -> Option<u64>
     requires { place ≤ length records.now }
-    ensures { MatchOption result ((c child : ℕ) → c < place → IsLateAt records.now done.now task seen c child → ⊥) (IsFirstLate records.now done.now task place seen) }
+    ensures { MatchOption result ((c child : ℕ) → c < place
+        → IsLateAt records.now done.now task seen c child
+        → ⊥) (IsFirstLate records.now done.now task place seen) }
 {
     for at in 0..place {
         if let Some(child) = late_child(done, &records[at].body, task, seen) {
@@ -173,7 +181,8 @@ fn first_late_child(
 
 /// The child that the task creates by this record, if it is not finished by entries below the length seen.
 fn late_child(done: &BTreeMap<u64, u64>, body: &Body, task: u64, seen: u32) -> Option<u64>
-    ensures { (child : ℕ) → (result ≡ Some child) ↔ ((creation body.now ≡ Some (task, child)) × (seen < length_of done.now child)) }
+    ensures { (child : ℕ) → (result ≡ Some child)
+        ↔ ((creation body.now ≡ Some (task, child)) × (seen < length_of done.now child)) }
 {
     match body.creation() {
         Some((parent, child)) => {

@@ -1,5 +1,5 @@
--- The causes for which a list of records is no account of a run. Each is a fact about the list alone.
--- What is said of a cause matters where no cause with a smaller number occurs.
+-- Why no real run can produce a list of records. Each cause is a fact about the list alone,
+-- and assumes that no lower-numbered cause occurs.
 use Rattle.std.specs.Prelude.{true, ℕ, ◌≡◌, ◌≢◌, ◌<◌, ◌≤◌, ◌+◌, ◌==◌, List, [], length, take, Some, None, Contains, count_by, slice_get, is_some, if◌then◌else◌}
 use Rattle.ompt_events.specs.declared.records.Record.{Record}
 use Rattle.ompt_events.specs.declared.records.Claim.{Claim}
@@ -12,19 +12,21 @@ use Rattle.ompt_events.specs.declared.deps.Dep.{Dep}
 use Rattle.ompt_events.specs.CauseNames.{cause_number}
 use Rattle.ompt_events.specs.Flags as flag
 use Rattle.ompt_events.specs.Flags.{has_flag}
-use Rattle.ompt_events.specs.Records.{Membership, made, created, created_with_deps, dependences, started, finish, claim, flags, named, forked, region_named, joined, begun_initial, region}
-use Rattle.ompt_events.specs.Places.{at, thread_at, seen_at, places}
-use Rattle.ompt_events.specs.Tree.{IsExplicit, IsRooted, HasPath, creates_for}
+use Rattle.ompt_events.specs.declared.records.Membership.{Membership}
+use Rattle.ompt_events.specs.Records.{made, created, created_with_deps, dependences, started, finish, claim, flags, named, forked, region_named, joined, begun_initial, region}
+use Rattle.ompt_events.specs.Places.{at, thread_at, seen_at}
+use Rattle.ompt_events.specs.Tree.{IsExplicit, IsRooted, HasPath, children}
 use Rattle.ompt_events.specs.Threads.{Walk, walk_of, MisfitsAt}
 use Rattle.ompt_events.specs.States.{Move, moves_of, nature_of, state_of}
-use Rattle.ompt_events.specs.Regions.{EndsNoRegion, IsRegion, is_barrier, is_called_barrier, barrier_number, barriers_of}
-use Rattle.ompt_events.specs.Teams.{IsMember, IsInitial, IsTeammate, team_size}
+use Rattle.ompt_events.specs.Regions.{EndsNoRegion, IsRegion, IsBarrierBegin, is_barrier, is_called_barrier}
+use Rattle.ompt_events.specs.Teams.{IsMember, IsInitial, IsTeammate, members, members_before}
 use Rattle.ompt_events.specs.HappensBefore.{IsProgramStep, IsFinishing}
 use Rattle.ompt_events.specs.Linearization.{IsGrounded}
 
 -- the record's `seq` isn't the number of earlier records of its thread
 abbrev pub HasSeqGap : List Record → ℕ → Type 0
-HasSeqGap rs i = (r : Record) × (slice_get rs i ≡ Some r) × (r.seq ≢ count_by (λ q. q.thread == r.thread) (take i rs))
+HasSeqGap rs i =
+    (r : Record) × (slice_get rs i ≡ Some r) × (r.seq ≢ count_by (λ q. q.thread == r.thread) (take i rs))
 
 -- a record earlier in file order makes the same task
 abbrev pub IsMadeAgain : List Record → ℕ → Type 0
@@ -32,7 +34,9 @@ IsMadeAgain rs i = (task k : ℕ) × (k < i) × (at made rs k ≡ Some task) × 
 
 -- a record earlier in file order begins the same parallel region
 abbrev pub IsForkedAgain : List Record → ℕ → Type 0
-IsForkedAgain rs i = (parallel k own other : ℕ) × (k < i) × (at forked rs k ≡ Some (other, parallel)) × (at forked rs i ≡ Some (own, parallel))
+IsForkedAgain rs i =
+    (parallel k own other : ℕ) × (k < i) × (at forked rs k ≡ Some (other, parallel))
+    × (at forked rs i ≡ Some (own, parallel))
 
 -- a task is named there
 abbrev pub IsNamedAt : List Record → ℕ → ℕ → Type 0
@@ -53,7 +57,8 @@ pub data HasNoRoot (rs : List Record) (i : ℕ) : Type 0 where
   -- a task is created whose chain of parents reaches no root
   unrooted : (task : ℕ) → at created rs i ≡ Some task → (IsRooted rs task → ⊥) → HasNoRoot rs i
   -- a parallel region ends, or a member of its team begins, that no record begins
-  no_region : (parallel : ℕ) → at region_named rs i ≡ Some parallel → (IsForked rs parallel → ⊥) → HasNoRoot rs i
+  no_region : (parallel : ℕ) → at region_named rs i ≡ Some parallel → (IsForked rs parallel → ⊥)
+      → HasNoRoot rs i
 
 -- the first record of its thread that speaks for a task which the thread does not run
 pub record IsNotCurrent (rs : List Record) (i : ℕ) : Type 0 where
@@ -62,7 +67,9 @@ pub record IsNotCurrent (rs : List Record) (i : ℕ) : Type 0 where
 
 -- an explicit task runs next that ran next earlier in file order on another thread
 abbrev pub IsMoved : List Record → ℕ → Type 0
-IsMoved rs i = (task k : ℕ) × IsExplicit rs task × (at started rs i ≡ Some task) × (k < i) × (at started rs k ≡ Some task) × (thread_at rs k ≢ thread_at rs i)
+IsMoved rs i =
+    (task k : ℕ) × IsExplicit rs task × (at started rs i ≡ Some task) × (k < i)
+    × (at started rs k ≡ Some task) × (thread_at rs k ≢ thread_at rs i)
 
 -- of a task's moves this record makes the first that its state does not allow
 pub record HasNoState (rs : List Record) (i : ℕ) : Type 0 where
@@ -79,20 +86,28 @@ HasNoBegin rs i = (task : ℕ) × (kind : SyncKind) × EndsNoRegion rs i task ki
 
 -- an explicit task begins or ends a barrier (OpenMP 5.2, 15.3: it may not)
 abbrev pub HasBarrier : List Record → ℕ → Type 0
-HasBarrier rs i = (task : ℕ) × (kind : SyncKind) × (endpoint : Endpoint) × (at region rs i ≡ Some (task, kind, endpoint)) × (is_called_barrier kind ≡ true) × IsExplicit rs task
+HasBarrier rs i =
+    (task : ℕ) × (kind : SyncKind) × (endpoint : Endpoint)
+    × (at region rs i ≡ Some (task, kind, endpoint)) × (is_called_barrier kind ≡ true) × IsExplicit rs task
 
--- a team or one of its barriers lacks a member
+-- a team or one of its barriers lacks a member (OpenMP 5.2, 10.1 and 15.3)
 pub data IsShort (rs : List Record) (i : ℕ) : Type 0 where
   -- the member's number isn't one of its team
   outside : (m : Membership) → at joined rs i ≡ Some m → m.actual ≤ m.index → IsShort rs i
   -- an earlier member of the team has the same number
-  same_index : (m e : Membership) (k : ℕ) → at joined rs i ≡ Some m → k < i → at joined rs k ≡ Some e → e.parallel ≡ m.parallel → e.index ≡ m.index → IsShort rs i
+  same_index : (m e : Membership) → at joined rs i ≡ Some m → Contains (members_before rs m.parallel i) e
+      → e.index ≡ m.index → IsShort rs i
   -- an earlier member names another size of the team
-  other_size : (m e : Membership) (k : ℕ) → at joined rs i ≡ Some m → k < i → at joined rs k ≡ Some e → e.parallel ≡ m.parallel → e.actual ≢ m.actual → IsShort rs i
+  other_size : (m e : Membership) → at joined rs i ≡ Some m → Contains (members_before rs m.parallel i) e
+      → e.actual ≢ m.actual → IsShort rs i
   -- the team has fewer members than its size
-  few : (m : Membership) → at joined rs i ≡ Some m → team_size rs m.parallel < m.actual → IsShort rs i
-  -- a barrier ends that a member of the team doesn't begin
-  missed : (task member begin : ℕ) (kind : SyncKind) → IsRegion rs i task kind begin → is_barrier kind ≡ true → IsTeammate rs task member → barriers_of rs member ≤ barrier_number rs task begin → IsShort rs i
+  few : (m : Membership) → at joined rs i ≡ Some m → length (members rs m.parallel) < m.actual → IsShort rs i
+  -- a barrier ends that a member of the team doesn't begin: the member has no barrier of the same number
+  -- (15.3)
+  missed : (task member begin number : ℕ) (kind : SyncKind) → IsRegion rs i task kind begin
+      → is_barrier kind ≡ true
+      → IsBarrierBegin rs task number begin → IsTeammate rs task member
+      → ((start : ℕ) → IsBarrierBegin rs member number start → ⊥) → IsShort rs i
 
 -- where the thread of the record stands before it
 abbrev pub IsWalkAt : List Record → ℕ → Walk → Type 0
@@ -101,11 +116,14 @@ IsWalkAt rs i walk = (r : Record) × (slice_get rs i ≡ Some r) × (walk ≡ wa
 -- a parallel region inside another
 pub data IsNested (rs : List Record) (i : ℕ) : Type 0 where
   -- a parallel region begins by a task that isn't initial
-  forked_inside : (task parallel : ℕ) → at forked rs i ≡ Some (task, parallel) → (IsInitial rs task → ⊥) → IsNested rs i
+  forked_inside : (task parallel : ℕ) → at forked rs i ≡ Some (task, parallel) → (IsInitial rs task → ⊥)
+      → IsNested rs i
   -- a member of a team begins while another is the thread's innermost open root
-  joined_inside : (m : Membership) (walk : Walk) (outer : ℕ) → at joined rs i ≡ Some m → IsWalkAt rs i walk → slice_get walk.roots 0 ≡ Some outer → IsMember rs outer → IsNested rs i
+  joined_inside : (m : Membership) (walk : Walk) (outer : ℕ) → at joined rs i ≡ Some m
+      → IsWalkAt rs i walk → slice_get walk.roots 0 ≡ Some outer → IsMember rs outer → IsNested rs i
   -- an initial task begins while the thread has an open root
-  initial_inside : (task : ℕ) (walk : Walk) → at begun_initial rs i ≡ Some task → IsWalkAt rs i walk → walk.roots ≢ [] → IsNested rs i
+  initial_inside : (task : ℕ) (walk : Walk) → at begun_initial rs i ≡ Some task → IsWalkAt rs i walk
+      → walk.roots ≢ [] → IsNested rs i
 
 -- the thread's next record after the one at a is that at b
 pub record IsNextInThread (rs : List Record) (a b : ℕ) : Type 0 where
@@ -125,20 +143,19 @@ pub record AreFollowed (rs : List Record) (a b : ℕ) : Type 0 where
 -- a list of dependences that doesn't follow its creation, or is missing there
 pub data HasMisplacedDeps (rs : List Record) (i : ℕ) : Type 0 where
   stray : is_some (at dependences rs i) ≡ true → ((a : ℕ) → AreFollowed rs a i → ⊥) → HasMisplacedDeps rs i
-  missing : is_some (at created_with_deps rs i) ≡ true → ((b : ℕ) → AreFollowed rs i b → ⊥) → HasMisplacedDeps rs i
-
--- how many children the task created
-abbrev pub children_of : List Record → ℕ → ℕ
-children_of rs task = count_by (creates_for rs task) (places rs)
+  missing : is_some (at created_with_deps rs i) ≡ true → ((b : ℕ) → AreFollowed rs i b → ⊥)
+      → HasMisplacedDeps rs i
 
 -- the claim is right: the task stands there below its root, and has so many children
 pub record IsRightClaim (rs : List Record) (task : ℕ) (claimed : Claim) : Type 0 where
   pub stands : HasPath rs claimed.root task claimed.path
-  pub children : claimed.kept ≡ children_of rs task
+  pub kept : claimed.kept ≡ length (children rs task)
 
 -- a task is finished with a claim that isn't right
 abbrev pub HasWrongShare : List Record → ℕ → Type 0
-HasWrongShare rs i = (task : ℕ) × (part : Part) × (claimed : Claim) × (at finish rs i ≡ Some (task, part)) × (at claim rs i ≡ Some claimed) × (IsRightClaim rs task claimed → ⊥)
+HasWrongShare rs i =
+    (task : ℕ) × (part : Part) × (claimed : Claim) × (at finish rs i ≡ Some (task, part))
+    × (at claim rs i ≡ Some claimed) × (IsRightClaim rs task claimed → ⊥)
 
 -- an earlier finishing record in file order names the same entry
 abbrev pub RepeatsEntry : List Record → ℕ → Type 0
@@ -168,7 +185,9 @@ pub record HasNoOrder (rs : List Record) (i : ℕ) : Type 0 where
 
 -- a task is made that is to run on a device (OpenMP 5.2, 13.8)
 abbrev pub MakesTarget : List Record → ℕ → Type 0
-MakesTarget rs i = (task bits : ℕ) × (at made rs i ≡ Some task) × (at flags rs i ≡ Some bits) × (has_flag bits flag.target ≡ true)
+MakesTarget rs i =
+    (task bits : ℕ) × (at made rs i ≡ Some task) × (at flags rs i ≡ Some bits)
+    × (has_flag bits flag.target ≡ true)
 
 -- The record has the cause.
 pub data HasCause (rs : List Record) (i : ℕ) : Cause → Type 0 where
@@ -205,7 +224,8 @@ pub record IsFirstWith (rs : List Record) (cause : Cause) (i : ℕ) : Type 0 whe
 pub record IsMalformed (rs : List Record) (sought : List Cause) (i : ℕ) (cause : Cause) : Type 0 where
   pub sought_for : Contains sought cause
   pub found : IsFirstWith rs cause i
-  pub least : (other : Cause) → Contains sought other → cause_number other < cause_number cause → IsFreeOf rs other
+  pub least : (other : Cause) → Contains sought other → cause_number other < cause_number cause
+      → IsFreeOf rs other
 
 -- none of the causes that are looked for occurs
 abbrev pub IsWellFormed : List Record → List Cause → Type 0

@@ -15,7 +15,9 @@ IsPartFinished rs counts task part = (k : ℕ) × (at finish rs k ≡ Some (task
 
 -- of the records that count, one finishes the task whole, or one its body and one its event
 abbrev pub IsFinished : List Record → (ℕ → Type 0) → ℕ → Type 0
-IsFinished rs counts task = IsPartFinished rs counts task Whole ⊎ (IsPartFinished rs counts task Body × IsPartFinished rs counts task Event)
+IsFinished rs counts task =
+    IsPartFinished rs counts task Whole
+    ⊎ (IsPartFinished rs counts task Body × IsPartFinished rs counts task Event)
 
 -- the record starts an explicit task; what it finishes itself counts as finished then
 abbrev pub StartsTask : List Record → ℕ → Type 0
@@ -29,7 +31,8 @@ CountsIn rs order i k = IsEarlier order k i ⊎ ((k ≡ i) × StartsTask rs i)
 abbrev pub IsCompleteIn : List Record → List ℕ → ℕ → ℕ → Type 0
 IsCompleteIn rs order task i = IsFinished rs (CountsIn rs order i) task
 
--- a finishing record counts at i: its entry is below the length that i names, or it is the record that starts a task itself
+-- a finishing record counts at i: its entry is below the length that i names, or it is the record that
+-- starts a task itself
 abbrev pub CountsAt : List Record → ℕ → ℕ → Type 0
 CountsAt rs i k = (seen_at rs k < seen_at rs i) ⊎ ((k ≡ i) × StartsTask rs i)
 

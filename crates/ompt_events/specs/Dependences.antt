@@ -5,20 +5,22 @@ use Rattle.ompt_events.specs.declared.deps.Dep.{Dep}
 use Rattle.ompt_events.specs.Names.{conflict}
 use Rattle.ompt_events.specs.Records.{dependences}
 use Rattle.ompt_events.specs.Places.{at}
-use Rattle.ompt_events.specs.Tree.{IsCreatedAt, child_number}
+use Rattle.ompt_events.specs.Tree.{IsChild}
 
 -- the task has this dependence
 abbrev pub DependsOn : List Record → ℕ → Dep → Type 0
-DependsOn rs task dep = (i : ℕ) × (list : List Dep) × (at dependences rs i ≡ Some (task, list)) × Contains list dep
+DependsOn rs task dep =
+    (i : ℕ) × (list : List Dep) × (at dependences rs i ≡ Some (task, list)) × Contains list dep
 
--- the predecessor is a sibling that was created before the task, with an item that conflicts with one of the task's at the same location
+-- the predecessor is a sibling that was created before the task, with an item that conflicts
+-- with one of the task's at the same location
 pub record IsPredecessor (rs : List Record) (task predecessor : ℕ) : Type 0 where
   pub parent : ℕ
-  pub creation : ℕ
-  pub is_created : IsCreatedAt rs creation parent task
+  pub number : ℕ
+  pub is_child : IsChild rs parent number task
   pub earlier : ℕ
-  pub sibling : IsCreatedAt rs earlier parent predecessor
-  pub smaller : child_number rs parent earlier < child_number rs parent creation
+  pub sibling : IsChild rs parent earlier predecessor
+  pub smaller : earlier < number
   pub item : Dep
   pub depends : DependsOn rs task item
   pub other : Dep

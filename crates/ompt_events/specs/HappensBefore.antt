@@ -22,7 +22,8 @@ pub data IsProgramStep (rs : List Record) (a b : ℕ) : Type 0 where
   -- the creation of a task, and a discard of it
   discard : (task : ℕ) → at created rs a ≡ Some task → at discarded rs b ≡ Some task → IsProgramStep rs a b
   -- the creation of a task, and a fulfilment of its event
-  fulfilment : (task : ℕ) → at created rs a ≡ Some task → at fulfilled rs b ≡ Some task → IsProgramStep rs a b
+  fulfilment : (task : ℕ) → at created rs a ≡ Some task → at fulfilled rs b ≡ Some task
+      → IsProgramStep rs a b
 
 -- one thing is known to come before another
 pub data IsStep (rs : List Record) (a b : ℕ) : Type 0 where

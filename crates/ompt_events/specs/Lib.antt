@@ -1,9 +1,11 @@
+-- What records say and what a run's records must say, in OpenMP's words; a verdict means what stands here.
+-- Read from top to bottom: single records; lists of records and the tasks, regions and teams in them;
+-- what happens before what and orders; when a task is complete and where it must be; causes of a refusal.
 pub mod Names
-pub mod CauseNames
 pub mod Flags
 pub mod Records
-pub mod Traces
 pub mod Places
+pub mod Traces
 pub mod Tree
 pub mod Threads
 pub mod Regions
@@ -15,4 +17,5 @@ pub mod Completion
 pub mod Coverage
 pub mod Dependences
 pub mod Violations
+pub mod CauseNames
 pub mod Causes

@@ -23,7 +23,8 @@ pub record IsLinearization (rs : List Record) (order : List ℕ) : Type 0 where
 abbrev pub IsDue : List Record → List ℕ → ℕ → Type 0
 IsDue rs standing i = (a : ℕ) → HappensBefore rs a i → Contains standing a
 
--- the record may stand next: it is one of those that may be taken, is missing, and all that happens before it stands
+-- the record may stand next: it is one of those that may be taken, is missing, and all that happens before
+-- it stands
 pub record IsReady (rs : List Record) (may : ℕ → Type 0) (standing : List ℕ) (i : ℕ) : Type 0 where
   pub within : i < length rs
   pub taken : may i
@@ -37,7 +38,8 @@ pub record IsFirstReady (rs : List Record) (may : ℕ → Type 0) (standing : Li
 
 -- behind those that stand, each record is the first that may stand next
 abbrev pub IsGreedyAfter : List Record → (ℕ → Type 0) → List ℕ → List ℕ → Type 0
-IsGreedyAfter rs may standing order = (k : ℕ) → k < length order → IsFirstReady rs may (standing ++ take k order) (slice_index order k)
+IsGreedyAfter rs may standing order =
+    (k : ℕ) → k < length order → IsFirstReady rs may (standing ++ take k order) (slice_index order k)
 
 -- from the first place on, each record is the first in file order that may stand next
 abbrev pub IsGreedy : List Record → List ℕ → Type 0

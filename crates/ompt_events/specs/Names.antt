@@ -33,7 +33,8 @@ status_part LateFulfill = Some Event
 status_part TaskwaitComplete = Some Whole
 status_part _ = None
 
--- whether another task runs after an event with this status: a fulfilment or a taskwait's own completion switches to none
+-- whether another task runs after an event with this status: a fulfilment or a taskwait's own completion
+-- switches to none
 abbrev pub demands_next : Status → Bool
 demands_next EarlyFulfill = false
 demands_next LateFulfill = false

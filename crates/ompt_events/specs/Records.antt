@@ -4,8 +4,10 @@ use Rattle.ompt_events.specs.declared.deps.Dep.{Dep}
 use Rattle.ompt_events.specs.declared.records.Body.{Body}
 use Rattle.ompt_events.specs.declared.records.Body.TheVariants.{ParallelBegin, ParallelEnd, ImplicitTask, TaskCreate, Dependences, TaskSchedule, SyncRegion, Cancel}
 use Rattle.ompt_events.specs.declared.records.Claim.{Claim}
+use Rattle.ompt_events.specs.declared.records.Membership.{Membership}
 use Rattle.ompt_events.specs.declared.records.Part.{Part}
 use Rattle.ompt_events.specs.declared.records.Part.TheVariants.{Whole}
+use Rattle.ompt_events.specs.declared.names.Status.{Status}
 use Rattle.ompt_events.specs.declared.names.Status.TheVariants.{EarlyFulfill, LateFulfill, TaskwaitComplete}
 use Rattle.ompt_events.specs.declared.names.Endpoint.{Endpoint}
 use Rattle.ompt_events.specs.declared.names.Endpoint.TheVariants.{Begin, End}
@@ -24,21 +26,17 @@ abbrev pub ended_root : Body → Option ℕ
 ended_root (ImplicitTask End actual index flags parallel task) = Some task
 ended_root _ = None
 
--- a member of a team: the parallel region, the size of its team and the member's number there
-pub record Membership : Type 0 where
-  pub parallel : ℕ
-  pub actual : ℕ
-  pub index : ℕ
-  pub member : ℕ
-
 -- the member of a team that begins; with the flag `initial` the task is none
 abbrev pub joined : Body → Option Membership
-joined (ImplicitTask Begin actual index flags parallel task) = if has_flag flags.0 flag.initial then None else Some (record { parallel = parallel; actual = actual; index = index; member = task })
+joined (ImplicitTask Begin actual index flags parallel task) =
+    if has_flag flags.0 flag.initial then None
+    else Some (record { parallel = parallel; actual = actual; index = index; member = task })
 joined _ = None
 
 -- the initial task that begins, which is a team of one
 abbrev pub begun_initial : Body → Option ℕ
-begun_initial (ImplicitTask Begin actual index flags parallel task) = if has_flag flags.0 flag.initial then Some task else None
+begun_initial (ImplicitTask Begin actual index flags parallel task) =
+    if has_flag flags.0 flag.initial then Some task else None
 begun_initial _ = None
 
 -- the task that begins a parallel region, and the region (19.5.2.3)
@@ -49,7 +47,8 @@ forked _ = None
 -- the parallel region that a record ends (19.5.2.4), or whose team a task joins
 abbrev pub region_named : Body → Option ℕ
 region_named (ParallelEnd task parallel) = Some parallel
-region_named (ImplicitTask Begin actual index flags parallel task) = if has_flag flags.0 flag.initial then None else Some parallel
+region_named (ImplicitTask Begin actual index flags parallel task) =
+    if has_flag flags.0 flag.initial then None else Some parallel
 region_named _ = None
 
 -- the task that creates, and the explicit task that it creates (19.5.2.7)
@@ -76,6 +75,11 @@ abbrev pub made : Body → Option ℕ
 made (ImplicitTask Begin actual index flags parallel task) = Some task
 made (TaskCreate deps flags task child) = Some child
 made _ = None
+
+-- the status of a task_schedule event, its prior task and its next one (19.5.2.10)
+abbrev pub schedule : Body → Option (Status × ℕ × Option ℕ)
+schedule (TaskSchedule status prior next share) = Some (status, prior, next)
+schedule _ = None
 
 -- the task that runs from here on (19.5.2.10)
 abbrev pub started : Body → Option ℕ
@@ -144,7 +148,8 @@ named (ParallelEnd task parallel) = task ∷ []
 named (ImplicitTask endpoint actual index given parallel task) = task ∷ []
 named (TaskCreate deps given task child) = task ∷ child ∷ []
 named (Dependences task list) = task ∷ []
-named (TaskSchedule status prior next share) = prior ∷ option_to_list next ++ option_to_list (option_map (λ (c : Claim). c.root) share)
+named (TaskSchedule status prior next share) =
+    prior ∷ option_to_list next ++ option_to_list (option_map (λ (c : Claim). c.root) share)
 named (SyncRegion kind endpoint parallel task) = task ∷ []
 named (Cancel given task share) = task ∷ option_to_list (option_map (λ (c : Claim). c.root) share)
 named _ = []

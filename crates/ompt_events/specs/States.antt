@@ -14,7 +14,8 @@ use Rattle.ompt_events.specs.Flags.{has_flag}
 use Rattle.ompt_events.specs.Records.{begun_root, started, discarded}
 use Rattle.ompt_events.specs.Places.{at, thread_at, places}
 
--- the state of a task after a schedule event with this status, where its state allows one: the table of the format
+-- the state of a task after a schedule event with this status, where its state allows one: the table of the
+-- format
 abbrev pub next_state_of : State → Status → Option State
 next_state_of Created status.EarlyFulfill = Some EarlyWaiting
 next_state_of Created status.TaskwaitComplete = Some Done
@@ -59,11 +60,14 @@ stops task (TaskSchedule status prior next share) = if prior == task then Stoppe
 stops task _ = []
 
 abbrev pub moves_by : ℕ → Body → List Move
-moves_by task body = stops task body ++ (if is_task task (started body) then Started ∷ [] else []) ++ (if is_task task (discarded body) then Discarded ∷ [] else [])
+moves_by task body =
+    stops task body ++ (if is_task task (started body) then Started ∷ [] else [])
+    ++ (if is_task task (discarded body) then Discarded ∷ [] else [])
 
 -- the same at a place, each move with the place
 abbrev pub moves_at : List Record → ℕ → ℕ → List (ℕ × Move)
-moves_at rs task i = map (λ move. (i, move)) (option_map_or (λ (r : Record). moves_by task r.body) (slice_get rs i) [])
+moves_at rs task i =
+    map (λ move. (i, move)) (option_map_or (λ (r : Record). moves_by task r.body) (slice_get rs i) [])
 
 -- the thread on which a task begins as a root, or first runs; some tasks have none
 abbrev pub begun_on : List Record → ℕ → Option ℕ
@@ -87,7 +91,8 @@ is_early rs task i = option_map_or (λ (r : Record). early r.body) (slice_get rs
     early (TaskSchedule status.EarlyFulfill prior next share) = prior == task
     early _ = false
 
--- the places at which a task moves, in the order in which its moves are read: fulfilments ahead of its home, its home's records, all others
+-- the places at which a task moves, in the order in which its moves are read: fulfilments ahead of its
+-- home, its home's records, all others
 abbrev pub places_of : List Record → ℕ → List ℕ
 places_of rs task =
     filter (λ i. is_early rs task i && not (is_on rs (home_of rs task) i)) (places rs)
@@ -98,7 +103,8 @@ places_of rs task =
 abbrev pub moves_of : List Record → ℕ → List (ℕ × Move)
 moves_of rs task = flat_map (moves_at rs task) (places_of rs task)
 
--- what a task is: a root, a taskwait with dependences (a task that is created with the flag `taskwait`), or any other
+-- what a task is: a root, a taskwait with dependences (a task that is created with the flag `taskwait`), or
+-- any other
 pub data Nature : Type 0 where
   Root : Nature
   Wait : Nature
@@ -122,7 +128,8 @@ move_state state Started = start_state_of state
 move_state state Discarded = discard_state_of state
 
 abbrev pub state_after : Nature → Option State → ℕ × Move → Option State
-state_after nature before step = if may nature step.1 then option_and_then (λ state. move_state state step.1) before else None
+state_after nature before step =
+    if may nature step.1 then option_and_then (λ state. move_state state step.1) before else None
 
 abbrev pub first_state : Nature → State
 first_state Root = Running
@@ -140,4 +147,6 @@ abbrev pub is_made_so : (Body → Bool) → List Record → Bool
 is_made_so test rs = is_some (find (λ (r : Record). test r.body) rs)
 
 abbrev pub nature_of : List Record → ℕ → Nature
-nature_of rs task = if is_made_so (λ b. is_task task (begun_root b)) rs then Root else if is_made_so (creates_wait task) rs then Wait else Plain
+nature_of rs task =
+    if is_made_so (λ b. is_task task (begun_root b)) rs then Root
+    else if is_made_so (creates_wait task) rs then Wait else Plain

@@ -17,11 +17,15 @@ pub record Walk : Type 0 where
 abbrev pub at_start : Walk
 at_start = record { roots = []; current = None }
 
--- a root begins and runs, or ends, so that the root below runs; a schedule runs its next task, where its status demands one
+-- a root begins and runs, or ends, so that the root below runs; a schedule runs its next task, where its
+-- status demands one
 abbrev pub after_body : Walk → Body → Walk
-after_body walk (ImplicitTask Begin actual index flags parallel task) = record { roots = task ∷ walk.roots; current = Some task }
-after_body walk (ImplicitTask End actual index flags parallel task) = record { roots = drop 1 walk.roots; current = slice_get walk.roots 1 }
-after_body walk (TaskSchedule status prior next share) = if demands_next status then record { roots = walk.roots; current = next } else walk
+after_body walk (ImplicitTask Begin actual index flags parallel task) =
+    record { roots = task ∷ walk.roots; current = Some task }
+after_body walk (ImplicitTask End actual index flags parallel task) =
+    record { roots = drop 1 walk.roots; current = slice_get walk.roots 1 }
+after_body walk (TaskSchedule status prior next share) =
+    if demands_next status then record { roots = walk.roots; current = next } else walk
 after_body walk _ = walk
 
 abbrev pub after_record : Walk → Record → Walk
@@ -36,11 +40,14 @@ pub data Misfits (rs : List Record) (walk : Walk) (body : Body) : Type 0 where
   -- the record is of a task that isn't the current one
   not_running : (task : ℕ) → running body ≡ Some task → walk.current ≢ Some task → Misfits rs walk body
   -- a root ends that isn't the innermost open one
-  not_innermost : (task : ℕ) → ended_root body ≡ Some task → slice_get walk.roots 0 ≢ Some task → Misfits rs walk body
+  not_innermost : (task : ℕ) → ended_root body ≡ Some task → slice_get walk.roots 0 ≢ Some task
+      → Misfits rs walk body
   -- a root runs next that isn't the innermost open one
-  other_root : (task : ℕ) → started body ≡ Some task → IsRoot rs task → slice_get walk.roots 0 ≢ Some task → Misfits rs walk body
+  other_root : (task : ℕ) → started body ≡ Some task → IsRoot rs task → slice_get walk.roots 0 ≢ Some task
+      → Misfits rs walk body
   -- a taskwait with dependences is complete whose parent isn't the current task
-  other_parent : (task i parent : ℕ) → wait_completed body ≡ Some task → IsCreatedAt rs i parent task → walk.current ≢ Some parent → Misfits rs walk body
+  other_parent : (task i parent : ℕ) → wait_completed body ≡ Some task → IsCreatedAt rs i parent task
+      → walk.current ≢ Some parent → Misfits rs walk body
 
 -- the record at i speaks for a task that its thread doesn't run there
 pub record MisfitsAt (rs : List Record) (i : ℕ) : Type 0 where

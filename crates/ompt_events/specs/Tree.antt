@@ -1,6 +1,6 @@
 -- Which task created which (OpenMP 5.2, 1.2.5: child task, descendent task).
-use Rattle.std.specs.Prelude.{ℕ, ◌≡◌, ◌==◌, Bool, false, List, [], ◌∷◌, ◌++◌, Some, count_by}
-use Rattle.std.specs.Option.{option_map_or}
+use Rattle.std.specs.Prelude.{ℕ, ◌≡◌, ◌==◌, List, [], ◌∷◌, ◌++◌, length, Option, Some, None, drop, slice_get, option_and_then, if◌then◌else◌}
+use Rattle.std.specs.List.{filter_map}
 use Rattle.ompt_events.specs.declared.records.Record.{Record}
 use Rattle.ompt_events.specs.Records.{begun_root, created, creation}
 use Rattle.ompt_events.specs.Places.{at, own_before}
@@ -25,17 +25,36 @@ pub data IsRooted (rs : List Record) : ℕ → Type 0 where
 -- the children of the ancestor, and the children of its descendants
 pub data IsDescendant (rs : List Record) (ancestor : ℕ) : ℕ → Type 0 where
   child : (i : ℕ) {task : ℕ} → IsCreatedAt rs i ancestor task → IsDescendant rs ancestor task
-  deeper : (i : ℕ) {parent task : ℕ} → IsDescendant rs ancestor parent → IsCreatedAt rs i parent task → IsDescendant rs ancestor task
+  deeper : (i : ℕ) {parent task : ℕ} → IsDescendant rs ancestor parent → IsCreatedAt rs i parent task
+      → IsDescendant rs ancestor task
 
--- whether the record creates a child of the task
-abbrev pub creates_for : List Record → ℕ → ℕ → Bool
-creates_for rs parent i = option_map_or (λ (p : ℕ × ℕ). p.0 == parent) (at creation rs i) false
+-- the child that the record creates for the task
+abbrev pub child_at : List Record → ℕ → ℕ → Option ℕ
+child_at rs parent i =
+    option_and_then (λ (p : ℕ × ℕ). if p.0 == parent then Some p.1 else None) (at creation rs i)
 
--- the number of the child created at the place i: how many its parent created before
+-- the children that the task created before the place i, in the order in which it created them
+abbrev pub children_before : List Record → ℕ → ℕ → List ℕ
+children_before rs parent i = filter_map (child_at rs parent) (own_before rs parent i)
+
+-- all children of the task: item n is the child with number n
+abbrev pub children : List Record → ℕ → List ℕ
+children rs parent = children_before rs parent (length rs)
+
+-- the number of the child that the task creates at the place i: how many it created before
 abbrev pub child_number : List Record → ℕ → ℕ → ℕ
-child_number rs parent i = count_by (creates_for rs parent) (own_before rs parent i)
+child_number rs parent i = length (children_before rs parent i)
+
+-- the children that the task created between the places begin and i
+abbrev pub children_between : List Record → ℕ → ℕ → ℕ → List ℕ
+children_between rs parent begin i = drop (child_number rs parent begin) (children_before rs parent i)
+
+-- the task is the child of the parent with this number
+abbrev pub IsChild : List Record → ℕ → ℕ → ℕ → Type 0
+IsChild rs parent number task = slice_get (children rs parent) number ≡ Some task
 
 -- the task stands below the root at this path, the numbers of the children from the root down
 pub data HasPath (rs : List Record) (root : ℕ) : ℕ → List ℕ → Type 0 where
   top : IsRoot rs root → HasPath rs root root []
-  below : (i : ℕ) {parent task : ℕ} {path : List ℕ} → HasPath rs root parent path → IsCreatedAt rs i parent task → HasPath rs root task (path ++ child_number rs parent i ∷ [])
+  below : (number : ℕ) {parent task : ℕ} {path : List ℕ} → HasPath rs root parent path
+      → IsChild rs parent number task → HasPath rs root task (path ++ number ∷ [])

@@ -14,9 +14,11 @@ pub data IsRequired (rs : List Record) (i task : ℕ) : Type 0 where
   -- a wait ends that covers it
   covered : Covers rs i task → IsRequired rs i task
   -- a task starts that depends on it
-  preceding : {dependent : ℕ} → IsExplicit rs dependent → IsStart rs i dependent → IsPredecessor rs dependent task → IsRequired rs i task
+  preceding : {dependent : ℕ} → IsExplicit rs dependent → IsStart rs i dependent
+      → IsPredecessor rs dependent task → IsRequired rs i task
   -- a taskwait is complete that depends on it
-  awaited : {dependent : ℕ} → at wait_completed rs i ≡ Some dependent → IsPredecessor rs dependent task → IsRequired rs i task
+  awaited : {dependent : ℕ} → at wait_completed rs i ≡ Some dependent → IsPredecessor rs dependent task
+      → IsRequired rs i task
 
 -- in this order a task that must be complete at i isn't
 abbrev pub IsViolation : List Record → List ℕ → ℕ → Type 0
@@ -27,10 +29,12 @@ pub record IsUnfinished (rs : List Record) (i task : ℕ) : Type 0 where
   pub required : IsRequired rs i task
   pub incomplete : IsCompleteAt rs task i → ⊥
 
--- the first record in file order at which a required task is unfinished, and the one of them that was created first in file order
+-- the first record in file order at which a required task is unfinished, and the one of them that was
+-- created first in file order
 pub record IsFirstUnfinished (rs : List Record) (i task : ℕ) : Type 0 where
   pub unfinished : IsUnfinished rs i task
   pub first : (k other : ℕ) → k < i → IsUnfinished rs k other → ⊥
   pub creation : ℕ
   pub is_created : at created rs creation ≡ Some task
-  pub created_first : (k other : ℕ) → k < creation → at created rs k ≡ Some other → IsUnfinished rs i other → ⊥
+  pub created_first : (k other : ℕ) → k < creation → at created rs k ≡ Some other
+      → IsUnfinished rs i other → ⊥

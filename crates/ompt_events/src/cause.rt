@@ -1,8 +1,8 @@
-//! The causes for which a list of records is no account of a run.
+//! Why no real run can produce a list of records: the causes, with their numbers and names.
 ghost use Rattle.std.specs.Prelude.{◌≡◌, ◌↔◌, Some};
 ghost use Rattle.ompt_events.specs.CauseNames.{cause_name, cause_number};
 
-/// Why a list of records is malformed. Of several causes the one with the least number counts.
+/// Why no real run can produce the records. If several causes occur, the lowest-numbered one is reported.
 #[derive(Clone, Copy, Debug, PartialEq, Eq)]
 pub enum Cause {
     /// The record's `seq` is not the number of earlier records of its thread.
@@ -90,7 +90,7 @@ macro_rules! value_of {
 }
 
 impl Cause {
-    /// The number, from 1 to 16. The least one of those that occur is told.
+    /// The number, from 1 to 16. Of the causes that occur the lowest-numbered one is reported.
     pub fn number(self) -> u8
         ensures { result ≡ cause_number self }
     {

@@ -1,9 +1,15 @@
-//! The recorded events of an OpenMP 5.2 runtime's tool interface (OMPT), and the words in which their rules are stated.
+//! The recorded events of an OpenMP 5.2 runtime's tool interface (OMPT), and what they mean.
+//!
+//! Each call here says what one record says (`records`), or builds a checked list of records (`trace`).
+//! Read `records`, then `names` and `flags`, then `trace`; the definitions stand in `specs/`, in the order
+//! that `specs/Lib.antt` gives, and `laws` says what follows from the two hardest of them.
 #![tactic(auto)]
 
 mod cause;
 mod deps;
 mod flags;
+pub mod laws;
+mod named;
 mod names;
 mod path;
 mod records;
@@ -13,8 +19,9 @@ mod trace;
 pub use cause::Cause;
 pub use deps::{Dep, Deps};
 pub use flags::{CancelFlags, TaskFlags};
+pub use named::NamedTasks;
 pub use names::{DepKind, Endpoint, Status, SyncKind, ThreadKind, conflicts};
 pub use path::Path;
-pub use records::{Body, Claim, Part, Record, finish};
+pub use records::{Body, Claim, Membership, Part, Record, finish};
 pub use state::State;
 pub use trace::{MAX_DEPENDENCES, MAX_DEPTH, MAX_RECORDS, MAX_TASKS, Trace};

@@ -1,5 +1,6 @@
 //! The names of statuses, endpoints and kinds, as they stand in a file.
 ghost use Rattle.std.specs.Prelude.{◌≡◌, ◌↔◌, Some};
+ghost use Rattle.ompt_events.specs.Regions.{is_barrier, waits_for_tasks};
 ghost use Rattle.ompt_events.specs.Names.{status_name, endpoint_name, sync_kind_name, dep_kind_name, thread_kind_name, status_part, demands_next, conflict};
 
 use crate::records::Part;
@@ -222,6 +223,31 @@ impl SyncKind {
     {
         sync_kinds!(value_of name)
     }
+
+    /// Whether it is a barrier that waits for the tasks of the parallel region (OpenMP 5.2, 15.3).
+    pub fn is_barrier(self) -> bool
+        ensures { result ≡ is_barrier self }
+    {
+        match self {
+            SyncKind::Barrier
+            | SyncKind::BarrierImplicit
+            | SyncKind::BarrierExplicit
+            | SyncKind::BarrierImplicitWorkshare
+            | SyncKind::BarrierImplicitParallel => true,
+            _ => false,
+        }
+    }
+
+    /// Whether the end of a region of this kind waits for tasks: a barrier, a taskwait or a taskgroup
+    /// (OpenMP 5.2, 15.3, 15.4 and 15.5).
+    pub fn waits_for_tasks(self) -> bool
+        ensures { result ≡ waits_for_tasks self }
+    {
+        match self {
+            SyncKind::Taskwait | SyncKind::Taskgroup => true,
+            _ => self.is_barrier(),
+        }
+    }
 }
 
 impl DepKind {
@@ -256,8 +282,8 @@ impl ThreadKind {
     }
 }
 
-/// Whether a task with the one dependence waits for an earlier sibling that has the other one at the same location
-/// (OpenMP 5.2, 15.9.5).
+/// Whether a task with the one dependence waits for an earlier sibling that has the other one at the same
+/// location (OpenMP 5.2, 15.9.5).
 pub fn conflicts(a: DepKind, b: DepKind) -> bool
     ensures { result ≡ conflict a b }
 {

@@ -1,11 +1,13 @@
 //! One recorded event.
-ghost use Rattle.std.specs.Prelude.{◌≡◌};
+ghost use Rattle.std.specs.Prelude.{◌≡◌, option_map, option_copied};
 ghost use Rattle.ompt_events.specs.Flags as flag;
 ghost use Rattle.ompt_events.specs.Flags.{has_flag};
-ghost use Rattle.ompt_events.specs.Records.{begun_root, ended_root, creation, made, started, running, region, discarded, finish};
+ghost use Rattle.ompt_events.specs.Records.{begun_root, ended_root, joined, begun_initial, forked, region_named, creation, created, created_with_deps, dependences, made, schedule, started, fulfilled, wait_completed, discarded, running, region, flags, cancellation, claim, named, finish};
+ghost use Rattle.ompt_events.specs.Regions.{ends_wait};
 
-use crate::deps::Deps;
+use crate::deps::{Dep, Deps};
 use crate::flags::{CancelFlags, TaskFlags};
+use crate::named::NamedTasks;
 use crate::names::{Endpoint, Status, SyncKind, ThreadKind};
 use crate::path::Path;
 use bitflags::Flags;
@@ -30,6 +32,19 @@ pub struct Claim {
     pub path: Path,
 }
 
+/// A task's place in the team of a parallel region (OpenMP 5.2, 10.1 and 19.5.2.11).
+#[derive(Clone, Copy, Debug, PartialEq, Eq)]
+pub struct Membership {
+    /// The parallel region.
+    pub parallel: u64,
+    /// How many members its team has.
+    pub actual: u32,
+    /// The member's number in the team, from 0.
+    pub index: u32,
+    /// The implicit task that is the member.
+    pub member: u64,
+}
+
 /// What happened, with the arguments of its OMPT callback (OpenMP 5.2, 19.5.2).
 #[derive(Debug, Drop, PartialEq)]
 pub enum Body {
@@ -50,8 +65,9 @@ pub enum Body {
         task: u64,
         parallel: u64,
     },
-    /// An initial or implicit task begins or ends (19.5.2.11). With the flag `initial` it is an initial task;
-    /// else it is a member of the team of `parallel`, `actual` is the size of that team, and `index` its number there.
+    /// An initial or implicit task begins or ends (19.5.2.11). With the flag `initial` it is an initial
+    /// task; else it is a member of the team of `parallel`, `actual` is the size of that team, and `index`
+    /// its number there.
     ImplicitTask {
         endpoint: Endpoint,
         actual: u32,
@@ -60,7 +76,8 @@ pub enum Body {
         parallel: u64,
         task: u64,
     },
-    /// `task` creates the explicit task `child` (19.5.2.7). With `deps` its dependences follow in the thread.
+    /// `task` creates the explicit task `child` (19.5.2.7). With `deps` its dependences follow in the
+    /// thread.
     TaskCreate {
         deps: bool,
         flags: TaskFlags,
@@ -87,7 +104,8 @@ pub enum Body {
         parallel: Option<u64>,
         task: u64,
     },
-    /// `task` cancels a region or sees it cancelled, or is itself discarded (19.5.2.18). Discarded, it has a `share`.
+    /// `task` cancels a region or sees it cancelled, or is itself discarded (19.5.2.18). Discarded, it has
+    /// a `share`.
     Cancel {
         flags: CancelFlags,
         task: u64,
@@ -124,12 +142,100 @@ impl Body {
         }
     }
 
+    /// The implicit task that begins as a member of a team; an initial task is none.
+    pub fn joined(&self) -> Option<Membership>
+        ensures { result ≡ joined self.now }
+    {
+        match self {
+            Body::ImplicitTask {
+                endpoint: Endpoint::Begin,
+                actual,
+                index,
+                flags,
+                parallel,
+                task,
+            } if !is_initial(*flags) => Some(Membership {
+                parallel: *parallel,
+                actual: *actual,
+                index: *index,
+                member: *task,
+            }),
+            _ => None,
+        }
+    }
+
+    /// The initial task that begins.
+    pub fn begun_initial(&self) -> Option<u64>
+        ensures { result ≡ begun_initial self.now }
+    {
+        match self {
+            Body::ImplicitTask {
+                endpoint: Endpoint::Begin,
+                flags,
+                task,
+                ..
+            } if is_initial(*flags) => Some(*task),
+            _ => None,
+        }
+    }
+
+    /// The task that begins a parallel region, and the region.
+    pub fn forked(&self) -> Option<(u64, u64)>
+        ensures { result ≡ forked self.now }
+    {
+        match self {
+            Body::ParallelBegin { task, parallel, .. } => Some((*task, *parallel)),
+            _ => None,
+        }
+    }
+
+    /// The parallel region that ends, or whose team a task joins.
+    pub fn region_named(&self) -> Option<u64>
+        ensures { result ≡ region_named self.now }
+    {
+        match self {
+            Body::ParallelEnd { parallel, .. } => Some(*parallel),
+            _ => self.joined().map(|member| member.parallel),
+        }
+    }
+
     /// The task that creates, and the explicit task that it creates.
     pub fn creation(&self) -> Option<(u64, u64)>
         ensures { result ≡ creation self.now }
     {
         match self {
             Body::TaskCreate { task, child, .. } => Some((*task, *child)),
+            _ => None,
+        }
+    }
+
+    /// The explicit task that is created.
+    pub fn created(&self) -> Option<u64>
+        ensures { result ≡ created self.now }
+    {
+        self.creation().map(|(_, child)| child)
+    }
+
+    /// The explicit task that is created, where its dependences follow.
+    pub fn created_with_deps(&self) -> Option<u64>
+        ensures { result ≡ created_with_deps self.now }
+    {
+        match self {
+            Body::TaskCreate {
+                deps: true,
+                child,
+                ..
+            } => Some(*child),
+            _ => None,
+        }
+    }
+
+    /// The task whose dependences are listed, and the list.
+    pub fn dependences(&self) -> Option<(u64, &[Dep])>
+        ensures { option_map (λ d. (d.0, d.1.now)) result ≡ dependences self.now }
+    {
+        match self {
+            Body::Dependences { task, list } => Some((*task, list.as_slice())),
             _ => None,
         }
     }
@@ -144,12 +250,55 @@ impl Body {
         }
     }
 
+    /// The status of a task_schedule event, its prior task and its next one.
+    pub fn schedule(&self) -> Option<(Status, u64, Option<u64>)>
+        ensures { result ≡ schedule self.now }
+    {
+        match self {
+            Body::TaskSchedule {
+                status,
+                prior,
+                next,
+                ..
+            } => Some((*status, *prior, *next)),
+            _ => None,
+        }
+    }
+
     /// The task that runs next.
     pub fn started(&self) -> Option<u64>
         ensures { result ≡ started self.now }
     {
         match self {
             Body::TaskSchedule { next, .. } => *next,
+            _ => None,
+        }
+    }
+
+    /// The task whose event is fulfilled, early or late (OpenMP 5.2, 12.5.2).
+    pub fn fulfilled(&self) -> Option<u64>
+        ensures { result ≡ fulfilled self.now }
+    {
+        match self {
+            Body::TaskSchedule {
+                status: Status::EarlyFulfill | Status::LateFulfill,
+                prior,
+                ..
+            } => Some(*prior),
+            _ => None,
+        }
+    }
+
+    /// The taskwait with dependences that is complete (OpenMP 5.2, 15.5).
+    pub fn wait_completed(&self) -> Option<u64>
+        ensures { result ≡ wait_completed self.now }
+    {
+        match self {
+            Body::TaskSchedule {
+                status: Status::TaskwaitComplete,
+                prior,
+                ..
+            } => Some(*prior),
             _ => None,
         }
     }
@@ -193,6 +342,68 @@ impl Body {
             _ => None,
         }
     }
+
+    /// Whether a region ends that waits for tasks; a begin and end in one is an end too.
+    pub fn ends_wait(&self) -> bool
+        ensures { result ≡ ends_wait self.now }
+    {
+        match self.region() {
+            Some((_, kind, endpoint)) => endpoint != Endpoint::Begin && kind.waits_for_tasks(),
+            None => false,
+        }
+    }
+
+    /// The flags of the task that begins, ends or is created.
+    pub fn flags(&self) -> Option<TaskFlags>
+        ensures { option_map (λ f. f.0) result ≡ flags self.now }
+    {
+        match self {
+            Body::ImplicitTask { flags, .. } | Body::TaskCreate { flags, .. } => Some(*flags),
+            _ => None,
+        }
+    }
+
+    /// The flags of a cancellation.
+    pub fn cancellation(&self) -> Option<CancelFlags>
+        ensures { option_map (λ f. f.0) result ≡ cancellation self.now }
+    {
+        match self {
+            Body::Cancel { flags, .. } => Some(*flags),
+            _ => None,
+        }
+    }
+
+    /// What the record claims of the place of the task that it finishes.
+    pub fn claim(&self) -> Option<&Claim>
+        ensures { option_copied result ≡ claim self.now }
+    {
+        match self {
+            Body::TaskSchedule { share, .. } | Body::Cancel { share, .. } => share.as_ref(),
+            _ => None,
+        }
+    }
+
+    /// Each task that the record names, a claimed root too.
+    pub fn named(&self) -> NamedTasks
+        ensures { result ≡ named self.now }
+    {
+        match self {
+            Body::ThreadBegin { .. } | Body::ThreadEnd => NamedTasks::none(),
+            Body::ParallelBegin { task, .. }
+            | Body::ParallelEnd { task, .. }
+            | Body::ImplicitTask { task, .. }
+            | Body::Dependences { task, .. }
+            | Body::SyncRegion { task, .. } => NamedTasks::of(*task, None, None),
+            Body::TaskCreate { task, child, .. } => NamedTasks::of(*task, Some(*child), None),
+            Body::TaskSchedule {
+                prior,
+                next,
+                share,
+                ..
+            } => { NamedTasks::of(*prior, *next, claimed_root(share)) }
+            Body::Cancel { task, share, .. } => NamedTasks::of(*task, claimed_root(share), None),
+        }
+    }
 }
 
 /// One event, as its thread recorded it.
@@ -223,6 +434,20 @@ pub fn finish(event: &Record) -> Option<(u64, Part)>
             None => None,
         },
     }
+}
+
+/// Whether the task is an initial one.
+fn is_initial(flags: TaskFlags) -> bool
+    ensures { result ≡ has_flag flags.0 flag.initial }
+{
+    flags.contains(TaskFlags::INITIAL)
+}
+
+/// The root that is claimed.
+fn claimed_root(share: &Option<Claim>) -> Option<u64>
+    ensures { result ≡ option_map (λ c. c.root) share.now }
+{
+    share.as_ref().map(|claim| claim.root)
 }
 
 /// Whether a cancellation discards its task.

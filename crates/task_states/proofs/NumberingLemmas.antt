@@ -1,10 +1,11 @@
 -- How the records of each thread are counted, and when one breaks its thread's count.
-use Rattle.std.proofs.Common.{◌≡◌, ◌≢◌, ◌∙◌, ℕ, ◌<◌, ◌≤◌, ◌+◌, ◌==◌, List, length, take, get_or, set, arith, sym, ap, subst, refl, get_or-set_other, get_or-set_same, eq-eqb, inl, inr}
+use Rattle.std.proofs.Common.{◌≡◌, ◌≢◌, ◌∙◌, ℕ, ◌<◌, ◌≤◌, ◌+◌, ◌==◌, List, length, take, get_or, set, arith, sym, ap, subst, get_or-set_other, get_or-set_same, eq-eqb, inl, inr}
 use Rattle.std.specs.Prelude.{count_by}
 use Rattle.std.proofs.lemmas.Bool.{cases_eq, ne_eqb}
 use Rattle.std.proofs.lemmas.List.Sums.{count_by_more_yes, count_by_more_no}
-use Rattle.std.proofs.lemmas.Option.{slice_get_read, slice_get_within, same_Some}
+use Rattle.std.proofs.lemmas.Option.{slice_get_within, same_Some}
 use Rattle.ompt_events.specs.declared.records.Record.{Record}
+use Rattle.ompt_events.proofs.PlaceLemmas.{read_get}
 use Rattle.ompt_events.specs.declared.cause.Cause.TheVariants.{SeqGap}
 use Rattle.ompt_events.specs.Causes.{HasCause, HasSeqGap, seq_gap, IsFirstWith, IsFreeOf}
 
@@ -18,7 +19,7 @@ is_seq_gap rs i (seq_gap has) = has
 -- the record that was read has the number of its thread's earlier ones
 pub no_seq_gap : (rs : List Record) (i : ℕ) (r : Record) → i < length rs → r ≡ get_or rs i r → r.seq ≡ earlier rs i r.thread → HasSeqGap rs i → ⊥
 no_seq_gap rs i r within read numbered (q, found, apart) =
-    let same : q ≡ r = same_Some q r (sym found ∙ slice_get_read rs (length rs) i r refl within read) in
+    let same : q ≡ r = same_Some q r (sym found ∙ read_get rs i r within read) in
     apart (subst (λ (x : Record). x.seq ≡ earlier rs i x.thread) (sym same) numbered)
 
 -- one record more is counted for its own thread
@@ -44,7 +45,7 @@ counted_more rs i r counts within read fits counted t below = elim (cases_eq t r
 pub first_gap : (rs : List Record) (i : ℕ) (r : Record) → i < length rs → r ≡ get_or rs i r → r.seq ≢ earlier rs i r.thread → ((k : ℕ) → k < i → HasSeqGap rs k → ⊥) → IsFirstWith rs SeqGap i
 first_gap rs i r within read apart free = record {
   within = within;
-  has = seq_gap (r, slice_get_read rs (length rs) i r refl within read, apart);
+  has = seq_gap (r, read_get rs i r within read, apart);
   first = λ k below has. free k below (is_seq_gap rs k has);
 }
 

@@ -7,4 +7,6 @@ use Rattle.ompt_events.specs.Records.{made, flags}
 
 -- the record makes a task that has the flag `target`
 abbrev pub IsTargetMade : Body → Type 0
-IsTargetMade body = (task bits : ℕ) × (made body ≡ Some task) × (flags body ≡ Some bits) × (has_flag bits flag.target ≡ true)
+IsTargetMade body =
+    (task bits : ℕ) × (made body ≡ Some task) × (flags body ≡ Some bits)
+    × (has_flag bits flag.target ≡ true)

@@ -1,4 +1,6 @@
-//! The states that a task goes through, and two causes for which records are malformed that need no memory to find.
+//! The states that a task goes through, and two causes of malformed records that are found without memory.
+//!
+//! Read `table` first, the states and what changes them, then `numbering` and `targets`, one cause each.
 #![tactic(auto)]
 
 mod numbering;

@@ -4,9 +4,9 @@ ghost use Rattle.ompt_events.specs.States.{next_state_of, start_state_of, discar
 
 use ompt_events::{State, Status};
 
-// The table stands once; the first word names the shape that its rows are put into. A row is a state; its columns are
-// the states after an event with each status, in the parentheses, then after the task runs next and after it is discarded.
-// A `-` allows no such event. The order of the statuses is that of `Status`.
+// The table stands once; the first word names the shape that its rows are put into. A row is a state; its
+// columns are the states after an event with each status, in parentheses and in the order of `Status`, then
+// after the task runs next and after it is discarded. A `-` allows no such event.
 macro_rules! states {
     ($shape:ident $($value:ident)+) => {
         $shape! {
@@ -68,10 +68,10 @@ macro_rules! after_discard {
     };
 }
 
-/// The state of a task after a task_schedule event that has it as `prior` with this status (OpenMP 5.2, 19.5.2.10
-/// and `ompt_task_status_t`); none where its state allows no such event. How early and late fulfilment of an event
-/// (12.5.2) meet the end of the task's body is the file format's own rule: after an early one the task is complete
-/// with the end of its body, and a late one completes it.
+/// The state of a task after a task_schedule event that has it as `prior` with this status (OpenMP 5.2,
+/// 19.5.2.10 and `ompt_task_status_t`); none where its state allows no such event. How early and late
+/// fulfilment of an event (12.5.2) meet the end of the task's body is the file format's own rule: after an
+/// early one the task is complete with the end of its body, and a late one completes it.
 pub fn next_state(state: State, status: Status) -> Option<State>
     ensures { result ≡ next_state_of state status }
 {

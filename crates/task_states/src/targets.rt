@@ -1,17 +1,21 @@
 //! Whether a task is to run on a device.
-ghost use Rattle.std.specs.Prelude.{MatchOption, IsTrue, ◌↔◌};
+ghost use Rattle.std.specs.Prelude.{◌≡◌, MatchOption, IsTrue, IsSomeAnd, true, ◌↔◌};
+ghost use Rattle.ompt_events.specs.Flags as flag;
+ghost use Rattle.ompt_events.specs.Flags.{has_flag};
+ghost use Rattle.ompt_events.specs.Records.{flags};
 ghost use Rattle.ompt_events.specs.declared.cause.Cause.TheVariants.{TargetTask};
 ghost use Rattle.ompt_events.specs.Causes.{IsFreeOf, IsFirstWith};
 ghost use Rattle.task_states.specs.Targets.{IsTargetMade};
 
 use bitflags::Flags;
-use ompt_events::{Body, Endpoint, TaskFlags, Trace};
+use ompt_events::{Body, TaskFlags, Trace};
 
-/// The first record that makes a target task, one with the flag `target` (OpenMP 5.2, 13.8 and `ompt_task_flag_t`).
-/// It runs on a device, whose events are no part of the file. Takes no memory from the heap,
-/// and one step for each record.
+/// The first record that makes a target task, one with the flag `target` (OpenMP 5.2, 13.8 and
+/// `ompt_task_flag_t`). It runs on a device, whose events are no part of the file. Takes no memory from the
+/// heap, and one step for each record.
 pub fn target(trace: &Trace) -> Option<usize>
-    ensures { MatchOption result (IsFreeOf trace.now.records TargetTask) (IsFirstWith trace.now.records TargetTask) }
+    ensures { MatchOption result (IsFreeOf trace.now.records TargetTask)
+        (IsFirstWith trace.now.records TargetTask) }
 {
     for (at, event) in trace.records().iter().enumerate() {
         if makes_target(&event.body) {
@@ -25,13 +29,15 @@ pub fn target(trace: &Trace) -> Option<usize>
 fn makes_target(body: &Body) -> bool
     ensures { IsTrue result ↔ IsTargetMade body.now }
 {
-    match body {
-        Body::ImplicitTask {
-            endpoint: Endpoint::Begin,
-            flags,
-            ..
-        } => flags.contains(TaskFlags::TARGET),
-        Body::TaskCreate { flags, .. } => flags.contains(TaskFlags::TARGET),
-        _ => false,
+    body.made().is_some() && has_target(body)
+}
+
+/// Whether the record speaks of a target task.
+fn has_target(body: &Body) -> bool
+    ensures { IsTrue result ↔ IsSomeAnd (flags body.now) (λ bits. has_flag bits flag.target ≡ true) }
+{
+    match body.flags() {
+        Some(given) => given.contains(TaskFlags::TARGET),
+        None => false,
     }
 }

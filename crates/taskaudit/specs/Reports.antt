@@ -1,13 +1,8 @@
 -- What is printed, to the byte. Each text is one line.
-use Rattle.std.specs.Prelude.{ℕ, ◌+◌, ◌++◌, Bool, true, false, List, length, count_by, is_some, codes, decimal, slice_get}
+use Rattle.std.specs.Prelude.{ℕ, ◌+◌, ◌++◌, List, length, count_by, is_some, codes, decimal, slice_get}
 use Rattle.std.specs.Option.{option_map_or}
 use Rattle.ompt_events.specs.declared.records.Record.{Record}
-use Rattle.ompt_events.specs.declared.names.Endpoint.TheVariants.{Begin}
-use Rattle.ompt_events.specs.declared.names.SyncKind.TheVariants.{Taskwait, Taskgroup}
-use Rattle.ompt_events.specs.declared.names.SyncKind.{SyncKind}
-use Rattle.ompt_events.specs.Regions.{is_barrier}
-use Rattle.ompt_events.specs.declared.records.Body.{Body}
-use Rattle.ompt_events.specs.declared.records.Body.TheVariants.{SyncRegion}
+use Rattle.ompt_events.specs.Regions.{ends_wait}
 use Rattle.ompt_events.specs.declared.cause.Cause.{Cause}
 use Rattle.ompt_events.specs.CauseNames.{cause_number, cause_name}
 use Rattle.ompt_events.specs.Records.{creation}
@@ -30,19 +25,7 @@ use Rattle.taskaudit.specs.declared.work.AuditFault.TheVariants as fault
 abbrev pub creates_in : List Record → ℕ
 creates_in rs = count_by (λ r. is_some (creation r.body)) rs
 
--- the kinds of region whose end waits for tasks
-abbrev pub waits_for_tasks : SyncKind → Bool
-waits_for_tasks Taskwait = true
-waits_for_tasks Taskgroup = true
-waits_for_tasks kind = is_barrier kind
-
--- a region ends that waits for tasks; a begin and end in one is an end too
-abbrev pub ends_wait : Body → Bool
-ends_wait (SyncRegion kind Begin parallel task) = false
-ends_wait (SyncRegion kind endpoint parallel task) = waits_for_tasks kind
-ends_wait _ = false
-
--- how many ends of such regions there are
+-- how many regions end that wait for tasks
 abbrev pub waits_in : List Record → ℕ
 waits_in rs = count_by (λ r. ends_wait r.body) rs
 

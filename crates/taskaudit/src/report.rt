@@ -3,14 +3,14 @@ ghost use Rattle.std.specs.Prelude.{◌≡◌, ◌<◌, ◌≤◌, ◌^◌, IfOk
 ghost use Rattle.ompt_events.specs.Causes.{entries_in};
 ghost use Rattle.checker.specs.Verdicts.{IsVerdict};
 ghost use Rattle.clap.specs.Words.{kind_of};
-ghost use Rattle.taskaudit.specs.Reports.{report_of, fault_text_of, yes_text, no_text, malformed_text, place_text, place_of, ends_wait, waits_for_tasks, creates_in, waits_in};
+ghost use Rattle.taskaudit.specs.Reports.{report_of, fault_text_of, yes_text, no_text, malformed_text, place_text, place_of, creates_in, waits_in};
 ghost use Rattle.taskaudit.specs.Statuses.{fault_status_of, usage_status_of};
 
 use crate::work::AuditFault;
-use certificate::{ReadCause, ReadFault, WriteFault};
+use certificate::{ReadCause, WriteFault};
 use checker::{CheckFault, Verdict, Why};
 use clap::error::ErrorKind;
-use ompt_events::{Body, Cause, Endpoint, Record, SyncKind, Trace, finish};
+use ompt_events::{Cause, Record, Trace, finish};
 use std::alloc::{AllocError, Global};
 use std::fmt;
 
@@ -73,7 +73,7 @@ fn creates_in(records: &[Record]) -> usize
 fn waits_in(records: &[Record]) -> usize
     ensures { result ≡ waits_in records.now }
 {
-    records.iter().filter(|r| ends_wait(&r.body)).count()
+    records.iter().filter(|r| r.body.ends_wait()).count()
 }
 
 /// The report of a no: the task is unfinished at the record.
@@ -136,33 +136,6 @@ impl fmt::Display for Place {
             "line {}, thread {}, seq {}",
             self.line, self.thread, self.seq
         )
-    }
-}
-
-/// Whether the record ends a region that waits for tasks.
-fn ends_wait(body: &Body) -> bool
-    ensures { result ≡ ends_wait body.now }
-{
-    match body {
-        Body::SyncRegion { kind, endpoint, .. } if *endpoint != Endpoint::Begin => {
-            waits_for_tasks(*kind)
-        }
-        _ => false,
-    }
-}
-
-/// Whether the end of a region of this kind waits for tasks.
-fn waits_for_tasks(kind: SyncKind) -> bool
-    ensures { result ≡ waits_for_tasks kind }
-{
-    match kind {
-        SyncKind::Taskwait | SyncKind::Taskgroup => true,
-        SyncKind::Barrier
-        | SyncKind::BarrierImplicit
-        | SyncKind::BarrierExplicit
-        | SyncKind::BarrierImplicitWorkshare
-        | SyncKind::BarrierImplicitParallel => true,
-        SyncKind::BarrierImplementation | SyncKind::Reduction | SyncKind::BarrierTeams => false,
     }
 }
 

@@ -1,5 +1,5 @@
 use Rattle.std.proofs.Common.{◌∙◌, [], ◌∷◌, ◌++◌, ap, sym}
-use Rattle.checker.proofs.Ranges.{range_more}
+use Rattle.ompt_events.proofs.PlaceLemmas.{range_more}
 use Rattle.checker.proofs.checking.file_order.Goals as goal
 
 pub loop-at-preserved : goal.loop-at-preserved

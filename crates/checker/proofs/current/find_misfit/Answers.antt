@@ -3,7 +3,7 @@ use Rattle.std.proofs.Common.{take, rules, ap}
 use Rattle.std.proofs.lemmas.Bool.{false≢true}
 use Rattle.std.proofs.Math.ListN.{set}
 use Rattle.ompt_events.specs.Threads.{Misfits, walk_of, after_body}
-use Rattle.checker.proofs.WalkLemmas.{walk_read, walk_is, walks_none, walks_more, misfits_here, fits_here, free_of_misfits}
+use Rattle.checker.proofs.CurrentLemmas.{walk_read, walk_is, walks_none, walks_more, misfits_here, fits_here, free_of_misfits}
 use Rattle.checker.proofs.AuditedLemmas.{audited_read}
 use Rattle.checker.proofs.current.find_misfit.Goals as goal
 

@@ -1,6 +1,6 @@
 use Rattle.std.proofs.Common.{ℕ, ◌<◌}
 use Rattle.ompt_events.specs.Threads.{MisfitsAt}
-use Rattle.checker.proofs.WalkLemmas.{AreWalks}
+use Rattle.checker.proofs.CurrentLemmas.{AreWalks}
 use Rattle.checker.proofs.current.find_misfit.Given as goal
 
 -- it is known where each thread stands, and no record so far misfits

@@ -5,7 +5,7 @@ use Rattle.std.proofs.lemmas.Option.{none-some}
 use Rattle.ompt_events.specs.Records.{started}
 use Rattle.ompt_events.specs.Places.{at, thread_at}
 use Rattle.ompt_events.specs.Tree.{IsExplicit}
-use Rattle.checker.proofs.Reading.{at_read, thread_read}
+use Rattle.ompt_events.proofs.PlaceLemmas.{at_read, thread_read}
 use Rattle.checker.proofs.HomeLemmas.{free_of_moved, moves_here, moves_not, homes_more, homes_other, stays_put}
 use Rattle.checker.proofs.homes.find_moved.Goals as goal
 use Rattle.checker.proofs.homes.find_moved.Goals.{in-Some+in_ok-before+else-is_other, in_default}

@@ -4,7 +4,7 @@ use Rattle.std.specs.Ordering.{nat_cmp}
 use Rattle.std.specs.BTreeMap.{get}
 use Rattle.ompt_events.specs.Records.{creation}
 use Rattle.ompt_events.specs.Places.{at}
-use Rattle.checker.proofs.Reading.{at_index}
+use Rattle.ompt_events.proofs.PlaceLemmas.{at_index}
 use Rattle.checker.proofs.MakerLemmas.{created_from_maker, not_explicit, no_explicit}
 use Rattle.checker.proofs.makers.creation_of.Goals as goal
 

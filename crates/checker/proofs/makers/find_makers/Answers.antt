@@ -3,7 +3,7 @@ use Rattle.ompt_events.specs.Records.{made}
 use Rattle.ompt_events.specs.Places.{at}
 use Rattle.std.specs.Ordering.{nat_cmp}
 use Rattle.std.specs.BTreeMap.{get}
-use Rattle.checker.proofs.Reading.{at_read, none_from_test}
+use Rattle.ompt_events.proofs.PlaceLemmas.{at_read, none_from_test}
 use Rattle.checker.proofs.MakerLemmas.{free_of_twice, first_again, makers_more, makers_other, again_not, again_none}
 use Rattle.checker.proofs.makers.find_makers.Goals as goal
 use Rattle.checker.proofs.makers.find_makers.Goals.{in-Some+in_ok-before+else-is_some, in_default}

@@ -1,6 +1,6 @@
 use Rattle.std.proofs.Common.{ℕ, ◌<◌}
 use Rattle.ompt_events.specs.Causes.{IsMadeAgain}
-use Rattle.checker.specs.Searches.{AreMakers}
+use Rattle.checker.specs.Search.{AreMakers}
 use Rattle.checker.proofs.makers.find_makers.Given as goal
 
 -- the makers so far are known, and none of them makes a task again

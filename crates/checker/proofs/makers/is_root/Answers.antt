@@ -4,7 +4,7 @@ use Rattle.std.specs.Ordering.{nat_cmp}
 use Rattle.std.specs.BTreeMap.{get}
 use Rattle.ompt_events.specs.Records.{begun_root}
 use Rattle.ompt_events.specs.Places.{at}
-use Rattle.checker.proofs.Reading.{at_index}
+use Rattle.ompt_events.proofs.PlaceLemmas.{at_index}
 use Rattle.checker.proofs.MakerLemmas.{root_from_maker, maker_from_root, no_root}
 use Rattle.checker.proofs.makers.is_root.Goals as goal
 

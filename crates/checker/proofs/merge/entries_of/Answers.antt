@@ -4,8 +4,9 @@ use Rattle.std.proofs.lemmas.List.Sorted.{IsNonDecreasingBy-from_sort, answers_a
 use Rattle.std.specs.Prelude.{is_some}
 use Rattle.ompt_events.specs.Records.{finish}
 use Rattle.ompt_events.specs.Places.{at}
-use Rattle.checker.proofs.Reading.{at_read}
-use Rattle.checker.proofs.EntryLemmas.{entries_other, entries_more, entries_sorted, seen_read}
+use Rattle.ompt_events.proofs.PlaceLemmas.{at_read}
+use Rattle.ompt_events.proofs.PlaceLemmas.{seen_read}
+use Rattle.checker.proofs.EntryLemmas.{entries_other, entries_more, entries_sorted}
 use Rattle.checker.proofs.merge.entries_of.Goals as goal
 use Rattle.checker.proofs.merge.entries_of.Goals.{then-is_some+in_ok-push, else-is_some}
 

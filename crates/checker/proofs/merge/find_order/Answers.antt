@@ -2,8 +2,8 @@ use Rattle.std.proofs.Common.{true, ◌≡◌, ◌∙◌, ◌<◌, ◌≤◌, �
 use Rattle.std.proofs.Math.ListN.{set}
 use Rattle.std.proofs.lemmas.Option.{same_Some}
 use Rattle.ompt_events.specs.Places.{thread_at}
-use Rattle.checker.specs.Merging.{Stands, MayFollow}
-use Rattle.checker.proofs.Reading.{thread_index}
+use Rattle.checker.specs.Merge.{Stands, MayFollow}
+use Rattle.ompt_events.proofs.PlaceLemmas.{thread_index}
 use Rattle.checker.proofs.EntryLemmas.{least_entry}
 use Rattle.checker.proofs.MergingLemmas.{merging_start, merging_more, none_stands, missing_less, passed_more, first_unordered, all_ordered, stands_ordered, unordered_within}
 use Rattle.checker.proofs.merge.find_order.Goals as goal

@@ -1,6 +1,6 @@
 use Rattle.std.proofs.Common.{◌<◌, ◌≤◌, ℕ, length, get_or}
 use Rattle.std.specs.Prelude.{sum_by}
-use Rattle.checker.specs.Merging.{Stands}
+use Rattle.checker.specs.Merge.{Stands}
 use Rattle.checker.proofs.MergingLemmas.{IsMerging, is_missing}
 use Rattle.checker.proofs.merge.find_order.Given as goal
 

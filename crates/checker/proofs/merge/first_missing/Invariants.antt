@@ -1,5 +1,5 @@
 use Rattle.std.proofs.Common.{◌<◌, ◌≤◌, ℕ, get_or}
-use Rattle.checker.specs.Merging.{Stands}
+use Rattle.checker.specs.Merge.{Stands}
 use Rattle.checker.proofs.merge.first_missing.Given as goal
 
 -- the entries so far stand

@@ -1,6 +1,6 @@
 use Rattle.std.proofs.Common.{◌≡◌, ◌<◌, ℕ}
 use Rattle.std.specs.Prelude.{MatchOption, IfSome, slice_index}
-use Rattle.checker.specs.Merging.{IsReadyHead}
+use Rattle.checker.specs.Merge.{IsReadyHead}
 use Rattle.checker.proofs.merge.first_ready.Given as goal
 
 -- of the heads so far the first that is ready

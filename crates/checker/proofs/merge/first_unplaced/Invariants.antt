@@ -1,5 +1,5 @@
 use Rattle.std.proofs.Common.{◌<◌, ℕ}
-use Rattle.checker.specs.Merging.{Stands}
+use Rattle.checker.specs.Merge.{Stands}
 use Rattle.checker.proofs.merge.first_unplaced.Given as goal
 
 -- the records so far stand

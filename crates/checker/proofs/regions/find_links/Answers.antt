@@ -5,9 +5,9 @@ use Rattle.ompt_events.specs.declared.names.Endpoint.TheVariants.{End}
 use Rattle.ompt_events.specs.Records.{region}
 use Rattle.ompt_events.specs.Places.{at}
 use Rattle.ompt_events.specs.Regions.{kind_at}
-use Rattle.checker.specs.Links.{SetsTo, top_after}
-use Rattle.checker.proofs.Reading.{at_read}
-use Rattle.checker.proofs.LinkLemmas.{AreOpen, free_of_misses, misses_here, open_more_own, open_more_none, begins_here}
+use Rattle.checker.specs.Regions.{SetsTo, top_after}
+use Rattle.ompt_events.proofs.PlaceLemmas.{at_read}
+use Rattle.checker.proofs.RegionLemmas.{AreOpen, free_of_misses, misses_here, open_more_own, open_more_none, begins_here}
 use Rattle.checker.proofs.regions.find_links.Goals as goal
 use Rattle.checker.proofs.regions.find_links.Goals.{in-Some+else-misses_begin+in_ok-set_innermost, in_default}
 

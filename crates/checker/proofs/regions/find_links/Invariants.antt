@@ -1,6 +1,6 @@
 use Rattle.std.proofs.Common.{ℕ, ◌<◌}
 use Rattle.ompt_events.specs.Causes.{HasNoBegin}
-use Rattle.checker.proofs.LinkLemmas.{AreOpen}
+use Rattle.checker.proofs.RegionLemmas.{AreOpen}
 use Rattle.checker.proofs.regions.find_links.Given as goal
 
 -- the open regions are known, and each end so far has its begin

@@ -6,9 +6,9 @@ use Rattle.std.specs.BTreeMap.{get}
 use Rattle.ompt_events.specs.Records.{creation}
 use Rattle.ompt_events.specs.Places.{at}
 use Rattle.checker.specs.declared.rooted.Mark.TheVariants.{Unknown}
-use Rattle.checker.specs.Marks.{mark_at}
-use Rattle.checker.proofs.Reading.{at_index}
-use Rattle.checker.proofs.MarkLemmas.{climbing_creates, climbed_unmade, climbing_more, climbed_marked, mark_read}
+use Rattle.checker.specs.Rooted.{mark_at}
+use Rattle.ompt_events.proofs.PlaceLemmas.{at_index}
+use Rattle.checker.proofs.RootedLemmas.{climbing_creates, climbed_unmade, climbing_more, climbed_marked, mark_read}
 use Rattle.checker.proofs.rooted.climb.Goals as goal
 
 pub returns-in_default : goal.returns-in_default

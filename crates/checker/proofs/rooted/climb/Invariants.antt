@@ -1,6 +1,6 @@
 use Rattle.std.proofs.Common.{◌≡◌, length}
 use Rattle.std.specs.Prelude.{count_by}
-use Rattle.checker.proofs.MarkLemmas.{IsClimbing, is_unknown}
+use Rattle.checker.proofs.RootedLemmas.{IsClimbing, is_unknown}
 use Rattle.checker.proofs.rooted.climb.Given as goal
 
 -- the climb has come to the place

@@ -2,8 +2,8 @@ use Rattle.std.proofs.Common.{◌≡◌, ◌∙◌, ◌⊎◌, refl, sym, inl, i
 use Rattle.std.proofs.lemmas.Bool.{false≢true}
 use Rattle.ompt_events.specs.Records.{named}
 use Rattle.checker.specs.declared.rooted.Mark.TheVariants.{Unrooted}
-use Rattle.checker.specs.Marks.{mark_at, AnyUnmade}
-use Rattle.checker.proofs.MarkLemmas.{mark_read}
+use Rattle.checker.specs.Rooted.{mark_at, AnyUnmade}
+use Rattle.checker.proofs.RootedLemmas.{mark_read}
 use Rattle.checker.proofs.RootlessLemmas.{free_of_rootless, first_rootless, from_unmade, from_mark, has_root}
 use Rattle.checker.proofs.rooted.find_rootless.Goals as goal
 

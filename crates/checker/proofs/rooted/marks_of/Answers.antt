@@ -3,8 +3,8 @@ use Rattle.std.proofs.lemmas.Bool.{false≢true}
 use Rattle.std.specs.Prelude.{is_some}
 use Rattle.ompt_events.specs.Records.{creation}
 use Rattle.ompt_events.specs.Places.{at}
-use Rattle.checker.proofs.Reading.{at_read}
-use Rattle.checker.proofs.MarkLemmas.{creates_within}
+use Rattle.ompt_events.proofs.PlaceLemmas.{at_read}
+use Rattle.checker.proofs.RootedLemmas.{creates_within}
 use Rattle.checker.proofs.SettleLemmas.{marks_first}
 use Rattle.checker.proofs.rooted.marks_of.Goals as goal
 use Rattle.checker.proofs.rooted.marks_of.Goals.{then-is_some+in_ok-settle, else-is_some}

@@ -3,7 +3,7 @@ use Rattle.std.specs.Prelude.{is_some}
 use Rattle.ompt_events.specs.Records.{creation}
 use Rattle.ompt_events.specs.Places.{at}
 use Rattle.checker.specs.declared.rooted.Mark.TheVariants.{Unknown}
-use Rattle.checker.specs.Marks.{mark_at, AreMarks}
+use Rattle.checker.specs.Rooted.{mark_at, AreMarks}
 use Rattle.checker.proofs.rooted.marks_of.Given as goal
 
 -- the tasks that were created so far have marks

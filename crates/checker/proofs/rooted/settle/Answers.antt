@@ -1,6 +1,6 @@
 use Rattle.std.proofs.Common.{rules, true, false, get_or}
 use Rattle.std.proofs.lemmas.List.{get_or_default, take_all}
-use Rattle.checker.specs.Marks.{IsClimbed}
+use Rattle.checker.specs.Rooted.{IsClimbed}
 use Rattle.checker.proofs.SettleLemmas.{MarksRooted, rooted_more, settled_rooted, settled_unrooted, within_chain}
 use Rattle.checker.proofs.rooted.settle.Goals as goal
 use Rattle.checker.proofs.rooted.settle.Goals.{then-reaches+else-loop-place-test, else-reaches}

@@ -1,7 +1,7 @@
 use Rattle.std.proofs.Common.{◌≡◌, ◌∙◌, Some, None, length, sym, arith}
 use Rattle.ompt_events.specs.Records.{started}
 use Rattle.ompt_events.specs.Places.{at}
-use Rattle.checker.proofs.Reading.{at_read}
+use Rattle.ompt_events.proofs.PlaceLemmas.{at_read}
 use Rattle.checker.proofs.ScheduleLemmas.{started_none, started_more, awaited_more, awaits_none, awaits_here}
 use Rattle.checker.proofs.schedule.creations_awaited.Goals as goal
 use Rattle.checker.proofs.schedule.creations_awaited.Goals.{in-Some+in_ok-creation-in-Some, in-None}

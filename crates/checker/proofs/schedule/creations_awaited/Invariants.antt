@@ -1,4 +1,4 @@
-use Rattle.checker.specs.Merging.{AreAwaited}
+use Rattle.checker.specs.Merge.{AreAwaited}
 use Rattle.checker.proofs.ScheduleLemmas.{AreStarted}
 use Rattle.checker.proofs.schedule.creations_awaited.Given as goal
 

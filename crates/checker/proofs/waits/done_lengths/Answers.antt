@@ -5,8 +5,9 @@ use Rattle.ompt_events.specs.declared.records.Part.TheVariants.{Whole}
 use Rattle.ompt_events.specs.Records.{finish}
 use Rattle.ompt_events.specs.Places.{at, seen_at}
 use Rattle.checker.specs.Waits.{length_of}
-use Rattle.checker.proofs.Reading.{at_read}
-use Rattle.checker.proofs.WaitLemmas.{done_other, done_more, seen_read}
+use Rattle.ompt_events.proofs.PlaceLemmas.{at_read}
+use Rattle.ompt_events.proofs.PlaceLemmas.{seen_read}
+use Rattle.checker.proofs.WaitLemmas.{done_other, done_more}
 use Rattle.checker.proofs.waits.done_lengths.Goals as goal
 use Rattle.checker.proofs.waits.done_lengths.Goals.{in-Some+in_ok-insert, in_default}
 

@@ -2,7 +2,7 @@ use Rattle.std.proofs.Common.{◌∙◌, ◌<◌, sym, ap, length, arith, inl, i
 use Rattle.std.proofs.lemmas.Bool.{cases_eq}
 use Rattle.ompt_events.specs.Records.{creation}
 use Rattle.ompt_events.specs.Places.{at}
-use Rattle.checker.proofs.Reading.{at_index}
+use Rattle.ompt_events.proofs.PlaceLemmas.{at_index}
 use Rattle.checker.proofs.waits.first_late_child.Goals as goal
 
 pub returns-in-Some : goal.returns-in-Some

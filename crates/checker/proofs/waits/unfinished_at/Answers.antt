@@ -1,6 +1,8 @@
 use Rattle.std.proofs.Common.{◌∙◌, ◌<◌, ◌^◌, length, sym, arith, rules}
 use Rattle.std.proofs.lemmas.Option.{none-some}
-use Rattle.checker.proofs.WaitLemmas.{seen_read, unfinished_none, none_above, late_or_none, begin_before, link_within, link_none, link_begin}
+use Rattle.ompt_events.proofs.PlaceLemmas.{seen_read}
+use Rattle.ompt_events.proofs.RegionLemmas.{begin_before}
+use Rattle.checker.proofs.WaitLemmas.{unfinished_none, none_above, late_or_none, link_within, link_none, link_begin}
 use Rattle.checker.proofs.waits.unfinished_at.Goals as goal
 
 pub returns-in_err-task : goal.returns-in_err-task
@@ -15,14 +17,14 @@ returns-in_err-begin c = absurd (link_none c.args.records.now c.args.links.now c
 pub offset_bounds-limits-begin : goal.offset_bounds-limits-begin
 offset_bounds-limits-begin c =
     let ends = link_begin c.args.records.now c.args.links.now c.args.at c.in_ok-task.task c.in_ok-begin.begin c.index-records-at.result c.requires.linked c.requires.within c.index-records-at.is ((c.ended_wait.ensures c.in_ok-task.task).0 c.in_ok-task.was) c.in_ok-begin.was in
-    let before = begin_before c.args.records.now c.args.at c.in_ok-task.task c.in_ok-begin.begin ends in
+    let before = begin_before c.args.records.now c.args.at c.in_ok-task.task c.in_ok-begin.begin _ ends in
     let within : c.in_ok-begin.begin < length c.args.limits.now = omega (arith, c.requires.within, c.requires.each_limit) in
     search rules
 
 pub bounds-limits-begin : goal.bounds-limits-begin
 bounds-limits-begin c =
     let ends = link_begin c.args.records.now c.args.links.now c.args.at c.in_ok-task.task c.in_ok-begin.begin c.index-records-at.result c.requires.linked c.requires.within c.index-records-at.is ((c.ended_wait.ensures c.in_ok-task.task).0 c.in_ok-task.was) c.in_ok-begin.was in
-    let before = begin_before c.args.records.now c.args.at c.in_ok-task.task c.in_ok-begin.begin ends in
+    let before = begin_before c.args.records.now c.args.at c.in_ok-task.task c.in_ok-begin.begin _ ends in
     omega (arith, c.requires.within, c.requires.each_limit)
 
 pub returns-then-limits-begin : goal.returns-then-limits-begin
@@ -35,7 +37,7 @@ returns-then-limits-begin c =
 pub first_late_child-requires : goal.first_late_child-requires
 first_late_child-requires c =
     let ends = link_begin c.args.records.now c.args.links.now c.args.at c.in_ok-task.task c.in_ok-begin.begin c.index-records-at.result c.requires.linked c.requires.within c.index-records-at.is ((c.ended_wait.ensures c.in_ok-task.task).0 c.in_ok-task.was) c.in_ok-begin.was in
-    let before = begin_before c.args.records.now c.args.at c.in_ok-task.task c.in_ok-begin.begin ends in
+    let before = begin_before c.args.records.now c.args.at c.in_ok-task.task c.in_ok-begin.begin _ ends in
     omega (arith, c.requires.within)
 
 pub returns : goal.returns

@@ -5,7 +5,7 @@ use Rattle.ompt_events.specs.declared.names.SyncKind.{SyncKind}
 use Rattle.ompt_events.specs.Records.{creation, region}
 use Rattle.ompt_events.specs.Places.{at}
 use Rattle.checker.specs.Waits.{AreLimits}
-use Rattle.checker.proofs.Reading.{at_read}
+use Rattle.ompt_events.proofs.PlaceLemmas.{at_read}
 use Rattle.checker.proofs.WaitLemmas.{limits_start, latest_start, limits_more, latest_more, latest_other, limits_whole}
 use Rattle.checker.proofs.waits.wait_limits.Goals as goal
 use Rattle.checker.proofs.waits.wait_limits.Goals.{in-Some+in_ok-raise, in_default}

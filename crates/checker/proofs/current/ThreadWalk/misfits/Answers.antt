@@ -3,7 +3,7 @@ use Rattle.std.proofs.lemmas.Bool.{false≢true}
 use Rattle.std.specs.Prelude.{IsSomeAnd, slice_get}
 use Rattle.ompt_events.specs.Records.{running, ended_root}
 use Rattle.ompt_events.specs.Threads.{Walk}
-use Rattle.checker.proofs.WalkLemmas.{from_running, from_ended, from_root, misfit_cases}
+use Rattle.checker.proofs.CurrentLemmas.{from_running, from_ended, from_root, misfit_cases}
 use Rattle.checker.proofs.current.ThreadWalk.misfits.Goals as goal
 
 pub returns-then-differs : goal.returns-then-differs

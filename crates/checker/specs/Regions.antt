@@ -24,7 +24,8 @@ top_after links opened i BeginEnd = opened
 -- the regions that are open, the innermost first: each names the one below it
 abbrev pub IsStack : List (Option ℕ) → Option ℕ → List ℕ → Type 0
 IsStack links top [] = top ≡ None
-IsStack links top (begin ∷ below) = (top ≡ Some begin) × (begin < length links) × IsStack links (below_of links top) below
+IsStack links top (begin ∷ below) =
+    (top ≡ Some begin) × (begin < length links) × IsStack links (below_of links top) below
 
 -- the task has this value in the new map, and every other what it had
 pub record SetsTo (old new : BTreeMap ℕ ℕ) (task : ℕ) (value : Option ℕ) : Type 0 where
@@ -33,4 +34,6 @@ pub record SetsTo (old new : BTreeMap ℕ ℕ) (task : ℕ) (value : Option ℕ)
 
 -- each end of the first n records is linked to its begin
 abbrev pub AreLinked : List Record → ℕ → List (Option ℕ) → Type 0
-AreLinked rs n links = (i task : ℕ) (kind : SyncKind) → i < n → at region rs i ≡ Some (task, kind, End) → (begin : ℕ) × (slice_get links i ≡ Some (Some begin)) × EndsRegion rs i task kind begin
+AreLinked rs n links =
+    (i task : ℕ) (kind : SyncKind) → i < n → at region rs i ≡ Some (task, kind, End) → (begin : ℕ)
+    × (slice_get links i ≡ Some (Some begin)) × EndsRegion rs i task kind begin

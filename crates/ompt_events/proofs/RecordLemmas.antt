@@ -1,13 +1,15 @@
 -- How what single records say hangs together.
-use Rattle.std.proofs.Common.{◌≡◌, ℕ, List, Option, Some, None, refl, ap, ◌⊎◌, inl, inr}
+use Rattle.std.proofs.Common.{◌≡◌, ℕ, List, Option, Some, None, refl, ap, ◌⊎◌, inl, inr, true}
 use Rattle.std.specs.Prelude.{slice_get, option_and_then, option_map, is_some, true}
 use Rattle.std.proofs.lemmas.Option.{none-some, same_Some}
 use Rattle.ompt_events.specs.declared.records.Record.{Record}
 use Rattle.ompt_events.specs.declared.records.Body.{Body}
-use Rattle.ompt_events.specs.declared.records.Body.TheVariants.{ImplicitTask, TaskCreate}
+use Rattle.ompt_events.specs.declared.records.Body.TheVariants.{ImplicitTask, TaskCreate, SyncRegion}
 use Rattle.ompt_events.specs.declared.names.Endpoint.TheVariants.{Begin}
-use Rattle.ompt_events.specs.Records.{begun_root, created, creation, made, running}
+use Rattle.ompt_events.specs.Records.{begun_root, created, creation, made, running, region, started}
 use Rattle.ompt_events.specs.Places.{at}
+use Rattle.ompt_events.specs.declared.names.Endpoint.{Endpoint}
+use Rattle.ompt_events.specs.declared.names.SyncKind.{SyncKind}
 
 -- what follows for each record follows at a place
 pub at_through : {X Y : Type 0} (f : Body → Option X) (g : Body → Option Y) (x : X) (y : Y) (rs : List Record) (i : ℕ) → ((b : Body) → f b ≡ Some x → g b ≡ Some y) → at f rs i ≡ Some x → at g rs i ≡ Some y
@@ -79,3 +81,13 @@ made_at_cases rs i makes = there (slice_get rs i) makes
     there : (o : Option Record) → is_some (option_and_then (λ (r : Record). made r.body) o) ≡ true → (is_some (option_and_then (λ (r : Record). begun_root r.body) o) ≡ true) ⊎ (is_some (option_and_then (λ (r : Record). creation r.body) o) ≡ true)
     there None is = inl is
     there (Some r) is = here r.body is
+
+-- a record of a region is its task's own
+pub region_running : (task : ℕ) (kind : SyncKind) (endpoint : Endpoint) (b : Body) → region b ≡ Some (task, kind, endpoint) → running b ≡ Some task
+region_running task kind endpoint (SyncRegion k e parallel own) says = ap Some (ap (λ (p : ℕ × SyncKind × Endpoint). p.0) (same_Some (own, k, e) (task, kind, endpoint) says))
+region_running task kind endpoint _ says = absurd (none-some (task, kind, endpoint) says)
+
+-- a record of a region starts no task
+pub region_starts : (task : ℕ) (kind : SyncKind) (endpoint : Endpoint) (b : Body) → region b ≡ Some (task, kind, endpoint) → started b ≡ None
+region_starts task kind endpoint (SyncRegion k e parallel own) says = refl
+region_starts task kind endpoint _ says = absurd (none-some (task, kind, endpoint) says)

@@ -1,11 +1,10 @@
 -- The walk along each thread, one record on.
-use Rattle.std.proofs.Common.{◌≡◌, ◌≢◌, ◌∙◌, ℕ, ◌<◌, ◌≤◌, ◌+◌, List, [], ◌∷◌, ◌++◌, length, get_or, take, Option, Some, None, true, false, cond, eqb, refl, sym, ap, subst, arith, inl, inr, ◌⊎◌}
-use Rattle.std.proofs.lemmas.Bool.{cases_eq, eq-eqb}
-use Rattle.std.proofs.lemmas.Bool.Decides.{nat_tests}
+use Rattle.std.proofs.Common.{◌≡◌, ◌≢◌, ◌∙◌, ℕ, ◌<◌, ◌≤◌, ◌+◌, List, [], ◌∷◌, ◌++◌, length, get_or, take, Option, Some, None, true, cond, refl, sym, ap, subst, arith, inl, inr, ◌⊎◌}
+use Rattle.std.proofs.lemmas.Bool.{cases_eq, eq-eqb, ne_eqb}
 use Rattle.std.proofs.lemmas.List.Sums.{fold_push}
 use Rattle.std.proofs.lemmas.Option.{none-some, same_Some, slice_get_within}
 use Rattle.std.proofs.lemmas.List.{append-nil, length-set, length-replicate, get_or-replicate, get_or-set_same, get_or-set_other, get_or_default}
-use Rattle.checker.proofs.Reading.{read_get}
+use Rattle.ompt_events.proofs.PlaceLemmas.{read_get}
 use Rattle.std.proofs.lemmas.List.Elements.{filter_more}
 use Rattle.std.specs.Prelude.{◌==◌, IsSomeAnd, slice_get, filter, fold, replicate}
 use Rattle.std.proofs.Math.ListN.{set}
@@ -61,10 +60,6 @@ walks_none rs = record {
   each = λ thread below. get_or-replicate 256 thread at_start at_start below;
 }
 
--- different numbers
-not_eqb : (a b : ℕ) → a ≢ b → eqb a b ≡ false
-not_eqb a b apart = grind (arith, nat_tests)
-
 walk_own : (rs : List Record) (i : ℕ) (r : Record) → i < length rs → r ≡ get_or rs i r → walk_of r.thread (take (i + 1) rs) ≡ after_body (walk_of r.thread (take i rs)) r.body
 walk_own rs i r within read =
     ap (fold after_record at_start) (filter_more (λ q. q.thread == r.thread) rs i r within ∙ ap (λ q. filter (λ p. p.thread == r.thread) (take i rs) ++ cond (q.thread == r.thread) (q ∷ []) []) (sym read) ∙ ap (λ b. filter (λ p. p.thread == r.thread) (take i rs) ++ cond b (r ∷ []) []) (eq-eqb r.thread r.thread refl))
@@ -72,7 +67,7 @@ walk_own rs i r within read =
 
 walk_other : (rs : List Record) (i : ℕ) (r : Record) (thread : ℕ) → i < length rs → r ≡ get_or rs i r → thread ≢ r.thread → walk_of thread (take (i + 1) rs) ≡ walk_of thread (take i rs)
 walk_other rs i r thread within read apart =
-    ap (fold after_record at_start) (filter_more (λ q. q.thread == thread) rs i r within ∙ ap (λ q. filter (λ p. p.thread == thread) (take i rs) ++ cond (q.thread == thread) (q ∷ []) []) (sym read) ∙ ap (λ b. filter (λ p. p.thread == thread) (take i rs) ++ cond b (r ∷ []) []) (not_eqb r.thread thread (λ e. apart (sym e))) ∙ append-nil (filter (λ p. p.thread == thread) (take i rs)))
+    ap (fold after_record at_start) (filter_more (λ q. q.thread == thread) rs i r within ∙ ap (λ q. filter (λ p. p.thread == thread) (take i rs) ++ cond (q.thread == thread) (q ∷ []) []) (sym read) ∙ ap (λ b. filter (λ p. p.thread == thread) (take i rs) ++ cond b (r ∷ []) []) (ne_eqb r.thread thread (λ e. apart (sym e))) ∙ append-nil (filter (λ p. p.thread == thread) (take i rs)))
 
 -- the record's thread goes on by it, and the others stay
 pub walks_more : (rs : List Record) (i : ℕ) (r : Record) (old new : List Walk) → i < length rs → r ≡ get_or rs i r → r.thread < 256 → AreWalks rs i old → new ≡ set old r.thread (after_body (get_or old r.thread at_start) r.body) → AreWalks rs (i + 1) new

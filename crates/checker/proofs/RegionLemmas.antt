@@ -1,78 +1,27 @@
 -- How the open regions change from record to record.
-use Rattle.std.proofs.Common.{◌≡◌, ◌≢◌, ◌∙◌, ℕ, ◌<◌, ◌≤◌, ◌+◌, List, [], ◌∷◌, ◌++◌, length, Option, Some, None, true, false, Bool, cond, eqb, refl, sym, ap, subst, arith, inl, inr}
-use Rattle.std.proofs.lemmas.Bool.{cases_eq, eq-eqb}
-use Rattle.std.proofs.lemmas.Bool.Decides.{nat_tests}
+use Rattle.std.proofs.Common.{◌≡◌, ◌≢◌, ◌∙◌, ℕ, ◌<◌, ◌≤◌, ◌+◌, List, [], ◌∷◌, ◌++◌, length, Option, Some, None, true, refl, sym, ap, subst, arith, inl, inr}
+use Rattle.std.proofs.lemmas.Bool.{cases_eq}
 use Rattle.std.proofs.lemmas.Option.{none-some, same_Some, slice_get-get_or, slice_get_within}
-use Rattle.std.proofs.lemmas.List.{get_or_append_left, get_or_push, length_push, append-nil}
+use Rattle.std.proofs.lemmas.List.{get_or_append_left, get_or_push, length_push}
 use Rattle.std.proofs.lemmas.Bool.{false≢true}
-use Rattle.std.proofs.lemmas.List.Elements.{filter-append}
-use Rattle.std.proofs.lemmas.List.Sums.{fold_push}
-use Rattle.std.specs.Prelude.{◌==◌, slice_get, filter, fold}
-use Rattle.std.specs.List.{range_with_len}
-use Rattle.std.specs.Option.{option_map_or}
+use Rattle.std.specs.Prelude.{slice_get}
 use Rattle.std.specs.Ordering.{nat_cmp}
 use Rattle.std.specs.BTreeMap.{BTreeMap, get}
 use Rattle.ompt_events.specs.declared.records.Record.{Record}
-use Rattle.ompt_events.specs.declared.records.Body.{Body}
-use Rattle.ompt_events.specs.declared.records.Body.TheVariants.{SyncRegion}
 use Rattle.ompt_events.specs.declared.names.Endpoint.{Endpoint}
 use Rattle.ompt_events.specs.declared.names.Endpoint.TheVariants.{Begin, End, BeginEnd}
 use Rattle.ompt_events.specs.declared.names.SyncKind.{SyncKind}
 use Rattle.ompt_events.specs.declared.names.SyncKind.TheVariants.{Taskwait}
 use Rattle.ompt_events.specs.declared.cause.Cause.TheVariants.{RegionOrder}
-use Rattle.ompt_events.specs.Records.{region, running}
-use Rattle.ompt_events.specs.Places.{at, is_own, own_before}
+use Rattle.ompt_events.specs.Records.{region}
+use Rattle.ompt_events.specs.Places.{at}
 use Rattle.ompt_events.specs.Regions.{after_region, open_regions, kind_at, is_called_barrier, EndsRegion}
 use Rattle.ompt_events.specs.Causes.{HasNoBegin, HasCause, region_order, barrier_order, IsFirstWith, IsFreeOf}
 use Rattle.checker.specs.Audited.{AreAudited}
-use Rattle.checker.specs.Links.{below_of, top_after, IsStack, SetsTo, AreLinked}
-use Rattle.checker.proofs.Reading.{at_within}
-use Rattle.checker.proofs.Ranges.{range_more}
-use Rattle.checker.proofs.Bodies.{at_through}
+use Rattle.ompt_events.proofs.RegionLemmas.{open_none, open_other, open_own}
+use Rattle.checker.specs.Regions.{below_of, top_after, IsStack, SetsTo, AreLinked}
+use Rattle.ompt_events.proofs.PlaceLemmas.{at_within}
 use Rattle.checker.proofs.AuditedLemmas.{only_waits}
-
--- a record of a region is its task's own
-region_running : (task : ℕ) (kind : SyncKind) (endpoint : Endpoint) (b : Body) → region b ≡ Some (task, kind, endpoint) → running b ≡ Some task
-region_running task kind endpoint (SyncRegion k e parallel own) says = ap Some (ap (λ (p : ℕ × SyncKind × Endpoint). p.0) (same_Some (own, k, e) (task, kind, endpoint) says))
-region_running task kind endpoint _ says = absurd (none-some (task, kind, endpoint) says)
-
--- one more place among a task's own
-own_more : (rs : List Record) (task n : ℕ) → own_before rs task (n + 1) ≡ own_before rs task n ++ cond (is_own rs task n) (n ∷ []) []
-own_more rs task n = ap (filter (is_own rs task)) (range_more n) ∙ filter-append (is_own rs task) (range_with_len 0 n) (n ∷ [])
-
--- what the open regions become by one more place of the task
-step : List Record → List ℕ → ℕ → List ℕ
-step rs opened k = after_region opened k (at region rs k)
-
-open_more : (rs : List Record) (task n : ℕ) (own : Bool) → is_own rs task n ≡ own → open_regions rs task (n + 1) ≡ cond own (after_region (open_regions rs task n) n (at region rs n)) (open_regions rs task n)
-open_more rs task n true own =
-    ap (fold (λ opened k. after_region opened k (at region rs k)) []) (own_more rs task n ∙ ap (λ b. own_before rs task n ++ cond b (n ∷ []) []) own)
-    ∙ fold_push (λ opened k. after_region opened k (at region rs k)) [] (own_before rs task n) n
-open_more rs task n false own =
-    ap (fold (λ opened k. after_region opened k (at region rs k)) []) (own_more rs task n ∙ ap (λ b. own_before rs task n ++ cond b (n ∷ []) []) own ∙ append-nil (own_before rs task n))
-
--- a record of no region changes nothing
-pub open_none : (rs : List Record) (task n : ℕ) → at region rs n ≡ None → open_regions rs task (n + 1) ≡ open_regions rs task n
-open_none rs task n none = open_more rs task n (is_own rs task n) refl ∙ ap (λ r. cond (is_own rs task n) (after_region (open_regions rs task n) n r) (open_regions rs task n)) none ∙ same (is_own rs task n) (open_regions rs task n)
-  where
-    same : (b : Bool) (xs : List ℕ) → cond b xs xs ≡ xs
-    same true xs = refl
-    same false xs = refl
-
--- nor does one of another task
-pub open_other : (rs : List Record) (task own n : ℕ) (kind : SyncKind) (endpoint : Endpoint) → at region rs n ≡ Some (own, kind, endpoint) → task ≢ own → open_regions rs task (n + 1) ≡ open_regions rs task n
-open_other rs task own n kind endpoint says apart =
-    let runs = at_through region running (own, kind, endpoint) own rs n (region_running own kind endpoint) says in
-    open_more rs task n false (ap (λ o. option_map_or (λ t. t == task) o false) runs ∙ not_eqb own task (λ e. apart (sym e)))
-  where
-    not_eqb : (a b : ℕ) → a ≢ b → eqb a b ≡ false
-    not_eqb a b apart' = grind (arith, nat_tests)
-
--- one of the task itself does
-pub open_own : (rs : List Record) (own n : ℕ) (kind : SyncKind) (endpoint : Endpoint) → at region rs n ≡ Some (own, kind, endpoint) → open_regions rs own (n + 1) ≡ after_region (open_regions rs own n) n (Some (own, kind, endpoint))
-open_own rs own n kind endpoint says =
-    let runs = at_through region running (own, kind, endpoint) own rs n (region_running own kind endpoint) says in
-    open_more rs own n true (ap (λ o. option_map_or (λ t. t == own) o false) runs ∙ eq-eqb own own refl) ∙ ap (after_region (open_regions rs own n) n) says
 
 -- a stack stays when a link is added
 stack_more : (links : List (Option ℕ)) (link top : Option ℕ) (stack : List ℕ) → IsStack links top stack → IsStack (links ++ link ∷ []) top stack

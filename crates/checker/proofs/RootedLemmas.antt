@@ -14,10 +14,10 @@ use Rattle.ompt_events.specs.Places.{at}
 use Rattle.ompt_events.specs.Tree.{IsRooted, child}
 use Rattle.checker.specs.declared.rooted.Mark.{Mark}
 use Rattle.checker.specs.declared.rooted.Mark.TheVariants.{Unknown, Rooted, Unrooted}
-use Rattle.checker.specs.Searches.{AreMakers}
-use Rattle.checker.specs.Marks.{mark_at, AreMarks, MarksChain, AreRooted, IsClimbed}
-use Rattle.checker.proofs.Reading.{at_within}
-use Rattle.checker.proofs.Bodies.{created_at_made, creation_at_created, made_at_cases}
+use Rattle.checker.specs.Search.{AreMakers}
+use Rattle.checker.specs.Rooted.{mark_at, AreMarks, MarksChain, AreRooted, IsClimbed}
+use Rattle.ompt_events.proofs.PlaceLemmas.{at_within}
+use Rattle.ompt_events.proofs.RecordLemmas.{created_at_made, creation_at_created, made_at_cases}
 
 -- no list holds an element before it has one
 pub contains_none : (i : ℕ) → Contains (let l : List ℕ = [] in l) i → ⊥

@@ -1,5 +1,6 @@
 -- What is known of the tasks' chains of parents while they are climbed.
-use Rattle.std.specs.Prelude.{ℕ, ◌≡◌, ◌≢◌, ◌<◌, ◌⊎◌, List, [], ◌∷◌, length, Some, None, true, false, is_some, Bool, Contains, slice_index_or}
+use Rattle.std.specs.Prelude.{ℕ, ◌≡◌, ◌≢◌, ◌<◌, ◌⊎◌, List, length, Some, None, true, false, is_some, Bool, Contains, slice_index_or}
+use Rattle.std.specs.List.{Any}
 use Rattle.std.specs.Ordering.{nat_cmp}
 use Rattle.std.specs.BTreeMap.{BTreeMap, get}
 use Rattle.ompt_events.specs.declared.records.Record.{Record}
@@ -15,7 +16,9 @@ mark_at marks i = slice_index_or marks i Unknown
 
 -- the record creates a task, and of its parent it is known that it has no root either, or no maker
 abbrev pub IsStuck : List Record → BTreeMap ℕ ℕ → List Mark → ℕ → Type 0
-IsStuck rs makers marks i = (parent child : ℕ) × (at creation rs i ≡ Some (parent, child)) × ((k : ℕ) → get nat_cmp makers parent ≡ Some k → mark_at marks k ≡ Unrooted)
+IsStuck rs makers marks i =
+    (parent child : ℕ) × (at creation rs i ≡ Some (parent, child))
+    × ((k : ℕ) → get nat_cmp makers parent ≡ Some k → mark_at marks k ≡ Unrooted)
 
 -- roots are marked, what is marked as rooted is, and what is marked as unrooted can't be
 pub record AreMarks (rs : List Record) (makers : BTreeMap ℕ ℕ) (marks : List Mark) : Type 0 where
@@ -27,7 +30,8 @@ pub record AreMarks (rs : List Record) (makers : BTreeMap ℕ ℕ) (marks : List
 -- the places on the chain were unknown, and are marked as unrooted for now; the others stay
 pub record MarksChain (old new : List Mark) (chain : List ℕ) : Type 0 where
   pub same_length : length new ≡ length old
-  pub chained : (i : ℕ) → Contains chain i → (i < length old) × (mark_at old i ≡ Unknown) × (mark_at new i ≡ Unrooted)
+  pub chained : (i : ℕ) → Contains chain i → (i < length old) × (mark_at old i ≡ Unknown)
+      × (mark_at new i ≡ Unrooted)
   pub others : (i : ℕ) → Contains chain i ⊎ (mark_at new i ≡ mark_at old i)
 
 -- the tasks that are made on the chain have a root
@@ -49,5 +53,4 @@ pub record IsSettled (rs : List Record) (makers : BTreeMap ℕ ℕ) (old new : L
 
 -- some of the tasks has no maker
 abbrev pub AnyUnmade : BTreeMap ℕ ℕ → List ℕ → Type 0
-AnyUnmade makers [] = ⊥
-AnyUnmade makers (task ∷ tasks) = (get nat_cmp makers task ≡ None) ⊎ AnyUnmade makers tasks
+AnyUnmade makers tasks = Any (λ task. get nat_cmp makers task ≡ None) tasks

@@ -30,13 +30,16 @@ pub record MayFollow (rs : List Record) (placed : List Bool) (i : ℕ) : Type 0 
 pub record AreHeads (rs : List Record) (placed : List Bool) (heads : List ℕ) : Type 0 where
   pub all : (i thread : ℕ) → thread_at rs i ≡ Some thread → thread < length heads
   pub below : (thread i : ℕ) → thread_at rs i ≡ Some thread → i < slice_index heads thread → Stands placed i
-  pub head : (thread : ℕ) → thread < length heads → slice_index heads thread < length rs → thread_at rs (slice_index heads thread) ≡ Some thread
+  pub head : (thread : ℕ) → thread < length heads → slice_index heads thread < length rs
+      → thread_at rs (slice_index heads thread) ≡ Some thread
   pub missing : (thread : ℕ) → thread < length heads → Stands placed (slice_index heads thread) → ⊥
 
 -- the least ledger entry that a record makes which doesn't stand
 pub record IsLeastEntry (rs : List Record) (placed : List Bool) (least : Option ℕ) : Type 0 where
-  pub below : (i : ℕ) → IsFinishing rs i → (Stands placed i → ⊥) → (entry : ℕ) × (least ≡ Some entry) × (entry ≤ seen_at rs i)
-  pub reached : (entry : ℕ) → least ≡ Some entry → (i : ℕ) × IsFinishing rs i × (Stands placed i → ⊥) × (seen_at rs i ≡ entry)
+  pub below : (i : ℕ) → IsFinishing rs i → (Stands placed i → ⊥) → (entry : ℕ) × (least ≡ Some entry)
+      × (entry ≤ seen_at rs i)
+  pub reached : (entry : ℕ) → least ≡ Some entry → (i : ℕ) × IsFinishing rs i × (Stands placed i → ⊥)
+      × (seen_at rs i ≡ entry)
 
 -- what is tested of the head of a thread
 pub record IsReadyHead (rs : List Record) (awaited : List (Option ℕ)) (placed : List Bool) (least : Option ℕ) (i : ℕ) : Type 0 where
@@ -47,11 +50,14 @@ pub record IsReadyHead (rs : List Record) (awaited : List (Option ℕ)) (placed 
 -- the first record of each thread
 pub record AreFirstHeads (rs : List Record) (heads : List ℕ) : Type 0 where
   pub all : (i thread : ℕ) → thread_at rs i ≡ Some thread → thread < length heads
-  pub none : (thread i : ℕ) → thread < length heads → i < slice_index heads thread → thread_at rs i ≡ Some thread → ⊥
-  pub head : (thread : ℕ) → thread < length heads → slice_index heads thread < length rs → thread_at rs (slice_index heads thread) ≡ Some thread
+  pub none : (thread i : ℕ) → thread < length heads → i < slice_index heads thread
+      → thread_at rs i ≡ Some thread → ⊥
+  pub head : (thread : ℕ) → thread < length heads → slice_index heads thread < length rs
+      → thread_at rs (slice_index heads thread) ≡ Some thread
 
 -- each finishing record with the entry that it makes, the least entry first
 pub record AreEntries (rs : List Record) (entries : List (ℕ × ℕ)) : Type 0 where
   pub sorted : IsNonDecreasingBy (λ (entry : ℕ × ℕ). entry.0) entries
   pub each : (i : ℕ) → IsFinishing rs i → Contains entries (seen_at rs i, i)
-  pub only : (entry : ℕ × ℕ) → Contains entries entry → IsFinishing rs entry.1 × (seen_at rs entry.1 ≡ entry.0)
+  pub only : (entry : ℕ × ℕ) → Contains entries entry → IsFinishing rs entry.1
+      × (seen_at rs entry.1 ≡ entry.0)
