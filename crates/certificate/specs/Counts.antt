@@ -1,5 +1,6 @@
 -- How the counters of a device go on, each of 64 bits.
 use Rattle.std.specs.Prelude.{ℕ, ◌≡◌, zero, suc, ◌+◌, ◌-◌, ◌%◌, ◌^◌, ◌==◌, ◌≤◌, ◌↔◌, if◌then◌else◌, Option, None, Some, Result, Ok, Err}
+use Rattle.certificate.specs.Limits.{max_turns}
 use Rattle.certificate.specs.declared.device.DeviceFault.{DeviceFault}
 use Rattle.certificate.specs.declared.device.DeviceFault.TheVariants.{Again, Broken}
 use Rattle.certificate.specs.declared.faults.ReadFault.{ReadFault}
@@ -46,12 +47,12 @@ abbrev pub cause_told : {X : Type 0} → Result X ReadFault → Option ReadCause
 cause_told (Ok x) = None
 cause_told (Err fault) = Some fault.cause
 
--- the turns that a call has taken so far, each an answer `Again`; with the 10,001st it ends
+-- the turns that a call has taken so far, each an answer `Again`; with the one after the last that it has, it ends
 pub record TakesTurns (told : Option ReadCause) (turns turns' agains agains' : ℕ) : Type 0 where
   pub later : turns ≤ turns'
-  pub within : turns' ≤ 10001
+  pub within : turns' ≤ max_turns + 1
   pub counted : agains' ≡ count_more agains (turns' - turns)
-  pub spent : (told ≡ Some TurnsSpent) ↔ (turns' ≡ 10001)
+  pub spent : (told ≡ Some TurnsSpent) ↔ (turns' ≡ max_turns + 1)
 
 -- the counter of the answers `Broken`, after a call of `write_bytes` that ends so
 abbrev pub breaks_written : Result (Unit {0}) WriteFault → ℕ → ℕ
@@ -60,8 +61,9 @@ breaks_written (Err write.Device) count = next_count count
 breaks_written (Err write.Memory) count = count
 breaks_written (Err write.TurnsSpent) count = count
 
--- the turns that a call of `write_bytes` has taken, each an answer `Again` or that no byte was taken; with the 10,001st it ends
+-- the turns that a call of `write_bytes` has taken, each an answer `Again` or that no byte was taken of some;
+-- with the one after the last that it has, it ends
 pub record TakesStalls (result : Result (Unit {0}) WriteFault) (turns stalls stalls' : ℕ) : Type 0 where
-  pub within : turns ≤ 10001
+  pub within : turns ≤ max_turns + 1
   pub counted : stalls' ≡ count_more stalls turns
-  pub spent : (result ≡ Err write.TurnsSpent) ↔ (turns ≡ 10001)
+  pub spent : (result ≡ Err write.TurnsSpent) ↔ (turns ≡ max_turns + 1)

@@ -20,9 +20,9 @@ const BLOCK: usize = 65_536;
 /// The lines are put together in blocks of some 64 KiB.
 pub fn write<S: Sink>(alloc: Global, trace: &Trace, sink: &mut S) -> Result<(), WriteFault>
     ensures ok { OnOk result
-        (Appends (S.contents sink.old) (S.contents sink.new) (trace_text trace.now.records)) }
+        (Appends (S.contents sink.old) (S.contents sink.new) (trace_text trace.now)) }
     ensures prefix { OnErr result
-        ((n : ℕ) × Appends (S.contents sink.old) (S.contents sink.new) (take n (trace_text trace.now.records))) }
+        ((n : ℕ) × Appends (S.contents sink.old) (S.contents sink.new) (take n (trace_text trace.now))) }
 
     // Each answer `Again` or that no byte was taken is a turn, and the 10,001st ends the call.
     ensures turns { (turns : ℕ) × TakesStalls result turns (S.stalls sink.old) (S.stalls sink.new) }

@@ -2,6 +2,7 @@ pub mod Names
 pub mod CauseNames
 pub mod Flags
 pub mod Records
+pub mod Limits
 pub mod Traces
 pub mod Places
 pub mod Tree
