@@ -1,9 +1,10 @@
 -- Counters of 64 bits, counted up.
-use Rattle.std.proofs.Common.{◌≡◌, ◌≢◌, ◌==◌, false, Ok, Err, Result, ℕ, zero, suc, ◌+◌, ◌-◌, ◌≤◌, arith, refl, ap, ◌∙◌, Option, Some, None}
+use Rattle.std.proofs.Common.{◌≡◌, ◌≢◌, ◌==◌, false, Ok, Err, Result, ℕ, zero, suc, ◌+◌, ◌-◌, ◌<◌, ◌≤◌, arith, refl, ap, ◌∙◌, Option, Some, None}
 use Rattle.certificate.specs.declared.faults.ReadCause.{ReadCause}
 use Rattle.certificate.specs.declared.faults.ReadCause.TheVariants.{TurnsSpent}
 use Rattle.certificate.specs.declared.faults.WriteFault.{WriteFault}
 use Rattle.certificate.specs.declared.faults.WriteFault.TheVariants as write
+use Rattle.std.proofs.lemmas.Bool.{lt-ltb}
 use Rattle.certificate.specs.Limits.{max_turns}
 use Rattle.certificate.specs.Counts.{next_count, count_more, stalls_after, TakesTurns, TakesStalls}
 
@@ -64,11 +65,11 @@ unfolding count_more
 count_more-step count n = let one : n + 1 ≡ suc n = omega arith in rw one refl
 
 -- a sink's counter, after it took some bytes or none
-pub stalls-none : (count before stalls stalls' taken : ℕ) → stalls ≡ count_more count before → stalls' ≡ stalls_after (Ok taken) stalls → taken ≡ 0 → stalls' ≡ count_more count (before + 1)
-stalls-none count before stalls stalls' taken was is none = (rw none at is) ∙ ap next_count was ∙ count_more-step count before
+pub stalls-none : (count before stalls stalls' offered taken : ℕ) → 0 < offered → stalls ≡ count_more count before → stalls' ≡ stalls_after offered (Ok taken) stalls → taken ≡ 0 → stalls' ≡ count_more count (before + 1)
+stalls-none count before stalls stalls' offered taken some was is none = (rw (none, lt-ltb 0 offered some) at is) ∙ ap next_count was ∙ count_more-step count before
 
-pub stalls-some : (count before stalls stalls' taken : ℕ) → stalls ≡ count_more count before → stalls' ≡ stalls_after (Ok taken) stalls → taken ≢ 0 → stalls' ≡ count_more count before
-stalls-some count before stalls stalls' taken was is some =
+pub stalls-some : (count before stalls stalls' offered taken : ℕ) → stalls ≡ count_more count before → stalls' ≡ stalls_after offered (Ok taken) stalls → taken ≢ 0 → stalls' ≡ count_more count before
+stalls-some count before stalls stalls' offered taken was is some =
     let other : (taken == 0) ≡ false = grind arith in
     (rw other at is) ∙ was
 

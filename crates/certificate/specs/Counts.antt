@@ -1,5 +1,5 @@
 -- How the counters of a device go on, each of 64 bits.
-use Rattle.std.specs.Prelude.{ℕ, ◌≡◌, zero, suc, ◌+◌, ◌-◌, ◌%◌, ◌^◌, ◌==◌, ◌≤◌, ◌↔◌, if◌then◌else◌, Option, None, Some, Result, Ok, Err}
+use Rattle.std.specs.Prelude.{ℕ, ◌≡◌, zero, suc, ◌+◌, ◌-◌, ◌%◌, ◌^◌, ◌==◌, ◌&&◌, ◌≤◌, ◌↔◌, nat_lt, if◌then◌else◌, Option, None, Some, Result, Ok, Err}
 use Rattle.certificate.specs.Limits.{max_turns}
 use Rattle.certificate.specs.declared.device.DeviceFault.{DeviceFault}
 use Rattle.certificate.specs.declared.device.DeviceFault.TheVariants.{Again, Broken}
@@ -30,11 +30,12 @@ breaks_after (Ok n) count = count
 breaks_after (Err Again) count = count
 breaks_after (Err Broken) count = next_count count
 
--- the counter of the answers `Again` and of those that no byte was taken, after an answer
-abbrev pub stalls_after : Result ℕ DeviceFault → ℕ → ℕ
-stalls_after (Ok n) count = if n == 0 then next_count count else count
-stalls_after (Err Again) count = next_count count
-stalls_after (Err Broken) count = count
+-- the counter of the answers `Again` and of those that no byte was taken of some, after an answer to so many bytes:
+-- to take none of none is no stall
+abbrev pub stalls_after : ℕ → Result ℕ DeviceFault → ℕ → ℕ
+stalls_after offered (Ok n) count = if n == 0 && nat_lt 0 offered then next_count count else count
+stalls_after offered (Err Again) count = next_count count
+stalls_after offered (Err Broken) count = count
 
 -- the counter of the answers `Broken`, after a call of `read` that ends so: only `Device` tells of one
 abbrev pub breaks_told : Option ReadCause → ℕ → ℕ

@@ -11,4 +11,5 @@ pub mod Files
 pub mod Keeping
 pub mod Reading
 pub mod MemoryDevices
+pub mod Answers
 pub mod Streams
