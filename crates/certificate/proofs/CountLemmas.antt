@@ -1,9 +1,11 @@
 -- Counters of 64 bits, counted up.
-use Rattle.std.proofs.Common.{◌≡◌, ◌≢◌, ◌==◌, false, Ok, Err, Result, ℕ, zero, suc, ◌+◌, ◌-◌, ◌≤◌, arith, refl, ap, ◌∙◌, Option, Some, None}
+use Rattle.std.proofs.Common.{◌≡◌, ◌≢◌, ◌==◌, false, Ok, Err, Result, ℕ, zero, suc, ◌+◌, ◌-◌, ◌<◌, ◌≤◌, arith, refl, ap, ◌∙◌, Option, Some, None}
 use Rattle.certificate.specs.declared.faults.ReadCause.{ReadCause}
 use Rattle.certificate.specs.declared.faults.ReadCause.TheVariants.{TurnsSpent}
 use Rattle.certificate.specs.declared.faults.WriteFault.{WriteFault}
 use Rattle.certificate.specs.declared.faults.WriteFault.TheVariants as write
+use Rattle.std.proofs.lemmas.Bool.{lt-ltb}
+use Rattle.certificate.specs.Limits.{max_turns}
 use Rattle.certificate.specs.Counts.{next_count, count_more, stalls_after, TakesTurns, TakesStalls}
 
 pub count_more-none : (count n : ℕ) → count ≡ count_more count (n - n)
@@ -32,7 +34,7 @@ TakesTurns-more told t t' t'' a a' a'' first more = record {
   spent = more.spent;
 }
 
-pub TakesTurns-none : (t a : ℕ) → t ≤ 10000 → TakesTurns None t t a a
+pub TakesTurns-none : (t a : ℕ) → t ≤ max_turns → TakesTurns None t t a a
 TakesTurns-none t a few = record {
   later = omega arith;
   within = omega arith;
@@ -49,9 +51,9 @@ TakesTurns-other told t t' a a' other taken = record {
   spent = ((λ spent. absurd (other spent)), (λ last. absurd (let h : None ≡ Some TurnsSpent = taken.spent.1 last in cc)));
 }
 
-pub TakesTurns-left : (t t' a a' : ℕ) → TakesTurns None t t' a a' → t' ≤ 10000
+pub TakesTurns-left : (t t' a a' : ℕ) → TakesTurns None t t' a a' → t' ≤ max_turns
 TakesTurns-left t t' a a' taken =
-    let left : t' ≡ 10001 → ⊥ = λ last. (let h : None ≡ Some TurnsSpent = taken.spent.1 last in cc) in
+    let left : t' ≡ max_turns + 1 → ⊥ = λ last. (let h : None ≡ Some TurnsSpent = taken.spent.1 last in cc) in
     omega (arith, taken.within)
 
 pub count_more-zero : (count : ℕ) → count ≡ count_more count 0
@@ -63,23 +65,23 @@ unfolding count_more
 count_more-step count n = let one : n + 1 ≡ suc n = omega arith in rw one refl
 
 -- a sink's counter, after it took some bytes or none
-pub stalls-none : (count before stalls stalls' taken : ℕ) → stalls ≡ count_more count before → stalls' ≡ stalls_after (Ok taken) stalls → taken ≡ 0 → stalls' ≡ count_more count (before + 1)
-stalls-none count before stalls stalls' taken was is none = (rw none at is) ∙ ap next_count was ∙ count_more-step count before
+pub stalls-none : (count before stalls stalls' offered taken : ℕ) → 0 < offered → stalls ≡ count_more count before → stalls' ≡ stalls_after offered (Ok taken) stalls → taken ≡ 0 → stalls' ≡ count_more count (before + 1)
+stalls-none count before stalls stalls' offered taken some was is none = (rw (none, lt-ltb 0 offered some) at is) ∙ ap next_count was ∙ count_more-step count before
 
-pub stalls-some : (count before stalls stalls' taken : ℕ) → stalls ≡ count_more count before → stalls' ≡ stalls_after (Ok taken) stalls → taken ≢ 0 → stalls' ≡ count_more count before
-stalls-some count before stalls stalls' taken was is some =
+pub stalls-some : (count before stalls stalls' offered taken : ℕ) → stalls ≡ count_more count before → stalls' ≡ stalls_after offered (Ok taken) stalls → taken ≢ 0 → stalls' ≡ count_more count before
+stalls-some count before stalls stalls' offered taken was is some =
     let other : (taken == 0) ≡ false = grind arith in
     (rw other at is) ∙ was
 
 -- a call that ends before the last turn
-pub TakesStalls-ok : (turns start stalls : ℕ) → turns ≤ 10000 → stalls ≡ count_more start turns → TakesStalls (Ok tt) turns start stalls
+pub TakesStalls-ok : (turns start stalls : ℕ) → turns ≤ max_turns → stalls ≡ count_more start turns → TakesStalls (Ok tt) turns start stalls
 TakesStalls-ok turns start stalls few is = record {
   within = omega arith;
   counted = is;
   spent = ((λ spent. absurd (let h : ◌≡◌ {A = Result (Unit {0}) WriteFault} (Ok tt) (Err write.TurnsSpent) = spent in cc)), (λ last. absurd (omega arith)));
 }
 
-pub TakesStalls-memory : (turns start stalls : ℕ) → turns ≤ 10000 → stalls ≡ count_more start turns → TakesStalls (Err write.Memory) turns start stalls
+pub TakesStalls-memory : (turns start stalls : ℕ) → turns ≤ max_turns → stalls ≡ count_more start turns → TakesStalls (Err write.Memory) turns start stalls
 TakesStalls-memory turns start stalls few is = record {
   within = omega arith;
   counted = is;

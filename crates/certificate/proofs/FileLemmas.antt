@@ -5,6 +5,7 @@ use Rattle.std.specs.List.{AllByRecursion}
 use Rattle.ompt_events.specs.declared.records.Record.{Record}
 use Rattle.certificate.specs.declared.faults.ReadCause.TheVariants.{LineTooLong}
 use Rattle.std.proofs.lemmas.List.{take-append-drop, get_or-take, drop_more}
+use Rattle.certificate.specs.Limits.{max_line}
 use Rattle.certificate.specs.Windows.{LineFeedAt}
 use Rattle.certificate.specs.Files.{Cut, cut, with_byte, is_long, from_line, rest_says, go_on, fault_in, text_adds, end_adds}
 
@@ -68,7 +69,7 @@ pub cut-unbroken : (bytes : List ℕ) → IsUnbroken bytes → cut bytes ≡ rec
 unfolding cut
 cut-unbroken bytes all = ap cut (sym (append-nil bytes)) ∙ cut-front bytes [] all ∙ rw (append-nil bytes) refl
 
-pub rest_says-line : (n : ℕ) (before : List Record) (line bytes : List ℕ) → IsUnbroken line → length line ≤ 65536 → rest_says n before (line ++ (10 ∷ bytes)) ≡ go_on n (text_adds n before line) (λ records. rest_says (n + 1) records bytes)
+pub rest_says-line : (n : ℕ) (before : List Record) (line bytes : List ℕ) → IsUnbroken line → length line ≤ max_line → rest_says n before (line ++ (10 ∷ bytes)) ≡ go_on n (text_adds n before line) (λ records. rest_says (n + 1) records bytes)
 unfolding from_line
 rest_says-line n before line bytes all short =
     let not_long : is_long line ≡ false = grind arith in
@@ -78,7 +79,7 @@ pub rest_says-end : (n : ℕ) (before : List Record) (bytes : List ℕ) → IsUn
 unfolding from_line
 rest_says-end n before bytes all = rw (cut-unbroken bytes all) refl
 
-pub rest_says-long : (n : ℕ) (before : List Record) (front bytes : List ℕ) → IsUnbroken front → 65536 < length front → rest_says n before (front ++ bytes) ≡ Err (fault_in n LineTooLong)
+pub rest_says-long : (n : ℕ) (before : List Record) (front bytes : List ℕ) → IsUnbroken front → max_line < length front → rest_says n before (front ++ bytes) ≡ Err (fault_in n LineTooLong)
 unfolding from_line
 rest_says-long n before front bytes all long = rw (cut-front front bytes all) (by_lines (cut bytes).lines (cut bytes).rest)
   where

@@ -1,18 +1,20 @@
 -- Why the lines, one after another, say what each of them says.
 use Rattle.std.proofs.Common.{◌≡◌, ℕ, ◌+◌, ◌<◌, ◌≤◌, inl, inr, List, [], ◌∷◌, ◌++◌, length, take, drop, Some, None, Result, Ok, Err, true, false, cond, arith, refl, sym, ap, ◌∙◌, subst, append_assoc, append-nil, length-append}
 use Rattle.std.specs.Prelude.{nat_lt, ◌==◌, slice_get}
-use Rattle.std.specs.Result.{result_ok, result_err}
+use Rattle.std.specs.Result.{result_ok, result_err, result_map_both}
 use Rattle.std.specs.List.{filter_map}
 use Rattle.std.proofs.Math.Seq.{take-append_seam}
 use Rattle.std.proofs.lemmas.Bool.{cases_lt}
 use Rattle.std.proofs.lemmas.Option.{slice_get_past}
 use Rattle.std.proofs.lemmas.List.Elements.{filter_map-append}
+use Rattle.std.proofs.lemmas.List.Sums.{sum_by-cons}
 use Rattle.ompt_events.specs.declared.records.Record.{Record}
+use Rattle.ompt_events.specs.Traces.{TraceView}
 use Rattle.certificate.specs.declared.faults.ReadCause.{ReadCause}
 use Rattle.certificate.specs.declared.faults.ReadCause.TheVariants.{LineTooLong, Unended, Header, Limit}
 use Rattle.certificate.specs.declared.faults.ReadFault.{ReadFault}
 use Rattle.certificate.specs.RecordLines.{line_says, header_says, is_header}
-use Rattle.certificate.specs.Files.{cut, is_long, has_room, with_record, with_header, text_adds, line_adds, end_adds, from_line, go_on, fault_in, file_says, records_of, records_before, cause_in, StandsFor, IsFirstFault}
+use Rattle.certificate.specs.Files.{Cut, cut, with_byte, rest_says, is_long, has_room, with_record, with_header, text_adds, line_adds, end_adds, from_line, go_on, fault_in, file_says, records_said, records_of, records_before, cause_in, line_feeds, trace_of, StandsFor, IsFaultlessBefore, IsFirstFault}
 use Rattle.certificate.proofs.RecordLemmas.{ok_not_err}
 
 -- what is said from place k on
@@ -130,36 +132,36 @@ walk all rest (line ∷ lines) done before whole is =
     by_line (Ok after) e later =
         Walked-back all rest (length done) _ (at ∙ ap result_err e) (subst (λ (n : ℕ). Walked all rest n (from_line (n + 1) after lines rest)) one_more (later after e))
 
-walk_file : (bytes : List ℕ) → Walked (cut bytes).lines (cut bytes).rest 0 (file_says bytes)
+walk_file : (bytes : List ℕ) → Walked (cut bytes).lines (cut bytes).rest 0 (records_said bytes)
 walk_file bytes = walk (cut bytes).lines (cut bytes).rest (cut bytes).lines [] [] refl refl
 
 -- ---- the laws
 
-pub stands_for : (bytes : List ℕ) (rs : List Record) → file_says bytes ≡ Ok rs → StandsFor bytes rs
-stands_for bytes rs e =
+pub said_stands : (bytes : List ℕ) (rs : List Record) → records_said bytes ≡ Ok rs → StandsFor bytes (trace_of rs)
+said_stands bytes rs e =
     let walked : Walked (cut bytes).lines (cut bytes).rest 0 (Ok rs) = subst (λ (said : Result (List Record) ReadFault). Walked (cut bytes).lines (cut bytes).rest 0 said) e (walk_file bytes) in
     record { no_fault = λ k within. walked.0 k (omega arith) within; each = walked.1 }
 
-pub first_fault : (bytes : List ℕ) (f : ReadFault) → file_says bytes ≡ Err f → IsFirstFault bytes f
-first_fault bytes f e =
+pub said_first : (bytes : List ℕ) (f : ReadFault) → records_said bytes ≡ Err f → IsFirstFault bytes f
+said_first bytes f e =
     let walked : Walked (cut bytes).lines (cut bytes).rest 0 (Err f) = subst (λ (said : Result (List Record) ReadFault). Walked (cut bytes).lines (cut bytes).rest 0 said) e (walk_file bytes) in
-    record { place = walked.0; line = walked.1; within = walked.3; has = walked.4; earlier = λ k below. walked.5 k (omega arith) below }
+    record { place = walked.0; line = walked.1; within = walked.3; has = walked.4; earlier = λ k below. walked.5 k (omega arith) (omega (arith, walked.1)) }
 
 same_fault : (f f' : ReadFault) → f'.line ≡ f.line → f'.cause ≡ f.cause → f' ≡ f
 same_fault f f' line cause = ap (λ n. fault_in n f'.cause) line ∙ ap (λ e. fault_in f.line e) cause
 
-pub said_of_first : (bytes : List ℕ) (f : ReadFault) → IsFirstFault bytes f → file_says bytes ≡ Err f
-said_of_first bytes f fault = by_said (file_says bytes) refl
+first_said : (bytes : List ℕ) (f : ReadFault) → IsFirstFault bytes f → records_said bytes ≡ Err f
+first_said bytes f fault = by_said (records_said bytes) refl
   where
-    by_said : (said : Result (List Record) ReadFault) → file_says bytes ≡ said → said ≡ Err f
+    by_said : (said : Result (List Record) ReadFault) → records_said bytes ≡ said → said ≡ Err f
     by_said (Ok rs) e =
-        absurd (let none : None ≡ Some f.cause = sym ((stands_for bytes rs e).no_fault fault.place fault.within) ∙ fault.has in cc)
+        absurd (let none : None ≡ Some f.cause = sym ((said_stands bytes rs e).no_fault fault.place fault.within) ∙ fault.has in cc)
     by_said (Err f') e =
-        let other = first_fault bytes f' e in
+        let other = said_first bytes f' e in
         elim (cases_lt other.place fault.place) [
-          | inl before ↦ absurd (let none : None ≡ Some f'.cause = sym (fault.earlier other.place before) ∙ other.has in cc)
+          | inl before ↦ absurd (let none : None ≡ Some f'.cause = sym (fault.earlier other.place (omega (arith, before, fault.line))) ∙ other.has in cc)
           | inr not_before ↦ elim (cases_lt fault.place other.place) [
-            | inl after ↦ absurd (let none : None ≡ Some f.cause = sym (other.earlier fault.place after) ∙ fault.has in cc)
+            | inl after ↦ absurd (let none : None ≡ Some f.cause = sym (other.earlier fault.place (omega (arith, after, other.line))) ∙ fault.has in cc)
             | inr not_after ↦
                 let same : other.place ≡ fault.place = omega arith in
                 let line : f'.line ≡ f.line = other.line ∙ ap (λ n. n + 1) same ∙ sym fault.line in
@@ -168,11 +170,74 @@ said_of_first bytes f fault = by_said (file_says bytes) refl
           ]
         ]
 
-pub said_of_stands : (bytes : List ℕ) (rs : List Record) → StandsFor bytes rs → file_says bytes ≡ Ok rs
-said_of_stands bytes rs stands = by_said (file_says bytes) refl
+stands_said : (bytes : List ℕ) (trace : TraceView) → StandsFor bytes trace → records_said bytes ≡ Ok trace.records
+stands_said bytes trace stands = by_said (records_said bytes) refl
   where
-    by_said : (said : Result (List Record) ReadFault) → file_says bytes ≡ said → said ≡ Ok rs
-    by_said (Ok rs') e = ap Ok ((stands_for bytes rs' e).each ∙ sym stands.each)
+    by_said : (said : Result (List Record) ReadFault) → records_said bytes ≡ said → said ≡ Ok trace.records
+    by_said (Ok rs') e = ap Ok ((said_stands bytes rs' e).each ∙ sym stands.each)
     by_said (Err f) e =
-        let fault = first_fault bytes f e in
+        let fault = said_first bytes f e in
         absurd (let none : None ≡ Some f.cause = sym (stands.no_fault fault.place fault.within) ∙ fault.has in cc)
+
+-- ---- the same of the trace of the records
+
+fault_not_ok : {X : Type 0} (x : X) (f : ReadFault) → ◌≡◌ {A = Result X ReadFault} (Ok x) (Err f) → ⊥
+fault_not_ok x f h = cc
+
+said_of_trace : (said : Result (List Record) ReadFault) (trace : TraceView) → result_map_both trace_of (λ fault. fault) said ≡ Ok trace → said ≡ Ok trace.records
+said_of_trace (Ok rs) trace e = let same : trace_of rs ≡ trace = cc in ap (λ (t : TraceView). Ok t.records) same
+said_of_trace (Err f) trace e = absurd (fault_not_ok trace f (sym e))
+
+said_of_fault : (said : Result (List Record) ReadFault) (f : ReadFault) → result_map_both trace_of (λ fault. fault) said ≡ Err f → said ≡ Err f
+said_of_fault (Ok rs) f e = absurd (fault_not_ok (trace_of rs) f e)
+said_of_fault (Err f') f e = let same : f' ≡ f = cc in ap Err same
+
+pub stands_for : (bytes : List ℕ) (trace : TraceView) → file_says bytes ≡ Ok trace → StandsFor bytes trace
+stands_for bytes trace e = said_stands bytes trace.records (said_of_trace (records_said bytes) trace e)
+
+pub said_of_stands : (bytes : List ℕ) (trace : TraceView) → StandsFor bytes trace → file_says bytes ≡ Ok trace
+said_of_stands bytes trace stands = ap (result_map_both trace_of (λ fault. fault)) (stands_said bytes trace stands)
+
+pub first_fault : (bytes : List ℕ) (f : ReadFault) → file_says bytes ≡ Err f → IsFirstFault bytes f
+first_fault bytes f e = said_first bytes f (said_of_fault (records_said bytes) f e)
+
+pub said_of_first : (bytes : List ℕ) (f : ReadFault) → IsFirstFault bytes f → file_says bytes ≡ Err f
+said_of_first bytes f fault = ap (result_map_both trace_of (λ fault. fault)) (first_said bytes f fault)
+
+-- ---- lines that were read before have no fault
+
+-- a fault from line n on is of that line or a later one
+said_later : (n : ℕ) (before : List Record) (lines : List (List ℕ)) (rest : List ℕ) (f : ReadFault) → from_line n before lines rest ≡ Err f → n ≤ f.line
+unfolding from_line
+said_later n before [] rest f e = by_step (end_adds n before rest) Ok e (λ rs more. absurd (fault_not_ok rs f more))
+  where
+    by_step : (r : Result (List Record) ReadCause) (next : List Record → Result (List Record) ReadFault) → go_on n r next ≡ Err f → ((rs : List Record) → next rs ≡ Err f → n ≤ f.line) → n ≤ f.line
+    by_step (Err cause) next e later = let same : fault_in n cause ≡ f = cc in omega (arith, ap (λ (g : ReadFault). g.line) same)
+    by_step (Ok rs) next e later = later rs e
+said_later n before (line ∷ lines) rest f e =
+    by_step (line_adds n before line) (λ rs. from_line (n + 1) rs lines rest) e (λ rs more. let low = said_later (n + 1) rs lines rest f more in omega arith)
+  where
+    by_step : (r : Result (List Record) ReadCause) (next : List Record → Result (List Record) ReadFault) → go_on n r next ≡ Err f → ((rs : List Record) → next rs ≡ Err f → n ≤ f.line) → n ≤ f.line
+    by_step (Err cause) next e later = let same : fault_in n cause ≡ f = cc in omega (arith, ap (λ (g : ReadFault). g.line) same)
+    by_step (Ok rs) next e later = later rs e
+
+line_feeds-lines : (bytes : List ℕ) → line_feeds bytes ≡ length (cut bytes).lines
+unfolding cut
+line_feeds-lines [] = refl
+line_feeds-lines (b ∷ bytes) =
+    sum_by-cons (λ (b : ℕ). cond (b == 10) 1 0) b bytes
+    ∙ elim (b == 10) as (λ t. cond t 1 0 + line_feeds bytes ≡ length (cond t (record { lines = [] ∷ (cut bytes).lines; rest = (cut bytes).rest }) (with_byte b (cut bytes).lines (cut bytes).rest)).lines) [
+      | true ↦ omega (arith, line_feeds-lines bytes)
+      | false ↦ omega (arith, line_feeds-lines bytes, by_lines (cut bytes).lines (cut bytes).rest)
+    ]
+  where
+    by_lines : (lines : List (List ℕ)) (rest : List ℕ) → length (with_byte b lines rest).lines ≡ length lines
+    by_lines [] rest = refl
+    by_lines (line ∷ lines) rest = refl
+
+pub faultless-before : (bytes : List ℕ) (n : ℕ) (kept : List Record) (more : List ℕ) → records_said bytes ≡ rest_says n kept more → n ≤ line_feeds bytes + 1 → IsFaultlessBefore n bytes
+faultless-before bytes n kept more is within = by_said (records_said bytes) refl
+  where
+    by_said : (said : Result (List Record) ReadFault) → records_said bytes ≡ said → IsFaultlessBefore n bytes
+    by_said (Ok rs) e = λ k below. (said_stands bytes rs e).no_fault k (omega (arith, below, within, line_feeds-lines bytes))
+    by_said (Err f) e = λ k below. (said_first bytes f e).earlier k (omega (arith, below, said_later n kept (cut more).lines (cut more).rest f (sym is ∙ e)))

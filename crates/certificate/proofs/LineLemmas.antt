@@ -25,14 +25,16 @@ use Rattle.ompt_events.specs.declared.names.ThreadKind.{ThreadKind}
 use Rattle.ompt_events.specs.declared.names.ThreadKind.TheVariants.{Initial, Worker, Other, Unknown}
 use Rattle.ompt_events.specs.Names.{status_name, endpoint_name, sync_kind_name, dep_kind_name, thread_kind_name}
 use Rattle.ompt_events.specs.Flags.{task_flags, cancel_flags, has_flag}
-use Rattle.ompt_events.specs.Traces.{IsTrace, IsSound}
+use Rattle.ompt_events.specs.Limits.{max_threads, max_depth, max_dependences}
+use Rattle.ompt_events.specs.Traces.{IsTrace, IsSound, ClaimInRange, BodyInRange, IsInRange}
 use Rattle.certificate.specs.declared.faults.ReadCause.TheVariants.{Header, Limit}
+use Rattle.certificate.specs.Limits.{max_line}
 use Rattle.certificate.specs.RecordLines.{bounded, is_short, claim_fits, body_fits, record_fits, header_says, names_format, said_of}
-use Rattle.certificate.specs.Texts.{with_member, whole_number, data_of, number_or_null, flag_names, dep_data, claim_members, body_members, record_members, line_of, header_members, header_data, header_line, trace_text, ClaimInRange, BodyInRange, IsInRange}
-use Rattle.certificate.specs.Files.{file_says}
+use Rattle.certificate.specs.Texts.{ended, with_member, whole_number, data_of, number_or_null, flag_names, dep_data, claim_members, body_members, record_members, line_of, header_members, header_data, header_line}
+use Rattle.certificate.specs.Files.{records_said}
 use Rattle.certificate.proofs.JsonLemmas.{is_plain_text, IsPlain, ArePlain, size, items_size, value_of-compact_text, unbroken-compact_text, length-compact_text}
 use Rattle.certificate.proofs.ObjectLemmas.{IsPlainMember, IsPlain-object_of, added_size, size-object_of}
-use Rattle.certificate.proofs.TextLemmas.{AllByRecursion-from, file_says-trace, IsLineOf-plain, items_size-items_of, items_size-wholes, ArePlain-items_of, ArePlain-wholes}
+use Rattle.certificate.proofs.TextLemmas.{AllByRecursion-from, records_said-trace, IsLineOf-plain, items_size-items_of, items_size-wholes, ArePlain-items_of, ArePlain-wholes}
 use Rattle.certificate.proofs.SaysLemmas.{Says-sound}
 use Rattle.certificate.specs.MemberNames as member
 
@@ -191,14 +193,14 @@ size-number_or_null : (o : Option ℕ) → size (number_or_null o) ≤ 20
 size-number_or_null None = omega arith
 size-number_or_null (Some n) = omega arith
 
-size-claim : (share : Option Claim) → IfSome share (λ c. length c.path ≤ 1024) → added_size (claim_members share) ≤ 22000
+size-claim : (share : Option Claim) → IfSome share (λ c. length c.path ≤ max_depth) → added_size (claim_members share) ≤ 22000
 size-claim None h = omega arith
 size-claim (Some c) h = omega (arith, items_size-wholes c.path)
 
 size-dep : (d : Dep) → size (dep_data d) ≤ 80
 size-dep d = omega (arith, size-object_of ((member.type, string (dep_kind_name d.kind)) ∷ (member.var, whole_number d.var) ∷ []), size-dep_kind d.kind)
 
-size-deps : (ds : List Dep) → length ds ≤ 64 → items_size (items_of (map dep_data ds)) ≤ 6000
+size-deps : (ds : List Dep) → length ds ≤ max_dependences → items_size (items_of (map dep_data ds)) ≤ 6000
 size-deps ds few = omega (arith, items_size-items_of dep_data ds 80 (AllByRecursion-from (λ d. size (dep_data d) ≤ 80) ds (λ k d l. size-dep (get_or ds k d))))
 
 size-body : (b : Body) → IsSound b → added_size (body_members b) ≤ 60000
@@ -213,7 +215,7 @@ size-body (TaskSchedule status prior next share) sound = omega (arith, size-stat
 size-body (SyncRegion kind endpoint parallel task) sound = omega (arith, size-sync_kind kind, size-endpoint endpoint, size-number_or_null parallel)
 size-body (body.Cancel flags task share) sound = omega (arith, size-cancel_flags flags.0, size-claim share sound.short_path)
 
-pub size-data_of : (r : Record) → IsSound r.body → size (data_of r) ≤ 65536
+pub size-data_of : (r : Record) → IsSound r.body → size (data_of r) ≤ max_line
 size-data_of r sound = omega (arith, size-object_of (record_members r), size-body r.body sound)
 
 -- ---- the text of a trace
@@ -225,19 +227,14 @@ header_says-header_line : header_says header_line ≡ Ok tt
 unfolding with_member
 header_says-header_line = ap (λ o. cond (option_map_or names_format o false) (Ok tt) (Err Header)) (value_of-compact_text header_data 1 header_plain (omega arith))
 
-header_short : length header_line ≤ 65536
+header_short : length header_line ≤ max_line
 header_short = omega (arith, length-compact_text header_data 1 header_plain, size-object_of header_members)
 
 -- the line of the record can be read, and says the record
 pub record IsWritten (r : Record) : Type 0 where
   pub plain : IsPlain (data_of r) 3
-  pub short : size (data_of r) ≤ 65536
+  pub short : size (data_of r) ≤ max_line
   pub says : said_of (Some (data_of r)) ≡ Ok r
-
-pub file_says-trace_text : (rs : List Record) → All IsWritten rs → IsTrace rs → file_says (trace_text rs) ≡ Ok rs
-file_says-trace_text rs each trace =
-    file_says-trace header_line line_of rs header_says-header_line header_short (unbroken-compact_text header_data 1 header_plain)
-    (λ k d h. let written = each k d h in IsLineOf-plain (data_of (get_or rs k d)) 3 (get_or rs k d) written.plain (omega arith) written.short written.says) trace
 
 -- ---- it is within the reader's bounds
 
@@ -248,9 +245,9 @@ fits-path : (ns : List ℕ) → AllByRecursion (λ n. n < 2 ^ 32) ns → list_al
 fits-path [] each = refl
 fits-path (n ∷ ns) each = rw (short n each.0) (fits-path ns each.1)
 
-fits-claim : (share : Option Claim) → IfSome share ClaimInRange → IfSome share (λ c. length c.path ≤ 1024) → option_map_or claim_fits share true ≡ true
+fits-claim : (share : Option Claim) → IfSome share ClaimInRange → IfSome share (λ c. length c.path ≤ max_depth) → option_map_or claim_fits share true ≡ true
 fits-claim None range few = refl
-fits-claim (Some c) range few = rw (le-leb (length c.path) 1024 few, fits-path c.path (AllByRecursion-from _ c.path range.2)) (short c.kept range.0)
+fits-claim (Some c) range few = rw (le-leb (length c.path) max_depth few, fits-path c.path (AllByRecursion-from _ c.path range.2)) (short c.kept range.0)
 
 fits-body : (b : Body) → BodyInRange b → IsSound b → body_fits b ≡ true
 fits-body (ThreadBegin kind) range sound = refl
@@ -259,13 +256,13 @@ fits-body (ParallelBegin requested task parallel) range sound = short requested 
 fits-body (ParallelEnd task parallel) range sound = refl
 fits-body (ImplicitTask endpoint actual index flags parallel task) range sound = rw (short actual range.0) (short index range.1)
 fits-body (TaskCreate deps flags task child) range sound = refl
-fits-body (Dependences task list) range sound = le-leb (length list) 64 sound.few_dependences
+fits-body (Dependences task list) range sound = le-leb (length list) max_dependences sound.few_dependences
 fits-body (TaskSchedule status prior next share) range sound = fits-claim share range.2 sound.short_path
 fits-body (SyncRegion kind endpoint parallel task) range sound = refl
 fits-body (body.Cancel flags task share) range sound = fits-claim share range.1 sound.short_path
 
 fits : (r : Record) → IsInRange r → IsSound r.body → record_fits r ≡ true
-fits r range sound = rw (fits-body r.body range.body sound, lt-ltb r.thread 256 range.thread, short r.seq range.seq) (short r.seen range.seen)
+fits r range sound = rw (fits-body r.body range.body sound, lt-ltb r.thread max_threads range.thread, short r.seq range.seq) (short r.seen range.seen)
 
 -- a record of a trace
 pub IsWritten-sound : (r : Record) → IsInRange r → IsSound r.body → IsWritten r
@@ -274,3 +271,8 @@ IsWritten-sound r range sound = record {
   short = size-data_of r sound;
   says = ap (bounded record_fits) (Says-sound r sound) ∙ ap (λ b. cond b (Ok r) (Err Limit)) (fits r range sound);
 }
+
+pub records_said-text : (rs : List Record) → IsTrace rs → records_said (ended (header_line ∷ map line_of rs)) ≡ Ok rs
+records_said-text rs trace =
+    records_said-trace header_line line_of rs header_says-header_line header_short (unbroken-compact_text header_data 1 header_plain)
+    (λ k d h. let written = IsWritten-sound (get_or rs k d) (trace.in_range k d h) (trace.sound k d h) in IsLineOf-plain (data_of (get_or rs k d)) 3 (get_or rs k d) written.plain (omega arith) written.short written.says) trace

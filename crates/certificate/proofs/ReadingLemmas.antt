@@ -3,18 +3,23 @@ use Rattle.std.proofs.Common.{◌≡◌, ◌≢◌, ℕ, ◌+◌, ◌-◌, ◌<�
 use Rattle.std.specs.Prelude.{nat_lt, ◌==◌, IfSome}
 use Rattle.std.specs.Io.KnownBytes.{Keeps, IsAtEnd, prepend_known}
 use Rattle.ompt_events.specs.declared.records.Record.{Record}
+use Rattle.ompt_events.specs.Limits.{max_records}
 use Rattle.serde_json.specs.Data.{Data}
 use Rattle.certificate.specs.declared.faults.ReadCause.{ReadCause}
 use Rattle.certificate.specs.declared.faults.ReadCause.TheVariants.{Device, Memory, Header, LineTooLong, NotJson, Field, Limit, Unended, TurnsSpent}
+use Rattle.std.specs.Result.{result_map_both}
+use Rattle.certificate.specs.declared.faults.ReadFault.{ReadFault}
 use Rattle.std.proofs.lemmas.List.{take-append-drop}
 use Rattle.std.proofs.lemmas.List.Sums.{sum_by-append, sum_by-cons}
 use Rattle.certificate.specs.RecordLines.{line_says, header_says, said_of, value_of, is_header, bounded, record_fits, unbounded}
+use Rattle.certificate.specs.Limits.{max_line}
 use Rattle.certificate.specs.Windows.{LineFeedAt, ShowsFault, ShowsLine}
-use Rattle.certificate.specs.Files.{file_says, rest_says, go_on, fault_in, text_adds, with_record, with_header, has_room, is_long, line_feeds}
+use Rattle.certificate.specs.Files.{file_says, records_said, rest_says, trace_of, IsFaultlessBefore, go_on, fault_in, text_adds, with_record, with_header, has_room, is_long, line_feeds}
 use Rattle.std.proofs.lemmas.Bool.{ltb-true}
 use Rattle.certificate.specs.Counts.{breaks_told}
 use Rattle.certificate.specs.Reading.{IsLineAfterGiven, IsLineGiven, IsToldRightly, IsBetween, Grows, IsOfText}
 use Rattle.certificate.proofs.FileLemmas.{IsUnbroken, unbroken-before, unbroken-all, unbroken-front, window-parts, rest_says-line, rest_says-end, rest_says-long}
+use Rattle.certificate.proofs.LawLemmas.{faultless-before}
 use Rattle.certificate.proofs.RecordLemmas.{ok_not_err, both-first}
 
 -- ---- line feeds
@@ -90,12 +95,12 @@ IsBetween-keeps (Some bytes) n kept w w' (Some l) (Some l') keeps now = rw keeps
 parts : (w l : List ℕ) (len : ℕ) → LineFeedAt w (Some len) → w ++ l ≡ take len w ++ (10 ∷ (drop (len + 1) w ++ l))
 parts w l len at = ap (λ bytes. bytes ++ l) (window-parts w len at) ∙ append_assoc (take len w) (10 ∷ drop (len + 1) w) l
 
-rest_says-window : (n : ℕ) (kept : List Record) (w l : List ℕ) (len : ℕ) → LineFeedAt w (Some len) → len ≤ 65536 → rest_says n kept (w ++ l) ≡ go_on n (text_adds n kept (take len w)) (λ records. rest_says (n + 1) records (drop (len + 1) w ++ l))
+rest_says-window : (n : ℕ) (kept : List Record) (w l : List ℕ) (len : ℕ) → LineFeedAt w (Some len) → len ≤ max_line → rest_says n kept (w ++ l) ≡ go_on n (text_adds n kept (take len w)) (λ records. rest_says (n + 1) records (drop (len + 1) w ++ l))
 rest_says-window n kept w l len at short =
-    let small : length (take len w) ≤ 65536 = omega (arith, length-take len w) in
+    let small : length (take len w) ≤ max_line = omega (arith, length-take len w) in
     ap (rest_says n kept) (parts w l len at) ∙ rest_says-line n kept (take len w) (drop (len + 1) w ++ l) (unbroken-before w len at) small
 
-pub IsBetween-line : (known : Option (List ℕ)) (n : ℕ) (kept kept' : List Record) (w : List ℕ) (len : ℕ) (left : Option (List ℕ)) → LineFeedAt w (Some len) → len ≤ 65536 → Ok kept' ≡ text_adds n kept (take len w)
+pub IsBetween-line : (known : Option (List ℕ)) (n : ℕ) (kept kept' : List Record) (w : List ℕ) (len : ℕ) (left : Option (List ℕ)) → LineFeedAt w (Some len) → len ≤ max_line → Ok kept' ≡ text_adds n kept (take len w)
     → IsBetween known n kept w left → IsBetween known (n + 1) kept' (drop (len + 1) w) left
 IsBetween-line None n kept kept' w len left at short adds now = tt
 IsBetween-line (Some bytes) n kept kept' w len None at short adds now = absurd now
@@ -106,6 +111,9 @@ IsBetween-line (Some bytes) n kept kept' w len (Some l) at short adds now =
     )
 
 -- ---- the ends
+
+fault_said : (bytes : List ℕ) (f : ReadFault) → records_said bytes ≡ Err f → file_says bytes ≡ Err f
+fault_said bytes f e = ap (result_map_both trace_of (λ fault. fault)) e
 
 told_of_text : (e : ReadCause) (n : ℕ) (bytes : List ℕ) (left : Option (List ℕ)) → IsFileText e → file_says bytes ≡ Err (fault_in n e) → IsToldRightly e n bytes left
 told_of_text Device n bytes left is h = absurd is
@@ -118,47 +126,47 @@ told_of_text Limit n bytes left is h = h
 told_of_text Unended n bytes left is h = h
 told_of_text TurnsSpent n bytes left is h = absurd is
 
-pub IsAfter-text : (known : Option (List ℕ)) (n : ℕ) (kept : List Record) (w : List ℕ) (len : ℕ) (left : Option (List ℕ)) (e : ReadCause) → LineFeedAt w (Some len) → len ≤ 65536 → Err e ≡ text_adds n kept (take len w)
+pub IsAfter-text : (known : Option (List ℕ)) (n : ℕ) (kept : List Record) (w : List ℕ) (len : ℕ) (left : Option (List ℕ)) (e : ReadCause) → LineFeedAt w (Some len) → len ≤ max_line → Err e ≡ text_adds n kept (take len w)
     → IsBetween known n kept w left → IfSome known (λ bytes. IsToldRightly e n bytes left)
 IsAfter-text None n kept w len left e at short fault now = tt
 IsAfter-text (Some bytes) n kept w len None e at short fault now = absurd now
 IsAfter-text (Some bytes) n kept w len (Some l) e at short fault now =
     told_of_text e n bytes (Some l) (text_adds-cause n kept (take len w) e fault)
-    (now.0 ∙ rest_says-window n kept w l len at short ∙ ap (λ r. go_on n r (λ records. rest_says (n + 1) records (drop (len + 1) w ++ l))) (sym fault))
+    (fault_said bytes (fault_in n e) (now.0 ∙ rest_says-window n kept w l len at short ∙ ap (λ r. go_on n r (λ records. rest_says (n + 1) records (drop (len + 1) w ++ l))) (sym fault)))
 
-pub IsAfter-memory : (known : Option (List ℕ)) (n : ℕ) (kept : List Record) (w : List ℕ) (left : Option (List ℕ)) → 1 ≤ n → IsBetween known n kept w left → IfSome known (λ bytes. IsLineGiven n bytes left)
+pub IsAfter-memory : (known : Option (List ℕ)) (n : ℕ) (kept : List Record) (w : List ℕ) (left : Option (List ℕ)) → 1 ≤ n → IsBetween known n kept w left → IfSome known (λ bytes. IsLineGiven n bytes left × IsFaultlessBefore n bytes)
 IsAfter-memory None n kept w left low now = tt
 IsAfter-memory (Some bytes) n kept w None low now = absurd now
-IsAfter-memory (Some bytes) n kept w (Some l) low now = (low, omega (arith, now.1, line_feeds-append w l))
+IsAfter-memory (Some bytes) n kept w (Some l) low now = ((low, omega (arith, now.1, line_feeds-append w l)), faultless-before bytes n kept (w ++ l) now.0 (omega (arith, now.1)))
 
-pub IsAfter-device : (known : Option (List ℕ)) (n : ℕ) (kept : List Record) (w : List ℕ) (left : Option (List ℕ)) → LineFeedAt w None → IsBetween known n kept w left → IfSome known (λ bytes. IsLineAfterGiven n bytes left)
+pub IsAfter-device : (known : Option (List ℕ)) (n : ℕ) (kept : List Record) (w : List ℕ) (left : Option (List ℕ)) → LineFeedAt w None → IsBetween known n kept w left → IfSome known (λ bytes. IsLineAfterGiven n bytes left × IsFaultlessBefore n bytes)
 IsAfter-device None n kept w left none now = tt
 IsAfter-device (Some bytes) n kept w None none now = absurd now
-IsAfter-device (Some bytes) n kept w (Some l) none now = omega (arith, now.1, line_feeds-append w l, line_feeds-unbroken w (unbroken-all w none))
+IsAfter-device (Some bytes) n kept w (Some l) none now = (omega (arith, now.1, line_feeds-append w l, line_feeds-unbroken w (unbroken-all w none)), faultless-before bytes n kept (w ++ l) now.0 (omega (arith, now.1)))
 
 -- a line that is too long
-pub IsAfter-long : (known : Option (List ℕ)) (n : ℕ) (kept : List Record) (w : List ℕ) (left : Option (List ℕ)) → ((k : ℕ) → k ≤ 65536 → (k < length w) × (get_or w k 0 ≢ 10)) → IsBetween known n kept w left → IfSome known (λ bytes. file_says bytes ≡ Err (fault_in n LineTooLong))
+pub IsAfter-long : (known : Option (List ℕ)) (n : ℕ) (kept : List Record) (w : List ℕ) (left : Option (List ℕ)) → ((k : ℕ) → k ≤ max_line → (k < length w) × (get_or w k 0 ≢ 10)) → IsBetween known n kept w left → IfSome known (λ bytes. file_says bytes ≡ Err (fault_in n LineTooLong))
 IsAfter-long None n kept w left each now = tt
 IsAfter-long (Some bytes) n kept w None each now = absurd now
 IsAfter-long (Some bytes) n kept w (Some l) each now =
-    let size : 65537 ≤ length w = (each 65536 (omega arith)).0 in
-    let whole : w ++ l ≡ take 65537 w ++ (drop 65537 w ++ l) = ap (λ xs. xs ++ l) (sym (take-append-drop 65537 w)) ∙ append_assoc (take 65537 w) (drop 65537 w) l in
-    now.0 ∙ ap (rest_says n kept) whole ∙ rest_says-long n kept (take 65537 w) (drop 65537 w ++ l) (unbroken-front w 65537 size (λ i h. (each i (omega arith)).1)) (omega (arith, length-take 65537 w))
+    let size : max_line + 1 ≤ length w = (each max_line (omega arith)).0 in
+    let whole : w ++ l ≡ take (max_line + 1) w ++ (drop (max_line + 1) w ++ l) = ap (λ xs. xs ++ l) (sym (take-append-drop (max_line + 1) w)) ∙ append_assoc (take (max_line + 1) w) (drop (max_line + 1) w) l in
+    fault_said bytes _ (now.0 ∙ ap (rest_says n kept) whole ∙ rest_says-long n kept (take (max_line + 1) w) (drop (max_line + 1) w ++ l) (unbroken-front w (max_line + 1) size (λ i h. (each i (omega arith)).1)) (omega (arith, length-take (max_line + 1) w)))
 
 -- the end of the input
 at_end : (left : Option (List ℕ)) (l w : List ℕ) → left ≡ Some l → IsAtEnd left → w ++ l ≡ w
 at_end None l w is end = absurd (let h : None ≡ Some l = is in cc)
 at_end (Some xs) l w is end = let same : l ≡ xs = cc in ap (λ ys. w ++ ys) (same ∙ end) ∙ append-nil w
 
-pub IsAfter-unended : (known : Option (List ℕ)) (n : ℕ) (kept : List Record) (w : List ℕ) (left : Option (List ℕ)) → 0 < length w → length w ≤ 65536 → LineFeedAt w None → IsAtEnd left → IsBetween known n kept w left → IfSome known (λ bytes. file_says bytes ≡ Err (fault_in n Unended))
+pub IsAfter-unended : (known : Option (List ℕ)) (n : ℕ) (kept : List Record) (w : List ℕ) (left : Option (List ℕ)) → 0 < length w → length w ≤ max_line → LineFeedAt w None → IsAtEnd left → IsBetween known n kept w left → IfSome known (λ bytes. file_says bytes ≡ Err (fault_in n Unended))
 IsAfter-unended None n kept w left some few none end now = tt
 IsAfter-unended (Some bytes) n kept w None some few none end now = absurd now
 IsAfter-unended (Some bytes) n kept w (Some l) some few none end now =
     let not_long : is_long w ≡ false = grind arith in
     let not_empty : nat_lt 0 (length w) ≡ true = grind arith in
-    now.0 ∙ ap (rest_says n kept) (at_end (Some l) l w refl end) ∙ rest_says-end n kept w (unbroken-all w none) ∙ rw (not_long, not_empty) refl
+    fault_said bytes _ (now.0 ∙ ap (rest_says n kept) (at_end (Some l) l w refl end) ∙ rest_says-end n kept w (unbroken-all w none) ∙ rw (not_long, not_empty) refl)
 
-pub IsAfter-end : (known : Option (List ℕ)) (n : ℕ) (kept : List Record) (w : List ℕ) (left : Option (List ℕ)) → w ≡ [] → IsAtEnd left → IsBetween known n kept w left → IfSome known (λ bytes. file_says bytes ≡ go_on n (cond (n == 1) (Err Header) (Ok kept)) Ok)
+pub IsAfter-end : (known : Option (List ℕ)) (n : ℕ) (kept : List Record) (w : List ℕ) (left : Option (List ℕ)) → w ≡ [] → IsAtEnd left → IsBetween known n kept w left → IfSome known (λ bytes. records_said bytes ≡ go_on n (cond (n == 1) (Err Header) (Ok kept)) Ok)
 IsAfter-end None n kept w left none end now = tt
 IsAfter-end (Some bytes) n kept w None none end now = absurd now
 IsAfter-end (Some bytes) n kept w (Some l) none end now =
@@ -192,7 +200,7 @@ breaks_told-text Unended count is = refl
 breaks_told-text TurnsSpent count is = refl
 
 -- the fault of a text, as the answer to its line
-pub IsAfter-text_fault : (known : Option (List ℕ)) (n : ℕ) (kept : List Record) (w : List ℕ) (len : ℕ) (left : Option (List ℕ)) (e : ReadCause) → 1 ≤ n → LineFeedAt w (Some len) → len ≤ 65536
+pub IsAfter-text_fault : (known : Option (List ℕ)) (n : ℕ) (kept : List Record) (w : List ℕ) (len : ℕ) (left : Option (List ℕ)) (e : ReadCause) → 1 ≤ n → LineFeedAt w (Some len) → len ≤ max_line
     → (◌≢◌ {A = Result (List Record) ReadCause} (Err e) (Err Memory) → Err e ≡ text_adds n kept (take len w)) → IsBetween known n kept w left → IfSome known (λ bytes. IsToldRightly e n bytes left)
 IsAfter-text_fault known n kept w len left Memory low at short said now = IsAfter-memory known n kept w left low now
 IsAfter-text_fault known n kept w len left Device low at short said now = IsAfter-text known n kept w len left Device at short (said (λ same. cc)) now
@@ -223,26 +231,26 @@ IsAfter-none_first known n kept w left first shows now = by_known known (IsAfter
     is : (n == 1) ≡ true
     is = eq-eqb n 1 first
 
-    by_known : (o : Option (List ℕ)) → IfSome o (λ bytes. file_says bytes ≡ go_on n (cond (n == 1) (Err Header) (Ok kept)) Ok) → IfSome o (λ bytes. file_says bytes ≡ Err (fault_in n Header))
+    by_known : (o : Option (List ℕ)) → IfSome o (λ bytes. records_said bytes ≡ go_on n (cond (n == 1) (Err Header) (Ok kept)) Ok) → IfSome o (λ bytes. file_says bytes ≡ Err (fault_in n Header))
     by_known None h = tt
-    by_known (Some bytes) h = h ∙ ap (λ b. go_on n (cond b (Err Header) (Ok kept)) Ok) is
+    by_known (Some bytes) h = fault_said bytes _ (h ∙ ap (λ b. go_on n (cond b (Err Header) (Ok kept)) Ok) is)
 
-pub IsAfter-none : (known : Option (List ℕ)) (n : ℕ) (kept : List Record) (w : List ℕ) (left : Option (List ℕ)) → n ≢ 1 → ShowsLine None w left → IsBetween known n kept w left → IfSome known (λ bytes. file_says bytes ≡ Ok kept)
+pub IsAfter-none : (known : Option (List ℕ)) (n : ℕ) (kept : List Record) (w : List ℕ) (left : Option (List ℕ)) → n ≢ 1 → ShowsLine None w left → IsBetween known n kept w left → IfSome known (λ bytes. records_said bytes ≡ Ok kept)
 IsAfter-none known n kept w left later shows now = by_known known (IsAfter-end known n kept w left shows.0 shows.1 now)
   where
     is : (n == 1) ≡ false
     is = grind arith
 
-    by_known : (o : Option (List ℕ)) → IfSome o (λ bytes. file_says bytes ≡ go_on n (cond (n == 1) (Err Header) (Ok kept)) Ok) → IfSome o (λ bytes. file_says bytes ≡ Ok kept)
+    by_known : (o : Option (List ℕ)) → IfSome o (λ bytes. records_said bytes ≡ go_on n (cond (n == 1) (Err Header) (Ok kept)) Ok) → IfSome o (λ bytes. records_said bytes ≡ Ok kept)
     by_known None h = tt
     by_known (Some bytes) h = h ∙ ap (λ b. go_on n (cond b (Err Header) (Ok kept)) Ok) is
 
 -- ---- how many records there are
 
-with_record-grows : (before after : List Record) (o : Result Record ReadCause) → Ok after ≡ with_record before o → (length after ≡ length before + 1) × (length before < 2 ^ 22)
+with_record-grows : (before after : List Record) (o : Result Record ReadCause) → Ok after ≡ with_record before o → (length after ≡ length before + 1) × (length before < max_records)
 with_record-grows before after (Err e) h = absurd (ok_not_err _ e h)
 with_record-grows before after (Ok r) h =
-    elim (has_room before r) as (λ b. has_room before r ≡ b → Ok after ≡ cond b (Ok (before ++ r ∷ [])) (Err Limit) → (length after ≡ length before + 1) × (length before < 2 ^ 22)) [
+    elim (has_room before r) as (λ b. has_room before r ≡ b → Ok after ≡ cond b (Ok (before ++ r ∷ [])) (Err Limit) → (length after ≡ length before + 1) × (length before < max_records)) [
       | true ↦ λ room same.
           let is : after ≡ before ++ r ∷ [] = cc in
           (ap length is ∙ length-append before (r ∷ []), ltb-true _ _ (both-first _ _ room))
@@ -265,9 +273,9 @@ Grows-text n before after line h =
     ] refl h
 
 -- the records are as many as the lines before, without the header
-pub Grows-counted : (n : ℕ) (old new : List Record) → 1 ≤ n → length old ≡ n - 2 → length old ≤ 2 ^ 22 → Grows n old new → (length new ≡ n + 1 - 2) × (length new ≤ 2 ^ 22)
+pub Grows-counted : (n : ℕ) (old new : List Record) → 1 ≤ n → length old ≡ n - 2 → length old ≤ max_records → Grows n old new → (length new ≡ n + 1 - 2) × (length new ≤ max_records)
 Grows-counted n old new low counted room grows =
-    elim (n == 1) as (λ b. n == 1 ≡ b → length new ≡ length old + cond b 0 1 → (length new ≡ n + 1 - 2) × (length new ≤ 2 ^ 22)) [
+    elim (n == 1) as (λ b. n == 1 ≡ b → length new ≡ length old + cond b 0 1 → (length new ≡ n + 1 - 2) × (length new ≤ max_records)) [
       | true ↦ λ is one. let first : n ≡ 1 = eqb-true n 1 is in (omega arith, omega arith)
       | false ↦ λ is one.
           let later : n ≢ 1 = λ same. (let h : true ≡ false = sym (eq-eqb n 1 same) ∙ is in cc) in

@@ -16,6 +16,7 @@ use Rattle.ompt_events.specs.Names.{status_part}
 use Rattle.certificate.specs.declared.faults.ReadCause.{ReadCause}
 use Rattle.certificate.specs.declared.faults.ReadCause.TheVariants.{Field, Limit}
 use Rattle.certificate.specs.Members.{whole, whole_of, each, list, path, status, next}
+use Rattle.ompt_events.specs.Limits.{max_depth}
 use Rattle.certificate.specs.RecordLines.{bounded, body, body_named, body_fits, share, share_fits, task_schedule, unbounded, record_fits, path_fits, is_short}
 use Rattle.certificate.proofs.MemberLemmas.{ok_or-some}
 use Rattle.certificate.specs.MemberNames as member
@@ -88,21 +89,21 @@ length-each {X} says (v ∷ vs) xs e = by_head (says (view v)) (each says (items
 pub each-read : {X : Type 0} (says : Data → Option X) (vs : List Value) (i : ℕ) (xs : List X) → each says (items_view vs) ≡ option_map (λ ys. xs ++ ys) (each says (items_view (drop i vs))) → length vs ≤ i → each says (items_view vs) ≡ Some xs
 each-read says vs i xs is past = is ∙ ap (λ ws. option_map (λ ys. xs ++ ys) (each says (items_view ws))) (drop_of_length-le vs past) ∙ ap Some (append-nil xs)
 
-pub path-too_long : (vs : List Value) → IsSome (each whole_of (items_view vs)) → 1024 < length vs → Err Limit ≡ bounded path_fits (each whole_of (items_view vs))
+pub path-too_long : (vs : List Value) → IsSome (each whole_of (items_view vs)) → max_depth < length vs → Err Limit ≡ bounded path_fits (each whole_of (items_view vs))
 path-too_long vs some long = by_whole (each whole_of (items_view vs)) some (length-each whole_of vs)
   where
     by_whole : (o : Option (List ℕ)) → IsSome o → ((ns : List ℕ) → o ≡ Some ns → length ns ≡ length vs) → Err Limit ≡ bounded path_fits o
     by_whole None is all = absurd (let h : false ≡ true = is in cc)
     by_whole (Some ns) is all =
         let same : length ns ≡ length vs = all ns refl in
-        let no : nat_le (length ns) 1024 ≡ false = grind arith in
+        let no : nat_le (length ns) max_depth ≡ false = grind arith in
         rw no
 
 pub path-read : (vs : List Value) (i : ℕ) (ns : List ℕ) → each whole_of (items_view vs) ≡ option_map (λ ms. ns ++ ms) (each whole_of (items_view (drop i vs))) → list_all is_short ns ≡ true → length vs ≤ i → length vs ≤ 1024 → Ok ns ≡ bounded path_fits (each whole_of (items_view vs))
 path-read vs i ns is short past few =
     let all : each whole_of (items_view vs) ≡ Some ns = each-read whole_of vs i ns is past in
     let len : length ns ≡ length vs = length-each whole_of vs ns all in
-    let yes : nat_le (length ns) 1024 ≡ true = grind arith in
+    let yes : nat_le (length ns) max_depth ≡ true = grind arith in
     rw (all, yes, short)
 
 pub path-not_whole : (name : List ℕ) (d : Data) (items : Items) → Ok items ≡ ok_or (list name d) Field → is_some (each whole_of items) ≡ false → Err Field ≡ bounded path_fits (path name d)

@@ -14,6 +14,7 @@ use Rattle.serde_json.specs.Find.{as_str}
 use Rattle.ompt_events.specs.Flags as table
 use Rattle.ompt_events.specs.Flags.{has_flag}
 use Rattle.ompt_events.specs.Names.{status_part, demands_next}
+use Rattle.ompt_events.specs.Limits.{max_depth, max_dependences}
 use Rattle.ompt_events.specs.Traces.{AreNamed, BeginsOrEnds, IsSound}
 use Rattle.ompt_events.specs.declared.records.Record.{Record}
 use Rattle.ompt_events.specs.declared.records.Claim.{Claim}
@@ -118,7 +119,7 @@ share-sound true d sh e = by_claim (claim d) e
     by_claim (Some c) h = let is : Some c ≡ sh = cc in ap is_some (sym is)
 share-sound false d sh e = let is : None ≡ sh = cc in ap is_some (sym is)
 
-share-short : (sh : Option Claim) → share_fits sh ≡ true → IfSome sh (λ (c : Claim). length c.path ≤ 1024)
+share-short : (sh : Option Claim) → share_fits sh ≡ true → IfSome sh (λ (c : Claim). length c.path ≤ max_depth)
 share-short None fits = tt
 share-short (Some c) fits = leb-true _ _ (both-first _ _ (both-first _ _ fits))
 
@@ -187,7 +188,7 @@ unfolding dependences
 dependences-sound d b e fits =
     option_and_then_some _ (whole member.task d) b e (λ task _ e1. option_and_then_some _ (deps member.list d) b e1 (λ list _ same.
     let is : Dependences task list ≡ b = cc in
-    let few : length list ≤ 64 = leb-true _ _ (ap body_fits is ∙ fits) in
+    let few : length list ≤ max_dependences = leb-true _ _ (ap body_fits is ∙ fits) in
     subst IsSound is (record { named_flags = tt; named_cancellation = tt; begins_or_ends = tt; claimed = refl; short_path = tt; few_dependences = few; next = tt })))
 
 task_schedule-sound : (d : Data) (b : Body) → task_schedule d ≡ Some b → body_fits b ≡ true → IsSound b

@@ -6,6 +6,7 @@ use Rattle.std.proofs.lemmas.Bool.{ne_eqb, lt-ltb}
 use Rattle.std.proofs.lemmas.List.Sums.{sum_by-cons, sum_by-append}
 use Rattle.ompt_events.specs.declared.records.Record.{Record}
 use Rattle.ompt_events.specs.Records.{made}
+use Rattle.ompt_events.specs.Limits.{max_records, max_tasks}
 use Rattle.ompt_events.specs.Traces.{tasks_in, IsTrace}
 use Rattle.serde_json.specs.Data.{Data, number, string, unsigned}
 use Rattle.serde_json.specs.Read.{max_depth}
@@ -19,9 +20,10 @@ use Rattle.ompt_events.specs.declared.records.Claim.{Claim}
 use Rattle.ompt_events.specs.declared.records.Body.{Body}
 use Rattle.ompt_events.specs.declared.records.Body.TheVariants.{ThreadBegin, ThreadEnd, ParallelBegin, ParallelEnd, ImplicitTask, TaskCreate, Dependences, TaskSchedule, SyncRegion, Cancel}
 use Rattle.ompt_events.specs.declared.deps.Dep.{Dep}
+use Rattle.certificate.specs.Limits.{max_line}
 use Rattle.certificate.specs.Members.{each, whole_of}
 use Rattle.certificate.specs.RecordLines.{line_says, header_says, said_of}
-use Rattle.certificate.specs.Files.{Cut, cut, is_long, has_room, from_line, file_says}
+use Rattle.certificate.specs.Files.{Cut, cut, is_long, has_room, from_line, records_said}
 use Rattle.certificate.proofs.FileLemmas.{IsUnbroken, cut-line}
 use Rattle.certificate.proofs.JsonLemmas.{IsPlain, ArePlain, size, items_size, value_of-compact_text, unbroken-compact_text, length-compact_text}
 use Rattle.certificate.specs.MemberNames as member
@@ -36,7 +38,7 @@ cut-ended (line ∷ lines) all =
 -- the line can stand in a file, and stands for the record
 pub record IsLineOf (line : List ℕ) (r : Record) : Type 0 where
   pub says : line_says line ≡ Ok r
-  pub short : length line ≤ 65536
+  pub short : length line ≤ max_line
   pub unbroken : IsUnbroken line
 
 -- ---- room for the records of a trace
@@ -47,25 +49,25 @@ tasks_in-append before more = sum_by-append (λ r. cond (is_some (made r.body)) 
 tasks_in-cons : (r : Record) (rs : List Record) → tasks_in (r ∷ rs) ≡ cond (is_some (made r.body)) 1 0 + tasks_in rs
 tasks_in-cons r rs = sum_by-cons (λ r. cond (is_some (made r.body)) 1 0) r rs
 
-room-tasks : (makes : Bool) (few more : ℕ) → few + (cond makes 1 0 + more) ≤ 2 ^ 20 → (not makes || nat_lt few (2 ^ 20)) ≡ true
+room-tasks : (makes : Bool) (few more : ℕ) → few + (cond makes 1 0 + more) ≤ max_tasks → (not makes || nat_lt few (max_tasks)) ≡ true
 room-tasks false few more h = refl
-room-tasks true few more h = lt-ltb few (2 ^ 20) (omega arith)
+room-tasks true few more h = lt-ltb few (max_tasks) (omega arith)
 
-has_room-before : (before : List Record) (r : Record) (rs : List Record) → length (before ++ r ∷ rs) ≤ 2 ^ 22 → tasks_in (before ++ r ∷ rs) ≤ 2 ^ 20 → has_room before r ≡ true
+has_room-before : (before : List Record) (r : Record) (rs : List Record) → length (before ++ r ∷ rs) ≤ max_records → tasks_in (before ++ r ∷ rs) ≤ max_tasks → has_room before r ≡ true
 has_room-before before r rs few tasks =
-    let records : length before < 2 ^ 22 = omega (arith, length-append before (r ∷ rs)) in
-    let task : tasks_in before + (cond (is_some (made r.body)) 1 0 + tasks_in rs) ≤ 2 ^ 20 = omega (arith, tasks_in-append before (r ∷ rs), tasks_in-cons r rs) in
-    rw (lt-ltb (length before) (2 ^ 22) records) (room-tasks (is_some (made r.body)) (tasks_in before) (tasks_in rs) task)
+    let records : length before < max_records = omega (arith, length-append before (r ∷ rs)) in
+    let task : tasks_in before + (cond (is_some (made r.body)) 1 0 + tasks_in rs) ≤ max_tasks = omega (arith, tasks_in-append before (r ∷ rs), tasks_in-cons r rs) in
+    rw (lt-ltb (length before) (max_records) records) (room-tasks (is_some (made r.body)) (tasks_in before) (tasks_in rs) task)
 
 -- ---- line after line
 
 not_first : (n : ℕ) → 2 ≤ n → (n == 1) ≡ false
 not_first n later = ne_eqb n 1 (λ e. omega arith)
 
-not_long : (line : List ℕ) → length line ≤ 65536 → is_long line ≡ false
+not_long : (line : List ℕ) → length line ≤ max_line → is_long line ≡ false
 not_long line short = grind arith
 
-pub from_line-records : (line : Record → List ℕ) (n : ℕ) (before rs : List Record) → 2 ≤ n → AllByRecursion (λ r. IsLineOf (line r) r) rs → length (before ++ rs) ≤ 2 ^ 22 → tasks_in (before ++ rs) ≤ 2 ^ 20
+pub from_line-records : (line : Record → List ℕ) (n : ℕ) (before rs : List Record) → 2 ≤ n → AllByRecursion (λ r. IsLineOf (line r) r) rs → length (before ++ rs) ≤ max_records → tasks_in (before ++ rs) ≤ max_tasks
     → from_line n before (map line rs) [] ≡ Ok (before ++ rs)
 unfolding from_line
 from_line-records line n before [] later all few tasks = rw (not_first n later) (ap Ok (sym (append-nil before)))
@@ -75,10 +77,10 @@ from_line-records line n before (r ∷ rs) later all few tasks =
     rw (not_long (line r) all.0.short, not_first n later, all.0.says, has_room-before before r rs few tasks) (rest ∙ ap Ok whole)
 
 -- the text of a trace, given its lines, stands for it
-pub file_says-ended : (header : List ℕ) (line : Record → List ℕ) (rs : List Record) → header_says header ≡ Ok tt → length header ≤ 65536 → IsUnbroken header → AllByRecursion (λ r. IsLineOf (line r) r) rs
-    → length rs ≤ 2 ^ 22 → tasks_in rs ≤ 2 ^ 20 → file_says (ended (header ∷ map line rs)) ≡ Ok rs
+pub records_said-ended : (header : List ℕ) (line : Record → List ℕ) (rs : List Record) → header_says header ≡ Ok tt → length header ≤ max_line → IsUnbroken header → AllByRecursion (λ r. IsLineOf (line r) r) rs
+    → length rs ≤ max_records → tasks_in rs ≤ max_tasks → records_said (ended (header ∷ map line rs)) ≡ Ok rs
 unfolding from_line
-file_says-ended header line rs says short unbroken all few tasks =
+records_said-ended header line rs says short unbroken all few tasks =
     ap (λ (c : Cut). from_line 1 [] c.lines c.rest) (cut-ended (header ∷ map line rs) (unbroken, lines rs all))
     ∙ rw (not_long header short, says) (from_line-records line 2 [] rs (omega arith) all few tasks)
   where
@@ -92,13 +94,13 @@ AllByRecursion-from P [] all = tt
 AllByRecursion-from P (x ∷ xs) all = (all 0 x (omega arith), AllByRecursion-from P xs (λ k d h. all (suc k) d (omega arith)))
 
 -- the same where each record of a trace has its line
-pub file_says-trace : (header : List ℕ) (line : Record → List ℕ) (rs : List Record) → header_says header ≡ Ok tt → length header ≤ 65536 → IsUnbroken header → All (λ r. IsLineOf (line r) r) rs → IsTrace rs
-    → file_says (ended (header ∷ map line rs)) ≡ Ok rs
-file_says-trace header line rs says short unbroken all trace = file_says-ended header line rs says short unbroken (AllByRecursion-from _ rs all) trace.few_records trace.few_tasks
+pub records_said-trace : (header : List ℕ) (line : Record → List ℕ) (rs : List Record) → header_says header ≡ Ok tt → length header ≤ max_line → IsUnbroken header → All (λ r. IsLineOf (line r) r) rs → IsTrace rs
+    → records_said (ended (header ∷ map line rs)) ≡ Ok rs
+records_said-trace header line rs says short unbroken all trace = records_said-ended header line rs says short unbroken (AllByRecursion-from _ rs all) trace.few_records trace.few_tasks
 
 -- ---- the line of a value
 
-pub IsLineOf-plain : (d : Data) (n : ℕ) (r : Record) → IsPlain d n → n ≤ max_depth → size d ≤ 65536 → said_of (Some d) ≡ Ok r → IsLineOf (compact_text d) r
+pub IsLineOf-plain : (d : Data) (n : ℕ) (r : Record) → IsPlain d n → n ≤ max_depth → size d ≤ max_line → said_of (Some d) ≡ Ok r → IsLineOf (compact_text d) r
 IsLineOf-plain d n r plain shallow small says = record {
   says = ap said_of (value_of-compact_text d n plain shallow) ∙ says;
   short = omega (arith, length-compact_text d n plain);

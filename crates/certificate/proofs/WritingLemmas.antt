@@ -5,7 +5,7 @@ use Rattle.std.proofs.lemmas.List.{map-append, take_more, take_all, take-append-
 use Rattle.std.specs.Prelude.{OnErr}
 use Rattle.std.specs.Io.KnownBytes.{Appends, Keeps}
 use Rattle.ompt_events.specs.declared.records.Record.{Record}
-use Rattle.certificate.specs.Texts.{ended, header_line, line_of, trace_text}
+use Rattle.certificate.specs.Texts.{ended, header_line, line_of}
 use Rattle.std.proofs.Math.Seq.{take-add, take-append_seam}
 
 pub Appends-none : (a : Option (List ℕ)) → Appends a a []
@@ -43,7 +43,7 @@ text-more sent block more rs i r text within read is =
     ∙ ap (λ lines. ended (header_line ∷ lines)) (sym (map-append line_of (take i rs) (r ∷ [])) ∙ ap (map line_of) (sym (take_more rs i r within ∙ ap (λ q. take i rs ++ q ∷ []) (sym read))))
 
 -- what went out and a part of what waits is a part of the whole
-text-prefix : (sent block : List ℕ) (rs : List Record) (i n : ℕ) → sent ++ block ≡ ended (header_line ∷ map line_of (take i rs)) → sent ++ take n block ≡ take (length (sent ++ take n block)) (trace_text rs)
+text-prefix : (sent block : List ℕ) (rs : List Record) (i n : ℕ) → sent ++ block ≡ ended (header_line ∷ map line_of (take i rs)) → sent ++ take n block ≡ take (length (sent ++ take n block)) (ended (header_line ∷ map line_of rs))
 text-prefix sent block rs i n text = sym (ap (take (length (sent ++ take n block))) whole ∙ take-append_seam (sent ++ take n block) (drop n block ++ rest))
   where
     rest : List ℕ
@@ -52,24 +52,24 @@ text-prefix sent block rs i n text = sym (ap (take (length (sent ++ take n block
     cut_in_two : sent ++ block ≡ (sent ++ take n block) ++ drop n block
     cut_in_two = ap (λ l. sent ++ l) (sym (take-append-drop n block)) ∙ sym (append_assoc sent (take n block) (drop n block))
 
-    whole : trace_text rs ≡ (sent ++ take n block) ++ (drop n block ++ rest)
+    whole : ended (header_line ∷ map line_of rs) ≡ (sent ++ take n block) ++ (drop n block ++ rest)
     whole =
         ap (λ list. ended (header_line ∷ map line_of list)) (sym (take-append-drop i rs))
         ∙ ap (λ lines. ended (header_line ∷ lines)) (map-append line_of (take i rs) (drop i rs))
         ∙ flat_map-append (λ line. line ++ 10 ∷ []) (header_line ∷ map line_of (take i rs)) (map line_of (drop i rs))
         ∙ ap (λ l. l ++ rest) (sym text ∙ cut_in_two) ∙ append_assoc (sent ++ take n block) (drop n block) rest
 
-pub part-out : (a b c : Option (List ℕ)) (sent block : List ℕ) (rs : List Record) (i n : ℕ) → sent ++ block ≡ ended (header_line ∷ map line_of (take i rs)) → Appends a b sent → Appends b c (take n block) → (m : ℕ) × Appends a c (take m (trace_text rs))
+pub part-out : (a b c : Option (List ℕ)) (sent block : List ℕ) (rs : List Record) (i n : ℕ) → sent ++ block ≡ ended (header_line ∷ map line_of (take i rs)) → Appends a b sent → Appends b c (take n block) → (m : ℕ) × Appends a c (take m (ended (header_line ∷ map line_of rs)))
 part-out a b c sent block rs i n text first next = (
   length (sent ++ take n block),
   (let P : List ℕ → Type 0 = λ bytes. Appends a c bytes in subst P (text-prefix sent block rs i n text) (Appends-both a b c sent (take n block) first next)),
 )
 
-pub sent-out : (a b : Option (List ℕ)) (sent block : List ℕ) (rs : List Record) (i : ℕ) → sent ++ block ≡ ended (header_line ∷ map line_of (take i rs)) → Appends a b sent → (m : ℕ) × Appends a b (take m (trace_text rs))
+pub sent-out : (a b : Option (List ℕ)) (sent block : List ℕ) (rs : List Record) (i : ℕ) → sent ++ block ≡ ended (header_line ∷ map line_of (take i rs)) → Appends a b sent → (m : ℕ) × Appends a b (take m (ended (header_line ∷ map line_of rs)))
 sent-out a b sent block rs i text first = part-out a b b sent block rs i 0 text first (Appends-none b)
 
 -- all the lines are the text
-pub whole-out : (a b c : Option (List ℕ)) (sent block : List ℕ) (rs : List Record) (i : ℕ) → sent ++ block ≡ ended (header_line ∷ map line_of (take i rs)) → length rs ≤ i → Appends a b sent → Appends b c block → Appends a c (trace_text rs)
+pub whole-out : (a b c : Option (List ℕ)) (sent block : List ℕ) (rs : List Record) (i : ℕ) → sent ++ block ≡ ended (header_line ∷ map line_of (take i rs)) → length rs ≤ i → Appends a b sent → Appends b c block → Appends a c (ended (header_line ∷ map line_of rs))
 whole-out a b c sent block rs i text all first next =
     let P : List ℕ → Type 0 = λ bytes. Appends a c bytes in
     subst P (text ∙ ap (λ list. ended (header_line ∷ map line_of list)) (take_all i rs all)) (Appends-both a b c sent block first next)

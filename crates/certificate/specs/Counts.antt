@@ -1,5 +1,6 @@
 -- How the counters of a device go on, each of 64 bits.
-use Rattle.std.specs.Prelude.{ℕ, ◌≡◌, zero, suc, ◌+◌, ◌-◌, ◌%◌, ◌^◌, ◌==◌, ◌≤◌, ◌↔◌, if◌then◌else◌, Option, None, Some, Result, Ok, Err}
+use Rattle.std.specs.Prelude.{ℕ, ◌≡◌, zero, suc, ◌+◌, ◌-◌, ◌%◌, ◌^◌, ◌==◌, ◌&&◌, ◌≤◌, ◌↔◌, nat_lt, if◌then◌else◌, Option, None, Some, Result, Ok, Err}
+use Rattle.certificate.specs.Limits.{max_turns}
 use Rattle.certificate.specs.declared.device.DeviceFault.{DeviceFault}
 use Rattle.certificate.specs.declared.device.DeviceFault.TheVariants.{Again, Broken}
 use Rattle.certificate.specs.declared.faults.ReadFault.{ReadFault}
@@ -29,11 +30,12 @@ breaks_after (Ok n) count = count
 breaks_after (Err Again) count = count
 breaks_after (Err Broken) count = next_count count
 
--- the counter of the answers `Again` and of those that no byte was taken, after an answer
-abbrev pub stalls_after : Result ℕ DeviceFault → ℕ → ℕ
-stalls_after (Ok n) count = if n == 0 then next_count count else count
-stalls_after (Err Again) count = next_count count
-stalls_after (Err Broken) count = count
+-- the counter of the answers `Again` and of those that no byte was taken of some, after an answer to so many bytes:
+-- to take none of none is no stall
+abbrev pub stalls_after : ℕ → Result ℕ DeviceFault → ℕ → ℕ
+stalls_after offered (Ok n) count = if n == 0 && nat_lt 0 offered then next_count count else count
+stalls_after offered (Err Again) count = next_count count
+stalls_after offered (Err Broken) count = count
 
 -- the counter of the answers `Broken`, after a call of `read` that ends so: only `Device` tells of one
 abbrev pub breaks_told : Option ReadCause → ℕ → ℕ
@@ -46,12 +48,12 @@ abbrev pub cause_told : {X : Type 0} → Result X ReadFault → Option ReadCause
 cause_told (Ok x) = None
 cause_told (Err fault) = Some fault.cause
 
--- the turns that a call has taken so far, each an answer `Again`; with the 10,001st it ends
+-- the turns that a call has taken so far, each an answer `Again`; with the one after the last that it has, it ends
 pub record TakesTurns (told : Option ReadCause) (turns turns' agains agains' : ℕ) : Type 0 where
   pub later : turns ≤ turns'
-  pub within : turns' ≤ 10001
+  pub within : turns' ≤ max_turns + 1
   pub counted : agains' ≡ count_more agains (turns' - turns)
-  pub spent : (told ≡ Some TurnsSpent) ↔ (turns' ≡ 10001)
+  pub spent : (told ≡ Some TurnsSpent) ↔ (turns' ≡ max_turns + 1)
 
 -- the counter of the answers `Broken`, after a call of `write_bytes` that ends so
 abbrev pub breaks_written : Result (Unit {0}) WriteFault → ℕ → ℕ
@@ -60,8 +62,9 @@ breaks_written (Err write.Device) count = next_count count
 breaks_written (Err write.Memory) count = count
 breaks_written (Err write.TurnsSpent) count = count
 
--- the turns that a call of `write_bytes` has taken, each an answer `Again` or that no byte was taken; with the 10,001st it ends
+-- the turns that a call of `write_bytes` has taken, each an answer `Again` or that no byte was taken of some;
+-- with the one after the last that it has, it ends
 pub record TakesStalls (result : Result (Unit {0}) WriteFault) (turns stalls stalls' : ℕ) : Type 0 where
-  pub within : turns ≤ 10001
+  pub within : turns ≤ max_turns + 1
   pub counted : stalls' ≡ count_more stalls turns
-  pub spent : (result ≡ Err write.TurnsSpent) ↔ (turns ≡ 10001)
+  pub spent : (result ≡ Err write.TurnsSpent) ↔ (turns ≡ max_turns + 1)

@@ -1,13 +1,15 @@
 -- What a trace file stands for, and which of its lines is the first faulty one.
-use Rattle.std.specs.Prelude.{◌≡◌, ◌≤◌, ◌<◌, ℕ, ◌+◌, ◌^◌, ◌==◌, ◌&&◌, ◌||◌, Bool, not, List, [], ◌∷◌, ◌++◌, length, take, drop, Option, Some, None, Result, Ok, Err, is_some, count_by, nat_lt, if◌then◌else◌, slice_get}
-use Rattle.std.specs.Result.{result_ok, result_err}
+use Rattle.std.specs.Prelude.{◌≡◌, ◌≤◌, ◌<◌, ℕ, ◌+◌, ◌==◌, ◌&&◌, ◌||◌, Bool, not, List, [], ◌∷◌, ◌++◌, length, take, drop, Option, Some, None, Result, Ok, Err, is_some, count_by, nat_lt, if◌then◌else◌, slice_get}
+use Rattle.std.specs.Result.{result_ok, result_err, result_map_both}
 use Rattle.std.specs.List.{filter_map}
 use Rattle.ompt_events.specs.declared.records.Record.{Record}
 use Rattle.ompt_events.specs.Records.{made}
-use Rattle.ompt_events.specs.Traces.{tasks_in}
+use Rattle.ompt_events.specs.Limits.{max_records, max_tasks}
+use Rattle.ompt_events.specs.Traces.{TraceView, tasks_in}
 use Rattle.certificate.specs.declared.faults.ReadCause.{ReadCause}
 use Rattle.certificate.specs.declared.faults.ReadCause.TheVariants.{Header, LineTooLong, Limit, Unended}
 use Rattle.certificate.specs.declared.faults.ReadFault.{ReadFault}
+use Rattle.certificate.specs.Limits.{max_line}
 use Rattle.certificate.specs.RecordLines.{line_says, header_says}
 
 -- the lines that a line feed ends, without it, and the bytes after the last one
@@ -28,11 +30,11 @@ cut (b ∷ bytes) =
 
 -- more than a line may have before its line feed
 abbrev pub is_long : List ℕ → Bool
-is_long line = nat_lt 65536 (length line)
+is_long line = nat_lt max_line (length line)
 
 -- whether a trace of these records may have one more
 abbrev pub has_room : List Record → Record → Bool
-has_room before r = nat_lt (length before) (2 ^ 22) && (not (is_some (made r.body)) || nat_lt (tasks_in before) (2 ^ 20))
+has_room before r = nat_lt (length before) max_records && (not (is_some (made r.body)) || nat_lt (tasks_in before) max_tasks)
 
 -- the records and one more, where there is room
 abbrev pub with_record : List Record → Result Record ReadCause → Result (List Record) ReadCause
@@ -73,9 +75,17 @@ from_line n before (line ∷ lines) rest = go_on n (line_adds n before line) (λ
 abbrev pub rest_says : ℕ → List Record → List ℕ → Result (List Record) ReadFault
 rest_says n before bytes = from_line n before (cut bytes).lines (cut bytes).rest
 
--- the records that a file stands for, or its first faulty line and the cause
-abbrev pub file_says : List ℕ → Result (List Record) ReadFault
-file_says bytes = rest_says 1 [] bytes
+-- the records of a file, or its first faulty line and the cause
+abbrev pub records_said : List ℕ → Result (List Record) ReadFault
+records_said bytes = rest_says 1 [] bytes
+
+-- the trace of these records
+abbrev pub trace_of : List Record → TraceView
+trace_of records = record { records = records }
+
+-- the trace that a file stands for, or its first faulty line and the cause
+abbrev pub file_says : List ℕ → Result TraceView ReadFault
+file_says bytes = result_map_both trace_of (λ fault. fault) (records_said bytes)
 
 -- ---- the same, line by line
 
@@ -95,10 +105,14 @@ fault_of before k rest None = result_err (end_adds (k + 1) before rest)
 abbrev pub cause_in : List (List ℕ) → List ℕ → ℕ → Option ReadCause
 cause_in lines rest k = fault_of (records_before lines k) k rest (slice_get lines k)
 
--- no line has a fault, and the lines after the header stand for these records
-pub record StandsFor (bytes : List ℕ) (records : List Record) : Type 0 where
+-- no line has a fault, and the lines after the header stand for the records of the trace
+pub record StandsFor (bytes : List ℕ) (trace : TraceView) : Type 0 where
   pub no_fault : (k : ℕ) → k ≤ length (cut bytes).lines → cause_in (cut bytes).lines (cut bytes).rest k ≡ None
-  pub each : records ≡ records_of (drop 1 (cut bytes).lines)
+  pub each : trace.records ≡ records_of (drop 1 (cut bytes).lines)
+
+-- no line before the one of number n has a fault
+abbrev pub IsFaultlessBefore : ℕ → List ℕ → Type 0
+IsFaultlessBefore n bytes = (k : ℕ) → k + 1 < n → cause_in (cut bytes).lines (cut bytes).rest k ≡ None
 
 -- the line has this cause, and no earlier line has any
 pub record IsFirstFault (bytes : List ℕ) (fault : ReadFault) : Type 0 where
@@ -106,7 +120,7 @@ pub record IsFirstFault (bytes : List ℕ) (fault : ReadFault) : Type 0 where
   pub line : fault.line ≡ place + 1
   pub within : place ≤ length (cut bytes).lines
   pub has : cause_in (cut bytes).lines (cut bytes).rest place ≡ Some fault.cause
-  pub earlier : (k : ℕ) → k < place → cause_in (cut bytes).lines (cut bytes).rest k ≡ None
+  pub earlier : IsFaultlessBefore fault.line bytes
 
 -- how many line feeds there are
 abbrev pub line_feeds : List ℕ → ℕ

@@ -1,3 +1,4 @@
+pub mod Limits
 pub mod Counts
 pub mod Windows
 pub mod FaultNames
@@ -10,4 +11,5 @@ pub mod Files
 pub mod Keeping
 pub mod Reading
 pub mod MemoryDevices
+pub mod Answers
 pub mod Streams

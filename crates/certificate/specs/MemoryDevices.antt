@@ -64,6 +64,6 @@ after_write s answer bytes given = record {
   writes = next_count s.writes;
   broken_write = s.broken_write;
   idle_from = s.idle_from;
-  stalls = stalls_after answer s.stalls;
+  stalls = stalls_after (length bytes) answer s.stalls;
   breaks = breaks_after answer s.breaks;
 }

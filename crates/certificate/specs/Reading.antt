@@ -1,11 +1,12 @@
 -- What a reader answers on a source that tells its bytes.
-use Rattle.std.specs.Prelude.{ℕ, ◌≡◌, ◌≢◌, ◌+◌, ◌^◌, ◌≤◌, ◌<◌, ◌==◌, Bool, true, false, List, ◌++◌, length, Option, Some, None, Result, Ok, Err, IfSome, if◌then◌else◌}
+use Rattle.std.specs.Prelude.{ℕ, ◌≡◌, ◌≢◌, ◌+◌, ◌≤◌, ◌<◌, ◌==◌, Bool, true, false, List, ◌++◌, length, Option, Some, None, Result, Ok, Err, IfSome, if◌then◌else◌}
 use Rattle.ompt_events.specs.declared.records.Record.{Record}
+use Rattle.ompt_events.specs.Limits.{max_records}
 use Rattle.ompt_events.specs.Traces.{TraceView}
 use Rattle.certificate.specs.declared.faults.ReadCause.{ReadCause}
 use Rattle.certificate.specs.declared.faults.ReadCause.TheVariants.{Device, Memory, Header, NotJson, Field, Limit, TurnsSpent}
 use Rattle.certificate.specs.declared.faults.ReadFault.{ReadFault}
-use Rattle.certificate.specs.Files.{file_says, rest_says, fault_in, line_feeds}
+use Rattle.certificate.specs.Files.{file_says, records_said, rest_says, fault_in, line_feeds, IsFaultlessBefore}
 
 -- n is one more than the line feeds that were given, where these bytes are left
 abbrev pub IsLineAfterGiven : ℕ → List ℕ → Option (List ℕ) → Type 0
@@ -18,15 +19,16 @@ IsLineGiven n bytes None = ⊥
 IsLineGiven n bytes (Some left) = (1 ≤ n) × (n + line_feeds left ≤ line_feeds bytes + 1)
 
 -- a fault that is told in the line of number n is that of the file, or one of the device or of memory while that line was read
+-- and no line before it has a fault
 abbrev pub IsToldRightly : ReadCause → ℕ → List ℕ → Option (List ℕ) → Type 0
-IsToldRightly Device n bytes left = IsLineAfterGiven n bytes left
-IsToldRightly TurnsSpent n bytes left = IsLineAfterGiven n bytes left
-IsToldRightly Memory n bytes left = IsLineGiven n bytes left
+IsToldRightly Device n bytes left = IsLineAfterGiven n bytes left × IsFaultlessBefore n bytes
+IsToldRightly TurnsSpent n bytes left = IsLineAfterGiven n bytes left × IsFaultlessBefore n bytes
+IsToldRightly Memory n bytes left = IsLineGiven n bytes left × IsFaultlessBefore n bytes
 IsToldRightly cause n bytes left = file_says bytes ≡ Err (fault_in n cause)
 
 -- the answer is the trace that the bytes stand for, or a fault that is told rightly
 abbrev pub IsAnswer : Result TraceView ReadFault → List ℕ → Option (List ℕ) → Type 0
-IsAnswer (Ok trace) bytes left = file_says bytes ≡ Ok trace.records
+IsAnswer (Ok trace) bytes left = file_says bytes ≡ Ok trace
 IsAnswer (Err fault) bytes left = IsToldRightly fault.cause fault.line bytes left
 
 -- ---- between two lines
@@ -35,18 +37,18 @@ IsAnswer (Err fault) bytes left = IsToldRightly fault.cause fault.line bytes lef
 abbrev pub IsBetween : Option (List ℕ) → ℕ → List Record → List ℕ → Option (List ℕ) → Type 0
 IsBetween None n kept window left = Unit {0}
 IsBetween (Some bytes) n kept window None = ⊥
-IsBetween (Some bytes) n kept window (Some left) = (file_says bytes ≡ rest_says n kept (window ++ left)) × (n + line_feeds (window ++ left) ≡ line_feeds bytes + 1)
+IsBetween (Some bytes) n kept window (Some left) = (records_said bytes ≡ rest_says n kept (window ++ left)) × (n + line_feeds (window ++ left) ≡ line_feeds bytes + 1)
 
 -- after the line of number n was read: there was one, there was none, or it has a fault
 abbrev pub IsAfter : Result Bool ReadCause → Option (List ℕ) → ℕ → List Record → List ℕ → Option (List ℕ) → Type 0
 IsAfter (Ok true) known n kept window left = IsBetween known (n + 1) kept window left
-IsAfter (Ok false) known n kept window left = IfSome known (λ bytes. file_says bytes ≡ Ok kept)
+IsAfter (Ok false) known n kept window left = IfSome known (λ bytes. records_said bytes ≡ Ok kept)
 IsAfter (Err cause) known n kept window left = IfSome known (λ bytes. IsToldRightly cause n bytes left)
 
 -- how the line of number n adds to the records, where it has no fault
 pub record Grows (n : ℕ) (old new : List Record) : Type 0 where
   pub one : length new ≡ length old + (if n == 1 then 0 else 1)
-  pub room : n ≢ 1 → length old < 2 ^ 22
+  pub room : n ≢ 1 → length old < max_records
 
 -- a cause that the text of a line has, or that no memory was found for it
 abbrev pub IsOfText : ReadCause → Type 0

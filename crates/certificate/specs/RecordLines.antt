@@ -10,6 +10,7 @@ use Rattle.ompt_events.specs.declared.records.Record.{Record}
 use Rattle.ompt_events.specs.declared.records.Claim.{Claim}
 use Rattle.ompt_events.specs.declared.records.Body.{Body}
 use Rattle.ompt_events.specs.declared.records.Body.TheVariants.{ThreadBegin, ThreadEnd, ParallelBegin, ParallelEnd, ImplicitTask, TaskCreate, Dependences, TaskSchedule, SyncRegion, Cancel}
+use Rattle.ompt_events.specs.Limits.{max_threads, max_depth, max_dependences}
 use Rattle.ompt_events.specs.Flags as flag
 use Rattle.ompt_events.specs.Flags.{has_flag}
 use Rattle.ompt_events.specs.Names.{status_part}
@@ -148,10 +149,10 @@ abbrev pub is_short : ℕ → Bool
 is_short n = nat_lt n (2 ^ 32)
 
 abbrev pub path_fits : List ℕ → Bool
-path_fits path = nat_le (length path) 1024 && list_all is_short path
+path_fits path = nat_le (length path) max_depth && list_all is_short path
 
 abbrev pub deps_fit : List Dep → Bool
-deps_fit deps = nat_le (length deps) 64
+deps_fit deps = nat_le (length deps) max_dependences
 
 abbrev pub claim_fits : Claim → Bool
 claim_fits c = path_fits c.path && is_short c.kept
@@ -168,7 +169,7 @@ body_fits (Cancel bits task share) = share_fits share
 body_fits _ = true
 
 abbrev pub record_fits : Record → Bool
-record_fits r = body_fits r.body && nat_lt r.thread 256 && is_short r.seq && is_short r.seen
+record_fits r = body_fits r.body && nat_lt r.thread max_threads && is_short r.seq && is_short r.seen
 
 -- a value within its bounds; `Field` where there is none, before `Limit`
 abbrev pub bounded : {X : Type 0} → (X → Bool) → Option X → Result X ReadCause

@@ -1,5 +1,5 @@
 -- The text of a trace: a header, and then a line for each record.
-use Rattle.std.specs.Prelude.{ℕ, ⊤, ◌<◌, ◌^◌, All, IfSome, List, [], ◌∷◌, ◌++◌, map, flat_map, Option, Some, None, if◌then◌else◌}
+use Rattle.std.specs.Prelude.{ℕ, List, [], ◌∷◌, ◌++◌, map, flat_map, Option, Some, None, if◌then◌else◌}
 use Rattle.serde_json.specs.Data.{Data, null, boolean, number, string, array, object, unsigned, Members, no_members, put}
 use Rattle.serde_json.specs.View.{items_of}
 use Rattle.serde_json.specs.Written.{compact_text}
@@ -9,6 +9,7 @@ use Rattle.ompt_events.specs.declared.records.Body.{Body}
 use Rattle.ompt_events.specs.declared.records.Body.TheVariants.{ThreadBegin, ThreadEnd, ParallelBegin, ParallelEnd, ImplicitTask, TaskCreate, Dependences, TaskSchedule, SyncRegion, Cancel}
 use Rattle.ompt_events.specs.declared.deps.Dep.{Dep}
 use Rattle.ompt_events.specs.Flags.{task_flags, cancel_flags, has_flag}
+use Rattle.ompt_events.specs.Traces.{TraceView}
 use Rattle.ompt_events.specs.Names.{status_name, endpoint_name, sync_kind_name, dep_kind_name, thread_kind_name}
 use Rattle.certificate.specs.MemberNames as member
 use Rattle.certificate.specs.CallbackNames as callback
@@ -99,29 +100,5 @@ abbrev pub ended : List (List ℕ) → List ℕ
 ended lines = flat_map (λ line. line ++ 10 ∷ []) lines
 
 -- the text of a trace
-abbrev pub trace_text : List Record → List ℕ
-trace_text rs = ended (header_line ∷ map line_of rs)
-
--- ---- the records that Rust can hold
-
-abbrev pub ClaimInRange : Claim → Type 0
-ClaimInRange c = (c.kept < 2 ^ 32) × (c.root < 2 ^ 64) × All (λ n. n < 2 ^ 32) c.path
-
-abbrev pub BodyInRange : Body → Type 0
-BodyInRange (ThreadBegin kind) = ⊤
-BodyInRange ThreadEnd = ⊤
-BodyInRange (ParallelBegin requested task parallel) = (requested < 2 ^ 32) × (task < 2 ^ 64) × (parallel < 2 ^ 64)
-BodyInRange (ParallelEnd task parallel) = (task < 2 ^ 64) × (parallel < 2 ^ 64)
-BodyInRange (ImplicitTask endpoint actual index flags parallel task) = (actual < 2 ^ 32) × (index < 2 ^ 32) × (parallel < 2 ^ 64) × (task < 2 ^ 64)
-BodyInRange (TaskCreate deps flags task child) = (task < 2 ^ 64) × (child < 2 ^ 64)
-BodyInRange (Dependences task list) = (task < 2 ^ 64) × All (λ d. d.var < 2 ^ 64) list
-BodyInRange (TaskSchedule status prior next share) = (prior < 2 ^ 64) × IfSome next (λ n. n < 2 ^ 64) × IfSome share ClaimInRange
-BodyInRange (SyncRegion kind endpoint parallel task) = IfSome parallel (λ n. n < 2 ^ 64) × (task < 2 ^ 64)
-BodyInRange (Cancel flags task share) = (task < 2 ^ 64) × IfSome share ClaimInRange
-
--- each number is one of its type
-pub record IsInRange (r : Record) : Type 0 where
-  pub thread : r.thread < 2 ^ 8
-  pub seq : r.seq < 2 ^ 32
-  pub seen : r.seen < 2 ^ 32
-  pub body : BodyInRange r.body
+abbrev pub trace_text : TraceView → List ℕ
+trace_text trace = ended (header_line ∷ map line_of trace.records)

@@ -1,7 +1,8 @@
 -- What holds of a window, and what it shows of the next line.
-use Rattle.std.specs.Prelude.{◌≡◌, ◌≢◌, ℕ, ◌≤◌, ◌<◌, List, [], length, slice_index, Option, Some, None}
+use Rattle.std.specs.Prelude.{◌≡◌, ◌≢◌, ℕ, ◌+◌, ◌*◌, ◌≤◌, ◌<◌, List, [], length, slice_index, Option, Some, None}
 use Rattle.std.specs.Io.KnownBytes.{IsAtEnd}
 use Rattle.memchr.specs.Find.{IsFirstByte, is_byte}
+use Rattle.certificate.specs.Limits.{max_line}
 use Rattle.certificate.specs.declared.faults.ReadCause.{ReadCause}
 use Rattle.certificate.specs.declared.faults.ReadCause.TheVariants.{Device, LineTooLong, Unended, TurnsSpent}
 
@@ -10,7 +11,7 @@ pub record IsWindow (bytes : List ℕ) (start searched end : ℕ) : Type 0 where
   pub low : start ≤ searched
   pub middle : searched ≤ end
   pub high : end ≤ length bytes
-  pub size : length bytes ≡ 131074
+  pub size : length bytes ≡ 2 * (max_line + 1)
   pub no_line_feed : (k : ℕ) → start ≤ k → k < searched → slice_index bytes k ≢ 10
 
 -- the next line feed stands here, or nowhere
@@ -19,7 +20,7 @@ LineFeedAt = IsFirstByte (is_byte 10)
 
 -- the next line has this length, or no byte is left
 abbrev pub ShowsLine : Option ℕ → List ℕ → Option (List ℕ) → Type 0
-ShowsLine (Some len) window rest = (len ≤ 65536) × LineFeedAt window (Some len)
+ShowsLine (Some len) window rest = (len ≤ max_line) × LineFeedAt window (Some len)
 ShowsLine None window rest = (window ≡ []) × IsAtEnd rest
 
 -- the source did not answer
@@ -30,8 +31,8 @@ IsDeviceFault _ = ⊥
 
 -- why there is no next line
 abbrev pub ShowsFault : ReadCause → List ℕ → Option (List ℕ) → Type 0
-ShowsFault LineTooLong window rest = (k : ℕ) → k ≤ 65536 → (k < length window) × (slice_index window k ≢ 10)
-ShowsFault Unended window rest = (0 < length window) × (length window ≤ 65536) × LineFeedAt window None × IsAtEnd rest
+ShowsFault LineTooLong window rest = (k : ℕ) → k ≤ max_line → (k < length window) × (slice_index window k ≢ 10)
+ShowsFault Unended window rest = (0 < length window) × (length window ≤ max_line) × LineFeedAt window None × IsAtEnd rest
 ShowsFault Device window rest = LineFeedAt window None
 ShowsFault TurnsSpent window rest = LineFeedAt window None
 ShowsFault _ window rest = ⊥

@@ -1,5 +1,5 @@
 //! What a trace is read from, and what bytes are written to.
-ghost use Rattle.std.specs.Prelude.{◌≡◌, ℕ, List, Option, None};
+ghost use Rattle.std.specs.Prelude.{◌≡◌, ℕ, List, length, Option, None};
 ghost use Rattle.std.specs.Io.{ReadsAtMost, WritesAtMost};
 ghost use Rattle.std.specs.Io.KnownBytes.{ReadConsumes, WriteAppends};
 ghost use Rattle.certificate.specs.Counts.{agains_after, breaks_after, stalls_after};
@@ -44,7 +44,7 @@ pub trait Sink {
     /// The bytes that were taken so far, where they are known.
     ghost contents: { Self → Option (List ℕ) } = { λ _. None };
 
-    /// How often it has answered `Again` or that it took no byte so far, modulo 2^64.
+    /// How often it has answered `Again` or that it took no byte of some so far, modulo 2^64.
     ghost stalls: { Self → ℕ };
 
     /// How often it has answered `Broken` so far, modulo 2^64.
@@ -54,6 +54,6 @@ pub trait Sink {
     fn write(&mut self, bytes: &[u8]) -> Result<usize, DeviceFault>
         ensures bound { WritesAtMost result bytes.now }
         ensures bytes { WriteAppends (contents self.old) (contents self.new) result bytes.now }
-        ensures stalls { stalls self.new ≡ stalls_after result (stalls self.old) }
+        ensures stalls { stalls self.new ≡ stalls_after (length bytes.now) result (stalls self.old) }
         ensures breaks { breaks self.new ≡ breaks_after result (breaks self.old) };
 }

@@ -47,7 +47,7 @@ pub enum WriteFault {
     /// No memory was found.
     #[error("no memory was found")]
     Memory,
-    /// The sink has asked for another turn, or taken no byte, 10,001 times in one call.
+    /// The sink has asked for another turn, or taken no byte of some, 10,001 times in one call.
     #[error("the sink took too many turns")]
     TurnsSpent,
 }

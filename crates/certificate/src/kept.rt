@@ -50,6 +50,7 @@ impl Kept {
         if self.records.len() >= MAX_RECORDS {
             return Err(ReadCause::Limit);
         }
+        event.read_numbers();
         let makes = event.body.made().is_some();
         if makes && self.tasks >= MAX_TASKS {
             return Err(ReadCause::Limit);

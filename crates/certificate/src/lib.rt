@@ -20,5 +20,5 @@ pub use device::{DeviceFault, Sink, Source};
 pub use faults::{ReadCause, ReadFault, WriteFault};
 pub use memory::{MemSink, MemSource};
 pub use reading::read;
-pub use streams::{FromRead, ToWrite};
+pub use streams::{FromRead, StdRead, StdWrite, ToWrite};
 pub use writing::{write, write_bytes};

@@ -187,7 +187,7 @@ impl Sink for MemSink {
     fn write(&mut self, bytes: &[u8]) -> Result<usize, DeviceFault>
         ensures bound { WritesAtMost result bytes.now }
         ensures bytes { WriteAppends (Some self.old.taken) (Some self.new.taken) result bytes.now }
-        ensures stalls { self.new.stalls ≡ stalls_after result self.old.stalls }
+        ensures stalls { self.new.stalls ≡ stalls_after (length bytes.now) result self.old.stalls }
         ensures breaks { self.new.breaks ≡ breaks_after result self.old.breaks }
         ensures answer { result ≡ write_answer self.old (length bytes.now) }
         ensures after { self.new ≡ after_write self.old result bytes.now (given_by result) }
@@ -201,7 +201,7 @@ impl Sink for MemSink {
         }
         let idle = self.idle_from.is_some_and(|from| from <= number);
         let count = if idle { 0 } else { bytes.len().min(self.room) };
-        if count == 0 {
+        if count == 0 && !bytes.is_empty() {
             self.stalls = self.stalls.wrapping_add(1);
         }
         self.bytes.extend_from_slice(&bytes[..count]).unwrap();

@@ -22,8 +22,9 @@ const MAX_TURNS: u32 = 10_000;
 /// The number of the last line that is read: after the header and the records, one that is too many.
 const LAST_LINE: u32 = 2 + MAX_RECORDS as u32;
 
-/// Reads a trace file to its end. The source is asked for at most 128 KiB at a time, and of the bytes
-/// one line is kept at most; after a refusal nothing is said of how far the source was read.
+/// Reads a trace file to its end. At most 131,074 bytes wait at a time, two of the longest lines with their
+/// line feeds, and the source is asked for no more than there is room for. After a refusal nothing is said of
+/// how far the source was read.
 pub fn read<S: Source>(alloc: Global, source: &mut S) -> Result<Trace, ReadFault>
     // The trace that the bytes stand for, their first fault, or a fault of the device or of memory.
     ensures file { IfSome (S.remaining source.old)

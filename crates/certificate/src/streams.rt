@@ -1,10 +1,64 @@
 //! The readers and writers of std as sources and sinks.
-ghost use Rattle.std.specs.Prelude.{◌≡◌, ◌↔◌, Err};
+ghost use Rattle.std.specs.Prelude.{◌≡◌, ◌↔◌, ℕ, List, length, Option, Result, None, Err};
+ghost use Rattle.std.specs.Io.{ReadsAtMost, WritesAtMost};
+ghost use Rattle.std.specs.Io.KnownBytes.{ReadConsumes, WriteAppends};
 ghost use Rattle.std.specs.IoError.{error_kind};
-ghost use Rattle.certificate.specs.Counts.{agains_after, breaks_after};
+ghost use Rattle.std.specs.declared.io.ErrorKind.{ErrorKind};
+ghost use Rattle.certificate.specs.Answers.{answer_of, Tells};
+ghost use Rattle.certificate.specs.Counts.{agains_after, breaks_after, stalls_after};
 
 use crate::device::{DeviceFault, Sink, Source};
-use std::io::{Error, ErrorKind, Read, Write};
+use std::io::{self, Error, ErrorKind, Read, Write};
+
+/// A reader of std, with a name for what one call of it does. Each reader of std is one.
+pub trait StdRead {
+    /// The bytes that are left, where they are known.
+    ghost remaining: { Self → Option (List ℕ) };
+
+    /// What one call does: the reader and the buffer before it, its answer, and both after it.
+    ghost reads: { Self → List ℕ → Result ℕ ErrorKind → Self → List ℕ → Type 0 };
+
+    /// Calls the reader once.
+    fn read_once(&mut self, buffer: &mut [u8]) -> io::Result<usize>
+        ensures bound { ReadsAtMost result buffer.new }
+        ensures bytes { ReadConsumes (remaining self.old) (remaining self.new) result buffer.new }
+        ensures once { reads self.old buffer.old (answer_of result) self.new buffer.new };
+}
+
+impl<R: Read> StdRead for R {
+    ghost remaining = { R.remaining };
+
+    ghost reads = { λ old before answer new after. Unit {0} };
+
+    fn read_once(&mut self, buffer: &mut [u8]) -> io::Result<usize> {
+        self.read(buffer)
+    }
+}
+
+/// A writer of std, with a name for what one call of it does. Each writer of std is one.
+pub trait StdWrite {
+    /// The bytes that were taken so far, where they are known.
+    ghost contents: { Self → Option (List ℕ) };
+
+    /// What one call does: the writer before it, the bytes, its answer, and the writer after it.
+    ghost writes: { Self → List ℕ → Result ℕ ErrorKind → Self → Type 0 };
+
+    /// Calls the writer once.
+    fn write_once(&mut self, bytes: &[u8]) -> io::Result<usize>
+        ensures bound { WritesAtMost result bytes.now }
+        ensures bytes { WriteAppends (contents self.old) (contents self.new) result bytes.now }
+        ensures once { writes self.old bytes.now (answer_of result) self.new };
+}
+
+impl<W: Write> StdWrite for W {
+    ghost contents = { W.contents };
+
+    ghost writes = { λ old bytes answer new. Unit {0} };
+
+    fn write_once(&mut self, bytes: &[u8]) -> io::Result<usize> {
+        self.write(bytes)
+    }
+}
 
 /// A source over a reader of std.
 #[derive(Drop)]
@@ -31,15 +85,24 @@ impl<R> FromRead<R> {
     }
 }
 
-impl<R: Read> Source for FromRead<R> {
+impl<R: StdRead> Source for FromRead<R> {
     ghost remaining = { λ source. R.remaining source.reader };
 
     ghost agains = { λ source. source.agains };
 
     ghost breaks = { λ source. source.breaks };
 
-    fn read(&mut self, buffer: &mut [u8]) -> Result<usize, DeviceFault> {
-        match self.reader.read(buffer) {
+    fn read(&mut self, buffer: &mut [u8]) -> Result<usize, DeviceFault>
+        ensures bound { ReadsAtMost result buffer.new }
+        ensures bytes { ReadConsumes (R.remaining self.old.reader) (R.remaining self.new.reader) result buffer.new }
+        ensures agains { self.new.agains ≡ agains_after result self.old.agains }
+        ensures breaks { self.new.breaks ≡ breaks_after result self.old.breaks }
+
+        // The reader is called once, with the whole buffer, and its answer is told.
+        ensures once { (answer : Result ℕ ErrorKind) × Tells answer result
+            × R.reads self.old.reader buffer.old answer self.new.reader buffer.new }
+    {
+        match self.reader.read_once(buffer) {
             Ok(count) => Ok(count),
             Err(error) => Err(told(&error, &mut self.agains, &mut self.breaks)),
         }
@@ -71,20 +134,30 @@ impl<W> ToWrite<W> {
     }
 }
 
-impl<W: Write> Sink for ToWrite<W> {
+impl<W: StdWrite> Sink for ToWrite<W> {
     ghost contents = { λ sink. W.contents sink.writer };
 
     ghost stalls = { λ sink. sink.stalls };
 
     ghost breaks = { λ sink. sink.breaks };
 
-    fn write(&mut self, bytes: &[u8]) -> Result<usize, DeviceFault> {
-        match self.writer.write(bytes) {
-            Ok(0) => {
-                self.stalls = self.stalls.wrapping_add(1);
-                Ok(0)
+    fn write(&mut self, bytes: &[u8]) -> Result<usize, DeviceFault>
+        ensures bound { WritesAtMost result bytes.now }
+        ensures bytes { WriteAppends (W.contents self.old.writer) (W.contents self.new.writer) result bytes.now }
+        ensures stalls { self.new.stalls ≡ stalls_after (length bytes.now) result self.old.stalls }
+        ensures breaks { self.new.breaks ≡ breaks_after result self.old.breaks }
+
+        // The writer is called once, with all the bytes, and its answer is told.
+        ensures once { (answer : Result ℕ ErrorKind) × Tells answer result
+            × W.writes self.old.writer bytes.now answer self.new.writer }
+    {
+        match self.writer.write_once(bytes) {
+            Ok(count) => {
+                if count == 0 && !bytes.is_empty() {
+                    self.stalls = self.stalls.wrapping_add(1);
+                }
+                Ok(count)
             }
-            Ok(count) => Ok(count),
             Err(error) => Err(told(&error, &mut self.stalls, &mut self.breaks)),
         }
     }

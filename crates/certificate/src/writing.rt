@@ -1,5 +1,5 @@
 //! Traces and bytes written to a sink.
-ghost use Rattle.std.specs.Prelude.{◌≡◌, ◌≢◌, ◌≤◌, ◌++◌, ◌∷◌, [], ℕ, length, take, Ok, Err, OnOk, OnErr, IfOk, IfErr};
+ghost use Rattle.std.specs.Prelude.{◌≡◌, ◌≢◌, ◌<◌, ◌≤◌, ◌++◌, ◌∷◌, [], ℕ, length, take, Ok, Err, OnOk, OnErr, IfOk, IfErr};
 ghost use Rattle.std.specs.Io.KnownBytes.{Appends, Keeps};
 ghost use Rattle.certificate.specs.Counts.{TakesStalls, breaks_written, count_more, next_count, stalls_after};
 ghost use Rattle.certificate.specs.Texts.{header_line, line_of, trace_text};
@@ -10,7 +10,7 @@ use crate::texts::{header_line, line_of};
 use ompt_events::{Record, Trace};
 use std::alloc::Global;
 
-/// How often a sink may answer `Again` or take no byte in one call. The next such answer ends it.
+/// How often a sink may answer `Again` or take no byte of some in one call. The next such answer ends it.
 const MAX_TURNS: u32 = 10_000;
 
 /// The lines that wait are handed over once they have so many bytes.
@@ -20,11 +20,11 @@ const BLOCK: usize = 65_536;
 /// The lines are put together in blocks of some 64 KiB.
 pub fn write<S: Sink>(alloc: Global, trace: &Trace, sink: &mut S) -> Result<(), WriteFault>
     ensures ok { OnOk result
-        (Appends (S.contents sink.old) (S.contents sink.new) (trace_text trace.now.records)) }
+        (Appends (S.contents sink.old) (S.contents sink.new) (trace_text trace.now)) }
     ensures prefix { OnErr result
-        ((n : ℕ) × Appends (S.contents sink.old) (S.contents sink.new) (take n (trace_text trace.now.records))) }
+        ((n : ℕ) × Appends (S.contents sink.old) (S.contents sink.new) (take n (trace_text trace.now))) }
 
-    // Each answer `Again` or that no byte was taken is a turn, and the 10,001st ends the call.
+    // Each answer `Again` or that no byte was taken of some is a turn, and the 10,001st ends the call.
     ensures turns { (turns : ℕ) × TakesStalls result turns (S.stalls sink.old) (S.stalls sink.new) }
 
     // `Device` is told exactly where the sink broke.
@@ -72,7 +72,7 @@ pub fn write_bytes<S: Sink>(bytes: &[u8], sink: &mut S) -> Result<(), WriteFault
     ensures prefix { OnErr result
         ((n : ℕ) × Appends (S.contents sink.old) (S.contents sink.new) (take n bytes.now)) }
 
-    // Each answer `Again` or that no byte was taken is a turn, and the 10,001st ends the call.
+    // Each answer `Again` or that no byte was taken of some is a turn, and the 10,001st ends the call.
     ensures turns { (turns : ℕ) × TakesStalls result turns (S.stalls sink.old) (S.stalls sink.new) }
 
     // `Device` is told exactly where the sink broke.
@@ -111,11 +111,12 @@ fn send<S: Sink>(bytes: &[u8], sink: &mut S, before: u32) -> Result<u32, WriteFa
     Ok(turns)
 }
 
-/// Hands the bytes to the sink once, and says how many it took: none too where it wants to be asked again.
+/// Hands some bytes to the sink once, and says how many it took: none too where it wants to be asked again.
 fn offer<S: Sink>(bytes: &[u8], sink: &mut S) -> Result<usize, WriteFault>
+    requires { 0 < length bytes.now }
     ensures bound { IfOk result (λ n. n ≤ length bytes.now) }
     ensures bytes { IfOk result (λ n. Appends (S.contents sink.old) (S.contents sink.new) (take n bytes.now)) }
-    ensures stalls { IfOk result (λ n. S.stalls sink.new ≡ stalls_after (Ok n) (S.stalls sink.old)) }
+    ensures stalls { IfOk result (λ n. S.stalls sink.new ≡ stalls_after (length bytes.now) (Ok n) (S.stalls sink.old)) }
     ensures breaks { OnOk result (S.breaks sink.new ≡ S.breaks sink.old) }
     ensures fault { IfErr result (λ fault. fault ≡ WriteFault.Device) }
     ensures broken { OnErr result (S.breaks sink.new ≡ next_count (S.breaks sink.old)) }

@@ -6,14 +6,16 @@ use Rattle.std.proofs.lemmas.List.Sums.{count_by_more_yes, count_by_more_no}
 use Rattle.std.proofs.lemmas.List.Elements.{All-more}
 use Rattle.ompt_events.specs.declared.records.Record.{Record}
 use Rattle.ompt_events.specs.Records.{made}
-use Rattle.ompt_events.specs.Traces.{IsSound, IsTrace, tasks_in}
+use Rattle.ompt_events.specs.Limits.{max_records, max_tasks}
+use Rattle.ompt_events.specs.Traces.{IsSound, IsInRange, IsTrace, tasks_in}
 
 -- one more sound record, where there is room
-pub IsTrace-more : (rs : List Record) (i : ℕ) (r : Record) → i < length rs → r ≡ get_or rs i r → IsTrace (take i rs) → i < 2 ^ 22 → IsSound r.body → tasks_in (take (i + 1) rs) ≤ 2 ^ 20 → IsTrace (take (i + 1) rs)
-IsTrace-more rs i r within read before room sound few = record {
+pub IsTrace-more : (rs : List Record) (i : ℕ) (r : Record) → i < length rs → r ≡ get_or rs i r → IsTrace (take i rs) → i < max_records → IsSound r.body → IsInRange r → tasks_in (take (i + 1) rs) ≤ max_tasks → IsTrace (take (i + 1) rs)
+IsTrace-more rs i r within read before room sound in_range few = record {
   few_records = omega (arith, length-take (i + 1) rs);
   few_tasks = few;
   sound = let P : Record → Type 0 = λ x. IsSound x.body in All-more P rs i r within before.sound (rw (← read) sound);
+  in_range = All-more IsInRange rs i r within before.in_range (rw (← read) in_range);
 }
 
 -- a record that makes a task is one more of them

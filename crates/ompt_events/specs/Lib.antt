@@ -5,6 +5,7 @@ pub mod Names
 pub mod Flags
 pub mod Records
 pub mod Places
+pub mod Limits
 pub mod Traces
 pub mod Tree
 pub mod Threads

@@ -4,12 +4,14 @@ use Rattle.std.specs.Int.RustNames.{bit_and}
 use Rattle.bitflags.specs.Sets.{known_bits}
 use Rattle.ompt_events.specs.declared.records.Record.{Record}
 use Rattle.ompt_events.specs.declared.records.Body.{Body}
-use Rattle.ompt_events.specs.declared.records.Body.TheVariants.{ImplicitTask, TaskSchedule}
+use Rattle.ompt_events.specs.declared.records.Claim.{Claim}
+use Rattle.ompt_events.specs.declared.records.Body.TheVariants.{ThreadBegin, ThreadEnd, ParallelBegin, ParallelEnd, ImplicitTask, TaskCreate, Dependences, TaskSchedule, SyncRegion, Cancel}
 use Rattle.ompt_events.specs.declared.names.Endpoint.TheVariants.{BeginEnd}
 use Rattle.ompt_events.specs.declared.deps.Dep.{Dep}
 use Rattle.ompt_events.specs.Names.{demands_next}
 use Rattle.ompt_events.specs.Records.{made, claim, finish, flags, cancellation, dependences}
 use Rattle.ompt_events.specs.Flags.{task_flags, cancel_flags}
+use Rattle.ompt_events.specs.Limits.{max_records, max_tasks, max_threads, max_depth, max_dependences}
 
 -- what clauses see of a trace: its records in file order
 pub record TraceView : Type 0 where
@@ -36,9 +38,34 @@ pub record IsSound (body : Body) : Type 0 where
   pub begins_or_ends : BeginsOrEnds body
   -- a claim exactly where a task is finished
   pub claimed : is_some (claim body) ≡ is_some (finish body)
-  pub short_path : IfSome (claim body) (λ c. length c.path ≤ 1024)
-  pub few_dependences : IfSome (dependences body) (λ (d : ℕ × List Dep). length d.1 ≤ 64)
+  pub short_path : IfSome (claim body) (λ c. length c.path ≤ max_depth)
+  pub few_dependences : IfSome (dependences body) (λ (d : ℕ × List Dep). length d.1 ≤ max_dependences)
   pub next : HasItsNext body
+
+-- ---- numbers within the ranges of their types
+
+abbrev pub ClaimInRange : Claim → Type 0
+ClaimInRange c = (c.kept < 2 ^ 32) × (c.root < 2 ^ 64) × All (λ n. n < 2 ^ 32) c.path
+
+abbrev pub BodyInRange : Body → Type 0
+BodyInRange (ThreadBegin kind) = ⊤
+BodyInRange ThreadEnd = ⊤
+BodyInRange (ParallelBegin requested task parallel) = (requested < 2 ^ 32) × (task < 2 ^ 64) × (parallel < 2 ^ 64)
+BodyInRange (ParallelEnd task parallel) = (task < 2 ^ 64) × (parallel < 2 ^ 64)
+BodyInRange (ImplicitTask endpoint actual index given parallel task) = (actual < 2 ^ 32) × (index < 2 ^ 32) × (parallel < 2 ^ 64) × (task < 2 ^ 64)
+BodyInRange (TaskCreate deps given task child) = (task < 2 ^ 64) × (child < 2 ^ 64)
+BodyInRange (Dependences task list) = (task < 2 ^ 64) × All (λ d. d.var < 2 ^ 64) list
+BodyInRange (TaskSchedule status prior next share) = (prior < 2 ^ 64) × IfSome next (λ n. n < 2 ^ 64) × IfSome share ClaimInRange
+BodyInRange (SyncRegion kind endpoint parallel task) = IfSome parallel (λ n. n < 2 ^ 64) × (task < 2 ^ 64)
+BodyInRange (Cancel given task share) = (task < 2 ^ 64) × IfSome share ClaimInRange
+
+pub record IsInRange (r : Record) : Type 0 where
+  pub thread : r.thread < max_threads
+  pub seq : r.seq < 2 ^ 32
+  pub seen : r.seen < 2 ^ 32
+  pub body : BodyInRange r.body
+
+-- ---- traces
 
 -- how many tasks the records make
 abbrev pub tasks_in : List Record → ℕ
@@ -46,9 +73,10 @@ tasks_in rs = count_by (λ r. is_some (made r.body)) rs
 
 -- the records are a trace
 pub record IsTrace (rs : List Record) : Type 0 where
-  pub few_records : length rs ≤ 2 ^ 22
-  pub few_tasks : tasks_in rs ≤ 2 ^ 20
+  pub few_records : length rs ≤ max_records
+  pub few_tasks : tasks_in rs ≤ max_tasks
   pub sound : All (λ r. IsSound r.body) rs
+  pub in_range : All IsInRange rs
 
 -- the records before i are a trace, and with the one at i they are none
 pub record IsFirstRefused (rs : List Record) (i : ℕ) : Type 0 where

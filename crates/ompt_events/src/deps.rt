@@ -1,5 +1,5 @@
 //! What a task depends on, as a list that contracts see as such.
-ghost use Rattle.std.specs.Prelude.{◌≡◌};
+ghost use Rattle.std.specs.Prelude.{◌≡◌, ◌<◌, ◌^◌, All};
 
 use crate::names::DepKind;
 use std::marker::Model;
@@ -13,6 +13,15 @@ pub struct Dep {
     pub kind: DepKind,
 }
 
+impl Dep {
+    /// The location is a number of 64 bits.
+    fn read_location(&self)
+        ensures { self.now.var < 2 ^ 64 }
+    {
+        let _location = self.var;
+    }
+}
+
 /// The dependences of a task, in the order in which the runtime tells them.
 #[derive(Debug, Drop)]
 pub struct Deps {
@@ -20,12 +29,14 @@ pub struct Deps {
 }
 
 impl Model for Deps {
-    ghost use Rattle.std.specs.Prelude.{List};
+    ghost use Rattle.std.specs.Prelude.{List, ◌<◌, ◌^◌, All};
     ghost use Rattle.ompt_events.specs.declared.deps.Dep.{Dep};
 
     ghost Value = { List Dep };
 
     ghost view = { λ deps. deps.items.items };
+
+    ghost invariant = { λ deps. All (λ d. d.var < 2 ^ 64) deps.items.items };
 }
 
 impl PartialEq for Deps {
@@ -47,6 +58,7 @@ impl Deps {
     pub fn from_vec(items: Vec<Dep>) -> Deps
         ensures { result ≡ items.items }
     {
+        read_locations(items.as_slice());
         Deps { items }
     }
 
@@ -57,11 +69,27 @@ impl Deps {
         self.items.as_slice()
     }
 
+    /// Each location is a number of 64 bits. Compiled, it is nothing.
+    pub(crate) fn read_numbers(&self)
+        ensures { All (λ d. d.var < 2 ^ 64) self.now }
+    {
+        let _items = self.items.as_slice();
+    }
+
     /// The dependences, given back. Takes no memory.
     pub fn into_vec(self) -> Vec<Dep>
         ensures { result.items ≡ self }
     {
         let Deps { items: list } = self;
         list
+    }
+}
+
+/// Each location is a number of 64 bits, as a body knows once it has read it. Compiled, it is nothing.
+fn read_locations(items: &[Dep])
+    ensures { All (λ d. d.var < 2 ^ 64) items.now }
+{
+    for item in items {
+        item.read_location();
     }
 }

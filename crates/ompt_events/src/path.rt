@@ -1,5 +1,5 @@
 //! A list of numbers that contracts see as such.
-ghost use Rattle.std.specs.Prelude.{◌≡◌};
+ghost use Rattle.std.specs.Prelude.{◌≡◌, ◌<◌, ◌^◌, All};
 
 use std::marker::Model;
 
@@ -10,11 +10,13 @@ pub struct Path {
 }
 
 impl Model for Path {
-    ghost use Rattle.std.specs.Prelude.{List, ℕ};
+    ghost use Rattle.std.specs.Prelude.{List, ℕ, ◌<◌, ◌^◌, All};
 
     ghost Value = { List ℕ };
 
     ghost view = { λ path. path.numbers.items };
+
+    ghost invariant = { λ path. All (λ n. n < 2 ^ 32) path.numbers.items };
 }
 
 impl PartialEq for Path {
@@ -44,6 +46,13 @@ impl Path {
         ensures { result.now ≡ self.now }
     {
         self.numbers.as_slice()
+    }
+
+    /// Each is a number of 32 bits. Compiled, it is nothing.
+    pub(crate) fn read_numbers(&self)
+        ensures { All (λ n. n < 2 ^ 32) self.now }
+    {
+        let _numbers = self.numbers.as_slice();
     }
 
     /// The numbers, given back. Takes no memory.

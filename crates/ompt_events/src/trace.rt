@@ -1,7 +1,7 @@
 //! A list of records that keeps within the limits of a file.
-ghost use Rattle.std.specs.Prelude.{◌≡◌, ◌↔◌, IsTrue, IfOk, IfErr, MatchOption, is_some, IfSome, length, ◌≤◌};
+ghost use Rattle.std.specs.Prelude.{◌≡◌, ◌↔◌, IsTrue, IfOk, IfErr, MatchOption, is_some, IfSome, length, ◌≤◌, ◌<◌, ◌^◌};
 ghost use Rattle.ompt_events.specs.Flags.{task_flags, cancel_flags};
-ghost use Rattle.ompt_events.specs.Traces.{AreNamed, IsSound, IsTrace, IsFirstRefused};
+ghost use Rattle.ompt_events.specs.Traces.{AreNamed, IsSound, IsTrace, IsFirstRefused, IsInRange, BodyInRange, ClaimInRange};
 
 use crate::flags::{CancelFlags, TaskFlags};
 use crate::names::Endpoint;
@@ -74,6 +74,7 @@ fn first_refused(records: &[Record]) -> Option<usize>
         if !is_sound(&event.body) {
             return Some(at);
         }
+        event.read_numbers();
         if event.body.made().is_some() {
             if tasks >= MAX_TASKS {
                 return Some(at);
@@ -136,5 +137,99 @@ fn is_short(share: &Option<Claim>) -> bool
     match share {
         Some(claim) => claim.path.as_slice().len() <= MAX_DEPTH,
         None => true,
+    }
+}
+
+// A body knows the range of a number behind a reference once it has read it. Compiled, the reads are nothing.
+
+impl Record {
+    /// Each number of a record is within the range of its type. Does nothing: the contract is what it says.
+    pub fn read_numbers(&self)
+        ensures { IsInRange self.now }
+    {
+        let _thread = self.thread;
+        let _seq = self.seq;
+        let _seen = self.seen;
+        read_arguments(&self.body);
+    }
+}
+
+/// Each number among the callback's arguments is within the range of its type.
+fn read_arguments(body: &Body)
+    ensures { BodyInRange body.now }
+{
+    match body {
+        Body::ThreadBegin { .. } | Body::ThreadEnd => {}
+        Body::ParallelBegin {
+            requested,
+            task,
+            parallel,
+        } => {
+            let _numbers = (*requested, *task, *parallel);
+        }
+        Body::ParallelEnd { task, parallel } => {
+            let _numbers = (*task, *parallel);
+        }
+        Body::ImplicitTask {
+            actual,
+            index,
+            parallel,
+            task,
+            ..
+        } => {
+            let _numbers = (*actual, *index, *parallel, *task);
+        }
+        Body::TaskCreate { task, child, .. } => {
+            let _numbers = (*task, *child);
+        }
+        Body::Dependences { task, list } => {
+            let _task = *task;
+            list.read_numbers();
+        }
+        Body::TaskSchedule {
+            prior,
+            next,
+            share,
+            ..
+        } => {
+            let _prior = *prior;
+            read_id(*next);
+            read_share(share);
+        }
+        Body::SyncRegion { parallel, task, .. } => {
+            let _task = *task;
+            read_id(*parallel);
+        }
+        Body::Cancel { task, share, .. } => {
+            let _number = *task;
+            read_share(share);
+        }
+    }
+}
+
+/// Each number of the claim, if there is one, is within the range of its type.
+fn read_share(share: &Option<Claim>)
+    ensures { IfSome share.now ClaimInRange }
+{
+    if let Some(claim) = share {
+        read_claim(claim);
+    }
+}
+
+/// Each number of the claim is within the range of its type.
+fn read_claim(claim: &Claim)
+    ensures { ClaimInRange claim.now }
+{
+    let _kept = claim.kept;
+    let _root = claim.root;
+    claim.path.read_numbers();
+}
+
+/// An id, if there is one, is a number of 64 bits.
+fn read_id(found: Option<u64>)
+    ensures { IfSome found (λ id. id < 2 ^ 64) }
+{
+    if let Some(id) = found {
+        let _id = id;
     }
 }

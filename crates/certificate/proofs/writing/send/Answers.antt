@@ -21,7 +21,7 @@ returns-then-turns-gt-MAX_TURNS-clause-ended g c =
       c.bytes.turns + 1,
       record {
         within = omega arith;
-        counted = stalls-none _ _ _ _ _ (c.bytes.invariant.counted start is) c.in_ok-taken.ensures.stalls c.if-taken-eq0.true;
+        counted = stalls-none _ _ _ _ _ _ (omega (arith, c.bytes-test.true, length-drop c.bytes.at c.args.bytes.now)) (c.bytes.invariant.counted start is) c.in_ok-taken.ensures.stalls c.if-taken-eq0.true;
         spent = ((λ _. last), (λ _. refl));
       },
     )
@@ -38,14 +38,14 @@ bytes-preserved g c =
         sent = sent;
         within = within;
         few = omega arith;
-        counted = λ start is. rw w.turns-is (stalls-none _ _ _ _ _ (now.counted start is) call.stalls w.if-taken-eq0.true);
+        counted = λ start is. rw w.turns-is (stalls-none _ _ _ _ _ _ (omega (arith, c.bytes-test.true, length-drop c.bytes.at c.args.bytes.now)) (now.counted start is) call.stalls w.if-taken-eq0.true);
         breaks = call.breaks ∙ now.breaks;
       }
       | else-taken-eq0 w ↦ record {
         sent = sent;
         within = within;
         few = omega (arith, now.few);
-        counted = λ start is. rw w.turns-is (stalls-some _ _ _ _ _ (now.counted start is) call.stalls w.if-taken-eq0.false);
+        counted = λ start is. rw w.turns-is (stalls-some _ _ _ _ _ _ (now.counted start is) call.stalls w.if-taken-eq0.false);
         breaks = call.breaks ∙ now.breaks;
       }
     ]

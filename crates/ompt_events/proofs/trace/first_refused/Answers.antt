@@ -1,5 +1,6 @@
 use Rattle.std.proofs.Common.{◌≡◌, ◌+◌, ◌≤◌, ◌^◌, ◌∙◌, ◌<◌, take, length, arith, sym, ap, true, false}
 use Rattle.std.specs.Prelude.{is_some}
+use Rattle.ompt_events.specs.Limits.{max_tasks}
 use Rattle.ompt_events.specs.Traces.{IsSound, tasks_in}
 use Rattle.ompt_events.proofs.TraceLemmas.{IsTrace-more, IsTrace-unsound, tasks_in-made, tasks_in-other}
 use Rattle.ompt_events.proofs.trace.first_refused.Goals as goal
@@ -15,17 +16,17 @@ loop-at-preserved c =
     elim c.if-is_some.branch [
       | then-is_some+else-tasks-ge-MAX_TASKS w ↦
           let more : tasks_in (take (at + 1) rs) ≡ tasks_in (take at rs) + 1 = tasks_in-made rs at c.index-records-at.result within read (ap is_some (sym c.made.ensures) ∙ sym c.is_some.ensures ∙ w.if-is_some.true) in
-          let few : tasks_in (take (at + 1) rs) ≤ 2 ^ 20 = omega arith in
+          let few : tasks_in (take (at + 1) rs) ≤ max_tasks = omega arith in
           record {
             counted = omega arith;
-            sound = IsTrace-more rs at c.index-records-at.result within read c.loop-at.invariant.sound c.if-at-ge-MAX_RECORDS.false sound few;
+            sound = IsTrace-more rs at c.index-records-at.result within read c.loop-at.invariant.sound c.if-at-ge-MAX_RECORDS.false sound c.read_numbers.ensures few;
           }
       | else-is_some w ↦
           let same : tasks_in (take (at + 1) rs) ≡ tasks_in (take at rs) = tasks_in-other rs at c.index-records-at.result within read (ap is_some (sym c.made.ensures) ∙ sym c.is_some.ensures ∙ w.if-is_some.false) in
-          let few : tasks_in (take (at + 1) rs) ≤ 2 ^ 20 = rw same c.loop-at.invariant.sound.few_tasks in
+          let few : tasks_in (take (at + 1) rs) ≤ max_tasks = rw same c.loop-at.invariant.sound.few_tasks in
           record {
             counted = omega arith;
-            sound = IsTrace-more rs at c.index-records-at.result within read c.loop-at.invariant.sound c.if-at-ge-MAX_RECORDS.false sound few;
+            sound = IsTrace-more rs at c.index-records-at.result within read c.loop-at.invariant.sound c.if-at-ge-MAX_RECORDS.false sound c.read_numbers.ensures few;
           }
     ]
 
