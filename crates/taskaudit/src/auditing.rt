@@ -1,5 +1,6 @@
 //! The audit of a file.
 ghost use Rattle.std.specs.Prelude.{◌≡◌, ◌≢◌, ◌<◌, ◌^◌, ℕ, Err, IfOk, IfErr};
+ghost use Rattle.ompt_events.specs.Limits.{max_records};
 ghost use Rattle.certificate.specs.Counts.{TakesTurns, breaks_told, breaks_written};
 ghost use Rattle.taskaudit.specs.Audits.{AsksForTurns, Reports, Leaves, IsReadRightly, read_cause_of, written_of, not_taken};
 
@@ -45,7 +46,7 @@ pub fn audit<I: Source, O: Sink>(
 
 /// The fault of a file of which a check does not take the record at this place; the file's line 1 is the header.
 fn not_taken(at: usize) -> AuditFault
-    requires { at < 2 ^ 22 }
+    requires { at < max_records }
     ensures { result ≡ not_taken at }
 {
     AuditFault::Read(ReadFault {

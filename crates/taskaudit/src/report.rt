@@ -1,6 +1,7 @@
 //! What is printed of a verdict or a fault, and the exit statuses.
 ghost use Rattle.std.specs.Prelude.{◌≡◌, ◌<◌, ◌≤◌, ◌^◌, IfOk, IsOkUnless, Some, length, string_bytes};
 ghost use Rattle.ompt_events.specs.Causes.{entries_in};
+ghost use Rattle.ompt_events.specs.Limits.{max_records};
 ghost use Rattle.checker.specs.Verdicts.{IsVerdict};
 ghost use Rattle.clap.specs.Words.{kind_of};
 ghost use Rattle.taskaudit.specs.Reports.{report_of, fault_text_of, yes_text, no_text, malformed_text, place_text, place_of, creates_in, waits_in};
@@ -79,7 +80,7 @@ fn waits_in(records: &[Record]) -> usize
 /// The report of a no: the task is unfinished at the record.
 fn no_text(alloc: Global, records: &[Record], at: usize, task: u64) -> Result<String, AllocError>
     requires within { at < length records.now }
-    requires few { length records.now ≤ 2 ^ 22 }
+    requires few { length records.now ≤ max_records }
     ensures { IfOk result (λ text. string_bytes text ≡ no_text records.now at task) }
 {
     let place = Place::of(records, at);
@@ -94,7 +95,7 @@ fn malformed_text(
     cause: Cause,
 ) -> Result<String, AllocError>
     requires within { at < length records.now }
-    requires few { length records.now ≤ 2 ^ 22 }
+    requires few { length records.now ≤ max_records }
     ensures { IfOk result (λ text. string_bytes text ≡ malformed_text records.now at cause) }
 {
     let place = Place::of(records, at);
@@ -115,7 +116,7 @@ impl Place {
     /// The place of the record; the file's line 1 is the header.
     fn of(records: &[Record], at: usize) -> Place
         requires within { at < length records.now }
-        requires few { length records.now ≤ 2 ^ 22 }
+        requires few { length records.now ≤ max_records }
         ensures { place_text result.line result.thread result.seq ≡ place_of records.now at }
     {
         let event = &records[at];

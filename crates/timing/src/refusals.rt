@@ -1,7 +1,8 @@
-//! Lists of records that are no trace for a reason that no file has.
+//! Lists of records that are no trace for a reason that no file has, and a thread's buffer.
 use anyhow::Result;
 use ompt_events::{Body, CancelFlags, Claim, Endpoint, Path, Record, Status, TaskFlags, Trace};
 use std::alloc::{AllocError, Global};
+use thread_buffers::Buffer;
 
 /// Prints of each list where it is refused, and how many records come back.
 pub fn all(rt: &HostRuntime) -> Result<()> {
@@ -21,6 +22,19 @@ pub fn all(rt: &HostRuntime) -> Result<()> {
             }
         }
     }
+    buffered(rt)
+}
+
+/// Prints what a buffer of thread 3 holds after one record.
+fn buffered(rt: &HostRuntime) -> Result<()> {
+    let mut buffer = Buffer::new(rt.alloc(), 3);
+    buffer.reserve_one()?;
+    buffer.push_reserved(begins(TaskFlags::INITIAL, Endpoint::Begin));
+    let thread = buffer.thread();
+    let count = buffer.len();
+    let same = buffer.records().len() == count;
+    let given_back = buffer.into_records().len();
+    println!(rt; "thread {thread}: {count} record, {given_back} given back, {same}")?;
     Ok(())
 }
 
