@@ -18,8 +18,8 @@ abbrev pub IsLineGiven : ℕ → List ℕ → Option (List ℕ) → Type 0
 IsLineGiven n bytes None = ⊥
 IsLineGiven n bytes (Some left) = (1 ≤ n) × (n + line_feeds left ≤ line_feeds bytes + 1)
 
--- a fault that is told in the line of number n is that of the file, or one of the device or of memory while that line was read
--- and no line before it has a fault
+-- a fault that is told in the line of number n is that of the file, or one of the device or of memory while that line
+-- was read, and then no line before it has a fault
 abbrev pub IsToldRightly : ReadCause → ℕ → List ℕ → Option (List ℕ) → Type 0
 IsToldRightly Device n bytes left = IsLineAfterGiven n bytes left × IsFaultlessBefore n bytes
 IsToldRightly TurnsSpent n bytes left = IsLineAfterGiven n bytes left × IsFaultlessBefore n bytes
