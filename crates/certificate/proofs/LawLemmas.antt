@@ -193,15 +193,19 @@ said_of_fault (Ok rs) f e = absurd (fault_not_ok (trace_of rs) f e)
 said_of_fault (Err f') f e = let same : f' ≡ f = cc in ap Err same
 
 pub stands_for : (bytes : List ℕ) (trace : TraceView) → file_says bytes ≡ Ok trace → StandsFor bytes trace
+unfolding file_says
 stands_for bytes trace e = said_stands bytes trace.records (said_of_trace (records_said bytes) trace e)
 
 pub said_of_stands : (bytes : List ℕ) (trace : TraceView) → StandsFor bytes trace → file_says bytes ≡ Ok trace
+unfolding file_says
 said_of_stands bytes trace stands = ap (result_map_both trace_of (λ fault. fault)) (stands_said bytes trace stands)
 
 pub first_fault : (bytes : List ℕ) (f : ReadFault) → file_says bytes ≡ Err f → IsFirstFault bytes f
+unfolding file_says
 first_fault bytes f e = said_first bytes f (said_of_fault (records_said bytes) f e)
 
 pub said_of_first : (bytes : List ℕ) (f : ReadFault) → IsFirstFault bytes f → file_says bytes ≡ Err f
+unfolding file_says
 said_of_first bytes f fault = ap (result_map_both trace_of (λ fault. fault)) (first_said bytes f fault)
 
 -- ---- lines that were read before have no fault

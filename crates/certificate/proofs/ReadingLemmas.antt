@@ -113,7 +113,12 @@ IsBetween-line (Some bytes) n kept kept' w len (Some l) at short adds now =
 -- ---- the ends
 
 fault_said : (bytes : List ℕ) (f : ReadFault) → records_said bytes ≡ Err f → file_says bytes ≡ Err f
+unfolding file_says
 fault_said bytes f e = ap (result_map_both trace_of (λ fault. fault)) e
+
+records_file : (bytes : List ℕ) (rs : List Record) → records_said bytes ≡ Ok rs → file_says bytes ≡ Ok (trace_of rs)
+unfolding file_says
+records_file bytes rs e = ap (result_map_both trace_of (λ fault. fault)) e
 
 told_of_text : (e : ReadCause) (n : ℕ) (bytes : List ℕ) (left : Option (List ℕ)) → IsFileText e → file_says bytes ≡ Err (fault_in n e) → IsToldRightly e n bytes left
 told_of_text Device n bytes left is h = absurd is
@@ -235,15 +240,15 @@ IsAfter-none_first known n kept w left first shows now = by_known known (IsAfter
     by_known None h = tt
     by_known (Some bytes) h = fault_said bytes _ (h ∙ ap (λ b. go_on n (cond b (Err Header) (Ok kept)) Ok) is)
 
-pub IsAfter-none : (known : Option (List ℕ)) (n : ℕ) (kept : List Record) (w : List ℕ) (left : Option (List ℕ)) → n ≢ 1 → ShowsLine None w left → IsBetween known n kept w left → IfSome known (λ bytes. records_said bytes ≡ Ok kept)
+pub IsAfter-none : (known : Option (List ℕ)) (n : ℕ) (kept : List Record) (w : List ℕ) (left : Option (List ℕ)) → n ≢ 1 → ShowsLine None w left → IsBetween known n kept w left → IfSome known (λ bytes. file_says bytes ≡ Ok (trace_of kept))
 IsAfter-none known n kept w left later shows now = by_known known (IsAfter-end known n kept w left shows.0 shows.1 now)
   where
     is : (n == 1) ≡ false
     is = grind arith
 
-    by_known : (o : Option (List ℕ)) → IfSome o (λ bytes. records_said bytes ≡ go_on n (cond (n == 1) (Err Header) (Ok kept)) Ok) → IfSome o (λ bytes. records_said bytes ≡ Ok kept)
+    by_known : (o : Option (List ℕ)) → IfSome o (λ bytes. records_said bytes ≡ go_on n (cond (n == 1) (Err Header) (Ok kept)) Ok) → IfSome o (λ bytes. file_says bytes ≡ Ok (trace_of kept))
     by_known None h = tt
-    by_known (Some bytes) h = h ∙ ap (λ b. go_on n (cond b (Err Header) (Ok kept)) Ok) is
+    by_known (Some bytes) h = records_file bytes kept (h ∙ ap (λ b. go_on n (cond b (Err Header) (Ok kept)) Ok) is)
 
 -- ---- how many records there are
 

@@ -99,7 +99,7 @@ path-too_long vs some long = by_whole (each whole_of (items_view vs)) some (leng
         let no : nat_le (length ns) max_depth ≡ false = grind arith in
         rw no
 
-pub path-read : (vs : List Value) (i : ℕ) (ns : List ℕ) → each whole_of (items_view vs) ≡ option_map (λ ms. ns ++ ms) (each whole_of (items_view (drop i vs))) → list_all is_short ns ≡ true → length vs ≤ i → length vs ≤ 1024 → Ok ns ≡ bounded path_fits (each whole_of (items_view vs))
+pub path-read : (vs : List Value) (i : ℕ) (ns : List ℕ) → each whole_of (items_view vs) ≡ option_map (λ ms. ns ++ ms) (each whole_of (items_view (drop i vs))) → list_all is_short ns ≡ true → length vs ≤ i → length vs ≤ max_depth → Ok ns ≡ bounded path_fits (each whole_of (items_view vs))
 path-read vs i ns is short past few =
     let all : each whole_of (items_view vs) ≡ Some ns = each-read whole_of vs i ns is past in
     let len : length ns ≡ length vs = length-each whole_of vs ns all in

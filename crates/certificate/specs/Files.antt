@@ -84,7 +84,7 @@ abbrev pub trace_of : List Record → TraceView
 trace_of records = record { records = records }
 
 -- the trace that a file stands for, or its first faulty line and the cause
-abbrev pub file_says : List ℕ → Result TraceView ReadFault
+unfoldable pub file_says : List ℕ → Result TraceView ReadFault
 file_says bytes = result_map_both trace_of (λ fault. fault) (records_said bytes)
 
 -- ---- the same, line by line

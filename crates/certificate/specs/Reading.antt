@@ -6,7 +6,7 @@ use Rattle.ompt_events.specs.Traces.{TraceView}
 use Rattle.certificate.specs.declared.faults.ReadCause.{ReadCause}
 use Rattle.certificate.specs.declared.faults.ReadCause.TheVariants.{Device, Memory, Header, NotJson, Field, Limit, TurnsSpent}
 use Rattle.certificate.specs.declared.faults.ReadFault.{ReadFault}
-use Rattle.certificate.specs.Files.{file_says, records_said, rest_says, fault_in, line_feeds, IsFaultlessBefore}
+use Rattle.certificate.specs.Files.{file_says, records_said, trace_of, rest_says, fault_in, line_feeds, IsFaultlessBefore}
 
 -- n is one more than the line feeds that were given, where these bytes are left
 abbrev pub IsLineAfterGiven : ℕ → List ℕ → Option (List ℕ) → Type 0
@@ -18,8 +18,8 @@ abbrev pub IsLineGiven : ℕ → List ℕ → Option (List ℕ) → Type 0
 IsLineGiven n bytes None = ⊥
 IsLineGiven n bytes (Some left) = (1 ≤ n) × (n + line_feeds left ≤ line_feeds bytes + 1)
 
--- a fault that is told in the line of number n is that of the file, or one of the device or of memory while that line was read
--- and no line before it has a fault
+-- a fault that is told in the line of number n is that of the file, or one of the device or of memory while that line
+-- was read, and then no line before it has a fault
 abbrev pub IsToldRightly : ReadCause → ℕ → List ℕ → Option (List ℕ) → Type 0
 IsToldRightly Device n bytes left = IsLineAfterGiven n bytes left × IsFaultlessBefore n bytes
 IsToldRightly TurnsSpent n bytes left = IsLineAfterGiven n bytes left × IsFaultlessBefore n bytes
@@ -42,7 +42,7 @@ IsBetween (Some bytes) n kept window (Some left) = (records_said bytes ≡ rest_
 -- after the line of number n was read: there was one, there was none, or it has a fault
 abbrev pub IsAfter : Result Bool ReadCause → Option (List ℕ) → ℕ → List Record → List ℕ → Option (List ℕ) → Type 0
 IsAfter (Ok true) known n kept window left = IsBetween known (n + 1) kept window left
-IsAfter (Ok false) known n kept window left = IfSome known (λ bytes. records_said bytes ≡ Ok kept)
+IsAfter (Ok false) known n kept window left = IfSome known (λ bytes. file_says bytes ≡ Ok (trace_of kept))
 IsAfter (Err cause) known n kept window left = IfSome known (λ bytes. IsToldRightly cause n bytes left)
 
 -- how the line of number n adds to the records, where it has no fault

@@ -6,6 +6,9 @@ ghost use Rattle.certificate.specs.Counts.{agains_after, breaks_after, stalls_af
 
 use thiserror::Error;
 
+/// How often a device may ask for another turn in one call. The next time ends the call.
+pub(crate) const MAX_TURNS: u32 = 10_000;
+
 /// Why a device did not do what it was asked.
 #[derive(Clone, Copy, Debug, PartialEq, Eq, Error)]
 pub enum DeviceFault {

@@ -8,16 +8,13 @@ ghost use Rattle.certificate.specs.Counts.{TakesTurns, breaks_told, cause_told};
 ghost use Rattle.certificate.specs.Reading.{IsAnswer, IsBetween, IsAfter, Grows};
 ghost use Rattle.certificate.specs.Windows.{ShowsLine, ShowsFault, IsDeviceFault};
 
-use crate::device::{DeviceFault, Source};
+use crate::device::{DeviceFault, MAX_TURNS, Source};
 use crate::faults::{ReadCause, ReadFault};
 use crate::kept::Kept;
 use crate::lines::{header, record_of};
 use crate::window::{MAX_LINE, Window};
 use ompt_events::{MAX_RECORDS, Trace};
 use std::alloc::Global;
-
-/// How often a source may answer `Again` in one call. The next such answer ends it.
-const MAX_TURNS: u32 = 10_000;
 
 /// The number of the last line that is read: after the header and the records, one that is too many.
 const LAST_LINE: u32 = 2 + MAX_RECORDS as u32;
@@ -65,7 +62,7 @@ fn read_line<S: Source>(
     kept: &mut Kept,
 ) -> Result<bool, ReadCause>
     requires line { 1 ≤ line }
-    requires turns { turns.old ≤ 10000 }
+    requires turns { turns.old ≤ MAX_TURNS }
     ensures after { (known : Option (List ℕ)) → IsBetween known line kept.old window.old (S.remaining source.old)
         → IsAfter result known line kept.new window.new (S.remaining source.new) }
     ensures grows { result ≡ Ok true → Grows line kept.old kept.new }
@@ -100,7 +97,7 @@ fn next_line<S: Source>(
     source: &mut S,
     turns: &mut u32,
 ) -> Result<Option<usize>, ReadCause>
-    requires { turns.old ≤ 10000 }
+    requires { turns.old ≤ MAX_TURNS }
     ensures bytes { Keeps (prepend_known window.old (S.remaining source.old))
         (prepend_known window.new (S.remaining source.new)) }
     ensures found { IfOk result (λ found. ShowsLine found window.new (S.remaining source.new)) }
@@ -128,7 +125,7 @@ fn next_line<S: Source>(
 /// Takes more bytes from the source, and asks again as long as it wants that and has turns left.
 fn ask<S: Source>(window: &mut Window, source: &mut S, turns: &mut u32) -> Result<usize, ReadCause>
     requires window { length window.old ≤ MAX_LINE }
-    requires turns { turns.old ≤ 10000 }
+    requires turns { turns.old ≤ MAX_TURNS }
     ensures bytes { Keeps (prepend_known window.old (S.remaining source.old))
         (prepend_known window.new (S.remaining source.new)) }
     ensures more { IfOk result (λ count. length window.new ≡ length window.old + count) }

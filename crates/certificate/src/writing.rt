@@ -4,14 +4,11 @@ ghost use Rattle.std.specs.Io.KnownBytes.{Appends, Keeps};
 ghost use Rattle.certificate.specs.Counts.{TakesStalls, breaks_written, count_more, next_count, stalls_after};
 ghost use Rattle.certificate.specs.Texts.{header_line, line_of, trace_text};
 
-use crate::device::{DeviceFault, Sink};
+use crate::device::{DeviceFault, MAX_TURNS, Sink};
 use crate::faults::WriteFault;
 use crate::texts::{header_line, line_of};
 use ompt_events::{Record, Trace};
 use std::alloc::Global;
-
-/// How often a sink may answer `Again` or take no byte of some in one call. The next such answer ends it.
-const MAX_TURNS: u32 = 10_000;
 
 /// The lines that wait are handed over once they have so many bytes.
 const BLOCK: usize = 65_536;

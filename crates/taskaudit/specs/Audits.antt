@@ -2,6 +2,7 @@
 use Rattle.std.specs.Prelude.{◌≡◌, ◌⊎◌, ℕ, ◌+◌, List, take, Option, IfSome, Some, None, Result, Ok, Err, ⊤}
 use Rattle.std.specs.Io.KnownBytes.{Appends, Keeps}
 use Rattle.ompt_events.specs.declared.records.Record.{Record}
+use Rattle.ompt_events.specs.Traces.{TraceView}
 use Rattle.ompt_events.specs.Linearization.{IsLinearization}
 use Rattle.certificate.specs.declared.faults.ReadCause.{ReadCause}
 use Rattle.certificate.specs.declared.faults.WriteFault.{WriteFault}
@@ -25,29 +26,29 @@ pub record KeepsItsWaits (rs : List Record) : Type 0 where
   pub has_order : IsLinearization rs order
   pub always_complete : IsAlwaysComplete rs
 
--- the bytes that were read, where they are known, are a file for the records, each of a form that a check takes,
+-- the bytes that were read, where they are known, are a file for the trace, each record of a form that a check takes,
 -- and this is the records' verdict
-pub record IsJudged (bytes : Option (List ℕ)) (rs : List Record) (verdict : Verdict) : Type 0 where
-  pub file : IfSome bytes (λ known. file_says known ≡ Ok rs)
-  pub taken : AreAudited rs
-  pub right : IsVerdict rs verdict
+pub record IsJudged (bytes : Option (List ℕ)) (trace : TraceView) (verdict : Verdict) : Type 0 where
+  pub file : IfSome bytes (λ known. file_says known ≡ Ok trace)
+  pub taken : AreAudited trace.records
+  pub right : IsVerdict trace.records verdict
 
 -- the report of the verdict was written, and nothing else, and the outcome is the verdict's kind
 pub record Reports (bytes old new : Option (List ℕ)) (outcome : Outcome) : Type 0 where
-  pub records : List Record
+  pub trace : TraceView
   pub verdict : Verdict
-  pub judged : IsJudged bytes records verdict
-  pub written : Appends old new (report_of records verdict)
+  pub judged : IsJudged bytes trace verdict
+  pub written : Appends old new (report_of trace.records verdict)
   pub kind : outcome ≡ outcome_of verdict
-  pub kept : outcome ≡ Yes → KeepsItsWaits records
+  pub kept : outcome ≡ Yes → KeepsItsWaits trace.records
 
 -- the report was written up to somewhere
 pub record BreaksOff (bytes old new : Option (List ℕ)) : Type 0 where
-  pub records : List Record
+  pub trace : TraceView
   pub verdict : Verdict
-  pub judged : IsJudged bytes records verdict
+  pub judged : IsJudged bytes trace verdict
   pub count : ℕ
-  pub written : Appends old new (take count (report_of records verdict))
+  pub written : Appends old new (take count (report_of trace.records verdict))
 
 -- what a fault leaves: a prefix of the report where the sink failed, and else nothing
 abbrev pub Leaves : Option (List ℕ) → Option (List ℕ) → Option (List ℕ) → AuditFault → Type 0
@@ -58,12 +59,12 @@ Leaves bytes old new _ = Keeps old new
 abbrev pub not_taken : ℕ → AuditFault
 not_taken i = Read (fault_in (i + 2) Field)
 
--- the bytes are a file for records of which this is the first that a check doesn't take
+-- the bytes are a file for a trace of whose records this is the first that a check doesn't take
 pub record IsNotTaken (bytes : List ℕ) (fault : AuditFault) : Type 0 where
-  pub records : List Record
-  pub file : file_says bytes ≡ Ok records
+  pub trace : TraceView
+  pub file : file_says bytes ≡ Ok trace
   pub place : ℕ
-  pub unaudited : IsFirstUnaudited records place
+  pub unaudited : IsFirstUnaudited trace.records place
   pub told : fault ≡ not_taken place
 
 -- a fault of the input is the file's first one, or one of the source or of memory while the line was read,

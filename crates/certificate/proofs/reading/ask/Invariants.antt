@@ -1,5 +1,6 @@
-use Rattle.std.proofs.Common.{◌≡◌, ◌-◌, ◌≤◌}
+use Rattle.std.proofs.Common.{◌+◌, ◌≡◌, ◌-◌, ◌≤◌}
 use Rattle.std.specs.Io.KnownBytes.{Keeps, prepend_known}
+use Rattle.certificate.specs.Limits.{max_turns}
 use Rattle.certificate.specs.Counts.{count_more}
 use Rattle.certificate.proofs.reading.ask.Given as goal
 
@@ -8,10 +9,10 @@ invariant-turns g l = record {
   window : l.window ≡ l.fn.window;
   bytes : Keeps (prepend_known l.fn.window (g.S.Source.remaining l.fn.source)) (prepend_known l.window (g.S.Source.remaining l.source));
   later : l.fn.turns ≤ l.turns;
-  within : l.turns ≤ 10001;
+  within : l.turns ≤ max_turns + 1;
   counted : g.S.Source.agains l.source ≡ count_more (g.S.Source.agains l.fn.source) (l.turns - l.fn.turns);
   breaks : g.S.Source.breaks l.source ≡ g.S.Source.breaks l.fn.source;
 }
 
 abbrev pub decreases-turns : goal.decreases-turns
-decreases-turns g l = 10001 - l.turns
+decreases-turns g l = max_turns + 1 - l.turns

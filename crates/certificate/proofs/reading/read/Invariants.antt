@@ -1,5 +1,6 @@
 use Rattle.std.proofs.Common.{◌≡◌, ◌-◌, ◌^◌, ◌≤◌, length}
 use Rattle.std.specs.Prelude.{None}
+use Rattle.ompt_events.specs.Limits.{max_records}
 use Rattle.certificate.specs.Counts.{TakesTurns}
 use Rattle.certificate.specs.Reading.{IsBetween}
 use Rattle.certificate.proofs.reading.read.Given as goal
@@ -11,5 +12,5 @@ invariant-lines g l = record {
   turns : TakesTurns None 0 l.turns (g.S.Source.agains l.fn.source) (g.S.Source.agains l.source);
   breaks : g.S.Source.breaks l.source ≡ g.S.Source.breaks l.fn.source;
   counted : length l.kept ≡ l.line - 2;
-  room : length l.kept ≤ 2 ^ 22;
+  room : length l.kept ≤ max_records;
 }

@@ -1,5 +1,6 @@
 use Rattle.std.proofs.Common.{◌≡◌, ◌+◌, ◌≤◌, refl, arith, ◌∙◌, length, length-drop}
 use Rattle.std.proofs.lemmas.List.{take_rest}
+use Rattle.certificate.specs.Limits.{max_turns}
 use Rattle.certificate.proofs.CountLemmas.{stalls-none, stalls-some}
 use Rattle.certificate.proofs.WritingLemmas.{Appends-none, Appends-more}
 use Rattle.certificate.proofs.writing.send.Goals as goal
@@ -16,7 +17,7 @@ bytes-init g c = record {
 
 pub returns-then-turns-gt-MAX_TURNS-clause-ended : goal.returns-then-turns-gt-MAX_TURNS-clause-ended
 returns-then-turns-gt-MAX_TURNS-clause-ended g c =
-    let last : c.bytes.turns + 1 ≡ 10001 = omega (arith, c.bytes.invariant.few) in
+    let last : c.bytes.turns + 1 ≡ max_turns + 1 = omega (arith, c.bytes.invariant.few) in
     λ start is. (
       c.bytes.turns + 1,
       record {

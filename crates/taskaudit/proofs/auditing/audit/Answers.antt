@@ -1,0 +1,39 @@
+use Rattle.std.proofs.Common.{rules, ◌≡◌, ◌∙◌, ℕ, List, Ok, take, subst}
+use Rattle.std.specs.Prelude.{IfSome}
+use Rattle.std.specs.String.{string_bytes}
+use Rattle.std.specs.Io.KnownBytes.{Appends}
+use Rattle.taskaudit.specs.Audits.{IsJudged}
+use Rattle.certificate.specs.Files.{file_says}
+use Rattle.taskaudit.proofs.auditing.audit.Goals as goal
+
+pub returns-in-Ok-clause-reports : goal.returns-in-Ok-clause-reports
+returns-in-Ok-clause-reports g c =
+    let trace = c.in_ok-trace.trace in
+    let verdict = c.in_ok-verdict.verdict in
+    let read : c.read.result ≡ Ok trace = search rules in
+    let checked : c.check.result ≡ Ok verdict = search rules in
+    let P : List ℕ → Type 0 = λ text. Appends (g.O.Sink.contents c.args.sink.now) (g.O.Sink.contents c.write_bytes.new.sink) text in
+    record {
+      trace = trace;
+      verdict = verdict;
+      judged = record { file = rw read at c.read.ensures.file; taken = c.in_default.ensures; right = rw checked at c.check.ensures };
+      written = subst P (c.as_bytes.ensures.value ∙ c.in_ok-text.ensures.text) c.in-Ok.ensures.ok;
+      kind = c.of.ensures;
+      kept = λ yes. let kind = c.of.ensures in search rules;
+    }
+
+pub returns-clause-leaves : goal.returns-clause-leaves
+returns-clause-leaves g c =
+    let trace = c.in_ok-trace.trace in
+    let verdict = c.in_ok-verdict.verdict in
+    let read : c.read.result ≡ Ok trace = search rules in
+    let checked : c.check.result ≡ Ok verdict = search rules in
+    let part = c.in-Err.ensures.prefix in
+    let P : List ℕ → Type 0 = λ text. Appends (g.O.Sink.contents c.args.sink.now) (g.O.Sink.contents c.write_bytes.new.sink) (take part.0 text) in
+    record {
+      trace = trace;
+      verdict = verdict;
+      judged = record { file = rw read at c.read.ensures.file; taken = c.in_default.ensures; right = rw checked at c.check.ensures };
+      count = part.0;
+      written = subst P (c.as_bytes.ensures.value ∙ c.in_ok-text.ensures.text) part.1;
+    }
