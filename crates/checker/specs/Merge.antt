@@ -42,7 +42,8 @@ pub record IsLeastEntry (rs : List Record) (placed : List Bool) (least : Option 
       × (seen_at rs i ≡ entry)
 
 -- what is tested of the head of a thread
-pub record IsReadyHead (rs : List Record) (awaited : List (Option ℕ)) (placed : List Bool) (least : Option ℕ) (i : ℕ) : Type 0 where
+pub record IsReadyHead (rs : List Record) (awaited : List (Option ℕ)) (placed : List Bool)
+    (least : Option ℕ) (i : ℕ) : Type 0 where
   pub within : i < length rs
   pub is_created : (c : ℕ) → slice_get awaited i ≡ Some (Some c) → Stands placed c
   pub is_entered : (entry : ℕ) → least ≡ Some entry → seen_at rs i ≤ entry

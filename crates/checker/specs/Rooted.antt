@@ -39,14 +39,16 @@ abbrev pub AreRooted : List Record → List ℕ → Type 0
 AreRooted rs chain = (i task : ℕ) → Contains chain i → at made rs i ≡ Some task → IsRooted rs task
 
 -- a climb from a place ended: its chain reaches a root, or each task without a root is known as that
-pub record IsClimbed (rs : List Record) (makers : BTreeMap ℕ ℕ) (old new : List Mark) (chain : List ℕ) (reaches : Bool) (from : ℕ) : Type 0 where
+pub record IsClimbed (rs : List Record) (makers : BTreeMap ℕ ℕ) (old new : List Mark) (chain : List ℕ)
+    (reaches : Bool) (from : ℕ) : Type 0 where
   pub marks : MarksChain old new chain
   pub rooted : reaches ≡ true → AreRooted rs chain
   pub unrooted : reaches ≡ false → (i : ℕ) → mark_at new i ≡ Unrooted → IsStuck rs makers new i
   pub known : mark_at new from ≢ Unknown
 
 -- the marks after the task that is created at a place was settled: it has a mark, and marks stay
-pub record IsSettled (rs : List Record) (makers : BTreeMap ℕ ℕ) (old new : List Mark) (from : ℕ) : Type 0 where
+pub record IsSettled (rs : List Record) (makers : BTreeMap ℕ ℕ) (old new : List Mark)
+    (from : ℕ) : Type 0 where
   pub marks : AreMarks rs makers new
   pub known : mark_at new from ≢ Unknown
   pub stays : (i : ℕ) → mark_at old i ≢ Unknown → mark_at new i ≢ Unknown

@@ -24,7 +24,8 @@ use std::collections::BTreeMap;
 
 /// The verdict on the records: malformed with the lowest-numbered cause that occurs, at the first record that
 /// shows it; else no at the first end of a taskwait that covers an unfinished task; else yes with the greedy
-/// order. Fails only when out of memory. Every record must be of a supported form: `unaudited` finds no other.
+/// order. Fails only when out of memory. Every record must be of a supported form: `unaudited` finds no
+/// other.
 pub fn check(alloc: Global, trace: &Trace) -> Result<Verdict, CheckFault>
     requires { AreAudited trace.now.records }
     ensures { IfOk result (IsVerdict trace.now.records) }

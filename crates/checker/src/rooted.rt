@@ -132,7 +132,8 @@ fn climb(
     requires makers { AreMakers records.now (length records.now) makers.now }
     requires marks { AreMarks records.now makers.now marks.old.items }
     requires creates { is_some (at creation records.now from) ≡ true }
-    ensures { IfOk result (λ climb. IsClimbed records.now makers.now marks.old.items marks.new.items climb.0.items climb.1 from) }
+    ensures { IfOk result
+        (λ climb. IsClimbed records.now makers.now marks.old.items marks.new.items climb.0.items climb.1 from) }
 {
     let mut chain = Vec::new(alloc);
     let mut place = from;

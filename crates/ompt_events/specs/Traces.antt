@@ -50,12 +50,15 @@ ClaimInRange c = (c.kept < 2 ^ 32) × (c.root < 2 ^ 64) × All (λ n. n < 2 ^ 32
 abbrev pub BodyInRange : Body → Type 0
 BodyInRange (ThreadBegin kind) = ⊤
 BodyInRange ThreadEnd = ⊤
-BodyInRange (ParallelBegin requested task parallel) = (requested < 2 ^ 32) × (task < 2 ^ 64) × (parallel < 2 ^ 64)
+BodyInRange (ParallelBegin requested task parallel) =
+    (requested < 2 ^ 32) × (task < 2 ^ 64) × (parallel < 2 ^ 64)
 BodyInRange (ParallelEnd task parallel) = (task < 2 ^ 64) × (parallel < 2 ^ 64)
-BodyInRange (ImplicitTask endpoint actual index given parallel task) = (actual < 2 ^ 32) × (index < 2 ^ 32) × (parallel < 2 ^ 64) × (task < 2 ^ 64)
+BodyInRange (ImplicitTask endpoint actual index given parallel task) =
+    (actual < 2 ^ 32) × (index < 2 ^ 32) × (parallel < 2 ^ 64) × (task < 2 ^ 64)
 BodyInRange (TaskCreate deps given task child) = (task < 2 ^ 64) × (child < 2 ^ 64)
 BodyInRange (Dependences task list) = (task < 2 ^ 64) × All (λ d. d.var < 2 ^ 64) list
-BodyInRange (TaskSchedule status prior next share) = (prior < 2 ^ 64) × IfSome next (λ n. n < 2 ^ 64) × IfSome share ClaimInRange
+BodyInRange (TaskSchedule status prior next share) =
+    (prior < 2 ^ 64) × IfSome next (λ n. n < 2 ^ 64) × IfSome share ClaimInRange
 BodyInRange (SyncRegion kind endpoint parallel task) = IfSome parallel (λ n. n < 2 ^ 64) × (task < 2 ^ 64)
 BodyInRange (Cancel given task share) = (task < 2 ^ 64) × IfSome share ClaimInRange
 

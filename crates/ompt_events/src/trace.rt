@@ -39,13 +39,14 @@ impl Model for Trace {
 
 impl Trace {
     /// The trace of these records. Refused are the records, given back, and the place of the first one
-    /// that cannot stand in a trace: one past the limit on records or tasks, with a flag bit that has no name,
-    /// with a claim though it does not finish a task or with none though it does, with a next task that its
-    /// status forbids or without one that it demands, an implicit task's begin and end in one,
-    /// or with a path or a list of dependences that is too long. Takes no memory.
+    /// that cannot stand in a trace: one past the limit on records or tasks, with a flag bit that has no
+    /// name, with a claim though it does not finish a task or with none though it does, with a next task
+    /// that its status forbids or without one that it demands, an implicit task's begin and end in one, or
+    /// with a path or a list of dependences that is too long. Takes no memory.
     pub fn from_records(records: Vec<Record>) -> Result<Trace, (Vec<Record>, usize)>
         ensures accepted { IfOk result (λ trace. (trace.records ≡ records.items) × IsTrace records.items) }
-        ensures refused { IfErr result (λ refusal. (refusal.0.items ≡ records.items) × IsFirstRefused records.items refusal.1) }
+        ensures refused { IfErr result (λ refusal. (refusal.0.items ≡ records.items)
+            × IsFirstRefused records.items refusal.1) }
     {
         match first_refused(records.as_slice()) {
             Some(at) => Err((records, at)),

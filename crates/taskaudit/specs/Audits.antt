@@ -26,8 +26,8 @@ pub record KeepsItsWaits (rs : List Record) : Type 0 where
   pub has_order : IsLinearization rs order
   pub always_complete : IsAlwaysComplete rs
 
--- the bytes that were read, where they are known, are a file for the trace, each record of a form that a check takes,
--- and this is the records' verdict
+-- the bytes that were read, where they are known, are a file for the trace, each record of a form that a
+-- check takes, and this is the records' verdict
 pub record IsJudged (bytes : Option (List ℕ)) (trace : TraceView) (verdict : Verdict) : Type 0 where
   pub file : IfSome bytes (λ known. file_says known ≡ Ok trace)
   pub taken : AreAudited trace.records
@@ -70,7 +70,8 @@ pub record IsNotTaken (bytes : List ℕ) (fault : AuditFault) : Type 0 where
 -- a fault of the input is the file's first one, or one of the source or of memory while the line was read,
 -- or that of a whole file with a record that a check doesn't take; left is what the source has left
 abbrev pub IsReadRightly : Option (List ℕ) → Option (List ℕ) → AuditFault → Type 0
-IsReadRightly bytes left (Read f) = IfSome bytes (λ known. IsToldRightly f.cause f.line known left ⊎ IsNotTaken known (Read f))
+IsReadRightly bytes left (Read f) =
+    IfSome bytes (λ known. IsToldRightly f.cause f.line known left ⊎ IsNotTaken known (Read f))
 IsReadRightly bytes left _ = ⊤
 
 -- how the reading ended: well, or with this cause
@@ -83,8 +84,8 @@ abbrev pub written_of : Result Outcome AuditFault → Result (Unit {0}) WriteFau
 written_of (Err (Write f)) = Err f
 written_of _ = Ok tt
 
--- the sink's answers that ask for another turn, counted: with the 10,001st the writing ends, and where nothing was
--- written there was none
+-- the sink's answers that ask for another turn, counted: with the 10,001st the writing ends, and where
+-- nothing was written there was none
 abbrev pub AsksForTurns : Result Outcome AuditFault → ℕ → ℕ → Type 0
 AsksForTurns (Ok outcome) old new = (turns : ℕ) × TakesStalls (Ok tt) turns old new
 AsksForTurns (Err (Write f)) old new = (turns : ℕ) × TakesStalls (Err f) turns old new

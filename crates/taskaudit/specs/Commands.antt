@@ -8,7 +8,11 @@ use Rattle.taskaudit.specs.declared.work.Job.TheVariants.{Check}
 -- what clap reads of the command: it wants a subcommand, of which there is one, without arguments
 unfoldable pub command_line : App
 command_line = record {
-  top = record (new_app (codes "taskaudit")).top { is_leaf = false; subcommand_required = true; disable_help_subcommand = true };
+  top = record (new_app (codes "taskaudit")).top {
+    is_leaf = false;
+    subcommand_required = true;
+    disable_help_subcommand = true;
+  };
   subs = (new_app (codes "check")).top ∷ [];
 }
 

@@ -12,8 +12,8 @@ use Rattle.taskaudit.specs.Audits.{Leaves}
 use Rattle.taskaudit.specs.Commands.{command_line, AsksFor}
 use Rattle.taskaudit.specs.Statuses.{usage_status_of}
 
--- words are refused for what clap says of them, and nothing is written; an audit is refused only where the words ask
--- for one, and leaves what such a fault leaves
+-- words are refused for what clap says of them, and nothing is written; an audit is refused only where the
+-- words ask for one, and leaves what such a fault leaves
 abbrev pub IsRefused : List Text → Option (List ℕ) → Option (List ℕ) → Option (List ℕ) → Refusal → Type 0
 IsRefused words bytes old new NotText = ⊥
 IsRefused words bytes old new (Words error) = HasKind (fault_of command_line words) error × Keeps old new
@@ -25,5 +25,6 @@ abbrev pub IsTold : Result Outcome Refusal → Result Outcome Refusal → Type 0
 IsTold (Ok outcome) told = told ≡ Ok outcome
 IsTold (Err NotText) told = told ≡ Err NotText
 IsTold (Err (Words error)) told =
-    (told ≡ Err (Words error)) ⊎ ((usage_status_of (kind_of error) ≢ 4) × ((told ≡ Err (Audit (Write Device))) ⊎ (told ≡ Err (Audit Memory))))
+    (told ≡ Err (Words error)) ⊎ ((usage_status_of (kind_of error) ≢ 4)
+        × ((told ≡ Err (Audit (Write Device))) ⊎ (told ≡ Err (Audit Memory))))
 IsTold (Err (Audit fault)) told = (told ≡ Err (Audit fault)) ⊎ (told ≡ Err (Audit Memory))

@@ -31,22 +31,36 @@ waits_in rs = count_by (λ r. ends_wait r.body) rs
 
 -- where a record stands, in words
 abbrev pub place_text : ℕ → ℕ → ℕ → List ℕ
-place_text line thread seq = codes "line " ++ (decimal line ++ (codes ", thread " ++ (decimal thread ++ (codes ", seq " ++ decimal seq))))
+place_text line thread seq =
+    codes "line " ++ (decimal line
+    ++ (codes ", thread " ++ (decimal thread
+    ++ (codes ", seq " ++ decimal seq))))
 
 -- the same of the record at the place i: line 1 of the file is the header
 abbrev pub place_of : List Record → ℕ → List ℕ
-place_of rs i = place_text (i + 2) (option_map_or (λ r. r.thread) (slice_get rs i) 0) (option_map_or (λ r. r.seq) (slice_get rs i) 0)
+place_of rs i =
+    place_text (i + 2) (option_map_or (λ r. r.thread) (slice_get rs i) 0)
+        (option_map_or (λ r. r.seq) (slice_get rs i) 0)
 
 abbrev pub yes_text : List Record → List ℕ
-yes_text rs = codes "yes: " ++ (decimal (length rs) ++ (codes " records, " ++ (decimal (entries_in rs) ++ (codes " entries, " ++ (decimal (creates_in rs) ++ (codes " tasks, " ++ (decimal (waits_in rs) ++ codes " waits\n")))))))
+yes_text rs =
+    codes "yes: " ++ (decimal (length rs)
+    ++ (codes " records, " ++ (decimal (entries_in rs)
+    ++ (codes " entries, " ++ (decimal (creates_in rs)
+    ++ (codes " tasks, " ++ (decimal (waits_in rs)
+    ++ codes " waits\n")))))))
 
 -- the task is unfinished at the place i
 abbrev pub no_text : List Record → ℕ → ℕ → List ℕ
-no_text rs i task = codes "no: " ++ (place_of rs i ++ (codes ": task " ++ (decimal task ++ codes " unfinished\n")))
+no_text rs i task =
+    codes "no: " ++ (place_of rs i ++ (codes ": task " ++ (decimal task ++ codes " unfinished\n")))
 
 -- the record at the place i has the cause
 abbrev pub malformed_text : List Record → ℕ → Cause → List ℕ
-malformed_text rs i cause = codes "malformed: " ++ (place_of rs i ++ (codes ": cause " ++ (decimal (cause_number cause) ++ (codes " " ++ (cause_name cause ++ codes "\n")))))
+malformed_text rs i cause =
+    codes "malformed: " ++ (place_of rs i
+    ++ (codes ": cause " ++ (decimal (cause_number cause)
+    ++ (codes " " ++ (cause_name cause ++ codes "\n")))))
 
 -- the report of a verdict
 abbrev pub report_of : List Record → Verdict → List ℕ
@@ -61,12 +75,15 @@ no_memory_line = codes "out of memory"
 -- the input could not be read
 abbrev pub unreadable_line : ℕ → ReadCause → List ℕ
 unreadable_line line read.Memory = no_memory_line
-unreadable_line line cause = codes "unreadable: line " ++ (decimal line ++ (codes ": " ++ (decimal (read_cause_number cause) ++ (codes " " ++ read_cause_name cause))))
+unreadable_line line cause =
+    codes "unreadable: line " ++ (decimal line
+    ++ (codes ": " ++ (decimal (read_cause_number cause) ++ (codes " " ++ read_cause_name cause))))
 
 -- the report could not be written
 abbrev pub unwritten_line : WriteFault → List ℕ
 unwritten_line write.Memory = no_memory_line
-unwritten_line cause = codes "unwritten: " ++ (decimal (write_fault_number cause) ++ (codes " " ++ write_fault_name cause))
+unwritten_line cause =
+    codes "unwritten: " ++ (decimal (write_fault_number cause) ++ (codes " " ++ write_fault_name cause))
 
 abbrev pub fault_line : AuditFault → List ℕ
 fault_line (fault.Read f) = unreadable_line f.line f.cause

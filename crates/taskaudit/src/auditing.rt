@@ -44,7 +44,8 @@ pub fn audit<I: Source, O: Sink>(
     }
 }
 
-/// The fault of a file of which a check does not take the record at this place; the file's line 1 is the header.
+/// The fault of a file of which a check does not take the record at this place; the file's line 1 is the
+/// header.
 fn not_taken(at: usize) -> AuditFault
     requires { at < max_records }
     ensures { result ≡ not_taken at }

@@ -14,7 +14,8 @@ use clap::error::ErrorKind;
 use std::alloc::Global;
 use std::convert::AsStr;
 
-/// Does what the words of the command line ask for (the first of them is the program's name), on this input and output.
+/// Does what the words of the command line ask for (the first of them is the program's name), on this input
+/// and output.
 pub fn serve<S: AsStr, I: Source, O: Sink>(
     alloc: Global,
     words: &[S],

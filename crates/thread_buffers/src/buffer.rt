@@ -8,8 +8,8 @@ use ompt_events::{MAX_RECORDS, Record};
 use std::alloc::Global;
 use std::marker::Model;
 
-/// The records that one thread has made so far, in order. Room for a record is taken before the record is made,
-/// so that pushing it cannot fail.
+/// The records that one thread has made so far, in order. Room for a record is taken before the record is
+/// made, so that pushing it cannot fail.
 #[derive(Drop)]
 pub struct Buffer {
     thread: u8,

@@ -1,5 +1,5 @@
-//! A buffer for each thread that records. Room is reserved before a record is made, so recording it cannot fail.
-//! Read `buffer`: `reserve_one`, then `push_reserved`.
+//! A buffer for each thread that records. Room is reserved before a record is made, so recording it cannot
+//! fail. Read `buffer`: `reserve_one`, then `push_reserved`.
 #![tactic(auto)]
 
 mod buffer;

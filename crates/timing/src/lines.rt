@@ -38,7 +38,8 @@ pub fn lines_of(alloc: Global, bytes: &[u8]) -> Result<Vec<&[u8]>> {
     Ok(lines)
 }
 
-/// For each line of standard input, as line 2 of a file: the line that is written of its record, or the fault.
+/// For each line of standard input, as line 2 of a file: the line that is written of its record, or the
+/// fault.
 pub fn each(rt: &HostRuntime) -> Result<()> {
     let bytes = input(rt)?;
     for line in lines_of(rt.alloc(), &bytes)?.iter() {

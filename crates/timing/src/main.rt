@@ -1,5 +1,5 @@
-//! Runs one layer alone on standard input. `bench/` times the words `values`, `read` and `write`; `tests/` compares
-//! what the other words print. Nothing is promised but safety. Begin at `run`.
+//! Runs one layer alone on standard input. `bench/` times the words `values`, `read` and `write`; `tests/`
+//! compares what the other words print. Nothing is promised but safety. Begin at `run`.
 #![tactic(auto)]
 
 mod devices;

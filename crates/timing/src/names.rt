@@ -6,7 +6,8 @@ use certificate::{ReadCause, WriteFault};
 use ompt_events::{CancelFlags, Cause, DepKind, Endpoint, Status, SyncKind, TaskFlags, ThreadKind};
 use std::alloc::Global;
 
-/// For each line of standard input, a name: the values that have it, each with its own name, and what it says by itself.
+/// For each line of standard input, a name: the values that have it, each with its own name, and what it
+/// says by itself.
 pub fn each(rt: &HostRuntime) -> Result<()> {
     let bytes = input(rt)?;
     for line in lines_of(rt.alloc(), &bytes)?.iter() {

@@ -4,8 +4,9 @@ use anyhow::{Result, bail};
 use credit::{Purse, Share};
 use std::alloc::Global;
 
-/// Does what each line of standard input says to one purse, and prints the answer. A share is written by its halves,
-/// K for one that is kept and G for one that is given away; `whole` is the share without halves.
+/// Does what each line of standard input says to one purse, and prints the answer. A share is written by
+/// its halves, K for one that is kept and G for one that is given away; `whole` is the share without
+/// halves.
 pub fn each(rt: &HostRuntime) -> Result<()> {
     let bytes = input(rt)?;
     let mut purse = Purse::new(rt.alloc());
