@@ -1,16 +1,13 @@
 -- Flags that were written by their names are read back.
-use Rattle.std.proofs.Common.{◌≡◌, ℕ, zero, suc, ◌+◌, ◌++◌, length, take, get_or, ◌*◌, ◌<◌, ◌^◌, Bool, true, false, cond, List, [], ◌∷◌, map, Some, arith, refl, sym, ap, ◌∙◌, eqb-true, eq-eqb, true≢false}
+use Rattle.std.proofs.Common.{◌≡◌, ℕ, zero, suc, ◌*◌, ◌<◌, ◌^◌, Bool, true, false, cond, List, [], ◌∷◌, map, Some, arith, refl, sym, ap, ◌∙◌, eqb-true, eq-eqb, true≢false}
 use Rattle.std.specs.List.{AllByRecursion}
 use Rattle.std.specs.Int.{bit_at}
 use Rattle.std.specs.Int.RustNames.{bit_and, bit_or}
 use Rattle.std.proofs.lemmas.Nat.{and_le_r}
 use Rattle.std.proofs.lemmas.Nat.Bits.{and_pow, bit_at-lt, bit_at_and, bit_at_or, bit_at-zero, same_from_bits}
-use Rattle.std.proofs.lemmas.List.{take_more, map-append, append-nil}
-use Rattle.bitflags.proofs.Tables.{row-at}
 use Rattle.bitflags.specs.Sets.{Row, find_row, find_name, known_from}
 use Rattle.serde_json.specs.Data.{string}
-use Rattle.serde_json.specs.View.{items_of, view}
-use Rattle.serde_json.specs.declared.value.Value.{Value}
+use Rattle.serde_json.specs.View.{items_of}
 use Rattle.ompt_events.specs.Flags as table
 use Rattle.ompt_events.specs.Flags.{has_flag}
 use Rattle.ompt_events.specs.Traces.{AreNamed}
@@ -74,40 +71,3 @@ task_flags-read bits named = flags_from-flag_names table.task_flags bits task_ro
 
 pub cancel_flags-read : (bits : ℕ) → AreNamed table.cancel_flags bits → flags_from table.cancel_flags 0 (items_of (map string (flag_names table.cancel_flags bits))) ≡ Some bits
 cancel_flags-read bits named = flags_from-flag_names table.cancel_flags bits cancel_rows named
-
--- ---- the names one after another
-
-flag_names-more : (rows : List Row) (row : Row) (bits : ℕ) → flag_names (rows ++ row ∷ []) bits ≡ flag_names rows bits ++ cond (has_flag bits row.1) (row.0 ∷ []) []
-unfolding flag_names
-flag_names-more [] row bits = refl
-flag_names-more (first ∷ rows) row bits = by_flag (has_flag bits first.1) (flag_names-more rows row bits)
-  where
-    more : List (List ℕ)
-    more = cond (has_flag bits row.1) (row.0 ∷ []) []
-
-    by_flag : (b : Bool) → flag_names (rows ++ row ∷ []) bits ≡ flag_names rows bits ++ more
-        → cond b (first.0 ∷ flag_names (rows ++ row ∷ []) bits) (flag_names (rows ++ row ∷ []) bits) ≡ cond b (first.0 ∷ flag_names rows bits) (flag_names rows bits) ++ more
-    by_flag true same = ap (λ ns. first.0 ∷ ns) same
-    by_flag false same = same
-
--- the names up to one place more
-flag_names-step : {X : Type 0} (row : X → Row) (flags : List X) (table : List Row) (bits i : ℕ) (x : X) → map row flags ≡ table → i < length flags → x ≡ get_or flags i x
-    → flag_names (take (i + 1) table) bits ≡ flag_names (take i table) bits ++ cond (has_flag bits (row x).1) ((row x).0 ∷ []) []
-flag_names-step row flags table bits i x same within here =
-    let at = row-at row flags table i x same within here in
-    rw (take_more table i (row x) at.0, at.1) (flag_names-more (take i table) (row x) bits)
-
--- the values of the names, where the next flag is among the bits
-pub flag_names-with : {X : Type 0} (row : X → Row) (flags : List X) (table : List Row) (bits i : ℕ) (x : X) (old new : List Value) (v : Value) → map row flags ≡ table → i < length flags → x ≡ get_or flags i x
-    → map view old ≡ map string (flag_names (take i table) bits) → new ≡ old ++ v ∷ [] → view v ≡ string (row x).0 → has_flag bits (row x).1 ≡ true
-    → map view new ≡ map string (flag_names (take (i + 1) table) bits)
-flag_names-with row flags table bits i x old new v same within here so_far is name has =
-    ap (map view) is ∙ map-append view old (v ∷ []) ∙ ap (λ ds. ds ++ view v ∷ []) so_far
-    ∙ sym (ap (map string) (flag_names-step row flags table bits i x same within here) ∙ rw (has, name) (map-append string (flag_names (take i table) bits) _))
-
--- the same where it is not
-pub flag_names-without : {X : Type 0} (row : X → Row) (flags : List X) (table : List Row) (bits i : ℕ) (x : X) (old : List Value) → map row flags ≡ table → i < length flags → x ≡ get_or flags i x
-    → map view old ≡ map string (flag_names (take i table) bits) → has_flag bits (row x).1 ≡ false
-    → map view old ≡ map string (flag_names (take (i + 1) table) bits)
-flag_names-without row flags table bits i x old same within here so_far lacks =
-    so_far ∙ sym (ap (map string) (flag_names-step row flags table bits i x same within here) ∙ rw (lacks, append-nil (flag_names (take i table) bits)) refl)

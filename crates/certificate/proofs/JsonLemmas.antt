@@ -1,6 +1,6 @@
 -- Plain JSON, such as the lines of a trace: its text reads back as the same value, in a bounded number of bytes of ASCII without a line feed.
-use Rattle.std.proofs.Common.{◌≡◌, ℕ, zero, suc, ◌+◌, ◌^◌, ◌≤◌, ◌<◌, Bool, true, false, not, ◌&&◌, ◌==◌, List, [], ◌∷◌, ◌++◌, length, get_or, Some, option_map, option_and_then, decimal, arith, refl, sym, ap, ◌∙◌, append-nil, length-append}
-use Rattle.std.specs.Prelude.{nat_lt, nat_le, ⊤}
+use Rattle.std.proofs.Common.{◌≡◌, ℕ, zero, suc, ◌+◌, ◌^◌, ◌≤◌, ◌<◌, Bool, true, false, ◌==◌, List, [], ◌∷◌, ◌++◌, length, get_or, Some, option_map, option_and_then, decimal, arith, refl, sym, ap, ◌∙◌, append-nil, length-append}
+use Rattle.std.specs.Prelude.{⊤}
 use Rattle.std.specs.List.{AllByRecursion}
 use Rattle.std.specs.Str.{is_utf8}
 use Rattle.std.proofs.lemmas.Bool.{and_parts, lt-ltb}
@@ -21,17 +21,10 @@ use Rattle.serde_json.specs.Written.{outline, items_outline, members_outline, co
 use Rattle.serde_json.proofs.Texts.{print-outline}
 use Rattle.serde_json.proofs.Numbers.{number_of-decimal}
 use Rattle.certificate.specs.RecordLines.{value_of}
+pub use Rattle.certificate.specs.Texts.{is_plain_byte, is_plain_text}
 use Rattle.certificate.proofs.FileLemmas.{IsUnbroken}
 
 -- ---- the class
-
--- the byte stands for itself in a string of JSON
-abbrev pub is_plain_byte : ℕ → Bool
-is_plain_byte b = nat_le 32 b && nat_lt b 127 && not (b == 34) && not (b == 92)
-
-abbrev pub is_plain_text : List ℕ → Bool
-is_plain_text [] = true
-is_plain_text (b ∷ bs) = is_plain_byte b && is_plain_text bs
 
 -- the members, put one after another among those that were found
 abbrev pub puts : Members → Members → Members
@@ -153,7 +146,7 @@ printed-from (x ∷ xs) each = let first = each 0 (omega arith) in ((omega arith
 plain_byte : (b : ℕ) → is_plain_byte b ≡ true → (32 ≤ b) × (b < 127) × (b ≡ 34 → ⊥) × (b ≡ 92 → ⊥)
 plain_byte b h = grind arith
 
-escape-plain : (s : List ℕ) → is_plain_text s ≡ true → escape s ≡ s
+pub escape-plain : (s : List ℕ) → is_plain_text s ≡ true → escape s ≡ s
 escape-plain [] h = refl
 escape-plain (b ∷ s) h =
     let both = and_parts _ _ h in

@@ -14,7 +14,7 @@ use Rattle.certificate.specs.declared.faults.ReadCause.{ReadCause}
 use Rattle.certificate.specs.declared.faults.ReadCause.TheVariants.{LineTooLong, Unended, Header, Limit}
 use Rattle.certificate.specs.declared.faults.ReadFault.{ReadFault}
 use Rattle.certificate.specs.RecordLines.{line_says, header_says, is_header}
-use Rattle.certificate.specs.Files.{Cut, cut, with_byte, rest_says, is_long, has_room, with_record, with_header, text_adds, line_adds, end_adds, from_line, go_on, fault_in, file_says, records_said, records_of, records_before, cause_in, line_feeds, trace_of, StandsFor, IsFaultlessBefore, IsFirstFault}
+use Rattle.certificate.specs.Files.{cut, with_byte, rest_says, is_long, has_room, with_record, with_header, text_adds, line_adds, end_adds, from_line, go_on, fault_in, file_says, records_said, records_of, records_before, cause_in, line_feeds, trace_of, StandsFor, IsFaultlessBefore, IsFirstFault}
 use Rattle.certificate.proofs.RecordLemmas.{ok_not_err}
 
 -- what is said from place k on

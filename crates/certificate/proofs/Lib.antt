@@ -11,6 +11,8 @@ mod KeptLemmas
 mod LawLemmas
 mod JsonLemmas
 mod ObjectLemmas
+mod ItemLemmas
+mod PartLemmas
 mod FlagLemmas
 mod TextLemmas
 mod SaysLemmas

@@ -1,5 +1,5 @@
 -- Why a file of the lines of a trace stands for that trace.
-use Rattle.std.proofs.Common.{◌≡◌, ℕ, suc, ◌+◌, ◌*◌, ◌<◌, ◌≤◌, ◌^◌, Bool, true, false, not, cond, ◌||◌, List, [], ◌∷◌, ◌++◌, length, map, Option, Some, None, is_some, Ok, arith, refl, sym, ap, ◌∙◌, append_assoc, append-nil, length-append}
+use Rattle.std.proofs.Common.{◌≡◌, ℕ, suc, ◌+◌, ◌*◌, ◌<◌, ◌≤◌, ◌^◌, Bool, true, false, not, cond, ◌||◌, List, [], ◌∷◌, ◌++◌, length, map, Option, Some, is_some, Ok, arith, refl, sym, ap, ◌∙◌, append_assoc, append-nil, length-append}
 use Rattle.std.specs.Prelude.{◌==◌, nat_lt, All}
 use Rattle.std.specs.List.{AllByRecursion}
 use Rattle.std.proofs.lemmas.Bool.{ne_eqb, lt-ltb}
@@ -8,25 +8,17 @@ use Rattle.ompt_events.specs.declared.records.Record.{Record}
 use Rattle.ompt_events.specs.Records.{made}
 use Rattle.ompt_events.specs.Limits.{max_records, max_tasks}
 use Rattle.ompt_events.specs.Traces.{tasks_in, IsTrace}
-use Rattle.serde_json.specs.Data.{Data, number, string, unsigned}
+use Rattle.serde_json.specs.Data.{Data, number, unsigned}
 use Rattle.serde_json.specs.Read.{max_depth}
 use Rattle.serde_json.specs.View.{items_of}
-use Rattle.serde_json.specs.Written.{compact_text, has_float, items_have_float}
-use Rattle.certificate.specs.Texts.{ended, names, whole_number, number_or_null, claim_members, dep_data, body_members, record_members, data_of, flag_names, header_members, header_data}
-use Rattle.ompt_events.specs.Flags.{task_flags, cancel_flags}
-use Rattle.ompt_events.specs.Names.{dep_kind_name}
-use Rattle.certificate.proofs.ObjectLemmas.{has_float-object_of}
-use Rattle.ompt_events.specs.declared.records.Claim.{Claim}
-use Rattle.ompt_events.specs.declared.records.Body.{Body}
-use Rattle.ompt_events.specs.declared.records.Body.TheVariants.{ThreadBegin, ThreadEnd, ParallelBegin, ParallelEnd, ImplicitTask, TaskCreate, Dependences, TaskSchedule, SyncRegion, Cancel}
-use Rattle.ompt_events.specs.declared.deps.Dep.{Dep}
+use Rattle.serde_json.specs.Written.{compact_text}
+use Rattle.certificate.specs.Texts.{ended, whole_number}
 use Rattle.certificate.specs.Limits.{max_line}
 use Rattle.certificate.specs.Members.{each, whole_of}
 use Rattle.certificate.specs.RecordLines.{line_says, header_says, said_of}
 use Rattle.certificate.specs.Files.{Cut, cut, is_long, has_room, from_line, records_said}
 use Rattle.certificate.proofs.FileLemmas.{IsUnbroken, cut-line}
 use Rattle.certificate.proofs.JsonLemmas.{IsPlain, ArePlain, size, items_size, value_of-compact_text, unbroken-compact_text, length-compact_text}
-use Rattle.certificate.specs.MemberNames as member
 
 pub cut-ended : (lines : List (List ℕ)) → AllByRecursion IsUnbroken lines → cut (ended lines) ≡ record { lines = lines; rest = [] }
 unfolding cut
@@ -131,41 +123,3 @@ each-items_of says f back (x ∷ xs) = rw (back x, each-items_of says f back xs)
 
 pub wholes-items_of : (ns : List ℕ) → each whole_of (items_of (map whole_number ns)) ≡ Some ns
 wholes-items_of ns = each-items_of whole_of whole_number (λ n. refl) ns
-
--- ---- no float is written
-
-has_float-items_of : {X : Type 0} (f : X → Data) (xs : List X) → ((x : X) → has_float (f x) ≡ false) → items_have_float (items_of (map f xs)) ≡ false
-has_float-items_of f [] each = refl
-has_float-items_of f (x ∷ xs) each = rw (each x, has_float-items_of f xs each) refl
-
-has_float-number_or_null : (o : Option ℕ) → has_float (number_or_null o) ≡ false
-has_float-number_or_null None = refl
-has_float-number_or_null (Some n) = refl
-
-has_float-claim : (share : Option Claim) → AllByRecursion (λ m. has_float m.1 ≡ false) (claim_members share)
-has_float-claim None = tt
-has_float-claim (Some c) = (refl, (refl, (has_float-items_of whole_number c.path (λ _. refl), tt)))
-
-has_float-names : (texts : List (List ℕ)) → has_float (names texts) ≡ false
-has_float-names texts = has_float-items_of string texts (λ _. refl)
-
-has_float-dep : (d : Dep) → has_float (dep_data d) ≡ false
-has_float-dep d = has_float-object_of ((member.type, string (dep_kind_name d.kind)) ∷ (member.var, whole_number d.var) ∷ []) (refl, (refl, tt))
-
-has_float-body : (body : Body) → AllByRecursion (λ m. has_float m.1 ≡ false) (body_members body)
-has_float-body (ThreadBegin kind) = (refl, (refl, tt))
-has_float-body ThreadEnd = (refl, tt)
-has_float-body (ParallelBegin requested task parallel) = (refl, (refl, (refl, (refl, tt))))
-has_float-body (ParallelEnd task parallel) = (refl, (refl, (refl, tt)))
-has_float-body (ImplicitTask endpoint actual index flags parallel task) = (refl, (refl, (refl, (refl, (has_float-names (flag_names task_flags flags.0), (refl, (refl, tt)))))))
-has_float-body (TaskCreate deps flags task child) = (refl, (refl, (has_float-names (flag_names task_flags flags.0), (refl, (refl, tt)))))
-has_float-body (Dependences task list) = (refl, (refl, (has_float-items_of dep_data list has_float-dep, tt)))
-has_float-body (TaskSchedule status prior next share) = (refl, (refl, (refl, (has_float-number_or_null next, has_float-claim share))))
-has_float-body (SyncRegion kind endpoint parallel task) = (refl, (refl, (refl, (has_float-number_or_null parallel, (refl, tt)))))
-has_float-body (Cancel flags task share) = (refl, (has_float-names (flag_names cancel_flags flags.0), (refl, has_float-claim share)))
-
-pub data_has_no_float : (r : Record) → has_float (data_of r) ≡ false
-data_has_no_float r = has_float-object_of (record_members r) (refl, (refl, (refl, has_float-body r.body)))
-
-pub header_has_no_float : has_float header_data ≡ false
-header_has_no_float = has_float-object_of header_members (refl, (refl, tt))

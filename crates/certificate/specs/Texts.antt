@@ -1,5 +1,5 @@
 -- The text of a trace: a header, and then a line for each record.
-use Rattle.std.specs.Prelude.{ℕ, List, [], ◌∷◌, ◌++◌, map, flat_map, Option, Some, None, if◌then◌else◌}
+use Rattle.std.specs.Prelude.{ℕ, ◌≡◌, Bool, true, not, ◌&&◌, ◌==◌, nat_lt, nat_le, List, [], ◌∷◌, ◌++◌, map, flat_map, Option, Some, None, if◌then◌else◌}
 use Rattle.serde_json.specs.Data.{Data, null, boolean, number, string, array, object, unsigned, Members, no_members, put}
 use Rattle.serde_json.specs.View.{items_of}
 use Rattle.serde_json.specs.Written.{compact_text}
@@ -102,3 +102,19 @@ ended lines = flat_map (λ line. line ++ 10 ∷ []) lines
 -- the text of a trace
 abbrev pub trace_text : TraceView → List ℕ
 trace_text trace = ended (header_line ∷ map line_of trace.records)
+
+-- what a thread records with the numbers of this record
+abbrev pub with_body : Record → Body → Record
+with_body r body = record { thread = r.thread; seq = r.seq; seen = r.seen; body = body }
+
+-- the bytes were put behind
+pub record Puts (old new bytes : List ℕ) : Type 0 where
+  pub is : new ≡ old ++ bytes
+
+-- the byte stands for itself in a string of JSON
+abbrev pub is_plain_byte : ℕ → Bool
+is_plain_byte b = nat_le 32 b && nat_lt b 127 && not (b == 34) && not (b == 92)
+
+abbrev pub is_plain_text : List ℕ → Bool
+is_plain_text [] = true
+is_plain_text (b ∷ bs) = is_plain_byte b && is_plain_text bs

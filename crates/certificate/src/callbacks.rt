@@ -103,6 +103,153 @@ macro_rules! members {
     };
 }
 
+// The line of each record as it is written, part by part: a text that is the same for all, and then a value. The
+// members stand in the order of their names (`finishing` and `discarding` have a claim). Reading and writing share it.
+macro_rules! lines {
+    (thread_begin $shape:ident $given:tt $kind:tt $seen:tt $seq:tt $thread:tt) => {
+        $shape! {
+            $given
+            "{\"cb\":\"thread_begin\",\"kind\":" thread_kind $kind,
+            ",\"seen\":" short $seen,
+            ",\"seq\":" short $seq,
+            ",\"thread\":" byte $thread
+        }
+    };
+    (thread_end $shape:ident $given:tt $seen:tt $seq:tt $thread:tt) => {
+        $shape! {
+            $given
+            "{\"cb\":\"thread_end\",\"seen\":" short $seen,
+            ",\"seq\":" short $seq,
+            ",\"thread\":" byte $thread
+        }
+    };
+    (parallel_begin $shape:ident $given:tt $parallel:tt $requested:tt $seen:tt $seq:tt $task:tt $thread:tt) => {
+        $shape! {
+            $given
+            "{\"cb\":\"parallel_begin\",\"parallel\":" id $parallel,
+            ",\"requested\":" short $requested,
+            ",\"seen\":" short $seen,
+            ",\"seq\":" short $seq,
+            ",\"task\":" id $task,
+            ",\"thread\":" byte $thread
+        }
+    };
+    (parallel_end $shape:ident $given:tt $parallel:tt $seen:tt $seq:tt $task:tt $thread:tt) => {
+        $shape! {
+            $given
+            "{\"cb\":\"parallel_end\",\"parallel\":" id $parallel,
+            ",\"seen\":" short $seen,
+            ",\"seq\":" short $seq,
+            ",\"task\":" id $task,
+            ",\"thread\":" byte $thread
+        }
+    };
+    (implicit_task $shape:ident $given:tt $actual:tt $endpoint:tt $flags:tt $index:tt $parallel:tt $seen:tt $seq:tt $task:tt $thread:tt) => {
+        $shape! {
+            $given
+            "{\"actual\":" short $actual,
+            ",\"cb\":\"implicit_task\",\"endpoint\":" endpoint $endpoint,
+            ",\"flags\":" task_flags $flags,
+            ",\"index\":" short $index,
+            ",\"parallel\":" id $parallel,
+            ",\"seen\":" short $seen,
+            ",\"seq\":" short $seq,
+            ",\"task\":" id $task,
+            ",\"thread\":" byte $thread
+        }
+    };
+    (task_create $shape:ident $given:tt $child:tt $deps:tt $flags:tt $seen:tt $seq:tt $task:tt $thread:tt) => {
+        $shape! {
+            $given
+            "{\"cb\":\"task_create\",\"child\":" id $child,
+            ",\"deps\":" truth $deps,
+            ",\"flags\":" task_flags $flags,
+            ",\"seen\":" short $seen,
+            ",\"seq\":" short $seq,
+            ",\"task\":" id $task,
+            ",\"thread\":" byte $thread
+        }
+    };
+    (dependences $shape:ident $given:tt $list:tt $seen:tt $seq:tt $task:tt $thread:tt) => {
+        $shape! {
+            $given
+            "{\"cb\":\"dependences\",\"list\":" deps $list,
+            ",\"seen\":" short $seen,
+            ",\"seq\":" short $seq,
+            ",\"task\":" id $task,
+            ",\"thread\":" byte $thread
+        }
+    };
+    (switching $shape:ident $given:tt $next:tt $prior:tt $seen:tt $seq:tt $status:tt $thread:tt) => {
+        $shape! {
+            $given
+            "{\"cb\":\"task_schedule\",\"next\":" id_or_null $next,
+            ",\"prior\":" id $prior,
+            ",\"seen\":" short $seen,
+            ",\"seq\":" short $seq,
+            ",\"status\":" status $status,
+            ",\"thread\":" byte $thread
+        }
+    };
+    (finishing $shape:ident $given:tt $kept:tt $next:tt $path:tt $prior:tt $root:tt $seen:tt $seq:tt $status:tt $thread:tt) => {
+        $shape! {
+            $given
+            "{\"cb\":\"task_schedule\",\"kept\":" short $kept,
+            ",\"next\":" id_or_null $next,
+            ",\"path\":" path $path,
+            ",\"prior\":" id $prior,
+            ",\"root\":" id $root,
+            ",\"seen\":" short $seen,
+            ",\"seq\":" short $seq,
+            ",\"status\":" status $status,
+            ",\"thread\":" byte $thread
+        }
+    };
+    (sync_region $shape:ident $given:tt $endpoint:tt $kind:tt $parallel:tt $seen:tt $seq:tt $task:tt $thread:tt) => {
+        $shape! {
+            $given
+            "{\"cb\":\"sync_region\",\"endpoint\":" endpoint $endpoint,
+            ",\"kind\":" sync_kind $kind,
+            ",\"parallel\":" id_or_null $parallel,
+            ",\"seen\":" short $seen,
+            ",\"seq\":" short $seq,
+            ",\"task\":" id $task,
+            ",\"thread\":" byte $thread
+        }
+    };
+    (cancelling $shape:ident $given:tt $flags:tt $seen:tt $seq:tt $task:tt $thread:tt) => {
+        $shape! {
+            $given
+            "{\"cb\":\"cancel\",\"flags\":" cancel_flags $flags,
+            ",\"seen\":" short $seen,
+            ",\"seq\":" short $seq,
+            ",\"task\":" id $task,
+            ",\"thread\":" byte $thread
+        }
+    };
+    (discarding $shape:ident $given:tt $flags:tt $kept:tt $path:tt $root:tt $seen:tt $seq:tt $task:tt $thread:tt) => {
+        $shape! {
+            $given
+            "{\"cb\":\"cancel\",\"flags\":" cancel_flags $flags,
+            ",\"kept\":" short $kept,
+            ",\"path\":" path $path,
+            ",\"root\":" id $root,
+            ",\"seen\":" short $seen,
+            ",\"seq\":" short $seq,
+            ",\"task\":" id $task,
+            ",\"thread\":" byte $thread
+        }
+    };
+    (dep $shape:ident $given:tt $kind:tt $var:tt) => {
+        $shape! {
+            $given
+            "{\"type\":" dep_kind $kind,
+            ",\"var\":" id $var
+        }
+    };
+}
+
 pub(crate) use callbacks;
 pub(crate) use header;
+pub(crate) use lines;
 pub(crate) use members;

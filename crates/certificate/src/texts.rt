@@ -1,250 +1,456 @@
-//! The line of a record.
-ghost use Rattle.std.specs.Prelude.{◌≡◌, IfOk, OnOk, map};
-ghost use Rattle.serde_json.specs.Data.{string, array};
-ghost use Rattle.serde_json.specs.View.{view, items_of, members_view};
-ghost use Rattle.certificate.specs.Texts.{data_of, line_of, header_data, header_line, record_members, body_members, claim_members, dep_data, with_member, with_members, number_or_null, whole_number, names, flag_names};
+//! The line of a record, put behind the bytes that wait.
+ghost use Rattle.std.specs.Prelude.{◌≡◌, ◌++◌, true, IfOk, OnOk, None, Some, codes, decimal, map};
+ghost use Rattle.std.specs.List.{AllByRecursion};
+ghost use Rattle.json.specs.Print.{quoted};
+ghost use Rattle.serde_json.specs.Data.{array, boolean};
+ghost use Rattle.serde_json.specs.View.{items_of};
+ghost use Rattle.serde_json.specs.Written.{compact_text, comma_if};
+ghost use Rattle.ompt_events.specs.Flags.{task_flags, cancel_flags};
+ghost use Rattle.ompt_events.specs.Names.{status_name, endpoint_name, sync_kind_name, dep_kind_name, thread_kind_name};
+ghost use Rattle.certificate.specs.Texts.{Puts, is_plain_text, with_body, line_of, header_line, dep_data, number_or_null, whole_number, names, flag_names};
 
-use crate::callbacks::{callbacks, header, members};
+use crate::callbacks::lines;
 use bitflags::Flags;
-use ompt_events::{Body, Claim, Dep, Deps, Path, Record};
-use serde_json::{Map, Value};
-use std::alloc::{AllocError, Global};
+use itoa::Buffer;
+use ompt_events::{
+    Body, CancelFlags, Claim, Dep, DepKind, Deps, Endpoint, Path, Record, Status, SyncKind,
+    TaskFlags, ThreadKind,
+};
+use std::alloc::AllocError;
 
-/// An object's members.
-type Members = Map<String, Value>;
-
-// The shapes into which the rows of a callback's members are put.
-
-// A member of this kind.
-macro_rules! put_member {
-    (thread $field:ident $name:literal ($members:ident $alloc:ident)) => {
-        put_whole($members, $alloc, $name, u64::from(*$field))?
-    };
-    (short $field:ident $name:literal ($members:ident $alloc:ident)) => {
-        put_whole($members, $alloc, $name, u64::from(*$field))?
-    };
-    (id $field:ident $name:literal ($members:ident $alloc:ident)) => {
-        put_whole($members, $alloc, $name, *$field)?
-    };
-    (id_or_null $field:ident $name:literal ($members:ident $alloc:ident)) => {
-        put_maybe($members, $alloc, $name, *$field)?
-    };
-    (next $field:ident $name:literal ($members:ident $alloc:ident)) => {
-        put_maybe($members, $alloc, $name, *$field)?
-    };
-    (truth $field:ident $name:literal ($members:ident $alloc:ident)) => {
-        put($members, $alloc, $name, Value::from(*$field))?
-    };
-    (flags $field:ident $name:literal ($members:ident $alloc:ident)) => {
-        put($members, $alloc, $name, flags($alloc, *$field)?)?
-    };
-    (path $field:ident $name:literal ($members:ident $alloc:ident)) => {
-        put($members, $alloc, $name, path($alloc, $field)?)?
-    };
-    (deps $field:ident $name:literal ($members:ident $alloc:ident)) => {
-        put($members, $alloc, $name, deps($alloc, $field)?)?
-    };
-    (claim $field:ident ($members:ident $alloc:ident)) => {
-        put_share($members, $alloc, $field)?
-    };
-    ($kind:ident $field:ident $name:literal ($members:ident $alloc:ident)) => {
-        put_text($members, $alloc, $name, $field.name())?
-    };
+// A part of a line, by the kind of its value.
+macro_rules! put_part {
+    (byte $out:ident $text:literal $value:tt) => { put_byte($out, $text, $value)? };
+    (short $out:ident $text:literal $value:tt) => { put_short($out, $text, $value)? };
+    (id $out:ident $text:literal $value:tt) => { put_id($out, $text, $value)? };
+    (id_or_null $out:ident $text:literal $value:tt) => { put_id_or_null($out, $text, $value)? };
+    (truth $out:ident $text:literal $value:tt) => { put_truth($out, $text, $value)? };
+    (status $out:ident $text:literal $value:tt) => { put_status($out, $text, $value)? };
+    (endpoint $out:ident $text:literal $value:tt) => { put_endpoint($out, $text, $value)? };
+    (sync_kind $out:ident $text:literal $value:tt) => { put_sync_kind($out, $text, $value)? };
+    (dep_kind $out:ident $text:literal $value:tt) => { put_dep_kind($out, $text, $value)? };
+    (thread_kind $out:ident $text:literal $value:tt) => { put_thread_kind($out, $text, $value)? };
+    (task_flags $out:ident $text:literal $value:tt) => { put_task_flags($out, $text, $value)? };
+    (cancel_flags $out:ident $text:literal $value:tt) => { put_cancel_flags($out, $text, $value)? };
+    (path $out:ident $text:literal $value:tt) => { put_path($out, $text, $value)? };
+    (deps $out:ident $text:literal $value:tt) => { put_deps($out, $text, $value)? };
 }
 
-// The members of a variant of `Body`.
-macro_rules! put_variant {
-    (($body:ident $given:tt) $variant:ident { $($field:ident: $kind:ident $($name:literal)?),* }) => {{
-        let Body::$variant { $($field),* } = $body else {
-            unreachable!()
-        };
-        $(put_member!($kind $field $($name)? $given);)*
+// The parts of a line, and its end.
+macro_rules! put_parts {
+    (($out:ident) $($text:literal $kind:ident $value:tt),*) => {{
+        $(put_part!($kind $out $text $value);)*
+        put($out, "}")?;
+        Ok(())
     }};
 }
 
-// The callback's name, and the members of its variant.
-macro_rules! put_callback {
-    (
-        ($body:ident ($members:ident $alloc:ident))
-        $cb:literal: $($read:ident = $name:literal $variant:ident),*
-    ) => {
-        match $body {
-            $(Body::$variant { .. } => {
-                put_text($members, $alloc, $cb, $name)?;
-                members!($variant put_variant ($body ($members $alloc)));
-            })*
-        }
-    };
-}
-
-// The members of a struct.
-macro_rules! put_struct {
-    (($value:ident $given:tt) $kind_of:ident { $($field:ident: $kind:ident $name:literal),* }) => {{
-        let $kind_of { $($field,)* .. } = $value;
-        $(put_member!($kind $field $name $given);)*
-    }};
-}
-
-// A member of the header.
-macro_rules! put_said {
-    (text $name:literal $said:literal ($members:ident $alloc:ident)) => {
-        put_text($members, $alloc, $name, $said)?
-    };
-    (id $name:literal $said:literal ($members:ident $alloc:ident)) => {
-        put_whole($members, $alloc, $name, $said)?
-    };
-}
-
-// The members of the header.
-macro_rules! put_header {
-    ($given:tt $($kind:ident $name:literal = $said:literal),*) => {
-        $(put_said!($kind $name $said $given);)*
-    };
-}
-
-/// One more member, of any value.
-#[tactic(auto, unfolding(crate::specs::Texts::with_member))]
-fn put(members: &mut Members, alloc: Global, name: &str, value: Value) -> Result<(), AllocError>
-    ensures { OnOk result (members_view members.new.entries
-        ≡ with_member name.now (view value) (members_view members.old.entries)) }
+/// Puts the line of the record behind, without its line feed.
+pub(crate) fn put_record(out: &mut Vec<u8>, event: &Record) -> Result<(), AllocError>
+    ensures { OnOk result (Puts out.old.items out.new.items (line_of event.now)) }
 {
-    serde_json::put(members, alloc, name, value)
-}
-
-/// One more member, a whole number.
-fn put_whole(
-    members: &mut Members,
-    alloc: Global,
-    name: &str,
-    number: u64,
-) -> Result<(), AllocError>
-    ensures { OnOk result (members_view members.new.entries
-        ≡ with_member name.now (whole_number number) (members_view members.old.entries)) }
-{
-    put(members, alloc, name, Value::from(number))
-}
-
-/// One more member, a whole number or `null`.
-fn put_maybe(
-    members: &mut Members,
-    alloc: Global,
-    name: &str,
-    found: Option<u64>,
-) -> Result<(), AllocError>
-    ensures { OnOk result (members_view members.new.entries
-        ≡ with_member name.now (number_or_null found) (members_view members.old.entries)) }
-{
-    put(members, alloc, name, Value::from(found))
-}
-
-/// One more member, a text.
-fn put_text(members: &mut Members, alloc: Global, name: &str, text: &str) -> Result<(), AllocError>
-    ensures { OnOk result (members_view members.new.entries
-        ≡ with_member name.now (string text.now) (members_view members.old.entries)) }
-{
-    let value = Value::try_from_str(alloc, text)?;
-    put(members, alloc, name, value)
-}
-
-/// The claim of a finishing record.
-fn put_share(members: &mut Members, alloc: Global, share: &Option<Claim>) -> Result<(), AllocError>
-    ensures { OnOk result (members_view members.new.entries
-        ≡ with_members (claim_members share.now) (members_view members.old.entries)) }
-{
-    if let Some(claim) = share {
-        members!(Claim put_struct (claim (members alloc)));
+    match &event.body {
+        Body::ThreadBegin { kind } => put_thread_begin(out, event, *kind),
+        Body::ThreadEnd => put_thread_end(out, event),
+        Body::ParallelBegin {
+            requested,
+            task,
+            parallel,
+        } => put_parallel_begin(out, event, *requested, *task, *parallel),
+        Body::ParallelEnd { task, parallel } => put_parallel_end(out, event, *task, *parallel),
+        Body::ImplicitTask {
+            endpoint,
+            actual,
+            index,
+            flags,
+            parallel,
+            task,
+        } => put_implicit_task(
+            out, event, *endpoint, *actual, *index, *flags, *parallel, *task,
+        ),
+        Body::TaskCreate {
+            deps,
+            flags,
+            task,
+            child,
+        } => put_task_create(out, event, *deps, *flags, *task, *child),
+        Body::Dependences { task, list } => put_dependences(out, event, *task, list),
+        Body::TaskSchedule {
+            status,
+            prior,
+            next,
+            share,
+        } => match share {
+            Some(claim) => put_finishing(out, event, *status, *prior, *next, claim),
+            None => put_switching(out, event, *status, *prior, *next),
+        },
+        Body::SyncRegion {
+            kind,
+            endpoint,
+            parallel,
+            task,
+        } => put_sync_region(out, event, *kind, *endpoint, *parallel, *task),
+        Body::Cancel { flags, task, share } => match share {
+            Some(claim) => put_discarding(out, event, *flags, *task, claim),
+            None => put_cancelling(out, event, *flags, *task),
+        },
     }
+}
+
+/// Puts the header line behind, without its line feed.
+pub(crate) fn put_header(out: &mut Vec<u8>) -> Result<(), AllocError>
+    ensures { OnOk result (Puts out.old.items out.new.items header_line) }
+{
+    put_id(out, "{\"format\":\"task-credit-audit\",\"version\":", 1)?;
+    put(out, "}")?;
     Ok(())
 }
 
-/// The numbers of a path.
-fn path(alloc: Global, path: &Path) -> Result<Value, AllocError>
-    ensures { IfOk result (λ v. view v ≡ array (items_of (map whole_number path.now))) }
+/// A thread begins.
+fn put_thread_begin(out: &mut Vec<u8>, event: &Record, kind: ThreadKind) -> Result<(), AllocError>
+    ensures { OnOk result (Puts out.old.items out.new.items (line_of (with_body event.now (Body.ThreadBegin kind)))) }
 {
-    let mut items = Vec::new(alloc);
-    'numbers: for number in path.as_slice() {
-        items.push(Value::from(*number))?;
-    }
-    Ok(Value::Array(items))
+    lines!(thread_begin put_parts (out) kind (event.seen) (event.seq) (event.thread))
+}
+
+/// A thread ends.
+fn put_thread_end(out: &mut Vec<u8>, event: &Record) -> Result<(), AllocError>
+    ensures { OnOk result (Puts out.old.items out.new.items (line_of (with_body event.now Body.ThreadEnd))) }
+{
+    lines!(thread_end put_parts (out) (event.seen) (event.seq) (event.thread))
+}
+
+/// A task begins a parallel region.
+fn put_parallel_begin(
+    out: &mut Vec<u8>,
+    event: &Record,
+    requested: u32,
+    task: u64,
+    parallel: u64,
+) -> Result<(), AllocError>
+    ensures { OnOk result (Puts out.old.items out.new.items
+        (line_of (with_body event.now (Body.ParallelBegin requested task parallel)))) }
+{
+    lines!(parallel_begin put_parts (out) parallel requested (event.seen) (event.seq) task (event.thread))
+}
+
+/// A task ends a parallel region.
+fn put_parallel_end(
+    out: &mut Vec<u8>,
+    event: &Record,
+    task: u64,
+    parallel: u64,
+) -> Result<(), AllocError>
+    ensures { OnOk result (Puts out.old.items out.new.items
+        (line_of (with_body event.now (Body.ParallelEnd task parallel)))) }
+{
+    lines!(parallel_end put_parts (out) parallel (event.seen) (event.seq) task (event.thread))
+}
+
+/// An initial or implicit task begins or ends.
+fn put_implicit_task(
+    out: &mut Vec<u8>,
+    event: &Record,
+    endpoint: Endpoint,
+    actual: u32,
+    index: u32,
+    flags: TaskFlags,
+    parallel: u64,
+    task: u64,
+) -> Result<(), AllocError>
+    ensures { OnOk result (Puts out.old.items out.new.items
+        (line_of (with_body event.now (Body.ImplicitTask endpoint actual index flags parallel task)))) }
+{
+    lines!(implicit_task put_parts (out)
+        actual endpoint flags index parallel (event.seen) (event.seq) task (event.thread))
+}
+
+/// A task is created.
+fn put_task_create(
+    out: &mut Vec<u8>,
+    event: &Record,
+    deps: bool,
+    flags: TaskFlags,
+    task: u64,
+    child: u64,
+) -> Result<(), AllocError>
+    ensures { OnOk result (Puts out.old.items out.new.items
+        (line_of (with_body event.now (Body.TaskCreate deps flags task child)))) }
+{
+    lines!(task_create put_parts (out) child deps flags (event.seen) (event.seq) task (event.thread))
 }
 
 /// What a task depends on.
-fn deps(alloc: Global, list: &Deps) -> Result<Value, AllocError>
-    ensures { IfOk result (λ v. view v ≡ array (items_of (map dep_data list.now))) }
+fn put_dependences(
+    out: &mut Vec<u8>,
+    event: &Record,
+    task: u64,
+    list: &Deps,
+) -> Result<(), AllocError>
+    ensures { OnOk result (Puts out.old.items out.new.items
+        (line_of (with_body event.now (Body.Dependences task list.now)))) }
 {
-    let mut items = Vec::new(alloc);
-    'items: for item in list.as_slice() {
-        items.push(dep(alloc, item)?)?;
+    lines!(dependences put_parts (out) list (event.seen) (event.seq) task (event.thread))
+}
+
+/// A task stops running and is not finished.
+fn put_switching(
+    out: &mut Vec<u8>,
+    event: &Record,
+    status: Status,
+    prior: u64,
+    next: Option<u64>,
+) -> Result<(), AllocError>
+    ensures { OnOk result (Puts out.old.items out.new.items
+        (line_of (with_body event.now (Body.TaskSchedule status prior next None)))) }
+{
+    lines!(switching put_parts (out) next prior (event.seen) (event.seq) status (event.thread))
+}
+
+/// A task, its body or its event is finished.
+fn put_finishing(
+    out: &mut Vec<u8>,
+    event: &Record,
+    status: Status,
+    prior: u64,
+    next: Option<u64>,
+    claim: &Claim,
+) -> Result<(), AllocError>
+    ensures { OnOk result (Puts out.old.items out.new.items
+        (line_of (with_body event.now (Body.TaskSchedule status prior next (Some claim.now))))) }
+{
+    lines!(finishing put_parts (out)
+        (claim.kept) next (&claim.path) prior (claim.root) (event.seen) (event.seq) status (event.thread))
+}
+
+/// A region of synchronisation begins or ends.
+fn put_sync_region(
+    out: &mut Vec<u8>,
+    event: &Record,
+    kind: SyncKind,
+    endpoint: Endpoint,
+    parallel: Option<u64>,
+    task: u64,
+) -> Result<(), AllocError>
+    ensures { OnOk result (Puts out.old.items out.new.items
+        (line_of (with_body event.now (Body.SyncRegion kind endpoint parallel task)))) }
+{
+    lines!(sync_region put_parts (out)
+        endpoint kind parallel (event.seen) (event.seq) task (event.thread))
+}
+
+/// A task cancels a region or sees it cancelled.
+fn put_cancelling(
+    out: &mut Vec<u8>,
+    event: &Record,
+    flags: CancelFlags,
+    task: u64,
+) -> Result<(), AllocError>
+    ensures { OnOk result (Puts out.old.items out.new.items
+        (line_of (with_body event.now (Body.Cancel flags task None)))) }
+{
+    lines!(cancelling put_parts (out) flags (event.seen) (event.seq) task (event.thread))
+}
+
+/// A task is discarded.
+fn put_discarding(
+    out: &mut Vec<u8>,
+    event: &Record,
+    flags: CancelFlags,
+    task: u64,
+    claim: &Claim,
+) -> Result<(), AllocError>
+    ensures { OnOk result (Puts out.old.items out.new.items
+        (line_of (with_body event.now (Body.Cancel flags task (Some claim.now))))) }
+{
+    lines!(discarding put_parts (out)
+        flags (claim.kept) (&claim.path) (claim.root) (event.seen) (event.seq) task (event.thread))
+}
+
+// Each part is a text, and a value behind it.
+
+/// A text alone.
+fn put(out: &mut Vec<u8>, text: &str) -> Result<(), AllocError>
+    ensures { OnOk result (Puts out.old.items out.new.items text.now) }
+{
+    out.extend_from_slice(text.as_bytes())
+}
+
+/// A whole number.
+fn put_id(out: &mut Vec<u8>, text: &str, number: u64) -> Result<(), AllocError>
+    ensures { OnOk result (Puts out.old.items out.new.items (text.now ++ decimal number)) }
+{
+    let mut digits = Buffer::new();
+    put(out, text)?;
+    put(out, digits.format(number))
+}
+
+/// A whole number of 32 bits.
+fn put_short(out: &mut Vec<u8>, text: &str, number: u32) -> Result<(), AllocError>
+    ensures { OnOk result (Puts out.old.items out.new.items (text.now ++ decimal number)) }
+{
+    put_id(out, text, u64::from(number))
+}
+
+/// A whole number of 8 bits.
+fn put_byte(out: &mut Vec<u8>, text: &str, number: u8) -> Result<(), AllocError>
+    ensures { OnOk result (Puts out.old.items out.new.items (text.now ++ decimal number)) }
+{
+    put_id(out, text, u64::from(number))
+}
+
+/// A whole number, or `null`.
+fn put_id_or_null(out: &mut Vec<u8>, text: &str, found: Option<u64>) -> Result<(), AllocError>
+    ensures { OnOk result (Puts out.old.items out.new.items (text.now ++ compact_text (number_or_null found))) }
+{
+    match found {
+        Some(number) => put_id(out, text, number),
+        None => put_both(out, text, "null"),
     }
-    Ok(Value::Array(items))
 }
 
-/// One dependence.
-fn dep(alloc: Global, item: &Dep) -> Result<Value, AllocError>
-    ensures { IfOk result (λ v. view v ≡ dep_data item.now) }
+/// A truth value.
+fn put_truth(out: &mut Vec<u8>, text: &str, truth: bool) -> Result<(), AllocError>
+    ensures { OnOk result (Puts out.old.items out.new.items (text.now ++ compact_text (boolean truth))) }
 {
-    let mut object = Map::new(alloc);
-    let members = &mut object;
-    members!(Dep put_struct (item (members alloc)));
-    Ok(Value::Object(object))
-}
-
-/// The names of the flags, in the order of their table, of a type that tells it.
-fn flags<F: Flags + Copy>(alloc: Global, flags: F) -> Result<Value, AllocError>
-    requires { F.exact }
-    ensures { IfOk result (λ v. view v ≡ names (flag_names F.table (F.set_of flags))) }
-{
-    let mut items = Vec::new(alloc);
-    'named: for flag in F::flags() {
-        if flags.contains(flag.value) {
-            items.push(Value::try_from_str(alloc, flag.name)?)?;
-        }
+    if truth {
+        put_both(out, text, "true")
+    } else {
+        put_both(out, text, "false")
     }
-    Ok(Value::Array(items))
 }
 
-/// The callback's name and its members.
-fn put_body(members: &mut Members, alloc: Global, body: &Body) -> Result<(), AllocError>
-    ensures { OnOk result (members_view members.new.entries
-        ≡ with_members (body_members body.now) (members_view members.old.entries)) }
+/// A text and another.
+fn put_both(out: &mut Vec<u8>, text: &str, other: &str) -> Result<(), AllocError>
+    ensures { OnOk result (Puts out.old.items out.new.items (text.now ++ other.now)) }
 {
-    callbacks!(put_callback (body (members alloc)));
+    put(out, text)?;
+    put(out, other)
+}
+
+/// A name in quotation marks.
+fn put_name(out: &mut Vec<u8>, text: &str, name: &str) -> Result<(), AllocError>
+    requires { is_plain_text name.now ≡ true }
+    ensures { OnOk result (Puts out.old.items out.new.items (text.now ++ quoted name.now)) }
+{
+    put(out, text)?;
+    put(out, "\"")?;
+    put(out, name)?;
+    put(out, "\"")?;
     Ok(())
 }
 
-/// The JSON object of a record.
-fn value_of(alloc: Global, event: &Record) -> Result<Value, AllocError>
-    ensures { IfOk result (λ v. view v ≡ data_of event.now) }
+/// How a task stops running.
+fn put_status(out: &mut Vec<u8>, text: &str, status: Status) -> Result<(), AllocError>
+    ensures { OnOk result (Puts out.old.items out.new.items (text.now ++ quoted (status_name status))) }
 {
-    let mut object = Map::new(alloc);
-    let members = &mut object;
-    members!(Record put_struct (event (members alloc)));
-    put_body(members, alloc, &event.body)?;
-    Ok(Value::Object(object))
+    put_name(out, text, status.name())
 }
 
-/// The line of a record, without its line feed.
-#[tactic(auto, using(crate::proofs::TextLemmas::data_has_no_float))]
-pub(crate) fn line_of(alloc: Global, event: &Record) -> Result<Vec<u8>, AllocError>
-    ensures { IfOk result (λ bytes. bytes.items ≡ line_of event.now) }
+/// Whether a region begins or ends.
+fn put_endpoint(out: &mut Vec<u8>, text: &str, endpoint: Endpoint) -> Result<(), AllocError>
+    ensures { OnOk result (Puts out.old.items out.new.items (text.now ++ quoted (endpoint_name endpoint))) }
 {
-    value_of(alloc, event)?.to_vec(alloc)
+    put_name(out, text, endpoint.name())
 }
 
-/// The header's JSON object.
-fn header_value(alloc: Global) -> Result<Value, AllocError>
-    ensures { IfOk result (λ v. view v ≡ header_data) }
+/// Which construct a region belongs to.
+fn put_sync_kind(out: &mut Vec<u8>, text: &str, kind: SyncKind) -> Result<(), AllocError>
+    ensures { OnOk result (Puts out.old.items out.new.items (text.now ++ quoted (sync_kind_name kind))) }
 {
-    let mut object = Map::new(alloc);
-    let members = &mut object;
-    header!(put_header (members alloc));
-    Ok(Value::Object(object))
+    put_name(out, text, kind.name())
 }
 
-/// The header line, without its line feed.
-#[tactic(auto, using(crate::proofs::TextLemmas::header_has_no_float))]
-pub(crate) fn header_line(alloc: Global) -> Result<Vec<u8>, AllocError>
-    ensures { IfOk result (λ bytes. bytes.items ≡ header_line) }
+/// How a location is used.
+fn put_dep_kind(out: &mut Vec<u8>, text: &str, kind: DepKind) -> Result<(), AllocError>
+    ensures { OnOk result (Puts out.old.items out.new.items (text.now ++ quoted (dep_kind_name kind))) }
 {
-    header_value(alloc)?.to_vec(alloc)
+    put_name(out, text, kind.name())
+}
+
+/// What a thread is there for.
+fn put_thread_kind(out: &mut Vec<u8>, text: &str, kind: ThreadKind) -> Result<(), AllocError>
+    ensures { OnOk result (Puts out.old.items out.new.items (text.now ++ quoted (thread_kind_name kind))) }
+{
+    put_name(out, text, kind.name())
+}
+
+/// The names of a task's flags.
+fn put_task_flags(out: &mut Vec<u8>, text: &str, flags: TaskFlags) -> Result<(), AllocError>
+    ensures { OnOk result (Puts out.old.items out.new.items
+        (text.now ++ compact_text (names (flag_names task_flags flags.0)))) }
+{
+    put_flags(out, text, flags)
+}
+
+/// The names of a cancellation's flags.
+fn put_cancel_flags(out: &mut Vec<u8>, text: &str, flags: CancelFlags) -> Result<(), AllocError>
+    ensures { OnOk result (Puts out.old.items out.new.items
+        (text.now ++ compact_text (names (flag_names cancel_flags flags.0)))) }
+{
+    put_flags(out, text, flags)
+}
+
+/// The names of the flags, in the order of their table, of a type that tells it.
+fn put_flags<F: Flags + Copy>(out: &mut Vec<u8>, text: &str, flags: F) -> Result<(), AllocError>
+    requires exact { F.exact }
+    requires plain { AllByRecursion (λ row. is_plain_text row.0 ≡ true) F.table }
+    ensures { OnOk result (Puts out.old.items out.new.items
+        (text.now ++ compact_text (names (flag_names F.table (F.set_of flags))))) }
+{
+    put_both(out, text, "[")?;
+    let mut later = false;
+    'named: for flag in F::flags() {
+        if flags.contains(flag.value) {
+            put_name(out, comma(later), flag.name)?;
+            later = true;
+        }
+    }
+    put(out, "]")?;
+    Ok(())
+}
+
+/// What stands before an item: nothing at the first.
+fn comma(later: bool) -> &'static str
+    ensures { result.now ≡ comma_if later }
+{
+    if later { "," } else { "" }
+}
+
+/// The numbers of a path.
+fn put_path(out: &mut Vec<u8>, text: &str, path: &Path) -> Result<(), AllocError>
+    ensures { OnOk result (Puts out.old.items out.new.items
+        (text.now ++ compact_text (array (items_of (map whole_number path.now))))) }
+{
+    put_both(out, text, "[")?;
+    let mut later = false;
+    'numbers: for number in path.as_slice() {
+        put_short(out, comma(later), *number)?;
+        later = true;
+    }
+    put(out, "]")?;
+    Ok(())
+}
+
+/// What a task depends on.
+fn put_deps(out: &mut Vec<u8>, text: &str, list: &Deps) -> Result<(), AllocError>
+    ensures { OnOk result (Puts out.old.items out.new.items
+        (text.now ++ compact_text (array (items_of (map dep_data list.now))))) }
+{
+    put_both(out, text, "[")?;
+    let mut later = false;
+    'items: for item in list.as_slice() {
+        put(out, comma(later))?;
+        put_dep(out, item)?;
+        later = true;
+    }
+    put(out, "]")?;
+    Ok(())
+}
+
+/// One dependence.
+fn put_dep(out: &mut Vec<u8>, item: &Dep) -> Result<(), AllocError>
+    ensures { OnOk result (Puts out.old.items out.new.items (compact_text (dep_data item.now))) }
+{
+    lines!(dep put_parts (out) (item.kind) (item.var))
 }

@@ -6,7 +6,7 @@ ghost use Rattle.certificate.specs.Texts.{header_line, line_of, trace_text};
 
 use crate::device::{DeviceFault, MAX_TURNS, Sink};
 use crate::faults::WriteFault;
-use crate::texts::{header_line, line_of};
+use crate::texts::{put_header, put_record};
 use ompt_events::{Record, Trace};
 use std::alloc::Global;
 
@@ -30,7 +30,7 @@ pub fn write<S: Sink>(alloc: Global, trace: &Trace, sink: &mut S) -> Result<(), 
     let mut block = header(alloc)?;
     let mut turns = 0;
     'records: for event in trace.records() {
-        add_line(&mut block, alloc, event)?;
+        add_line(&mut block, event)?;
         if block.len() >= BLOCK {
             turns = send(block.as_slice(), sink, turns)?;
             block.clear();
@@ -45,21 +45,19 @@ fn header(alloc: Global) -> Result<Vec<u8>, WriteFault>
     ensures line { IfOk result (λ block. block.items ≡ header_line ++ 10 ∷ []) }
     ensures fault { IfErr result (λ fault. fault ≡ WriteFault.Memory) }
 {
-    let mut block = header_line(alloc).map_err(|_| WriteFault::Memory)?;
+    let mut block = Vec::new(alloc);
+    put_header(&mut block).map_err(|_| WriteFault::Memory)?;
     block.push(b'\n').map_err(|_| WriteFault::Memory)?;
     Ok(block)
 }
 
 /// Adds the line of the record with its line feed.
-fn add_line(block: &mut Vec<u8>, alloc: Global, event: &Record) -> Result<(), WriteFault>
+fn add_line(block: &mut Vec<u8>, event: &Record) -> Result<(), WriteFault>
     ensures line { OnOk result (block.new.items ≡ block.old.items ++ (line_of event.now ++ 10 ∷ [])) }
     ensures fault { IfErr result (λ fault. fault ≡ WriteFault.Memory) }
 {
-    let mut line = line_of(alloc, event).map_err(|_| WriteFault::Memory)?;
-    line.push(b'\n').map_err(|_| WriteFault::Memory)?;
-    block
-        .extend_from_slice(line.as_slice())
-        .map_err(|_| WriteFault::Memory)?;
+    put_record(block, event).map_err(|_| WriteFault::Memory)?;
+    block.push(b'\n').map_err(|_| WriteFault::Memory)?;
     Ok(())
 }
 

@@ -1,4 +1,4 @@
-use Rattle.std.proofs.Common.{◌≡◌, ◌-◌, ◌^◌, ◌≤◌, length}
+use Rattle.std.proofs.Common.{◌≡◌, ◌-◌, ◌≤◌, length}
 use Rattle.std.specs.Prelude.{None}
 use Rattle.ompt_events.specs.Limits.{max_records}
 use Rattle.certificate.specs.Counts.{TakesTurns}

@@ -1,0 +1,9 @@
+use Rattle.std.proofs.Common.{◌++◌, drop}
+use Rattle.serde_json.specs.Data.{string}
+use Rattle.serde_json.specs.Written.{compact_text}
+use Rattle.certificate.specs.Texts.{names, flag_names}
+use Rattle.certificate.proofs.ItemLemmas.{IsPut}
+use Rattle.certificate.proofs.texts.put_flags.Given as goal
+
+abbrev pub invariant-named : goal.invariant-named
+invariant-named g l = IsPut string (flag_names (drop l.flag-index g.F.Flags.table) (g.F.Flags.set_of l.flags)) l.later l.fn.out.items l.out.items (l.text ++ compact_text (names (flag_names g.F.Flags.table (g.F.Flags.set_of l.flags))))
