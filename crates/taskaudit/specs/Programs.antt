@@ -26,5 +26,5 @@ IsTold (Ok outcome) told = told ≡ Ok outcome
 IsTold (Err NotText) told = told ≡ Err NotText
 IsTold (Err (Words error)) told =
     (told ≡ Err (Words error)) ⊎ ((usage_status_of (kind_of error) ≢ 4)
-        × ((told ≡ Err (Audit (Write Device))) ⊎ (told ≡ Err (Audit Memory))))
+    × ((told ≡ Err (Audit (Write Device))) ⊎ (told ≡ Err (Audit Memory))))
 IsTold (Err (Audit fault)) told = (told ≡ Err (Audit fault)) ⊎ (told ≡ Err (Audit Memory))

@@ -40,7 +40,7 @@ place_text line thread seq =
 abbrev pub place_of : List Record → ℕ → List ℕ
 place_of rs i =
     place_text (i + 2) (option_map_or (λ r. r.thread) (slice_get rs i) 0)
-        (option_map_or (λ r. r.seq) (slice_get rs i) 0)
+    (option_map_or (λ r. r.seq) (slice_get rs i) 0)
 
 abbrev pub yes_text : List Record → List ℕ
 yes_text rs =
