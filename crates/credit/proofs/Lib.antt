@@ -3,3 +3,4 @@ pub mod CreditLemmas
 pub mod TileLaw
 pub mod HoldLaw
 pub mod HoldLemmas
+pub mod RunLemmas
