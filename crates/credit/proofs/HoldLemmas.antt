@@ -13,7 +13,7 @@ use Rattle.credit.specs.Shares.{is_same_half, begins_with, keep_half, give_half,
 use Rattle.credit.proofs.ShareLemmas.{ones, same_half, is_same_half-swap, begins_with-append, begins_with-itself, begins_with-halves, begins_with-part, begins_with_through, length-begins_with, count_by-some, list_any_weaker, IsShort, ByRecursion-append, ByRecursion-join}
 
 -- of two lists with which a third begins, one begins with the other
-begins_with-either : (l s t : List Half) → begins_with l s ≡ true → begins_with l t ≡ true → (begins_with s t ≡ true) ⊎ (begins_with t s ≡ true)
+pub begins_with-either : (l s t : List Half) → begins_with l s ≡ true → begins_with l t ≡ true → (begins_with s t ≡ true) ⊎ (begins_with t s ≡ true)
 begins_with-either l s [] e f = inl refl
 begins_with-either l [] (h ∷ t) e f = inr refl
 begins_with-either [] (g ∷ s) (h ∷ t) e f = absurd (false≢true e)

@@ -1,5 +1,5 @@
 -- What the runs of a share tell of its halves.
-use Rattle.std.proofs.Common.{◌≡◌, ℕ, zero, suc, ◌+◌, ◌*◌, ◌<◌, ◌≤◌, Bool, true, false, List, [], ◌∷◌, ◌++◌, length, get_or, take, replicate, refl, sym, ◌∙◌, ap, arith, append_assoc, length-append, eqb, leb, cond}
+use Rattle.std.proofs.Common.{◌≡◌, ℕ, zero, suc, ◌+◌, ◌<◌, ◌≤◌, Bool, true, false, List, [], ◌∷◌, ◌++◌, length, get_or, take, replicate, refl, sym, ◌∙◌, ap, arith, append_assoc, length-append, eqb, leb, cond}
 use Rattle.std.specs.Prelude.{◌&&◌, count_by, sum_by, nat_eq}
 use Rattle.std.specs.List.{starts_with}
 use Rattle.std.proofs.lemmas.List.{append-nil, length-replicate, replicate_more, take_more}
@@ -87,3 +87,9 @@ length-start_share-more path i within =
     let one = take_more path i 0 within in
     let run = get_or path i 0 in
     rw one (rw start_share-append (omega (arith, length-append (start_share (take i path)) ((replicate run Keep ++ Give ∷ []) ++ []), length-append (replicate run Keep ++ Give ∷ []) [], length-append (replicate run Keep) (Give ∷ []), length-replicate run Keep)))
+
+-- a run is no longer than its share
+pub run-le : (runs : List ℕ) (i : ℕ) → get_or runs i 0 ≤ length (start_share runs)
+run-le [] i = omega arith
+run-le (n ∷ runs) zero = omega (arith, length-append (replicate n Keep ++ Give ∷ []) (start_share runs), length-append (replicate n Keep) (Give ∷ []), length-replicate n Keep)
+run-le (n ∷ runs) (suc i) = omega (arith, run-le runs i, length-append (replicate n Keep ++ Give ∷ []) (start_share runs))

@@ -9,6 +9,7 @@ mod purse;
 mod share;
 #[cfg(test)]
 mod tests;
+mod tree;
 
 pub use fault::CreditFault;
 pub use purse::Purse;

@@ -1,5 +1,6 @@
 //! A share of a credit, as the halves by which it came from the whole.
-ghost use Rattle.std.specs.Prelude.{◌≡◌, ◌≤◌, ◌<◌, ◌*◌, ◌^◌, [], length, IfOk, IfErr, IsErr, IsTrue, IsOkUnless, if◌then◌else◌};
+ghost use Rattle.std.specs.Prelude.{◌≡◌, ◌≤◌, ◌<◌, ◌*◌, ◌^◌, [], length, IfOk, IfErr, IsErr, IsTrue, IsOkUnless, if◌then◌else◌, reverse};
+ghost use Rattle.credit.specs.Paths.{path_of};
 ghost use Rattle.credit.specs.Shares.{begins_with, overlaps, is_too_deep, keep_half, give_half, start_share, finish_share};
 
 use crate::fault::CreditFault;
@@ -102,7 +103,10 @@ impl Share {
         if self.is_too_deep() {
             return Err((self, CreditFault::TooDeep));
         }
-        self.split().map_err(|share| (share, CreditFault::Memory))
+        match self.given() {
+            Ok(given) => Ok((self.into_kept(), given)),
+            Err(_) => Err((self, CreditFault::Memory)),
+        }
     }
 
     /// Whether one of the two shares begins with the other.
@@ -112,25 +116,26 @@ impl Share {
         self.starts_with(other) || other.starts_with(self)
     }
 
+    /// How many Keep halves stand before each Give half.
+    pub(crate) fn runs(&self) -> &[u64]
+        ensures path { reverse result.now ≡ (path_of self.now).0 }
+        ensures small { length (start_share result.now) ≤ 2 ^ 48 }
+    {
+        self.runs.as_slice()
+    }
+
+    /// How many Keep halves stand behind the last Give half.
+    pub(crate) fn last(&self) -> u64
+        ensures { result ≡ (path_of self.now).1 }
+    {
+        self.last
+    }
+
     /// Whether the share may be halved no more.
     fn is_too_deep(&self) -> bool
         ensures { result ≡ is_too_deep self.now }
     {
         self.runs.len() >= MOST_GIVES || self.halves >= MOST_HALVES
-    }
-
-    /// The two halves of the share, or the share where there is no memory for them.
-    pub(crate) fn split(self) -> Result<(Share, Share), Share>
-        ensures halves { IfOk result (λ halves. (halves.0 ≡ keep_half self) × (halves.1 ≡ give_half self)) }
-        ensures refused { IfErr result (λ share. share ≡ self) }
-    {
-        if self.halves >= MOST_HALVES {
-            return Err(self);
-        }
-        match self.given() {
-            Ok(given) => Ok((self.into_kept(), given)),
-            Err(_) => Err(self),
-        }
     }
 
     /// The half of the share that is kept.
@@ -154,18 +159,6 @@ impl Share {
             runs,
             last: 0,
             halves: self.halves + 1,
-        })
-    }
-
-    /// The same share once more.
-    pub(crate) fn copy(&self) -> Result<Share, AllocError>
-        ensures { IfOk result (λ copy. copy ≡ self.now) }
-    {
-        let runs = Vec::from_slice(*self.runs.allocator(), self.runs.as_slice())?;
-        Ok(Share {
-            runs,
-            last: self.last,
-            halves: self.halves,
         })
     }
 }
