@@ -1,16 +1,14 @@
 -- What the halves of a share tell of whether shares hold it.
-use Rattle.std.proofs.Common.{◌≡◌, ℕ, ◌+◌, ◌-◌, ◌*◌, ◌<◌, ◌≤◌, Bool, true, false, cond, List, [], ◌∷◌, ◌++◌, length, replicate, refl, sym, ◌∙◌, ap, arith, length-append, ⊎_elim, inl, inr, ◌⊎◌}
-use Rattle.std.specs.Prelude.{count_by, sum_by}
+use Rattle.std.proofs.Common.{◌≡◌, ℕ, ◌+◌, ◌<◌, ◌≤◌, Bool, true, false, List, [], ◌∷◌, ◌++◌, length, replicate, refl, sym, ◌∙◌, ap, arith, length-append, ⊎_elim, inl, inr, ◌⊎◌}
 use Rattle.std.specs.List.{list_any, AllByRecursion as ByRecursion}
-use Rattle.std.proofs.lemmas.Bool.{and_parts, and_from, false≢true, both_ways, cases_Bool, cases_lt, or_cases, or_parts, false_from_ne_true}
+use Rattle.std.proofs.lemmas.Bool.{and_parts, and_from, false≢true, both_ways, cases_lt, or_cases, or_parts}
 use Rattle.std.proofs.lemmas.List.{length-replicate}
 use Rattle.std.proofs.lemmas.List.Folds.{list_any-from_Any, Any-from_list_any}
 use Rattle.std.proofs.lemmas.List.Elements.{recursion_from_All, All-from_recursion}
-use Rattle.std.proofs.lemmas.List.Sums.{sum_by-cons, sum_by-append}
 use Rattle.credit.specs.declared.share.Half.{Half}
 use Rattle.credit.specs.declared.share.Half.TheVariants.{Keep, Give}
 use Rattle.credit.specs.Shares.{is_same_half, begins_with, keep_half, give_half, Hold}
-use Rattle.credit.proofs.ShareLemmas.{ones, same_half, is_same_half-swap, begins_with-append, begins_with-itself, begins_with-halves, begins_with-part, begins_with_through, length-begins_with, count_by-some, list_any_weaker, IsShort, ByRecursion-append, ByRecursion-join}
+use Rattle.credit.proofs.ShareLemmas.{ones, same_half, is_same_half-swap, begins_with-append, begins_with-itself, begins_with-halves, begins_with-part, begins_with_through, length-begins_with, list_any_weaker, IsShort}
 
 -- of two lists with which a third begins, one begins with the other
 pub begins_with-either : (l s t : List Half) → begins_with l s ≡ true → begins_with l t ≡ true → (begins_with s t ≡ true) ⊎ (begins_with t s ≡ true)

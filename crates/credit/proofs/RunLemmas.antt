@@ -1,8 +1,8 @@
 -- What the runs of a share tell of its halves.
-use Rattle.std.proofs.Common.{◌≡◌, ℕ, zero, suc, ◌+◌, ◌<◌, ◌≤◌, Bool, true, false, List, [], ◌∷◌, ◌++◌, length, get_or, take, replicate, refl, sym, ◌∙◌, ap, arith, append_assoc, length-append, eqb, leb, cond}
+use Rattle.std.proofs.Common.{◌≡◌, ℕ, zero, suc, ◌+◌, ◌<◌, ◌≤◌, Bool, true, false, List, [], ◌∷◌, ◌++◌, length, get_or, take, drop, replicate, refl, sym, ◌∙◌, ap, arith, append_assoc, length-append, eqb, leb, cond}
 use Rattle.std.specs.Prelude.{◌&&◌, count_by, sum_by, nat_eq}
 use Rattle.std.specs.List.{starts_with}
-use Rattle.std.proofs.lemmas.List.{append-nil, length-replicate, replicate_more, take_more}
+use Rattle.std.proofs.lemmas.List.{append-nil, length-replicate, replicate_more, take_more, take-append-drop}
 use Rattle.std.proofs.lemmas.List.Sums.{sum_by-append, sum_by-cons}
 use Rattle.std.proofs.Math.Dec.{leb-zero, leb-suc-zero, leb-suc-suc, eqb-suc-zero, eqb-zero-suc, eqb-suc-suc}
 use Rattle.credit.specs.declared.share.Half.{Half}
@@ -93,3 +93,9 @@ pub run-le : (runs : List ℕ) (i : ℕ) → get_or runs i 0 ≤ length (start_s
 run-le [] i = omega arith
 run-le (n ∷ runs) zero = omega (arith, length-append (replicate n Keep ++ Give ∷ []) (start_share runs), length-append (replicate n Keep) (Give ∷ []), length-replicate n Keep)
 run-le (n ∷ runs) (suc i) = omega (arith, run-le runs i, length-append (replicate n Keep ++ Give ∷ []) (start_share runs))
+
+-- the first runs are no longer than all
+pub length-start_share-take : (runs : List ℕ) (i : ℕ) → length (start_share (take i runs)) ≤ length (start_share runs)
+length-start_share-take runs i =
+    let split : start_share runs ≡ start_share (take i runs) ++ start_share (drop i runs) = ap start_share (sym (take-append-drop i runs)) ∙ start_share-append (take i runs) (drop i runs) in
+    omega (arith, ap length split, length-append (start_share (take i runs)) (start_share (drop i runs)))

@@ -1,7 +1,8 @@
 //! The shares of one credit that have come back.
-ghost use Rattle.std.specs.Prelude.{◌≡◌, ◌++◌, ◌∷◌, [], ℕ, IfOk, IfErr, OnOk, OnErr, IsErr, IsTrue, IsOkUnless, ◌↔◌, if◌then◌else◌, ◌<◌, take, length, reverse, false, Some};
+ghost use Rattle.std.specs.Prelude.{◌≡◌, ◌≤◌, ◌++◌, ◌∷◌, [], ℕ, IfOk, IfErr, OnOk, OnErr, IsErr, IsTrue, IsOkUnless, ◌↔◌, if◌then◌else◌, ◌<◌, take, length, reverse, false, Some, vec_len, vec_capacity};
 ghost use Rattle.std.specs.List.{list_any};
-ghost use Rattle.credit.specs.Shares.{overlaps, Hold};
+ghost use Rattle.credit.specs.Shares.{overlaps, overlaps_either, Hold};
+ghost use Rattle.credit.specs.Paths.{path_of};
 ghost use Rattle.credit.specs.Trees.{is_by, child, place, progress_at, IsLinked, IsSettling, IsKnown};
 
 use crate::fault::CreditFault;
@@ -61,7 +62,34 @@ impl Purse {
         if self.overlaps(&share) {
             return Err((share, CreditFault::Overlap));
         }
-        add(&mut self.tree, &mut self.shares, share).map_err(|share| (share, CreditFault::Memory))
+        prepare_and_add(&mut self.tree, &mut self.shares, share).map_err(|share| (
+            share,
+            CreditFault::Memory,
+        ))
+    }
+
+    /// Enters two shares, or neither. Where one of them overlaps a share in the purse, or the other one, they are
+    /// refused as `Overlap`, and else only as `Memory`; they come back then, and the purse is as it was.
+    pub fn enter_both(
+        &mut self,
+        first: Share,
+        second: Share,
+    ) -> Result<(), (Share, Share, CreditFault)>
+        ensures entered { OnOk result (self.new ≡ self.old ++ first ∷ second ∷ []) }
+        ensures unchanged { OnErr result (self.new ≡ self.old) }
+        ensures overlaps { IsTrue (overlaps_either first second self.old) → IsErr result }
+        ensures returned { IfErr result (λ refusal. (refusal.0 ≡ first) × (refusal.1 ≡ second)) }
+        ensures fault { IfErr result (λ refusal.
+            refusal.2 ≡ (if overlaps_either first second self.old then CreditFault.Overlap else CreditFault.Memory)) }
+    {
+        if self.overlaps(&first) || self.overlaps(&second) || first.overlaps(&second) {
+            return Err((first, second, CreditFault::Overlap));
+        }
+        add_both(&mut self.tree, &mut self.shares, first, second).map_err(|(first, second)| (
+            first,
+            second,
+            CreditFault::Memory,
+        ))
     }
 
     /// Whether the shares in the purse hold this one, so that all of it has come back: each list of halves that
@@ -123,7 +151,7 @@ impl Purse {
 }
 
 /// Adds a share that overlaps none of the others, or gives it back where there is no memory.
-fn add(tree: &mut Tree, shares: &mut Vec<Share>, share: Share) -> Result<(), Share>
+fn prepare_and_add(tree: &mut Tree, shares: &mut Vec<Share>, share: Share) -> Result<(), Share>
     requires linked { IsLinked tree.old }
     requires known { IsKnown shares.old.items (progress_at tree.old) }
     requires free { list_any (overlaps share) shares.old.items ≡ false }
@@ -135,17 +163,66 @@ fn add(tree: &mut Tree, shares: &mut Vec<Share>, share: Share) -> Result<(), Sha
     let Ok(index) = tree.make(share.runs()) else {
         return Err(share);
     };
+    let Ok(()) = shares.reserve(1) else {
+        return Err(share);
+    };
+    add(tree, shares, share, index);
+    Ok(())
+}
+
+/// Adds two shares that overlap neither another one nor one another, or gives them back where there is no memory.
+fn add_both(
+    tree: &mut Tree,
+    shares: &mut Vec<Share>,
+    first: Share,
+    second: Share,
+) -> Result<(), (Share, Share)>
+    requires linked { IsLinked tree.old }
+    requires known { IsKnown shares.old.items (progress_at tree.old) }
+    requires free { overlaps_either first second shares.old.items ≡ false }
+    ensures linked { IsLinked tree.new }
+    ensures known { IsKnown shares.new.items (progress_at tree.new) }
+    ensures added { OnOk result (shares.new.items ≡ shares.old.items ++ first ∷ second ∷ []) }
+    ensures refused { IfErr result (λ back.
+        (shares.new.items ≡ shares.old.items) × (back.0 ≡ first) × (back.1 ≡ second)) }
+{
+    let Ok(index) = tree.make(first.runs()) else {
+        return Err((first, second));
+    };
+    let Ok(other) = tree.make(second.runs()) else {
+        return Err((first, second));
+    };
+    let Ok(()) = shares.reserve(2) else {
+        return Err((first, second));
+    };
+    add(tree, shares, first, index);
+    add(tree, shares, second, other);
+    Ok(())
+}
+
+/// Adds a share at its node, where there is room for it.
+fn add(tree: &mut Tree, shares: &mut Vec<Share>, share: Share, index: usize)
+    requires linked { IsLinked tree.old }
+    requires known { IsKnown shares.old.items (progress_at tree.old) }
+    requires free { list_any (overlaps share) shares.old.items ≡ false }
+    requires room { vec_len shares.old < vec_capacity shares.old }
+    requires place { place (child tree.old) (path_of share).0 ≡ Some index }
+    requires within { index < length tree.old.nodes.items }
+    ensures linked { IsLinked tree.new }
+    ensures known { IsKnown shares.new.items (progress_at tree.new) }
+    ensures added { shares.new.items ≡ shares.old.items ++ share ∷ [] }
+    ensures capacity { vec_capacity shares.old ≤ vec_capacity shares.new }
+    ensures children { tree.new.children ≡ tree.old.children }
+    ensures nodes { length tree.new.nodes.items ≡ length tree.old.nodes.items }
+{
     let run = Run {
         keeps: share.last(),
         time: shares.len(),
     };
-    if let Err(refused) = shares.push(share) {
-        return Err(refused.value);
-    }
+    let _ = shares.push(share);
     tree.put_run(index, run);
     let entered = &shares[run.time];
     settle(tree, shares.as_slice(), entered.runs(), index);
-    Ok(())
 }
 
 /// Marks what is held since the last of the shares was entered, at the node with this index: that node, if it is, and
@@ -157,6 +234,8 @@ fn settle(tree: &mut Tree, shares: &[Share], runs: &[u64], index: usize)
     requires within { 0 < length tree.old.nodes.items }
     ensures linked { IsLinked tree.new }
     ensures known { IsKnown shares.now (progress_at tree.new) }
+    ensures children { tree.new.children ≡ tree.old.children }
+    ensures nodes { length tree.new.nodes.items ≡ length tree.old.nodes.items }
 {
     let time = shares.len();
     let mut index = index;

@@ -79,6 +79,16 @@ impl Share {
         })
     }
 
+    /// The share with these runs: at each of them that many Keep halves and then a Give half, and at the end `last`
+    /// Keep halves, at most 2^48 halves in all. Takes no memory.
+    pub fn of_runs(runs: Vec<u64>, last: u64) -> Share
+        requires { length (finish_share runs.items last) ≤ 2 ^ 48 }
+        ensures { result ≡ finish_share runs.items last }
+    {
+        let halves = count_run_halves(runs.as_slice()) + last;
+        Share { runs, last, halves }
+    }
+
     /// Whether the share begins with the other one, as each share does with itself. Takes no memory.
     pub fn starts_with(&self, other: &Share) -> bool
         ensures { result ≡ begins_with self.now other.now }
@@ -183,6 +193,18 @@ fn count_halves(path: &[u32]) -> u64
     let mut halves = 0;
     for number in path {
         halves += u64::from(*number) + 1;
+    }
+    halves
+}
+
+/// How many halves these runs have, each with its Give half.
+fn count_run_halves(runs: &[u64]) -> u64
+    requires { length (start_share runs.now) ≤ 2 ^ 48 }
+    ensures { result ≡ length (start_share runs.now) }
+{
+    let mut halves = 0;
+    for run in runs {
+        halves += *run + 1;
     }
     halves
 }

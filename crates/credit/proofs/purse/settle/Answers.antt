@@ -84,4 +84,6 @@ levels-preserved c =
           (subst (λ (x : Node). IsFull x.progress) c.node.ensures (c.is_full.ensures.0 c.levels-test.true));
       within = omega (arith, long, c.levels.invariant.within);
       depth = omega arith;
+      children = c.count_child.ensures.children ∙ c.mark.ensures.children ∙ c.levels.invariant.children;
+      nodes = omega (arith, long, c.levels.invariant.nodes);
     }

@@ -10,6 +10,8 @@ invariant-levels l = record {
   settling : IsSettling l.shares (progress_at l.tree) (reverse (take l.depth l.runs));
   within : 0 < length l.tree.nodes.items;
   depth : l.depth ≤ length l.runs;
+  children : l.tree.children ≡ l.initial.tree.children;
+  nodes : length l.tree.nodes.items ≡ length l.initial.tree.nodes.items;
 }
 
 abbrev pub decreases-levels : goal.decreases-levels
