@@ -61,7 +61,7 @@ Hold-append shares more s held l begins long =
     Any-from_list_any (λ t. begins_with l t) (shares ++ more) (list_any-append (λ t. begins_with l t) shares more ∙ or_left _ _ some)
 
 -- a list that begins with a longer one's beginning
-begins_with-cut : (l x t : List Half) → begins_with (l ++ x) t ≡ true → length t ≤ length l → begins_with l t ≡ true
+pub begins_with-cut : (l x t : List Half) → begins_with (l ++ x) t ≡ true → length t ≤ length l → begins_with l t ≡ true
 begins_with-cut l x [] e short = refl
 begins_with-cut [] x (h ∷ t) e short = absurd (omega arith)
 begins_with-cut (g ∷ l) x (h ∷ t) e short = let parts = and_parts _ (begins_with (l ++ x) t) e in and_from _ _ parts.0 (begins_with-cut l x t parts.1 (omega arith))

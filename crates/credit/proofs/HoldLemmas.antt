@@ -51,7 +51,7 @@ abbrev pub span : List (List Half) → ℕ
 span [] = 0
 span (t ∷ shares) = length t + span shares
 
-IsShort-span : (l : List Half) (shares : List (List Half)) → span shares ≤ length l → ByRecursion (IsShort l) shares
+pub IsShort-span : (l : List Half) (shares : List (List Half)) → span shares ≤ length l → ByRecursion (IsShort l) shares
 IsShort-span l [] far = tt
 IsShort-span l (t ∷ shares) far = (omega arith, IsShort-span l shares (omega arith))
 

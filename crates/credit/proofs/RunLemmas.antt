@@ -10,23 +10,23 @@ use Rattle.credit.specs.declared.share.Half.TheVariants.{Keep, Give}
 use Rattle.credit.specs.Shares.{begins_with, is_give, keep_half, give_half, start_share, finish_share}
 
 -- a run of Keep halves, and what stands behind it
-begins_with-run : (n m : ℕ) (x : List Half) → begins_with (replicate n Keep ++ Give ∷ x) (replicate m Keep) ≡ leb m n
+pub begins_with-run : (n m : ℕ) (x : List Half) → begins_with (replicate n Keep ++ Give ∷ x) (replicate m Keep) ≡ leb m n
 begins_with-run n zero x = sym (leb-zero n)
 begins_with-run zero (suc m) x = sym (leb-suc-zero m)
 begins_with-run (suc n) (suc m) x = begins_with-run n m x ∙ sym (leb-suc-suc m n)
 
-begins_with-last : (n m : ℕ) → begins_with (replicate n Keep) (replicate m Keep) ≡ leb m n
+pub begins_with-last : (n m : ℕ) → begins_with (replicate n Keep) (replicate m Keep) ≡ leb m n
 begins_with-last n zero = sym (leb-zero n)
 begins_with-last zero (suc m) = sym (leb-suc-zero m)
 begins_with-last (suc n) (suc m) = begins_with-last n m ∙ sym (leb-suc-suc m n)
 
-begins_with-give : (n m : ℕ) (y : List Half) → begins_with (replicate n Keep) (replicate m Keep ++ Give ∷ y) ≡ false
+pub begins_with-give : (n m : ℕ) (y : List Half) → begins_with (replicate n Keep) (replicate m Keep ++ Give ∷ y) ≡ false
 begins_with-give zero zero y = refl
 begins_with-give (suc n) zero y = refl
 begins_with-give zero (suc m) y = refl
 begins_with-give (suc n) (suc m) y = begins_with-give n m y
 
-begins_with-both : (n m : ℕ) (x y : List Half) → begins_with (replicate n Keep ++ Give ∷ x) (replicate m Keep ++ Give ∷ y) ≡ (eqb m n && begins_with x y)
+pub begins_with-both : (n m : ℕ) (x y : List Half) → begins_with (replicate n Keep ++ Give ∷ x) (replicate m Keep ++ Give ∷ y) ≡ (eqb m n && begins_with x y)
 begins_with-both zero zero x y = refl
 begins_with-both (suc n) zero x y = sym (ap (λ b. b && begins_with x y) (eqb-zero-suc n))
 begins_with-both zero (suc m) x y = sym (ap (λ b. b && begins_with x y) (eqb-suc-zero m))
