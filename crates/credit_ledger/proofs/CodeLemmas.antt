@@ -1,19 +1,17 @@
 -- Where the shares of roots and pools stand, and that they hold one another there as they do outside.
-use Rattle.std.proofs.Common.{◌≡◌, ℕ, zero, suc, ◌+◌, ◌*◌, ◌/◌, ◌%◌, ◌^◌, ◌<◌, ◌≤◌, Bool, true, false, cond, List, [], ◌∷◌, ◌++◌, length, replicate, map, Option, None, Some, refl, sym, ◌∙◌, ap, subst, arith, append_assoc, ⊎_elim, inl, inr, ◌⊎◌, eqb}
+use Rattle.std.proofs.Common.{◌≡◌, ℕ, ◌+◌, ◌*◌, ◌/◌, ◌%◌, ◌^◌, ◌<◌, Bool, true, false, cond, List, [], ◌∷◌, ◌++◌, replicate, map, Option, None, Some, refl, sym, ◌∙◌, ap, subst, arith, append_assoc, ⊎_elim, inl, ◌⊎◌, eqb}
 use Rattle.std.specs.Prelude.{◌==◌, ◌&&◌, nat_eq}
 use Rattle.std.specs.List.{flat_map}
-use Rattle.std.specs.Cmp.Lexicographic.{pointwise}
 use Rattle.std.proofs.lemmas.Bool.{and_parts, and_from, false≢true, cases_Bool, or_cases, eqb-true, eq-eqb}
-use Rattle.std.proofs.lemmas.List.{append-nil}
 use Rattle.ompt_events.specs.declared.records.Part.{Part}
 use Rattle.credit.specs.declared.share.Half.{Half}
 use Rattle.credit.specs.declared.share.Half.TheVariants.{Keep, Give}
-use Rattle.credit.specs.Shares.{begins_with, overlaps, start_share, Hold}
+use Rattle.credit.specs.Shares.{begins_with, overlaps, start_share}
 use Rattle.credit.proofs.RunLemmas.{begins_with-both, start_share-append}
 use Rattle.credit_ledger.specs.declared.entry.Entry.{Entry}
-use Rattle.credit_ledger.specs.Entries.{part_halves, tree_share, parent_and_number, pool_share, is_same_path, share_in_pool, tree_shares, pool_shares}
+use Rattle.credit_ledger.specs.Entries.{part_halves, tree_share, parent_and_number, is_same_path, tree_shares}
 use Rattle.credit_ledger.specs.Codes.{region, tree_code, pool_runs, second_code, codes, all_codes}
-use Rattle.credit_ledger.proofs.RegionLemmas.{IsIn, IsIn-append_left, IsIn-append_right, IsIn-append_cases, IsShifted, shifted, IsRegion, Hold-outside, Hold-inside}
+use Rattle.credit_ledger.proofs.RegionLemmas.{IsIn, IsIn-append_left, IsIn-append_right, IsIn-append_cases, IsShifted, shifted, IsRegion}
 
 -- ---- regions
 
@@ -94,29 +92,31 @@ same_path-itself (n ∷ p) = and_from _ _ (eq-eqb n n refl) (same_path-itself p)
 pub IsRegion-flat_map : (a s : List Half) (f g : Entry → List (List Half)) → ((e : Entry) → IsRegion a s (f e) (g e)) → (es : List Entry) → IsRegion a s (flat_map f es) (flat_map g es)
 IsRegion-flat_map a s f g each [] = record { there = λ y h. absurd h; back = λ x h over. absurd h }
 IsRegion-flat_map a s f g each (e ∷ es) = join (IsRegion-flat_map a s f g each es)
-    where
-      first_shifted : (x : List Half) → IsShifted a x (g e) → IsShifted a x (g e ++ flat_map g es)
-      first_shifted x (shifted y h same) = shifted y (IsIn-append_left y (g e) (flat_map g es) h) same
-      later_shifted : (x : List Half) → IsShifted a x (flat_map g es) → IsShifted a x (g e ++ flat_map g es)
-      later_shifted x (shifted y h same) = shifted y (IsIn-append_right y (g e) (flat_map g es) h) same
-      join : IsRegion a s (flat_map f es) (flat_map g es) → IsRegion a s (f e ++ flat_map f es) (g e ++ flat_map g es)
-      join rest = record {
-        there = λ y h. ⊎_elim
-            (λ (here : IsIn y (g e)). IsIn-append_left (a ++ y) (f e) (flat_map f es) ((each e).there y here))
-            (λ (later : IsIn y (flat_map g es)). IsIn-append_right (a ++ y) (f e) (flat_map f es) (rest.there y later))
-            (IsIn-append_cases y (g e) (flat_map g es) h);
-        back = λ x h over. ⊎_elim
-            (λ (here : IsIn x (f e)). first_shifted x ((each e).back x here over))
-            (λ (later : IsIn x (flat_map f es)). later_shifted x (rest.back x later over))
-            (IsIn-append_cases x (f e) (flat_map f es) h);
-      }
+  where
+    first_shifted : (x : List Half) → IsShifted a x (g e) → IsShifted a x (g e ++ flat_map g es)
+    first_shifted x (shifted y h same) = shifted y (IsIn-append_left y (g e) (flat_map g es) h) same
+
+    later_shifted : (x : List Half) → IsShifted a x (flat_map g es) → IsShifted a x (g e ++ flat_map g es)
+    later_shifted x (shifted y h same) = shifted y (IsIn-append_right y (g e) (flat_map g es) h) same
+
+    join : IsRegion a s (flat_map f es) (flat_map g es) → IsRegion a s (f e ++ flat_map f es) (g e ++ flat_map g es)
+    join rest = record {
+      there = λ y h. ⊎_elim
+          (λ (here : IsIn y (g e)). IsIn-append_left (a ++ y) (f e) (flat_map f es) ((each e).there y here))
+          (λ (later : IsIn y (flat_map g es)). IsIn-append_right (a ++ y) (f e) (flat_map f es) (rest.there y later))
+          (IsIn-append_cases y (g e) (flat_map g es) h);
+      back = λ x h over. ⊎_elim
+          (λ (here : IsIn x (f e)). first_shifted x ((each e).back x here over))
+          (λ (later : IsIn x (flat_map f es)). later_shifted x (rest.back x later over))
+          (IsIn-append_cases x (f e) (flat_map f es) h);
+    }
 
 -- the second share stands in a region of its own
 pub second-region : (root : ℕ) (child : Option (List ℕ × ℕ)) (part : Part) (s y : List Half) (k : ℕ) → k < 3 → (r : ℕ) → overlaps (second_code root child part s) (start_share (region k r) ++ y) ≡ true → (0 < k) × (root ≡ r)
 second-region root None part s y k small r e = let h = region-overlap 2 k root r s y (omega arith) small e in (omega (arith, h.0), h.1)
 second-region root (Some child) part s y k small r e =
     let h = region-overlap 1 k root r (start_share (odd_runs child.0 child.1) ++ part_halves part) y (omega arith) small
-        (ap (λ x. overlaps x (start_share (region k r) ++ y)) (sym (pool_runs-region root child.0 child.1 (part_halves part))) ∙ e) in
+    (ap (λ x. overlaps x (start_share (region k r) ++ y)) (sym (pool_runs-region root child.0 child.1 (part_halves part))) ∙ e) in
     (omega (arith, h.0), h.1)
 
 pub cond_in : (b : Bool) (y t : List Half) → IsIn y (cond b (t ∷ []) []) → (b ≡ true) × (y ≡ t)
@@ -174,12 +174,14 @@ second-back root parent number own None part s e =
     absurd (omega (arith, h.0))
 second-back root parent number own (Some c) part s e =
     let h = region-overlap 1 1 own root (start_share (odd_runs c.0 c.1) ++ part_halves part) (start_share (odd_runs parent number) ++ []) (omega arith) (omega arith)
-        (ap (overlaps (start_share (region 1 own) ++ (start_share (odd_runs c.0 c.1) ++ part_halves part))) (sym (pool_runs-region root parent number []))
-        ∙ ap (λ x. overlaps x (start_share (pool_runs root parent number) ++ [])) (sym (pool_runs-region own c.0 c.1 (part_halves part))) ∙ e) in
-    let same = odd-overlap c.0 parent c.1 number (part_halves part) [] h.2 in
-    (h.1, shifted (part_halves part)
-    (in_cond (is_same_path c.0 parent && (c.1 == number)) (part_halves part)
-    (and_from _ _ (ap (is_same_path c.0) (sym same.0) ∙ same_path-itself c.0) (eq-eqb c.1 number same.1)))
-    (ap (λ r. start_share (pool_runs r c.0 c.1) ++ part_halves part) h.1
-    ∙ ap (λ p. start_share (pool_runs root p c.1) ++ part_halves part) same.0
-    ∙ ap (λ n. start_share (pool_runs root parent n) ++ part_halves part) same.1))
+    (ap (overlaps (start_share (region 1 own) ++ (start_share (odd_runs c.0 c.1) ++ part_halves part))) (sym (pool_runs-region root parent number []))
+    ∙ ap (λ x. overlaps x (start_share (pool_runs root parent number) ++ [])) (sym (pool_runs-region own c.0 c.1 (part_halves part))) ∙ e) in
+    let same = odd-overlap c.0 parent c.1 number (part_halves part) [] h.2 in (
+      h.1,
+      shifted (part_halves part)
+          (in_cond (is_same_path c.0 parent && (c.1 == number)) (part_halves part)
+          (and_from _ _ (ap (is_same_path c.0) (sym same.0) ∙ same_path-itself c.0) (eq-eqb c.1 number same.1)))
+          (ap (λ r. start_share (pool_runs r c.0 c.1) ++ part_halves part) h.1
+          ∙ ap (λ p. start_share (pool_runs root p c.1) ++ part_halves part) same.0
+          ∙ ap (λ n. start_share (pool_runs root parent n) ++ part_halves part) same.1),
+    )

@@ -4,9 +4,12 @@
 use Rattle.std.specs.Prelude.{ℕ, ◌+◌, ◌*◌, ◌/◌, ◌%◌, ◌^◌, List, [], ◌∷◌, ◌++◌, Option, None, Some, map}
 use Rattle.std.specs.List.{flat_map}
 use Rattle.ompt_events.specs.declared.records.Part.{Part}
+use Rattle.ompt_events.specs.declared.records.Part.TheVariants.{Whole, Body, Event}
 use Rattle.credit.specs.declared.share.Half.{Half}
 use Rattle.credit.specs.Shares.{start_share}
 use Rattle.credit_ledger.specs.declared.entry.Entry.{Entry}
+use Rattle.credit_ledger.specs.declared.entry.Cover.{Cover}
+use Rattle.credit_ledger.specs.declared.entry.Cover.TheVariants.{Children, Descendants}
 use Rattle.credit_ledger.specs.Entries.{part_halves, tree_share, parent_and_number}
 
 abbrev pub region : ℕ → ℕ → List ℕ
@@ -30,3 +33,19 @@ codes e = tree_code e.root (tree_share e) ∷ second_code e.root (parent_and_num
 
 abbrev pub all_codes : List Entry → List (List Half)
 all_codes entries = flat_map codes entries
+
+-- the tree share of an entry as runs: how many Keep halves stand before each Give half, and how many at the end
+abbrev pub tree_runs : List ℕ → ℕ → Part → List ℕ
+tree_runs path kept Whole = path
+tree_runs path kept Body = path
+tree_runs path kept Event = path ++ kept ∷ []
+
+abbrev pub tree_last : ℕ → Part → ℕ
+tree_last kept Whole = kept
+tree_last kept Body = kept + 1
+tree_last kept Event = 0
+
+-- the share with which a child starts
+abbrev pub start_code : ℕ → List ℕ → ℕ → Cover → List Half
+start_code root parent number Children = start_share (pool_runs root parent number)
+start_code root parent number Descendants = tree_code root (start_share (parent ++ number ∷ []))

@@ -1,6 +1,6 @@
 -- What an entry of the ledger brings back, and what a ledger holds (F. Mattern, Information Processing Letters 30, 1989).
-use Rattle.std.specs.Prelude.{◌≡◌, ◌≤◌, ◌<◌, ◌^◌, ◌==◌, ◌&&◌, ◌||◌, ℕ, Bool, true, false, List, [], ◌∷◌, ◌++◌, length, Option, None, Some, if◌then◌else◌, nat_eq, nat_le, position}
-use Rattle.std.specs.List.{flat_map}
+use Rattle.std.specs.Prelude.{◌≤◌, ◌<◌, ◌^◌, ◌==◌, ◌&&◌, ◌||◌, ℕ, Bool, false, List, [], ◌∷◌, ◌++◌, length, Option, None, Some, if◌then◌else◌, nat_eq, nat_le}
+use Rattle.std.specs.List.{flat_map, position_from}
 use Rattle.std.specs.Option.{option_map_or}
 use Rattle.std.specs.Cmp.Lexicographic.{pointwise}
 use Rattle.ompt_events.specs.declared.records.Part.{Part}
@@ -78,4 +78,4 @@ is_full entries = nat_le (2 ^ 22) (length entries)
 
 -- why an entry is refused
 abbrev pub fault_of : List Entry → Entry → LedgerFault
-fault_of entries e = if is_full entries then Full else option_map_or (λ index. Overlap index) (position (is_overlap e) entries) Memory
+fault_of entries e = if is_full entries then Full else option_map_or (λ index. Overlap index) (position_from (is_overlap e) 0 entries) Memory
