@@ -1,19 +1,17 @@
--- What a split tells of whether shares hold one, and how often it may be done.
-use Rattle.std.proofs.Common.{◌≡◌, ℕ, ◌+◌, ◌-◌, ◌*◌, ◌<◌, ◌≤◌, Bool, true, false, cond, List, [], ◌∷◌, ◌++◌, length, replicate, refl, sym, ◌∙◌, ap, arith, length-append, ⊎_elim, inl, inr, ◌⊎◌}
-use Rattle.std.specs.Prelude.{count_by, sum_by}
+-- What the halves of a share tell of whether shares hold it.
+use Rattle.std.proofs.Common.{◌≡◌, ℕ, ◌+◌, ◌<◌, ◌≤◌, Bool, true, false, List, [], ◌∷◌, ◌++◌, length, replicate, refl, sym, ◌∙◌, ap, arith, length-append, ⊎_elim, inl, inr, ◌⊎◌}
 use Rattle.std.specs.List.{list_any, AllByRecursion as ByRecursion}
-use Rattle.std.proofs.lemmas.Bool.{and_parts, and_from, false≢true, both_ways, cases_Bool, cases_lt, or_cases, or_parts, false_from_ne_true}
+use Rattle.std.proofs.lemmas.Bool.{and_parts, and_from, false≢true, both_ways, cases_lt, or_cases, or_parts}
 use Rattle.std.proofs.lemmas.List.{length-replicate}
 use Rattle.std.proofs.lemmas.List.Folds.{list_any-from_Any, Any-from_list_any}
 use Rattle.std.proofs.lemmas.List.Elements.{recursion_from_All, All-from_recursion}
-use Rattle.std.proofs.lemmas.List.Sums.{sum_by-cons, sum_by-append}
 use Rattle.credit.specs.declared.share.Half.{Half}
 use Rattle.credit.specs.declared.share.Half.TheVariants.{Keep, Give}
 use Rattle.credit.specs.Shares.{is_same_half, begins_with, keep_half, give_half, Hold}
-use Rattle.credit.proofs.ShareLemmas.{ones, same_half, is_same_half-swap, begins_with-append, begins_with-itself, begins_with-halves, begins_with-part, begins_with_through, length-begins_with, count_by-some, list_any_weaker, IsShort, ByRecursion-append, ByRecursion-join}
+use Rattle.credit.proofs.ShareLemmas.{ones, same_half, is_same_half-swap, begins_with-append, begins_with-itself, begins_with-halves, begins_with-part, begins_with_through, length-begins_with, list_any_weaker, IsShort}
 
 -- of two lists with which a third begins, one begins with the other
-begins_with-either : (l s t : List Half) → begins_with l s ≡ true → begins_with l t ≡ true → (begins_with s t ≡ true) ⊎ (begins_with t s ≡ true)
+pub begins_with-either : (l s t : List Half) → begins_with l s ≡ true → begins_with l t ≡ true → (begins_with s t ≡ true) ⊎ (begins_with t s ≡ true)
 begins_with-either l s [] e f = inl refl
 begins_with-either l [] (h ∷ t) e f = inr refl
 begins_with-either [] (g ∷ s) (h ∷ t) e f = absurd (false≢true e)
@@ -35,86 +33,12 @@ begins_with-swap (h ∷ t) (g ∷ p) e short =
     let parts = and_parts (is_same_half h g) (begins_with t p) e in
     and_from _ _ (is_same_half-swap g h ∙ parts.0) (begins_with-swap t p parts.1 (omega arith))
 
--- how many halves the shares that begin with the piece have beyond it
-abbrev pub beyond : List Half → List Half → ℕ
-beyond p t = cond (begins_with t p) (length t - length p) 0
-
-abbrev pub excess : List (List Half) → List Half → ℕ
-excess shares p = sum_by (beyond p) shares
-
--- the pieces to do, and twice what stands beyond them
-abbrev pub work : List (List Half) → List (List Half) → ℕ
-work shares pieces = sum_by (λ p. 1 + 2 * excess shares p) pieces
-
 -- a share that begins with the piece, and with which the piece does not begin, is longer
 longer-beyond : (p t : List Half) → begins_with p t ≡ false → begins_with t p ≡ true → length p < length t
 longer-beyond p t apart on =
     ⊎_elim (λ (longer : length p < length t). longer)
     (λ (short : length t ≤ length p). absurd (both_ways _ apart (begins_with-swap t p on short)))
     (cases_lt (length p) (length t))
-
-either-once : (kept given : Bool) (n : ℕ) → ones kept + ones given ≡ 1 → cond kept n 0 + cond given n 0 ≡ n
-either-once true false n one = omega arith
-either-once false true n one = omega arith
-either-once true true n one = absurd (omega arith)
-either-once false false n one = absurd (omega arith)
-
-part-off : (t p : List Half) (h : Half) → begins_with t p ≡ false → begins_with t (p ++ h ∷ []) ≡ false
-part-off t p h off = false_from_ne_true _ (λ on. both_ways _ off (begins_with-part t p (h ∷ []) on))
-
-split-beyond : (p t : List Half) → begins_with p t ≡ false → beyond (keep_half p) t + beyond (give_half p) t + ones (begins_with t p) ≡ beyond p t
-split-beyond p t apart =
-    ⊎_elim
-    (λ (on : begins_with t p ≡ true).
-    let longer = longer-beyond p t apart on in
-    let rest : ℕ = length t - length (keep_half p) in
-    let same : length (give_half p) ≡ length (keep_half p) = length-append p (Give ∷ []) ∙ sym (length-append p (Keep ∷ [])) in
-    let one : ones (begins_with t p) ≡ 1 = ap ones on in
-    let once = either-once (begins_with t (keep_half p)) (begins_with t (give_half p)) rest (begins_with-halves t p longer ∙ one) in
-    let given : beyond (give_half p) t ≡ cond (begins_with t (give_half p)) rest 0 =
-    ap (λ n. cond (begins_with t (give_half p)) (length t - n) 0) same in
-    let whole : beyond p t ≡ length t - length p = ap (λ b. cond b (length t - length p) 0) on in
-    let less : rest + 1 ≡ length t - length p = omega (arith, longer, length-append p (Keep ∷ [])) in
-    let kept : beyond (keep_half p) t ≡ cond (begins_with t (keep_half p)) rest 0 = refl in
-    omega (arith, given, once, one, whole, less, kept))
-    (λ (off : begins_with t p ≡ false).
-    let kept : beyond (keep_half p) t ≡ 0 = ap (λ b. cond b (length t - length (keep_half p)) 0) (part-off t p Keep off) in
-    let given : beyond (give_half p) t ≡ 0 = ap (λ b. cond b (length t - length (give_half p)) 0) (part-off t p Give off) in
-    let none : ones (begins_with t p) ≡ 0 = ap ones off in
-    let whole : beyond p t ≡ 0 = ap (λ b. cond b (length t - length p) 0) off in
-    omega (arith, kept, given, none, whole))
-    (cases_Bool (begins_with t p))
-
-pub split-excess : (shares : List (List Half)) (p : List Half) → list_any (λ t. begins_with p t) shares ≡ false → excess shares (keep_half p) + excess shares (give_half p) + count_by (λ t. begins_with t p) shares ≡ excess shares p
-split-excess [] p apart = refl
-split-excess (t ∷ shares) p apart =
-    let parts = or_parts (begins_with p t) (list_any (λ t. begins_with p t) shares) apart in
-    omega (
-      arith,
-      split-beyond p t parts.0,
-      split-excess shares p parts.1,
-      sum_by-cons (beyond (keep_half p)) t shares,
-      sum_by-cons (beyond (give_half p)) t shares,
-      sum_by-cons (beyond p) t shares,
-      sum_by-cons (λ t. ones (begins_with t p)) t shares,
-    )
-
--- a split leaves less work
-pub work-halves : (shares pieces : List (List Half)) (p : List Half) → list_any (λ t. begins_with p t) shares ≡ false → list_any (λ t. begins_with t p) shares ≡ true → work shares (pieces ++ keep_half p ∷ give_half p ∷ []) < work shares (pieces ++ p ∷ [])
-work-halves shares pieces p apart on =
-    let one = count_by-some (λ t. begins_with t p) shares on in
-    let todo : List Half → ℕ = λ p. 1 + 2 * excess shares p in
-    omega (
-      arith,
-      one,
-      split-excess shares p apart,
-      sum_by-append (λ p. 1 + 2 * excess shares p) pieces (keep_half p ∷ give_half p ∷ []),
-      sum_by-append (λ p. 1 + 2 * excess shares p) pieces (p ∷ []),
-    )
-
--- a piece that is done leaves less work
-pub work-done : (shares pieces : List (List Half)) (p : List Half) → work shares pieces < work shares (pieces ++ p ∷ [])
-work-done shares pieces p = omega (arith, sum_by-append (λ p. 1 + 2 * excess shares p) pieces (p ∷ []))
 
 -- a piece that begins with a share is held
 pub Hold-begun : (shares : List (List Half)) (p : List Half) → list_any (λ t. begins_with p t) shares ≡ true → Hold shares p
@@ -127,7 +51,7 @@ abbrev pub span : List (List Half) → ℕ
 span [] = 0
 span (t ∷ shares) = length t + span shares
 
-IsShort-span : (l : List Half) (shares : List (List Half)) → span shares ≤ length l → ByRecursion (IsShort l) shares
+pub IsShort-span : (l : List Half) (shares : List (List Half)) → span shares ≤ length l → ByRecursion (IsShort l) shares
 IsShort-span l [] far = tt
 IsShort-span l (t ∷ shares) far = (omega arith, IsShort-span l shares (omega arith))
 
@@ -182,33 +106,3 @@ Hold-part shares p h held l begins long =
     let short = recursion_from_All (IsShort l) ((p ++ h ∷ []) ∷ shares) long in
     held l (begins_with-part l p (h ∷ []) begins)
     (All-from_recursion (IsShort l) (p ∷ shares) (omega (arith, short.0, length-append p (h ∷ [])), short.1))
-
--- the shares hold this one exactly where they hold each of the pieces
-pub record IsSplitInto (shares : List (List Half)) (share : List Half) (pieces : List (List Half)) : Type 0 where
-  pub needed : Hold shares share → ByRecursion (λ p. Hold shares p) pieces
-  pub enough : ByRecursion (λ p. Hold shares p) pieces → Hold shares share
-
-pub IsSplitInto-itself : (shares : List (List Half)) (share : List Half) → IsSplitInto shares share (share ∷ [])
-IsSplitInto-itself shares share = record { needed = λ held. (held, tt); enough = λ all. all.0 }
-
-pub IsSplitInto-begun : (shares pieces : List (List Half)) (share p : List Half) → IsSplitInto shares share (pieces ++ p ∷ []) → list_any (λ t. begins_with p t) shares ≡ true → IsSplitInto shares share pieces
-IsSplitInto-begun shares pieces share p was begun = record {
-  needed = λ held. (ByRecursion-append (λ p. Hold shares p) pieces (p ∷ []) (was.needed held)).0;
-  enough = λ all. was.enough (ByRecursion-join (λ p. Hold shares p) pieces (p ∷ []) all (Hold-begun shares p begun, tt));
-}
-
-pub IsSplitInto-missing : (shares pieces : List (List Half)) (share p : List Half) → IsSplitInto shares share (pieces ++ p ∷ []) → list_any (λ t. begins_with p t) shares ≡ false → list_any (λ t. begins_with t p) shares ≡ false → Hold shares share → ⊥
-IsSplitInto-missing shares pieces share p was apart off held =
-    Hold-missing shares p apart off (ByRecursion-append (λ p. Hold shares p) pieces (p ∷ []) (was.needed held)).1.0
-
-pub IsSplitInto-halves : (shares pieces : List (List Half)) (share p : List Half) → IsSplitInto shares share (pieces ++ p ∷ []) → list_any (λ t. begins_with p t) shares ≡ false → list_any (λ t. begins_with t p) shares ≡ true → IsSplitInto shares share (pieces ++ keep_half p ∷ give_half p ∷ [])
-IsSplitInto-halves shares pieces share p was apart on = record {
-  needed = λ held.
-      let parts = ByRecursion-append (λ p. Hold shares p) pieces (p ∷ []) (was.needed held) in
-      ByRecursion-join (λ p. Hold shares p) pieces (keep_half p ∷ give_half p ∷ []) parts.0
-      (Hold-part shares p Keep parts.1.0, (Hold-part shares p Give parts.1.0, tt));
-  enough = λ all.
-      let parts = ByRecursion-append (λ p. Hold shares p) pieces (keep_half p ∷ give_half p ∷ []) all in
-      was.enough (ByRecursion-join (λ p. Hold shares p) pieces (p ∷ []) parts.0
-      (Hold-halves shares p apart on parts.1.0 parts.1.1.0, tt));
-}

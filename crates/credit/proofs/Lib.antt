@@ -3,3 +3,14 @@ pub mod CreditLemmas
 pub mod TileLaw
 pub mod HoldLaw
 pub mod HoldLemmas
+pub mod RunLemmas
+pub mod PathLemmas
+pub mod HeldLemmas
+pub mod CountLemmas
+pub mod KnownLemmas
+pub mod SettleLemmas
+pub mod TreeLemmas
+pub mod GrowLemmas
+pub mod UpdateLemmas
+pub mod PurseLemmas
+pub mod StepLemmas

@@ -1,2 +1,4 @@
 pub mod Shares
 pub mod Credits
+pub mod Paths
+pub mod Trees

@@ -1,6 +1,6 @@
 -- What shares of a credit say of one another (F. Mattern, Information Processing Letters 30, 1989).
 use Rattle.std.specs.Prelude.{ℕ, ◌≡◌, ◌≤◌, ◌^◌, Bool, true, false, ◌||◌, ◌&&◌, List, [], ◌∷◌, ◌++◌, length, replicate, All, Any, IsTrue, count_by, nat_le}
-use Rattle.std.specs.List.{flat_map}
+use Rattle.std.specs.List.{flat_map, list_any}
 use Rattle.credit.specs.declared.share.Half.{Half}
 use Rattle.credit.specs.declared.share.Half.TheVariants.{Keep, Give}
 
@@ -20,6 +20,10 @@ begins_with (x ∷ l) (h ∷ s) = is_same_half x h && begins_with l s
 -- one of the two shares begins with the other
 abbrev pub overlaps : List Half → List Half → Bool
 overlaps s t = begins_with s t || begins_with t s
+
+-- one of the two shares overlaps one of the others, or the other one of the two
+abbrev pub overlaps_either : List Half → List Half → List (List Half) → Bool
+overlaps_either first second shares = list_any (overlaps first) shares || list_any (overlaps second) shares || overlaps first second
 
 -- the half with which a task goes on
 abbrev pub keep_half : List Half → List Half

@@ -7,6 +7,7 @@ mod fault;
 pub mod laws;
 mod purse;
 mod share;
+mod tree;
 
 pub use fault::CreditFault;
 pub use purse::Purse;

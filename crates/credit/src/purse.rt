@@ -1,26 +1,38 @@
 //! The shares of one credit that have come back.
-ghost use Rattle.std.specs.Prelude.{◌≡◌, ◌++◌, ◌∷◌, [], IfOk, IfErr, OnOk, OnErr, IsErr, IsTrue, IsOkUnless, ◌↔◌, if◌then◌else◌};
+ghost use Rattle.std.specs.Prelude.{◌≡◌, ◌≤◌, ◌++◌, ◌∷◌, [], ℕ, IfOk, IfErr, OnOk, OnErr, IsErr, IsTrue, IsOkUnless, ◌↔◌, if◌then◌else◌, ◌<◌, take, length, reverse, false, Some, vec_len, vec_capacity};
 ghost use Rattle.std.specs.List.{list_any};
-ghost use Rattle.credit.specs.Shares.{begins_with, overlaps, keep_half, give_half, Hold};
+ghost use Rattle.credit.specs.Shares.{overlaps, overlaps_either, Hold};
+ghost use Rattle.credit.specs.Paths.{path_of};
+ghost use Rattle.credit.specs.Trees.{is_by, child, place, progress_at, IsLinked, IsSettling, IsKnown};
 
 use crate::fault::CreditFault;
 use crate::share::Share;
-use std::alloc::{AllocError, Global};
+use crate::tree::{Run, Tree};
+use std::alloc::Global;
 use std::marker::Model;
 
 /// The shares of one credit that have come back, in the order in which they were entered (F. Mattern, 1989).
+///
+/// A tree tells which shares they hold: it has a node for each share that ends with a Give half and at or below which
+/// one was entered, and the whole as its root. A node is held where a share was entered that goes on from the node's
+/// with Keep halves alone, and the children before its end are held. So each call takes as many steps as its share
+/// has Give halves, but for what its own description says.
 #[derive(Debug, Drop)]
 pub struct Purse {
     shares: Vec<Share>,
+    tree: Tree,
 }
 
 impl Model for Purse {
     ghost use Rattle.std.specs.Prelude.{List};
     ghost use Rattle.credit.specs.declared.share.Half.{Half};
+    ghost use Rattle.credit.specs.Trees.{progress_at, IsLinked, IsKnown};
 
     ghost Value = { List (List Half) };
 
     ghost view = { λ purse. purse.shares.items };
+
+    ghost invariant = { λ purse. IsLinked purse.tree × IsKnown purse.shares.items (progress_at purse.tree) };
 }
 
 impl Purse {
@@ -30,11 +42,13 @@ impl Purse {
     {
         Purse {
             shares: Vec::new(alloc),
+            tree: Tree::new(alloc),
         }
     }
 
     /// Enters the share. One that overlaps a share in the purse is refused as `Overlap`, and another only as
-    /// `Memory`; it comes back then, and the purse is as it was.
+    /// `Memory`; it comes back then, and the purse is as it was. It may look at each share in the purse where one
+    /// may overlap the new one.
     pub fn enter(&mut self, share: Share) -> Result<(), (Share, CreditFault)>
         ensures entered { OnOk result (self.new ≡ self.old ++ share ∷ []) }
         ensures unchanged { OnErr result (self.new ≡ self.old) }
@@ -48,73 +62,191 @@ impl Purse {
         if self.overlaps(&share) {
             return Err((share, CreditFault::Overlap));
         }
-        self.shares
-            .push(share)
-            .map_err(|refused| (refused.value, CreditFault::Memory))
+        prepare_and_add(&mut self.tree, &mut self.shares, share).map_err(|share| (
+            share,
+            CreditFault::Memory,
+        ))
+    }
+
+    /// Enters two shares, or neither. Where one of them overlaps a share in the purse, or the other one, they are
+    /// refused as `Overlap`, and else only as `Memory`; they come back then, and the purse is as it was.
+    pub fn enter_both(
+        &mut self,
+        first: Share,
+        second: Share,
+    ) -> Result<(), (Share, Share, CreditFault)>
+        ensures entered { OnOk result (self.new ≡ self.old ++ first ∷ second ∷ []) }
+        ensures unchanged { OnErr result (self.new ≡ self.old) }
+        ensures overlaps { IsTrue (overlaps_either first second self.old) → IsErr result }
+        ensures returned { IfErr result (λ refusal. (refusal.0 ≡ first) × (refusal.1 ≡ second)) }
+        ensures fault { IfErr result (λ refusal.
+            refusal.2 ≡ (if overlaps_either first second self.old then CreditFault.Overlap else CreditFault.Memory)) }
+    {
+        if self.overlaps(&first) || self.overlaps(&second) || first.overlaps(&second) {
+            return Err((first, second, CreditFault::Overlap));
+        }
+        add_both(&mut self.tree, &mut self.shares, first, second).map_err(|(first, second)| (
+            first,
+            second,
+            CreditFault::Memory,
+        ))
     }
 
     /// Whether the shares in the purse hold this one, so that all of it has come back: each list of halves that
     /// begins with it, and is at least as long as it and as each of them, begins with one of them.
     /// `Memory` is the only refusal.
-    ///
-    /// The share is split until its pieces are settled. These are at most about as many as the halves of the
-    /// shares in the purse that begin with it.
     pub fn holds(&self, share: &Share) -> Result<bool, CreditFault>
         ensures held { IfOk result (λ held. IsTrue held ↔ Hold self.now share.now) }
         ensures memory_alone { IsOkUnless result CreditFault.Memory }
     {
-        let shares = self.shares.as_slice();
-        let held = hold(*self.shares.allocator(), shares, share).map_err(|_| CreditFault::Memory)?;
-        Ok(held)
+        Ok(self.held_since(share).is_some())
+    }
+
+    /// How many of the shares in the purse, in the order in which they were entered, hold this one, or `None` where
+    /// all of them don't. Where the share ends with a Keep half, it may look at each child of the node above that one.
+    pub fn held_since(&self, share: &Share) -> Option<usize>
+        ensures { (upto : ℕ) → IsTrue (is_by result upto) ↔ Hold (take upto self.now) share.now }
+    {
+        let runs = share.runs();
+        if let Some(time) = self.tree.time_above(runs) {
+            return Some(time + 1);
+        }
+        let Some(index) = self.tree.find(runs) else {
+            return None;
+        };
+        let progress = self.tree.node(index).progress;
+        let Some(run) = progress.run else {
+            return None;
+        };
+        let last = share.last();
+        if run.keeps <= last {
+            Some(run.time + 1)
+        } else if last == 0 {
+            progress.since
+        } else {
+            self.tree.since_all(index, run.time + 1, last, run.keeps)
+        }
     }
 
     /// Whether the share overlaps one in the purse.
     fn overlaps(&self, share: &Share) -> bool
         ensures { result ≡ list_any (overlaps share.now) self.now }
     {
+        let runs = share.runs();
+        if let Some(_) = self.tree.time_above(runs) {
+            return true;
+        }
+        let Some(index) = self.tree.find(runs) else {
+            return false;
+        };
+        let node = self.tree.node(index);
+        if let Some(_) = node.progress.run {
+            return true;
+        }
+        if node.reach <= share.last() {
+            return false;
+        }
         self.shares.iter().any(|entered| share.overlaps(entered))
     }
 }
 
-/// Whether the shares hold this one: it is split until one of the shares begins each piece, or a piece is met
-/// that overlaps none of them.
-fn hold(alloc: Global, shares: &[Share], share: &Share) -> Result<bool, AllocError>
-    ensures { IfOk result (λ held. IsTrue held ↔ Hold shares.now share.now) }
+/// Adds a share that overlaps none of the others, or gives it back where there is no memory.
+fn prepare_and_add(tree: &mut Tree, shares: &mut Vec<Share>, share: Share) -> Result<(), Share>
+    requires linked { IsLinked tree.old }
+    requires known { IsKnown shares.old.items (progress_at tree.old) }
+    requires free { list_any (overlaps share) shares.old.items ≡ false }
+    ensures linked { IsLinked tree.new }
+    ensures known { IsKnown shares.new.items (progress_at tree.new) }
+    ensures added { OnOk result (shares.new.items ≡ shares.old.items ++ share ∷ []) }
+    ensures refused { IfErr result (λ back. (shares.new.items ≡ shares.old.items) × (back ≡ share)) }
 {
-    let mut pieces = Vec::new(alloc);
-    pieces.push(share.copy()?)?;
-    'pieces: while let Some(piece) = pieces.pop() {
-        if is_begun(shares, &piece) {
-            continue;
-        }
-        if !goes_on(shares, &piece) {
-            return Ok(false);
-        }
-        push_halves(&mut pieces, piece)?;
-    }
-    Ok(true)
-}
-
-/// Whether the piece begins with one of the shares.
-fn is_begun(shares: &[Share], piece: &Share) -> bool
-    ensures { result ≡ list_any (λ s. begins_with piece.now s) shares.now }
-{
-    shares.iter().any(|share| piece.starts_with(share))
-}
-
-/// Whether one of the shares begins with the piece.
-fn goes_on(shares: &[Share], piece: &Share) -> bool
-    ensures { result ≡ list_any (λ s. begins_with s piece.now) shares.now }
-{
-    shares.iter().any(|share| share.starts_with(piece))
-}
-
-/// Adds the two halves of the piece.
-fn push_halves(pieces: &mut Vec<Share>, piece: Share) -> Result<(), AllocError>
-    ensures { OnOk result (pieces.new.items ≡ pieces.old.items ++ keep_half piece ∷ give_half piece ∷ []) }
-{
-    let (kept, given) = piece.split().map_err(|_| AllocError)?;
-    pieces.push(kept)?;
-    pieces.push(given)?;
+    let Ok(index) = tree.make(share.runs()) else {
+        return Err(share);
+    };
+    let Ok(()) = shares.reserve(1) else {
+        return Err(share);
+    };
+    add(tree, shares, share, index);
     Ok(())
+}
+
+/// Adds two shares that overlap neither another one nor one another, or gives them back where there is no memory.
+fn add_both(
+    tree: &mut Tree,
+    shares: &mut Vec<Share>,
+    first: Share,
+    second: Share,
+) -> Result<(), (Share, Share)>
+    requires linked { IsLinked tree.old }
+    requires known { IsKnown shares.old.items (progress_at tree.old) }
+    requires free { overlaps_either first second shares.old.items ≡ false }
+    ensures linked { IsLinked tree.new }
+    ensures known { IsKnown shares.new.items (progress_at tree.new) }
+    ensures added { OnOk result (shares.new.items ≡ shares.old.items ++ first ∷ second ∷ []) }
+    ensures refused { IfErr result (λ back.
+        (shares.new.items ≡ shares.old.items) × (back.0 ≡ first) × (back.1 ≡ second)) }
+{
+    let Ok(index) = tree.make(first.runs()) else {
+        return Err((first, second));
+    };
+    let Ok(other) = tree.make(second.runs()) else {
+        return Err((first, second));
+    };
+    let Ok(()) = shares.reserve(2) else {
+        return Err((first, second));
+    };
+    add(tree, shares, first, index);
+    add(tree, shares, second, other);
+    Ok(())
+}
+
+/// Adds a share at its node, where there is room for it.
+fn add(tree: &mut Tree, shares: &mut Vec<Share>, share: Share, index: usize)
+    requires linked { IsLinked tree.old }
+    requires known { IsKnown shares.old.items (progress_at tree.old) }
+    requires free { list_any (overlaps share) shares.old.items ≡ false }
+    requires room { vec_len shares.old < vec_capacity shares.old }
+    requires place { place (child tree.old) (path_of share).0 ≡ Some index }
+    requires within { index < length tree.old.nodes.items }
+    ensures linked { IsLinked tree.new }
+    ensures known { IsKnown shares.new.items (progress_at tree.new) }
+    ensures added { shares.new.items ≡ shares.old.items ++ share ∷ [] }
+    ensures capacity { vec_capacity shares.old ≤ vec_capacity shares.new }
+    ensures children { tree.new.children ≡ tree.old.children }
+    ensures nodes { length tree.new.nodes.items ≡ length tree.old.nodes.items }
+{
+    let run = Run {
+        keeps: share.last(),
+        time: shares.len(),
+    };
+    let _ = shares.push(share);
+    tree.put_run(index, run);
+    let entered = &shares[run.time];
+    settle(tree, shares.as_slice(), entered.runs(), index);
+}
+
+/// Marks what is held since the last of the shares was entered, at the node with this index: that node, if it is, and
+/// those above it as far as they are.
+fn settle(tree: &mut Tree, shares: &[Share], runs: &[u64], index: usize)
+    requires linked { IsLinked tree.old }
+    requires place { place (child tree.old) (reverse runs.now) ≡ Some index }
+    requires settling { IsSettling shares.now (progress_at tree.old) (reverse runs.now) }
+    requires within { 0 < length tree.old.nodes.items }
+    ensures linked { IsLinked tree.new }
+    ensures known { IsKnown shares.now (progress_at tree.new) }
+    ensures children { tree.new.children ≡ tree.old.children }
+    ensures nodes { length tree.new.nodes.items ≡ length tree.old.nodes.items }
+{
+    let time = shares.len();
+    let mut index = index;
+    let mut depth = runs.len();
+    'levels: while tree.node(index).progress.is_full() {
+        tree.mark(index, time);
+        if depth == 0 {
+            return;
+        }
+        depth -= 1;
+        index = tree.node(index).parent;
+        tree.count_child(index);
+    }
 }

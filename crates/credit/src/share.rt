@@ -1,6 +1,7 @@
 //! A share of a credit, as the halves by which it came from the whole.
-ghost use Rattle.std.specs.Prelude.{◌≡◌, ◌≤◌, ◌++◌, ◌∷◌, [], length, IfOk, IfErr, OnOk, IsErr, IsTrue, IsOkUnless, if◌then◌else◌, replicate};
-ghost use Rattle.credit.specs.Shares.{begins_with, overlaps, is_give, is_too_deep, keep_half, give_half, finish_share};
+ghost use Rattle.std.specs.Prelude.{◌≡◌, ◌≤◌, ◌<◌, ◌*◌, ◌^◌, [], length, IfOk, IfErr, IsErr, IsTrue, IsOkUnless, if◌then◌else◌, reverse};
+ghost use Rattle.credit.specs.Paths.{path_of};
+ghost use Rattle.credit.specs.Shares.{begins_with, overlaps, is_too_deep, keep_half, give_half, start_share, finish_share};
 
 use crate::fault::CreditFault;
 use std::alloc::{AllocError, Global};
@@ -15,34 +16,38 @@ pub enum Half {
     Give,
 }
 
-impl Half {
-    /// Whether this is the half that is given away.
-    fn is_give(self) -> bool
-        ensures { result ≡ is_give self }
-    {
-        self == Half::Give
-    }
-}
-
 /// The most Give halves of a share.
 const MOST_GIVES: usize = 1025;
 
 /// The most halves of a share.
-const MOST_HALVES: usize = 1 << 48;
+const MOST_HALVES: u64 = 1 << 48;
 
 /// A share of a credit: the halves that were taken, one of another, from the whole on (F. Mattern, 1989).
+///
+/// They are kept as runs of Keep halves, so that each call takes as many steps as the share has Give halves,
+/// however many Keep halves stand between these.
 #[derive(Debug, Drop)]
 pub struct Share {
-    halves: Vec<Half>,
+    /// How many Keep halves stand before each Give half.
+    runs: Vec<u64>,
+    /// How many Keep halves stand behind the last Give half.
+    last: u64,
+    /// How many halves these are together.
+    halves: u64,
 }
 
 impl Model for Share {
-    ghost use Rattle.std.specs.Prelude.{List};
+    ghost use Rattle.std.specs.Prelude.{◌≡◌, ◌≤◌, ◌^◌, List, length};
     ghost use Rattle.credit.specs.declared.share.Half.{Half};
 
     ghost Value = { List Half };
 
-    ghost view = { λ share. share.halves.items };
+    ghost use Rattle.credit.specs.Shares.{finish_share};
+
+    ghost view = { λ share. finish_share share.runs.items share.last };
+
+    ghost invariant = { λ share.
+        (length (finish_share share.runs.items share.last) ≡ share.halves) × (share.halves ≤ 2 ^ 48) };
 }
 
 impl Share {
@@ -51,7 +56,9 @@ impl Share {
         ensures { result ≡ [] }
     {
         Share {
-            halves: Vec::new(alloc),
+            runs: Vec::new(alloc),
+            last: 0,
+            halves: 0,
         }
     }
 
@@ -64,15 +71,34 @@ impl Share {
         ensures value { IfOk result (λ share. share ≡ finish_share path.now kept) }
         ensures memory_alone { IsOkUnless result CreditFault.Memory }
     {
-        let halves = halves_of(alloc, path, kept).map_err(|_| CreditFault::Memory)?;
-        Ok(Share { halves })
+        let runs = runs_of(alloc, path).map_err(|_| CreditFault::Memory)?;
+        Ok(Share {
+            runs,
+            last: u64::from(kept),
+            halves: count_halves(path) + u64::from(kept),
+        })
+    }
+
+    /// The share with these runs: at each of them that many Keep halves and then a Give half, and at the end `last`
+    /// Keep halves, at most 2^48 halves in all. Takes no memory.
+    pub fn of_runs(runs: Vec<u64>, last: u64) -> Share
+        requires { length (finish_share runs.items last) ≤ 2 ^ 48 }
+        ensures { result ≡ finish_share runs.items last }
+    {
+        let halves = count_run_halves(runs.as_slice()) + last;
+        Share { runs, last, halves }
     }
 
     /// Whether the share begins with the other one, as each share does with itself. Takes no memory.
     pub fn starts_with(&self, other: &Share) -> bool
         ensures { result ≡ begins_with self.now other.now }
     {
-        self.halves.starts_with(other.halves.as_slice())
+        let run = self
+            .runs
+            .get(other.runs.len())
+            .copied()
+            .unwrap_or(self.last);
+        self.runs.starts_with(other.runs.as_slice()) && other.last <= run
     }
 
     /// The two halves of the share, the one to keep and then the one to give away. A share that has 1,025 Give
@@ -87,7 +113,10 @@ impl Share {
         if self.is_too_deep() {
             return Err((self, CreditFault::TooDeep));
         }
-        self.split().map_err(|share| (share, CreditFault::Memory))
+        match self.given() {
+            Ok(given) => Ok((self.into_kept(), given)),
+            Err(_) => Err((self, CreditFault::Memory)),
+        }
     }
 
     /// Whether one of the two shares begins with the other.
@@ -97,65 +126,85 @@ impl Share {
         self.starts_with(other) || other.starts_with(self)
     }
 
+    /// How many Keep halves stand before each Give half.
+    pub(crate) fn runs(&self) -> &[u64]
+        ensures path { reverse result.now ≡ (path_of self.now).0 }
+        ensures small { length (start_share result.now) ≤ 2 ^ 48 }
+    {
+        self.runs.as_slice()
+    }
+
+    /// How many Keep halves stand behind the last Give half.
+    pub(crate) fn last(&self) -> u64
+        ensures { result ≡ (path_of self.now).1 }
+    {
+        self.last
+    }
+
     /// Whether the share may be halved no more.
     fn is_too_deep(&self) -> bool
         ensures { result ≡ is_too_deep self.now }
     {
-        let gives = self.halves.iter().filter(|half| half.is_give()).count();
-        gives >= MOST_GIVES || self.halves.len() >= MOST_HALVES
+        self.runs.len() >= MOST_GIVES || self.halves >= MOST_HALVES
     }
 
-    /// The two halves of the share, or the share where there is no memory for them.
-    pub(crate) fn split(mut self) -> Result<(Share, Share), Share>
-        ensures halves { IfOk result (λ halves. (halves.0 ≡ keep_half self) × (halves.1 ≡ give_half self)) }
-        ensures refused { IfErr result (λ share. share ≡ self) }
+    /// The half of the share that is kept.
+    fn into_kept(mut self) -> Share
+        requires { length self < 2 ^ 48 }
+        ensures { result ≡ keep_half self }
     {
-        let Ok(given) = self.given() else {
-            return Err(self);
-        };
-        match self.halves.push(Half::Keep) {
-            Ok(()) => Ok((self, given)),
-            Err(_) => Err(self),
-        }
+        self.last += 1;
+        self.halves += 1;
+        self
     }
 
     /// The half of the share that is given away.
     fn given(&self) -> Result<Share, AllocError>
+        requires { length self.now < 2 ^ 48 }
         ensures { IfOk result (λ given. given ≡ give_half self.now) }
     {
-        let mut given = self.copy()?;
-        given.halves.push(Half::Give)?;
-        Ok(given)
-    }
-
-    /// The same share once more.
-    pub(crate) fn copy(&self) -> Result<Share, AllocError>
-        ensures { IfOk result (λ copy. copy ≡ self.now) }
-    {
-        let halves = Vec::from_slice(*self.halves.allocator(), self.halves.as_slice())?;
-        Ok(Share { halves })
+        let mut runs = Vec::from_slice(*self.runs.allocator(), self.runs.as_slice())?;
+        runs.push(self.last)?;
+        Ok(Share {
+            runs,
+            last: 0,
+            halves: self.halves + 1,
+        })
     }
 }
 
-/// The halves of the share that is entered when a task with this path is over.
-fn halves_of(alloc: Global, path: &[u32], kept: u32) -> Result<Vec<Half>, AllocError>
-    ensures { IfOk result (λ halves. halves.items ≡ finish_share path.now kept) }
+/// The numbers of a path, as the runs of a share.
+fn runs_of(alloc: Global, path: &[u32]) -> Result<Vec<u64>, AllocError>
+    ensures { IfOk result (λ runs. runs.items ≡ path.now) }
 {
-    let mut halves = Vec::new(alloc);
+    let mut runs = Vec::new(alloc);
     for number in path {
-        push_keeps(&mut halves, *number)?;
-        halves.push(Half::Give)?;
+        runs.push(u64::from(*number))?;
     }
-    push_keeps(&mut halves, kept)?;
-    Ok(halves)
+    Ok(runs)
 }
 
-/// Adds the Keep half that many times.
-fn push_keeps(halves: &mut Vec<Half>, count: u32) -> Result<(), AllocError>
-    ensures { OnOk result (halves.new.items ≡ halves.old.items ++ replicate count Half.Keep) }
+/// How many halves the share has with which a task with this path starts.
+fn count_halves(path: &[u32]) -> u64
+    requires { length path.now ≤ 1024 }
+    ensures count { result ≡ length (start_share path.now) }
+    ensures bound { result ≤ length path.now * 2 ^ 32 }
 {
-    'keeps: for _ in 0..count {
-        halves.push(Half::Keep)?;
+    let mut halves = 0;
+    for number in path {
+        halves += u64::from(*number) + 1;
     }
-    Ok(())
+    halves
+}
+
+/// How many halves these runs have, each with its Give half.
+fn count_run_halves(runs: &[u64]) -> u64
+    requires { length (start_share runs.now) ≤ 2 ^ 48 }
+    ensures { result ≡ length (start_share runs.now) }
+{
+    let mut halves = 0;
+    for run in runs {
+        halves += *run + 1;
+    }
+    halves
 }

@@ -1,16 +1,12 @@
-use Rattle.std.proofs.Common.{◌≡◌, refl}
-use Rattle.credit.specs.declared.share.Half.{Half}
-use Rattle.credit.specs.declared.share.Half.TheVariants.{Keep, Give}
-use Rattle.credit.specs.contracts.share.HalfPartialEq.TheImpl.{eq-value}
-use Rattle.credit.specs.Shares.{is_same_half}
-use Rattle.credit.proofs.ShareLemmas.{starts_with-begins_with}
+use Rattle.std.proofs.Common.{arith}
+use Rattle.std.proofs.lemmas.Grind.{common_steps}
+use Rattle.credit.proofs.RunLemmas.{begins_with-runs}
 use Rattle.credit.proofs.share.Share.starts_with.Goals as goal
 
-eq-half : (g h : Half) → eq-value.it g h ≡ is_same_half g h
-eq-half Keep Keep = refl
-eq-half Keep Give = refl
-eq-half Give Keep = refl
-eq-half Give Give = refl
+pub returns-then-starts_with : goal.returns-then-starts_with
+returns-then-starts_with c =
+    rw (← c.self.view_is, ← c.other.view_is) (rw begins_with-runs (let h = c.starts_with.ensures.value in grind (arith, common_steps)))
 
-pub returns : goal.returns
-returns c = let e = starts_with-begins_with eq-value.it eq-half c.deref.result.now c.as_slice.result.now in cc
+pub returns-else-starts_with : goal.returns-else-starts_with
+returns-else-starts_with c =
+    rw (← c.self.view_is, ← c.other.view_is) (rw begins_with-runs (let h = c.starts_with.ensures.value in grind (arith, common_steps)))

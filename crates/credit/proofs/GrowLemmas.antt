@@ -1,0 +1,327 @@
+-- What a tree keeps when a node is added.
+use Rattle.std.proofs.Common.{◌≡◌, ◌≢◌, ℕ, ◌+◌, ◌^◌, ◌<◌, ◌≤◌, true, false, List, [], ◌∷◌, ◌++◌, length, set, get_or, refl, sym, ◌∙◌, ap, subst, arith, eqb, length-append, ⊎_elim, inl, inr, ◌⊎◌}
+use Rattle.std.specs.Prelude.{Option, Some, None, ◌&&◌, max}
+use Rattle.std.specs.declared.cmp.Ordering.{Ordering}
+use Rattle.std.specs.declared.cmp.Ordering.TheVariants.{Less, Equal, Greater}
+use Rattle.std.specs.Ordering.{nat_cmp, ordering_then, is_eq}
+use Rattle.std.specs.BTreeMap.{Updates}
+use Rattle.std.specs.Option.{option_and_then}
+use Rattle.std.proofs.lemmas.Bool.{cases_Bool, cases_eq, cases_lt, and_parts, and_from, eqb-true, eq-eqb, cond-true, cond-false}
+use Rattle.std.proofs.lemmas.Bool.Decides.{nat_tests}
+use Rattle.std.proofs.lemmas.Option.{unwrap_or-slice_get}
+use Rattle.std.proofs.lemmas.List.{length-set, get_or-set_same, get_or-set_other, get_or_append_left, get_or_push, get_or_past}
+use Rattle.credit.specs.declared.tree.Node.{Node}
+use Rattle.credit.specs.declared.tree.Tree.{Tree}
+use Rattle.credit.specs.Trees.{no_progress, empty_node, node_at, key_cmp, child, place, progress_at, with_reach, IsLinked, IsGrown}
+use Rattle.credit.proofs.KnownLemmas.{none_some, same_some}
+use Rattle.credit.proofs.TreeLemmas.{place-child, progress_at-place, progress_at-none}
+
+-- two keys are the same
+is_eq-then : (o p : Ordering) → is_eq (ordering_then o p) ≡ (is_eq o && is_eq p)
+is_eq-then Less p = refl
+is_eq-then Equal p = refl
+is_eq-then Greater p = refl
+
+is_eq-nat : (a b : ℕ) → is_eq (nat_cmp a b) ≡ eqb a b
+is_eq-nat a b = grind (arith, nat_tests)
+
+pub key_eq : (a b c d : ℕ) → is_eq (key_cmp (a, b) (c, d)) ≡ (eqb a c && eqb b d)
+key_eq a b c d = is_eq-then (nat_cmp a c) (nat_cmp b d) ∙ ap (λ x. x && is_eq (nat_cmp b d)) (is_eq-nat a c) ∙ ap (λ x. eqb a c && x) (is_eq-nat b d)
+
+-- one child more
+pub record IsChildAdded (old new : Tree) (index number k : ℕ) : Type 0 where
+  pub here : child new index number ≡ Some k
+  pub others : (i n : ℕ) → (child new i n ≡ child old i n) ⊎ ((i ≡ index) × (n ≡ number))
+
+pub IsChildAdded-from : (old new : Tree) (index number k : ℕ) → Updates key_cmp old.children new.children (index, number) (Some k) → IsChildAdded old new index number k
+IsChildAdded-from old new index number k updates = record {
+  here = updates.0 (index, number) ∙ cond-true _ _ _ (key_eq index number index number ∙ and_from _ _ (eq-eqb index index refl) (eq-eqb number number refl));
+  others = λ i n.
+      ⊎_elim
+      (λ (same : is_eq (key_cmp (index, number) (i, n)) ≡ true).
+      let parts = and_parts (eqb index i) (eqb number n) (sym (key_eq index number i n) ∙ same) in
+      inr (sym (eqb-true index i parts.0), sym (eqb-true number n parts.1)))
+      (λ (apart : is_eq (key_cmp (index, number) (i, n)) ≡ false). inl (updates.0 (i, n) ∙ cond-false _ _ _ apart))
+      (cases_Bool (is_eq (key_cmp (index, number) (i, n))));
+}
+
+-- the nodes after one was added below `index`, which may reach further now
+pub record IsNodeAdded (old new : Tree) (index : ℕ) : Type 0 where
+  pub longer : length new.nodes.items ≡ length old.nodes.items + 1
+  pub progress : (i : ℕ) → (node_at new i).progress ≡ (node_at old i).progress
+  pub parent : (i : ℕ) → i < length old.nodes.items → (node_at new i).parent ≡ (node_at old i).parent
+  pub added : (node_at new (length old.nodes.items)).parent ≡ index
+  pub reach : (i : ℕ) → i < length old.nodes.items → (node_at old i).reach ≤ (node_at new i).reach
+  pub small : (i : ℕ) → (node_at new i).reach ≤ 2 ^ 48 + 1
+
+place-kept : (old new : Tree) → ((i n k : ℕ) → child old i n ≡ Some k → child new i n ≡ Some k) → (up : List ℕ) (k : ℕ) → place (child old) up ≡ Some k → place (child new) up ≡ Some k
+place-kept old new kept [] k e = e
+place-kept old new kept (n ∷ up) k e = by_parent (place-kept old new kept up) (place (child old) up) refl
+  where
+    by_parent : ((i : ℕ) → place (child old) up ≡ Some i → place (child new) up ≡ Some i) → (o : Option ℕ) → place (child old) up ≡ o → place (child new) (n ∷ up) ≡ Some k
+    by_parent above None f = absurd (none_some k (sym (ap (option_and_then (λ i. child old i n)) f) ∙ e))
+    by_parent above (Some i) f =
+        place-child (child new) n up i (above i f)
+        ∙ kept i n k (sym (place-child (child old) n up i f) ∙ e)
+
+-- a node of the new tree is one of the old tree, or the added one
+place-new : (old new : Tree) (last : ℕ) → ((i n k : ℕ) → child new i n ≡ Some k → (child old i n ≡ Some k) ⊎ (k ≡ last)) → ((n k : ℕ) → child new last n ≡ Some k → ⊥) → (up : List ℕ) (k : ℕ) → place (child new) up ≡ Some k → (place (child old) up ≡ Some k) ⊎ (k ≡ last)
+place-new old new last known leaf [] k e = inl e
+place-new old new last known leaf (n ∷ up) k e = by_parent (place-new old new last known leaf up) (place (child new) up) refl
+  where
+    by_parent : ((i : ℕ) → place (child new) up ≡ Some i → (place (child old) up ≡ Some i) ⊎ (i ≡ last)) → (o : Option ℕ) → place (child new) up ≡ o → (place (child old) (n ∷ up) ≡ Some k) ⊎ (k ≡ last)
+    by_parent above None f = absurd (none_some k (sym (ap (option_and_then (λ i. child new i n)) f) ∙ e))
+    by_parent above (Some i) f =
+        let step : child new i n ≡ Some k = sym (place-child (child new) n up i f) ∙ e in
+        ⊎_elim
+        (λ (there : place (child old) up ≡ Some i).
+        ⊎_elim (λ (was : child old i n ≡ Some k). inl (place-child (child old) n up i there ∙ was)) (λ is. inr is) (known i n k step))
+        (λ (is : i ≡ last). absurd (leaf n k (ap (λ j. child new j n) (sym is) ∙ step)))
+        (above i f)
+
+-- what the new tree says of a path is what the old one said
+progress-same : (old new : Tree) (last : ℕ) → length old.nodes.items ≤ last → ((i n k : ℕ) → child old i n ≡ Some k → child new i n ≡ Some k) → ((i n k : ℕ) → child new i n ≡ Some k → (child old i n ≡ Some k) ⊎ (k ≡ last)) → ((n k : ℕ) → child new last n ≡ Some k → ⊥) → ((i : ℕ) → (node_at new i).progress ≡ (node_at old i).progress) → (up : List ℕ) → progress_at new up ≡ progress_at old up
+progress-same old new last past kept known leaf same up = by_place (place (child new) up) refl
+  where
+    by_place : (o : Option ℕ) → place (child new) up ≡ o → progress_at new up ≡ progress_at old up
+    by_place None f = progress_at-none new up f ∙ sym (progress_at-none old up (by_old (place (child old) up) refl))
+      where
+        by_old : (o : Option ℕ) → place (child old) up ≡ o → place (child old) up ≡ None
+        by_old None g = g
+        by_old (Some i) g = absurd (none_some i (sym f ∙ place-kept old new kept up i g))
+    by_place (Some k) f =
+        ⊎_elim
+        (λ (was : place (child old) up ≡ Some k). progress_at-place new up k f ∙ same k ∙ sym (progress_at-place old up k was))
+        (λ (is : k ≡ last).
+        let far : length old.nodes.items ≤ k = omega arith in
+        progress_at-place new up k f ∙ same k ∙ empty k far ∙ sym (by_old far (place (child old) up) refl))
+        (place-new old new last known leaf up k f)
+      where
+        empty : (i : ℕ) → length old.nodes.items ≤ i → (node_at old i).progress ≡ no_progress
+        empty i far = ap (λ (node : Node). node.progress) (unwrap_or-slice_get old.nodes.items i (empty_node 0) ∙ get_or_past old.nodes.items i (empty_node 0) far)
+
+        by_old : length old.nodes.items ≤ k → (o : Option ℕ) → place (child old) up ≡ o → progress_at old up ≡ no_progress
+        by_old far None g = progress_at-none old up g
+        by_old far (Some i) g =
+            let again : i ≡ k = same_some i k (sym (place-kept old new kept up i g) ∙ f) in
+            progress_at-place old up i g ∙ empty i (omega (arith, far, again))
+
+-- ---- the two ways in which a tree grows
+
+-- a node that is no child yet
+pub IsGrown-node : (old new : Tree) (index : ℕ) → IsLinked old → index < length old.nodes.items → IsNodeAdded old new index → ((i n : ℕ) → child new i n ≡ child old i n) → IsGrown old new
+IsGrown-node old new index linked inside added same = record {
+  linked = record {
+    within = λ i n k e. let w = linked.within i n k (was i n k e) in (w.0, omega (arith, w.1, added.longer));
+    back = λ i n k e. let w = linked.within i n k (was i n k e) in added.parent k w.1 ∙ linked.back i n k (was i n k e);
+    apart = λ i m n k e f. linked.apart i m n k (was i m k e) (was i n k f);
+    reach = λ i n k e. let w = linked.within i n k (was i n k e) in
+        let less : i < length old.nodes.items = omega (arith, w.0, w.1) in
+        omega (arith, linked.reach i n k (was i n k e), added.reach i less);
+    small = added.small;
+  };
+  longer = omega (arith, added.longer);
+  same = progress-same old new (length old.nodes.items) (omega arith) (λ i n k e. same i n ∙ e) (λ i n k e. inl (was i n k e))
+      (λ n k e. let w = linked.within (length old.nodes.items) n k (was (length old.nodes.items) n k e) in omega (arith, w.0, w.1)) added.progress;
+  kept = place-kept old new (λ i n k e. same i n ∙ e);
+}
+  where
+    was : (i n k : ℕ) → child new i n ≡ Some k → child old i n ≡ Some k
+    was i n k e = sym (same i n) ∙ e
+
+-- a node that is a child
+pub IsGrown-child : (old new : Tree) (index number : ℕ) → IsLinked old → index < length old.nodes.items → child old index number ≡ None → IsNodeAdded old new index → IsChildAdded old new index number (length old.nodes.items) → number < (node_at new index).reach → IsGrown old new
+IsGrown-child old new index number linked inside missing added child_added reaches = record {
+  linked = record {
+    within = λ i n k e.
+        ⊎_elim (λ (was : child old i n ≡ Some k). let w = linked.within i n k was in (w.0, omega (arith, w.1, added.longer)))
+        (λ (is : (i ≡ index) × ((n ≡ number) × (k ≡ length old.nodes.items))). (omega (arith, is.0, is.1.1, inside), omega (arith, is.1.1, added.longer)))
+        (cases i n k e);
+    back = λ i n k e.
+        ⊎_elim (λ (was : child old i n ≡ Some k). let w = linked.within i n k was in added.parent k w.1 ∙ linked.back i n k was)
+        (λ (is : (i ≡ index) × ((n ≡ number) × (k ≡ length old.nodes.items))). ap (λ j. (node_at new j).parent) is.1.1 ∙ added.added ∙ sym is.0)
+        (cases i n k e);
+    apart = λ i m n k e f.
+        ⊎_elim
+        (λ (was : child old i m ≡ Some k). let w = linked.within i m k was in
+        ⊎_elim (λ (also : child old i n ≡ Some k). linked.apart i m n k was also)
+        (λ (is : (i ≡ index) × ((n ≡ number) × (k ≡ length old.nodes.items))). absurd (omega (arith, w.1, is.1.1)))
+        (cases i n k f))
+        (λ (is : (i ≡ index) × ((m ≡ number) × (k ≡ length old.nodes.items))).
+        ⊎_elim (λ (also : child old i n ≡ Some k). let w = linked.within i n k also in absurd (omega (arith, w.1, is.1.1)))
+        (λ (too : (i ≡ index) × ((n ≡ number) × (k ≡ length old.nodes.items))). is.1.0 ∙ sym too.1.0)
+        (cases i n k f))
+        (cases i m k e);
+    reach = λ i n k e.
+        ⊎_elim (λ (was : child old i n ≡ Some k). let w = linked.within i n k was in
+        let less : i < length old.nodes.items = omega (arith, w.0, w.1) in
+        omega (arith, linked.reach i n k was, added.reach i less))
+        (λ (is : (i ≡ index) × ((n ≡ number) × (k ≡ length old.nodes.items))).
+        let here : (node_at new i).reach ≡ (node_at new index).reach = ap (λ j. (node_at new j).reach) is.0 in
+        omega (arith, here, is.1.0, reaches))
+        (cases i n k e);
+    small = added.small;
+  };
+  longer = omega (arith, added.longer);
+  same = progress-same old new (length old.nodes.items) (omega arith) kept
+      (λ i n k e. ⊎_elim (λ (was : child old i n ≡ Some k). inl was) (λ (is : (i ≡ index) × ((n ≡ number) × (k ≡ length old.nodes.items))). inr is.1.1) (cases i n k e))
+      (λ n k e.
+      ⊎_elim (λ (was : child old (length old.nodes.items) n ≡ Some k). let w = linked.within (length old.nodes.items) n k was in omega (arith, w.0, w.1))
+      (λ (is : (length old.nodes.items ≡ index) × ((n ≡ number) × (k ≡ length old.nodes.items))). omega (arith, is.0, inside))
+      (cases (length old.nodes.items) n k e))
+      added.progress;
+  kept = place-kept old new kept;
+}
+  where
+    cases : (i n k : ℕ) → child new i n ≡ Some k → (child old i n ≡ Some k) ⊎ ((i ≡ index) × ((n ≡ number) × (k ≡ length old.nodes.items)))
+    cases i n k e =
+        ⊎_elim (λ (same : child new i n ≡ child old i n). inl (sym same ∙ e))
+        (λ (is : (i ≡ index) × (n ≡ number)).
+        let made : child new i n ≡ Some (length old.nodes.items) = ap (λ j. child new j n) is.0 ∙ ap (λ m. child new index m) is.1 ∙ child_added.here in
+        inr (is.0, (is.1, same_some k (length old.nodes.items) (sym e ∙ made))))
+        (child_added.others i n)
+
+    kept : (i n k : ℕ) → child old i n ≡ Some k → child new i n ≡ Some k
+    kept i n k e =
+        ⊎_elim (λ (same : child new i n ≡ child old i n). same ∙ e)
+        (λ (is : (i ≡ index) × (n ≡ number)).
+        let none : child old i n ≡ None = ap (λ j. child old j n) is.0 ∙ ap (λ m. child old index m) is.1 ∙ missing in
+        absurd (none_some k (sym none ∙ e)))
+        (child_added.others i n)
+
+-- ---- the lists of nodes
+
+pub node_at-get : (tree : Tree) (i : ℕ) → node_at tree i ≡ get_or tree.nodes.items i (empty_node 0)
+node_at-get tree i = unwrap_or-slice_get tree.nodes.items i (empty_node 0)
+
+node_at-past : (tree : Tree) (i : ℕ) → length tree.nodes.items ≤ i → node_at tree i ≡ empty_node 0
+node_at-past tree i far = node_at-get tree i ∙ get_or_past tree.nodes.items i (empty_node 0) far
+
+-- the nodes are the old ones, but for one that stays what it was with a greater reach, and a new last one
+record IsOneMore (old new : Tree) (index : ℕ) (node : Node) : Type 0 where
+  longer : length new.nodes.items ≡ length old.nodes.items + 1
+  before : (i : ℕ) → i < length old.nodes.items → i ≢ index → node_at new i ≡ node_at old i
+  here : node_at new index ≡ node
+  last : node_at new (length old.nodes.items) ≡ empty_node index
+  progress : node.progress ≡ (node_at old index).progress
+  parent : node.parent ≡ (node_at old index).parent
+  reach : (node_at old index).reach ≤ node.reach
+  small : node.reach ≤ 2 ^ 48 + 1
+
+IsNodeAdded-one_more : (old new : Tree) (index : ℕ) (node : Node) → IsLinked old → index < length old.nodes.items → IsOneMore old new index node → IsNodeAdded old new index
+IsNodeAdded-one_more old new index node linked inside one = record {
+  longer = one.longer;
+  progress = λ i. by_index (λ (x y : Node). x.progress ≡ y.progress) i (λ x. refl) (one.progress) refl;
+  parent = λ i less.
+      ⊎_elim
+      (λ (is : i ≡ index). ap (λ j. (node_at new j).parent) is ∙ ap (λ (x : Node). x.parent) one.here ∙ one.parent ∙ ap (λ j. (node_at old j).parent) (sym is))
+      (λ (other : i ≢ index). ap (λ (x : Node). x.parent) (one.before i less other)) (cases_eq i index);
+  added = ap (λ (x : Node). x.parent) one.last;
+  reach = λ i less.
+      ⊎_elim
+      (λ (is : i ≡ index).
+      let new_here : (node_at new i).reach ≡ node.reach = ap (λ j. (node_at new j).reach) is ∙ ap (λ (x : Node). x.reach) one.here in
+      let old_here : (node_at old i).reach ≡ (node_at old index).reach = ap (λ j. (node_at old j).reach) is in
+      omega (arith, new_here, old_here, one.reach))
+      (λ (other : i ≢ index). let same : (node_at new i).reach ≡ (node_at old i).reach = ap (λ (x : Node). x.reach) (one.before i less other) in omega (arith, same))
+      (cases_eq i index);
+  small = λ i. by_index (λ (x y : Node). y.reach ≤ 2 ^ 48 + 1 → x.reach ≤ 2 ^ 48 + 1) i (λ x h. h) (λ h. one.small) (λ h. omega arith) (linked.small i);
+}
+  where
+    by_index : (P : Node → Node → Type 0) (i : ℕ) → ((x : Node) → P x x) → P node (node_at old index) → P (empty_node index) (empty_node 0) → P (node_at new i) (node_at old i)
+    by_index P i same changed added =
+        ⊎_elim
+        (λ (is : i ≡ index). subst (λ j. P (node_at new j) (node_at old j)) (sym is) (subst (λ x. P x (node_at old index)) (sym one.here) changed))
+        (λ (other : i ≢ index).
+        ⊎_elim
+        (λ (less : i < length old.nodes.items). subst (λ x. P x (node_at old i)) (sym (one.before i less other)) (same (node_at old i)))
+        (λ (far : length old.nodes.items ≤ i).
+        ⊎_elim
+        (λ (is : i ≡ length old.nodes.items).
+        subst (λ y. P (node_at new i) y) (sym (node_at-past old i far))
+        (subst (λ x. P x (empty_node 0)) (sym (ap (node_at new) is ∙ one.last)) added))
+        (λ (beyond : i ≢ length old.nodes.items).
+        subst (λ y. P (node_at new i) y) (sym (node_at-past old i far))
+        (subst (λ x. P x (empty_node 0)) (sym (node_at-past new i (omega (arith, one.longer)))) (same (empty_node 0))))
+        (cases_eq i (length old.nodes.items)))
+        (cases_lt i (length old.nodes.items)))
+        (cases_eq i index)
+
+pub IsNodeAdded-push : (old new : Tree) (index : ℕ) → IsLinked old → index < length old.nodes.items → new.nodes.items ≡ old.nodes.items ++ empty_node index ∷ [] → IsNodeAdded old new index
+IsNodeAdded-push old new index linked inside e = IsNodeAdded-one_more old new index (node_at old index) linked inside (record {
+  longer = ap length e ∙ length-append old.nodes.items (empty_node index ∷ []);
+  before = λ i less other. before i less;
+  here = before index inside;
+  last = at (length old.nodes.items) ∙ get_or_push old.nodes.items (empty_node index) (empty_node 0) (length old.nodes.items) refl;
+  progress = refl;
+  parent = refl;
+  reach = omega arith;
+  small = linked.small index;
+})
+  where
+    at : (i : ℕ) → node_at new i ≡ get_or (old.nodes.items ++ empty_node index ∷ []) i (empty_node 0)
+    at i = node_at-get new i ∙ ap (λ xs. get_or xs i (empty_node 0)) e
+
+    before : (i : ℕ) → i < length old.nodes.items → node_at new i ≡ node_at old i
+    before i less = at i ∙ get_or_append_left old.nodes.items (empty_node index ∷ []) (empty_node 0) i less ∙ sym (node_at-get old i)
+
+pub IsNodeAdded-set : (old new : Tree) (index : ℕ) (node : Node) → IsLinked old → index < length old.nodes.items → new.nodes.items ≡ set (old.nodes.items ++ empty_node index ∷ []) index node
+    → node.progress ≡ (node_at old index).progress → node.parent ≡ (node_at old index).parent → (node_at old index).reach ≤ node.reach → node.reach ≤ 2 ^ 48 + 1 → IsNodeAdded old new index
+IsNodeAdded-set old new index node linked inside e progress parent reach small = IsNodeAdded-one_more old new index node linked inside (record {
+  longer = ap length e ∙ length-set pushed index node ∙ length-append old.nodes.items (empty_node index ∷ []);
+  before = λ i less other.
+      at i ∙ get_or-set_other pushed index i node (empty_node 0) other
+      ∙ get_or_append_left old.nodes.items (empty_node index ∷ []) (empty_node 0) i less ∙ sym (node_at-get old i);
+  here = at index ∙ get_or-set_same pushed index node (empty_node 0) (omega (arith, length-append old.nodes.items (empty_node index ∷ [])));
+  last = at (length old.nodes.items) ∙ get_or-set_other pushed index (length old.nodes.items) node (empty_node 0) (λ same. omega (arith, same, inside))
+      ∙ get_or_push old.nodes.items (empty_node index) (empty_node 0) (length old.nodes.items) refl;
+  progress = progress;
+  parent = parent;
+  reach = reach;
+  small = small;
+})
+  where
+    pushed : List Node
+    pushed = old.nodes.items ++ empty_node index ∷ []
+
+    at : (i : ℕ) → node_at new i ≡ get_or (set pushed index node) i (empty_node 0)
+    at i = node_at-get new i ∙ ap (λ xs. get_or xs i (empty_node 0)) e
+
+pub IsGrown-through : (a b c : Tree) → IsGrown a b → IsGrown b c → IsGrown a c
+IsGrown-through a b c one two = record {
+  linked = two.linked;
+  longer = omega (arith, one.longer, two.longer);
+  same = λ up. two.same up ∙ one.same up;
+  kept = λ up i e. two.kept up i (one.kept up i e);
+}
+
+pub IsGrown-itself : (tree : Tree) → IsLinked tree → IsGrown tree tree
+IsGrown-itself tree linked = record { linked = linked; longer = omega arith; same = λ up. refl; kept = λ up i e. e }
+
+-- a node was added, made a child, and its parent reaches to it
+pub IsGrown-made : (old mid new : Tree) (index number made : ℕ) → IsLinked old → index < length old.nodes.items → number ≤ 2 ^ 48 → child old index number ≡ None
+    → mid.nodes.items ≡ old.nodes.items ++ empty_node index ∷ [] → made ≡ length old.nodes.items → Updates key_cmp old.children mid.children (index, number) (Some made)
+    → new.nodes.items ≡ set mid.nodes.items index (with_reach (node_at mid index) number) → new.children ≡ mid.children → IsGrown old new
+IsGrown-made old mid new index number made linked inside small missing pushed last updates written children =
+    IsGrown-child old new index number linked inside missing
+    (IsNodeAdded-set old new index (with_reach (node_at old index) number) linked inside items refl refl (omega arith) (omega (arith, linked.small index)))
+    (IsChildAdded-from old new index number (length old.nodes.items)
+    (subst (λ map. Updates key_cmp old.children map (index, number) (Some (length old.nodes.items))) (sym children)
+    (subst (λ k. Updates key_cmp old.children mid.children (index, number) (Some k)) last updates)))
+    reached
+  where
+    same : node_at mid index ≡ node_at old index
+    same = node_at-get mid index ∙ ap (λ xs. get_or xs index (empty_node 0)) pushed
+        ∙ get_or_append_left old.nodes.items (empty_node index ∷ []) (empty_node 0) index inside ∙ sym (node_at-get old index)
+
+    items : new.nodes.items ≡ set (old.nodes.items ++ empty_node index ∷ []) index (with_reach (node_at old index) number)
+    items = written ∙ ap (λ xs. set xs index (with_reach (node_at mid index) number)) pushed
+        ∙ ap (λ (node : Node). set (old.nodes.items ++ empty_node index ∷ []) index (with_reach node number)) same
+
+    reached : number < (node_at new index).reach
+    reached =
+        let here : node_at new index ≡ with_reach (node_at old index) number =
+        node_at-get new index ∙ ap (λ xs. get_or xs index (empty_node 0)) items
+        ∙ get_or-set_same (old.nodes.items ++ empty_node index ∷ []) index (with_reach (node_at old index) number) (empty_node 0) (omega (arith, length-append old.nodes.items (empty_node index ∷ []))) in
+        let reach : (node_at new index).reach ≡ max (node_at old index).reach (number + 1) = ap (λ (node : Node). node.reach) here in
+        omega (arith, reach)

@@ -1,0 +1,10 @@
+use Rattle.std.proofs.Common.{◌≡◌, take, Some, None}
+use Rattle.std.specs.Prelude.{reverse}
+use Rattle.credit.specs.Trees.{place, child, progress_at, time_above}
+use Rattle.credit.proofs.tree.Tree.time_above.Given as goal
+
+abbrev pub invariant-runs : goal.invariant-runs
+invariant-runs l = record {
+  place : place (child l.self) (reverse (take l.number-index l.runs)) ≡ Some l.index;
+  none : time_above (progress_at l.self) (reverse (take l.number-index l.runs)) ≡ None;
+}

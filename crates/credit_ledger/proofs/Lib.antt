@@ -1,0 +1,4 @@
+pub mod RegionLemmas
+pub mod CodeLemmas
+pub mod LedgerLemmas
+pub mod OverlapLemmas

@@ -1,0 +1,51 @@
+-- How a ledger keeps the shares of all roots and pools in one purse: each of them in a region of its own, which no
+-- share of another one overlaps. A region is told by three times the upper half of the root's number, and which of
+-- three kinds it is, and the lower half. Within the pools' regions the numbers of a path are odd, but for the last.
+use Rattle.std.specs.Prelude.{ℕ, ◌+◌, ◌*◌, ◌/◌, ◌%◌, ◌^◌, List, [], ◌∷◌, ◌++◌, Option, None, Some, map}
+use Rattle.std.specs.List.{flat_map}
+use Rattle.ompt_events.specs.declared.records.Part.{Part}
+use Rattle.ompt_events.specs.declared.records.Part.TheVariants.{Whole, Body, Event}
+use Rattle.credit.specs.declared.share.Half.{Half}
+use Rattle.credit.specs.Shares.{start_share}
+use Rattle.credit_ledger.specs.declared.entry.Entry.{Entry}
+use Rattle.credit_ledger.specs.declared.entry.Cover.{Cover}
+use Rattle.credit_ledger.specs.declared.entry.Cover.TheVariants.{Children, Descendants}
+use Rattle.credit_ledger.specs.Entries.{part_halves, tree_share, parent_and_number}
+
+abbrev pub region : ℕ → ℕ → List ℕ
+region kind root = (3 * (root / 2 ^ 32) + kind) ∷ (root % 2 ^ 32) ∷ []
+
+-- where a share of the root's credit stands
+abbrev pub tree_code : ℕ → List Half → List Half
+tree_code root s = start_share (region 0 root) ++ s
+
+-- the share with which a child starts in its parent's pool
+abbrev pub pool_runs : ℕ → List ℕ → ℕ → List ℕ
+pool_runs root parent number = region 1 root ++ map (λ n. 2 * n + 1) parent ++ 2 * number ∷ []
+
+-- the second share of an entry: of the pool, or for a root, which has no parent, its first one once more
+abbrev pub second_code : ℕ → Option (List ℕ × ℕ) → Part → List Half → List Half
+second_code root None part s = start_share (region 2 root) ++ s
+second_code root (Some child) part s = start_share (pool_runs root child.0 child.1) ++ part_halves part
+
+abbrev pub codes : Entry → List (List Half)
+codes e = tree_code e.root (tree_share e) ∷ second_code e.root (parent_and_number e.path) e.part (tree_share e) ∷ []
+
+abbrev pub all_codes : List Entry → List (List Half)
+all_codes entries = flat_map codes entries
+
+-- the tree share of an entry as runs: how many Keep halves stand before each Give half, and how many at the end
+abbrev pub tree_runs : List ℕ → ℕ → Part → List ℕ
+tree_runs path kept Whole = path
+tree_runs path kept Body = path
+tree_runs path kept Event = path ++ kept ∷ []
+
+abbrev pub tree_last : ℕ → Part → ℕ
+tree_last kept Whole = kept
+tree_last kept Body = kept + 1
+tree_last kept Event = 0
+
+-- the share with which a child starts
+abbrev pub start_code : ℕ → List ℕ → ℕ → Cover → List Half
+start_code root parent number Children = start_share (pool_runs root parent number)
+start_code root parent number Descendants = tree_code root (start_share (parent ++ number ∷ []))

@@ -1,0 +1,39 @@
+-- A ledger's calls, one after another: what a ledger that several threads share is to keep.
+use Rattle.std.specs.Prelude.{◌≡◌, ℕ, false, List, [], ◌∷◌, ◌++◌, length, fold}
+use Rattle.std.specs.List.{list_any}
+use Rattle.credit_ledger.specs.declared.entry.Entry.{Entry}
+use Rattle.credit_ledger.specs.Entries.{is_full, is_overlap}
+
+-- an entry is put into the ledger, or its length is looked at
+pub data Call : Type 0 where
+  Enter : (entry : Entry) → Call
+  Look : Call
+
+-- a call with the number of the seat that made it, and the reply
+pub record Step : Type 0 where
+  pub seat : ℕ
+  pub call : Call
+  pub reply : ℕ
+
+-- the entries after a call
+abbrev pub after_call : List Entry → Call → List Entry
+after_call entries (Enter entry) = entries ++ entry ∷ []
+after_call entries Look = entries
+
+-- the call may be made: there is room for the entry, and it overlaps none
+abbrev pub IsPossible : List Entry → Call → Type 0
+IsPossible entries (Enter entry) = (is_full entries ≡ false) × (list_any (is_overlap entry) entries ≡ false)
+IsPossible entries Look = Unit {0}
+
+-- each call was possible, and its reply was the length that it met
+abbrev pub IsLegalFrom : List Entry → List Step → Type 0
+IsLegalFrom entries [] = Unit {0}
+IsLegalFrom entries (step ∷ history) = IsPossible entries step.call × (step.reply ≡ length entries) × IsLegalFrom (after_call entries step.call) history
+
+-- the history of a ledger that was empty at first
+abbrev pub IsLegal : List Step → Type 0
+IsLegal history = IsLegalFrom [] history
+
+-- what the ledger has after these calls
+abbrev pub entries_after : List Step → List Entry
+entries_after history = fold (λ entries step. after_call entries step.call) [] history

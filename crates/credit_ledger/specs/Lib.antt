@@ -1,0 +1,3 @@
+pub mod Entries
+pub mod Histories
+pub mod Codes

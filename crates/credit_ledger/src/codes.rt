@@ -1,0 +1,120 @@
+//! The shares of entries and children, in the regions where the ledger's purse keeps them.
+ghost use Rattle.std.specs.Prelude.{◌≡◌, ◌≤◌, ◌<◌, ◌+◌, ◌*◌, ◌^◌, ◌++◌, ◌∷◌, [], length, map, IfOk, OnOk, Some};
+ghost use Rattle.credit.specs.Shares.{start_share, finish_share};
+ghost use Rattle.credit_ledger.specs.Entries.{part_halves, tree_share, parent_and_number};
+ghost use Rattle.credit_ledger.specs.Codes.{region, tree_code as code_in_tree, second_code as code_besides, pool_runs};
+
+use crate::entry::Entry;
+use credit::Share;
+use ompt_events::Part;
+use std::alloc::{AllocError, Global};
+
+/// What follows the upper half of a number.
+const LOWER: u64 = 1 << 32;
+
+/// The share of the root's credit that an entry brings back.
+pub(crate) fn tree_code(alloc: Global, entry: &Entry) -> Result<Share, AllocError>
+    requires { length entry.now.path ≤ 1024 }
+    ensures { IfOk result (λ share. share ≡ code_in_tree entry.now.root (tree_share entry.now)) }
+{
+    let mut runs = region_runs(alloc, 0, entry.root)?;
+    push_path(&mut runs, entry.path.as_slice())?;
+    close(runs, entry.kept, entry.part)
+}
+
+/// The share of its parent's pool that an entry brings back, or for a root that of its credit once more.
+pub(crate) fn second_code(alloc: Global, entry: &Entry) -> Result<Share, AllocError>
+    requires { length entry.now.path ≤ 1024 }
+    ensures { IfOk result (λ share.
+        share ≡ code_besides entry.now.root (parent_and_number entry.now.path) entry.now.part (tree_share entry.now)) }
+{
+    match entry.path.as_slice().split_last() {
+        Some((number, parent)) => pool_code(alloc, entry.root, parent, *number, entry.part),
+        None => {
+            let runs = region_runs(alloc, 2, entry.root)?;
+            close(runs, entry.kept, entry.part)
+        }
+    }
+}
+
+/// The share of the root's credit with which a child starts.
+pub(crate) fn child_code(
+    alloc: Global,
+    root: u64,
+    parent: &[u32],
+    number: u32,
+) -> Result<Share, AllocError>
+    requires { length parent.now ≤ 1024 }
+    ensures { IfOk result (λ share. share ≡ code_in_tree root (start_share (parent.now ++ number ∷ []))) }
+{
+    let mut runs = region_runs(alloc, 0, root)?;
+    push_path(&mut runs, parent)?;
+    runs.push(u64::from(number))?;
+    close(runs, 0, Part::Whole)
+}
+
+/// A share of a pool: that with which the child starts, or one of its halves.
+pub(crate) fn pool_code(
+    alloc: Global,
+    root: u64,
+    parent: &[u32],
+    number: u32,
+    part: Part,
+) -> Result<Share, AllocError>
+    requires { length parent.now ≤ 1024 }
+    ensures { IfOk result (λ share. share ≡ start_share (pool_runs root parent.now number) ++ part_halves part) }
+{
+    let mut runs = region_runs(alloc, 1, root)?;
+    push_odd_path(&mut runs, parent)?;
+    runs.push(2 * u64::from(number))?;
+    close(runs, 0, part)
+}
+
+/// The runs of a region.
+fn region_runs(alloc: Global, kind: u64, root: u64) -> Result<Vec<u64>, AllocError>
+    requires { kind < 3 }
+    ensures runs { IfOk result (λ runs. runs.items ≡ region kind root) }
+    ensures small { length (start_share (region kind root)) ≤ 2 ^ 35 }
+{
+    let mut runs = Vec::new(alloc);
+    runs.push(3 * (root / LOWER) + kind)?;
+    runs.push(root % LOWER)?;
+    Ok(runs)
+}
+
+/// Adds the numbers of a path.
+fn push_path(runs: &mut Vec<u64>, path: &[u32]) -> Result<(), AllocError>
+    ensures runs { OnOk result (runs.new.items ≡ runs.old.items ++ path.now) }
+    ensures small { OnOk result (length (start_share path.now) ≤ length path.now * 2 ^ 32) }
+{
+    'numbers: for number in path {
+        runs.push(u64::from(*number))?;
+    }
+    Ok(())
+}
+
+/// Adds the odd numbers that stand for those of a path.
+fn push_odd_path(runs: &mut Vec<u64>, path: &[u32]) -> Result<(), AllocError>
+    ensures runs { OnOk result (runs.new.items ≡ runs.old.items ++ map (λ n. 2 * n + 1) path.now) }
+    ensures small { OnOk result (length (start_share (map (λ n. 2 * n + 1) path.now)) ≤ length path.now * 2 ^ 34) }
+{
+    'numbers: for number in path {
+        runs.push(2 * u64::from(*number) + 1)?;
+    }
+    Ok(())
+}
+
+/// The share of these runs, with so many Keep halves and then what comes back with the part of a task.
+fn close(mut runs: Vec<u64>, kept: u32, part: Part) -> Result<Share, AllocError>
+    requires { length (start_share runs.items) ≤ 2 ^ 45 }
+    ensures { IfOk result (λ share. share ≡ finish_share runs.items kept ++ part_halves part) }
+{
+    match part {
+        Part::Whole => Ok(Share::of_runs(runs, u64::from(kept))),
+        Part::Body => Ok(Share::of_runs(runs, u64::from(kept) + 1)),
+        Part::Event => {
+            runs.push(u64::from(kept))?;
+            Ok(Share::of_runs(runs, 0))
+        }
+    }
+}
