@@ -4,6 +4,7 @@
 
 mod devices;
 mod layers;
+mod ledger;
 mod lines;
 mod names;
 mod refusals;
@@ -15,7 +16,7 @@ use anyhow::{Result, bail};
 use std::env;
 
 const WORDS: &str =
-    "values, read, write, lines, names, tables, shares, devices, refusals or verdict";
+    "values, read, write, lines, names, tables, shares, ledger, devices, refusals or verdict";
 
 /// Does what the word asks for.
 fn run(rt: &HostRuntime, word: &str) -> Result<()> {
@@ -27,6 +28,7 @@ fn run(rt: &HostRuntime, word: &str) -> Result<()> {
         "names" => names::each(rt),
         "tables" => tables::all(rt),
         "shares" => shares::each(rt),
+        "ledger" => ledger::each(rt),
         "devices" => devices::all(rt),
         "refusals" => refusals::all(rt),
         "verdict" => verdict::of_input(rt),

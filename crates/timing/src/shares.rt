@@ -65,12 +65,18 @@ fn entered(alloc: Global, purse: &mut Purse, share: Share) -> Result<String> {
     }
 }
 
-/// Whether the share of a whole finish at this path, with so many children, is the one of these halves.
-fn of_path(alloc: Global, path: &str, kept: &str, halves: &str) -> Result<String> {
+/// The numbers between commas.
+pub fn path_of(alloc: Global, path: &str) -> Result<Vec<u32>> {
     let mut numbers = Vec::new(alloc);
     for number in path.split(',').filter(|number| !number.is_empty()) {
         numbers.push(number.parse::<u32>()?)?;
     }
+    Ok(numbers)
+}
+
+/// Whether the share of a whole finish at this path, with so many children, is the one of these halves.
+fn of_path(alloc: Global, path: &str, kept: &str, halves: &str) -> Result<String> {
+    let numbers = path_of(alloc, path)?;
     if numbers.len() > 1_024 {
         bail!("the path has more than 1,024 numbers");
     }
