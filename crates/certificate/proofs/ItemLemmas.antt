@@ -26,7 +26,7 @@ pub record IsPut {X : Type 0} (f : X → Data) (left : List X) (later : Bool) (s
 pub IsPut-none : {X : Type 0} (f : X → Data) (xs : List X) (start now text : List ℕ) → Puts start now (text ++ (91 ∷ [])) → IsPut f xs false start now (text ++ (91 ∷ items_text false (items_of (map f xs))))
 IsPut-none f xs start now text puts = record { done = text ++ (91 ∷ []); puts = puts; rest = append_assoc text (91 ∷ []) (items_text false (items_of (map f xs))) }
 
-item-more : {X : Type 0} (f : X → Data) (x : X) (left : List X) (later : Bool) (done whole : List ℕ) → done ++ items_text later (items_of (map f (x ∷ left))) ≡ whole
+pub item-more : {X : Type 0} (f : X → Data) (x : X) (left : List X) (later : Bool) (done whole : List ℕ) → done ++ items_text later (items_of (map f (x ∷ left))) ≡ whole
     → (done ++ (comma_if later ++ compact_text (f x))) ++ items_text true (items_of (map f left)) ≡ whole
 item-more f x left later done whole rest =
     append_assoc done (comma_if later ++ compact_text (f x)) (items_text true (items_of (map f left)))
@@ -61,7 +61,7 @@ Puts-all f xs i later start now new whole past before puts =
 
 -- ---- names of flags
 
-names-left : (table : List Row) (bits i : ℕ) (row : Row) → i < length table → get_or table i row ≡ row → flag_names (drop i table) bits ≡ cond (has_flag bits row.1) (row.0 ∷ flag_names (drop (i + 1) table) bits) (flag_names (drop (i + 1) table) bits)
+pub names-left : (table : List Row) (bits i : ℕ) (row : Row) → i < length table → get_or table i row ≡ row → flag_names (drop i table) bits ≡ cond (has_flag bits row.1) (row.0 ∷ flag_names (drop (i + 1) table) bits) (flag_names (drop (i + 1) table) bits)
 unfolding flag_names
 names-left table bits i row within here =
     let left : drop i table ≡ row ∷ drop (i + 1) table = drop_more table i row within ∙ ap (λ y. y ∷ drop (i + 1) table) here in

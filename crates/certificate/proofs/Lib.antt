@@ -12,6 +12,7 @@ mod LawLemmas
 mod JsonLemmas
 mod ObjectLemmas
 mod ItemLemmas
+mod TakeLemmas
 mod PartLemmas
 mod FlagLemmas
 mod TextLemmas

@@ -29,7 +29,7 @@ use Rattle.ompt_events.specs.Limits.{max_threads, max_depth, max_dependences}
 use Rattle.ompt_events.specs.Traces.{IsTrace, IsSound, ClaimInRange, BodyInRange, IsInRange}
 use Rattle.certificate.specs.declared.faults.ReadCause.TheVariants.{Header, Limit}
 use Rattle.certificate.specs.Limits.{max_line}
-use Rattle.certificate.specs.RecordLines.{bounded, is_short, claim_fits, body_fits, record_fits, header_says, names_format, said_of}
+use Rattle.certificate.specs.RecordLines.{bounded, is_short, claim_fits, body_fits, record_fits, line_says, header_says, names_format, said_of}
 use Rattle.certificate.specs.Texts.{ended, with_member, whole_number, data_of, number_or_null, flag_names, dep_data, claim_members, body_members, record_members, line_of, header_members, header_data, header_line}
 use Rattle.certificate.specs.Files.{records_said}
 use Rattle.certificate.proofs.JsonLemmas.{is_plain_text, IsPlain, ArePlain, size, items_size, value_of-compact_text, unbroken-compact_text, length-compact_text}
@@ -271,6 +271,11 @@ IsWritten-sound r range sound = record {
   short = size-data_of r sound;
   says = ap (bounded record_fits) (Says-sound r sound) ∙ ap (λ b. cond b (Ok r) (Err Limit)) (fits r range sound);
 }
+
+pub line_says-line_of : (r : Record) → IsInRange r → IsSound r.body → line_says (line_of r) ≡ Ok r
+line_says-line_of r range sound =
+    let written = IsWritten-sound r range sound in
+    (IsLineOf-plain (data_of r) 3 r written.plain (omega arith) written.short written.says).says
 
 pub records_said-text : (rs : List Record) → IsTrace rs → records_said (ended (header_line ∷ map line_of rs)) ≡ Ok rs
 records_said-text rs trace =

@@ -1,13 +1,11 @@
 -- Objects whose members were put one after another: their members are in order, and plain where each is.
-use Rattle.std.proofs.Common.{◌≡◌, ℕ, suc, ◌+◌, ◌≤◌, true, false, List, [], ◌∷◌, length, Ordering, Less, Equal, Greater, arith, refl, sym, ap, ◌∙◌}
+use Rattle.std.proofs.Common.{◌≡◌, ℕ, suc, ◌+◌, ◌≤◌, true, List, [], ◌∷◌, length, Ordering, Less, Equal, Greater, arith, refl, sym, ap, ◌∙◌}
 use Rattle.std.specs.Prelude.{⊤}
 use Rattle.std.specs.Ordering.{nat_cmp, match_ordering, ordering_reverse}
 use Rattle.std.specs.Cmp.Lexicographic.{slice_cmp}
 use Rattle.std.specs.List.{AllByRecursion}
 use Rattle.std.proofs.lemmas.Cmp.{nat_list_cmp_total}
-use Rattle.std.proofs.lemmas.Bool.{or_parts}
 use Rattle.serde_json.specs.Data.{Data, Members, no_members, member, put}
-use Rattle.serde_json.specs.Written.{has_float, members_have_float}
 use Rattle.certificate.specs.Texts.{with_member, with_members, object_of}
 use Rattle.certificate.proofs.JsonLemmas.{is_plain_text, puts, IsPlain, MembersArePlain, size, members_size}
 
@@ -101,16 +99,6 @@ members_size-put k d (member l e ms) = by_order (members_size-put k d ms) (slice
     by_order more Equal = omega arith
     by_order more Greater = omega arith
 
-members_have_float-put : (k : List ℕ) (d : Data) (ms : Members) → has_float d ≡ false → members_have_float ms ≡ false → members_have_float (put k d ms) ≡ false
-members_have_float-put k d no_members none all = rw none refl
-members_have_float-put k d (member l e ms) none all = let parts = or_parts (has_float e) _ all in by_order none parts.0 parts.1 (members_have_float-put k d ms none parts.1) (slice_cmp nat_cmp k l)
-  where
-    by_order : has_float d ≡ false → has_float e ≡ false → members_have_float ms ≡ false → members_have_float (put k d ms) ≡ false → (o : Ordering)
-        → members_have_float (match_ordering o (member k d (member l e ms)) (member l d ms) (member l e (put k d ms))) ≡ false
-    by_order none first rest more Less = rw (none, first) rest
-    by_order none first rest more Equal = rw none rest
-    by_order none first rest more Greater = rw first more
-
 -- ---- the same of each member that was put
 
 -- the member's name and its value are plain, and the value nests at most n deep
@@ -138,11 +126,3 @@ with_members-size (m ∷ added) ms = omega (arith, with_members-size added (put 
 
 pub size-object_of : (added : List (List ℕ × Data)) → size (object_of added) ≤ added_size added + 2
 size-object_of added = omega (arith, with_members-size added no_members)
-
-with_members-no_float : (added : List (List ℕ × Data)) (ms : Members) → AllByRecursion (λ m. has_float m.1 ≡ false) added → members_have_float ms ≡ false → members_have_float (with_members added ms) ≡ false
-unfolding with_member
-with_members-no_float [] ms each none = none
-with_members-no_float (m ∷ added) ms each none = with_members-no_float added (put m.0 m.1 ms) each.1 (members_have_float-put m.0 m.1 ms each.0 none)
-
-pub has_float-object_of : (added : List (List ℕ × Data)) → AllByRecursion (λ m. has_float m.1 ≡ false) added → has_float (object_of added) ≡ false
-has_float-object_of added each = with_members-no_float added no_members each refl

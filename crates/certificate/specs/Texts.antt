@@ -118,3 +118,7 @@ is_plain_byte b = nat_le 32 b && nat_lt b 127 && not (b == 34) && not (b == 92)
 abbrev pub is_plain_text : List ℕ → Bool
 is_plain_text [] = true
 is_plain_text (b ∷ bs) = is_plain_byte b && is_plain_text bs
+
+-- the part stands in front, and then what is behind
+pub record Takes (rest part behind : List ℕ) : Type 0 where
+  pub is : rest ≡ part ++ behind

@@ -4,6 +4,7 @@
 #![tactic(auto)]
 
 mod callbacks;
+mod canonical;
 mod device;
 mod faults;
 mod kept;

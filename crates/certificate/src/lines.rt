@@ -1,11 +1,12 @@
 //! What a single line stands for.
-ghost use Rattle.std.specs.Prelude.{◌≡◌};
+ghost use Rattle.std.specs.Prelude.{◌≡◌, IfSome, Ok};
 ghost use Rattle.std.specs.Result.{result_map_both};
 ghost use Rattle.serde_json.specs.View.{view};
 ghost use Rattle.certificate.specs.RecordLines as spec;
 ghost use Rattle.certificate.specs.RecordLines.{IsSaid, bounded};
 
 use crate::callbacks::{callbacks, header, members};
+use crate::canonical::canonical;
 use crate::faults::ReadCause;
 use crate::lists::{deps, path};
 use crate::members::{
@@ -132,12 +133,28 @@ fn is_header(value: &Value) -> bool
     header!(has_header(value))
 }
 
-/// The record that a line stands for.
+/// The record that a line stands for. A line as it is written is read directly.
 pub(crate) fn record_of(alloc: Global, line: &[u8]) -> Result<Record, ReadCause>
     ensures { IsSaid result (spec.line_says line.now) }
 {
+    if let Some(event) = sound(alloc, line) {
+        return Ok(event);
+    }
     let value = value_of(alloc, line)?;
     record(alloc, &value)
+}
+
+/// The record of a line as it is written, if it can stand in a trace.
+fn sound(alloc: Global, line: &[u8]) -> Option<Record>
+    ensures { IfSome result (λ event. spec.line_says line.now ≡ Ok event) }
+{
+    let event = canonical(alloc, line)?;
+    event.read_numbers();
+    if event.body.is_sound() {
+        Some(event)
+    } else {
+        None
+    }
 }
 
 /// The JSON value of a line.

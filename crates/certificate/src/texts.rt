@@ -411,7 +411,7 @@ fn put_flags<F: Flags + Copy>(out: &mut Vec<u8>, text: &str, flags: F) -> Result
 }
 
 /// What stands before an item: nothing at the first.
-fn comma(later: bool) -> &'static str
+pub(crate) fn comma(later: bool) -> &'static str
     ensures { result.now ≡ comma_if later }
 {
     if later { "," } else { "" }

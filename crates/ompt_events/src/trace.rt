@@ -72,7 +72,7 @@ fn first_refused(records: &[Record]) -> Option<usize>
         if at >= MAX_RECORDS {
             return Some(at);
         }
-        if !is_sound(&event.body) {
+        if !event.body.is_sound() {
             return Some(at);
         }
         event.read_numbers();
@@ -86,34 +86,36 @@ fn first_refused(records: &[Record]) -> Option<usize>
     None
 }
 
-/// Whether the record can stand in a trace, as far as it alone shows.
-fn is_sound(body: &Body) -> bool
-    ensures { IsTrue result ↔ IsSound body.now }
-{
-    match body {
-        Body::ImplicitTask {
-            endpoint,
-            flags,
-            ..
-        } => *endpoint != Endpoint::BeginEnd && are_named(*flags),
-        Body::TaskCreate { flags, .. } => are_named(*flags),
-        Body::Dependences { list, .. } => list.as_slice().len() <= MAX_DEPENDENCES,
-        Body::TaskSchedule {
-            status,
-            next,
-            share,
-            ..
-        } => {
-            next.is_some() == status.demands_next()
-                && share.is_some() == status.part().is_some()
-                && is_short(share)
+impl Body {
+    /// Whether a record with this body can stand in a trace, as far as it alone shows. Takes no memory.
+    pub fn is_sound(&self) -> bool
+        ensures { IsTrue result ↔ IsSound self.now }
+    {
+        match self {
+            Body::ImplicitTask {
+                endpoint,
+                flags,
+                ..
+            } => *endpoint != Endpoint::BeginEnd && are_named(*flags),
+            Body::TaskCreate { flags, .. } => are_named(*flags),
+            Body::Dependences { list, .. } => list.as_slice().len() <= MAX_DEPENDENCES,
+            Body::TaskSchedule {
+                status,
+                next,
+                share,
+                ..
+            } => {
+                next.is_some() == status.demands_next()
+                    && share.is_some() == status.part().is_some()
+                    && is_short(share)
+            }
+            Body::Cancel { flags, share, .. } => {
+                are_cancel_named(*flags)
+                    && share.is_some() == self.discarded().is_some()
+                    && is_short(share)
+            }
+            _ => true,
         }
-        Body::Cancel { flags, share, .. } => {
-            are_cancel_named(*flags)
-                && share.is_some() == body.discarded().is_some()
-                && is_short(share)
-        }
-        _ => true,
     }
 }
 

@@ -1,0 +1,9 @@
+use Rattle.ompt_events.specs.declared.records.Body.TheVariants.{ThreadEnd}
+use Rattle.certificate.proofs.PartLemmas.{line-dependences}
+use Rattle.certificate.proofs.TakeLemmas.{Takes-both, Takes-whole}
+use Rattle.certificate.proofs.canonical.dependences.Goals as goal
+
+pub returns : goal.returns
+returns c =
+    Takes-whole _ _ _ (line-dependences (record { thread = c.in_ok-thread.thread; seq = c.in_ok-seq.seq; seen = c.in_ok-seen.seen; body = ThreadEnd }) c.in_ok-task.task c.in_ok-list.list)
+    (Takes-both _ _ _ _ _ c.in_ok-list.ensures (Takes-both _ _ _ _ _ c.in_ok-seen.ensures (Takes-both _ _ _ _ _ c.in_ok-seq.ensures (Takes-both _ _ _ _ _ c.in_ok-task.ensures (Takes-both _ _ _ _ _ c.in_ok-thread.ensures c.in_ok-end.ensures)))))

@@ -1,0 +1,14 @@
+use Rattle.std.proofs.Common.{◌≡◌, ◌<◌, ◌≤◌, ◌-◌, length, take, decimal}
+use Rattle.certificate.proofs.canonical.digits.Given as goal
+
+-- the digits so far are those of the number
+abbrev pub invariant-digits : goal.invariant-digits
+invariant-digits l = record {
+  some : 0 < l.number;
+  few : l.number < 1000000000000000000;
+  within : l.len ≤ length l.rest;
+  taken : take l.len l.rest ≡ decimal l.number;
+}
+
+abbrev pub decreases-digits : goal.decreases-digits
+decreases-digits l = length l.rest - l.len

@@ -1,0 +1,535 @@
+//! Lines as they are written, read part by part. Any other line, also with a number of more than 18 digits, is left
+//! to the general way.
+ghost use Rattle.std.specs.Prelude.{◌≡◌, ◌++◌, ◌+◌, ◌<◌, ◌≤◌, true, [], IfSome, codes, decimal, length, map, slice_index};
+ghost use Rattle.std.specs.List.{AllByRecursion};
+ghost use Rattle.json.specs.Print.{quoted};
+ghost use Rattle.serde_json.specs.Data.{array, boolean};
+ghost use Rattle.serde_json.specs.View.{items_of};
+ghost use Rattle.serde_json.specs.Written.{compact_text, comma_if};
+ghost use Rattle.ompt_events.specs.Flags as flag;
+ghost use Rattle.ompt_events.specs.Names.{status_name, endpoint_name, sync_kind_name, dep_kind_name, thread_kind_name};
+ghost use Rattle.certificate.specs.Texts.{Takes, is_plain_text, line_of, dep_data, number_or_null, whole_number, names, flag_names};
+
+use crate::callbacks::lines;
+use crate::texts::comma;
+use bitflags::Flags;
+use ompt_events::{
+    Body, CancelFlags, Claim, Dep, DepKind, Deps, Endpoint, MAX_DEPENDENCES, MAX_DEPTH, Path,
+    Record, Status, SyncKind, TaskFlags, ThreadKind,
+};
+use std::alloc::Global;
+
+/// Below it, a number has less than 18 digits, and one more is read.
+const ONE_DIGIT_MORE: u64 = 100_000_000_000_000_000;
+
+// A part of a line, by the kind of its value.
+macro_rules! take_part {
+    (byte $alloc:ident $rest:ident $text:literal) => { byte($rest, $text)? };
+    (short $alloc:ident $rest:ident $text:literal) => { short($rest, $text)? };
+    (id $alloc:ident $rest:ident $text:literal) => { id($rest, $text)? };
+    (id_or_null $alloc:ident $rest:ident $text:literal) => { id_or_null($rest, $text)? };
+    (truth $alloc:ident $rest:ident $text:literal) => { truth($rest, $text)? };
+    (status $alloc:ident $rest:ident $text:literal) => { status($rest, $text)? };
+    (endpoint $alloc:ident $rest:ident $text:literal) => { endpoint($rest, $text)? };
+    (sync_kind $alloc:ident $rest:ident $text:literal) => { sync_kind($rest, $text)? };
+    (dep_kind $alloc:ident $rest:ident $text:literal) => { dep_kind($rest, $text)? };
+    (thread_kind $alloc:ident $rest:ident $text:literal) => { thread_kind($rest, $text)? };
+    (task_flags $alloc:ident $rest:ident $text:literal) => { task_flags($rest, $text)? };
+    (cancel_flags $alloc:ident $rest:ident $text:literal) => { cancel_flags($rest, $text)? };
+    (path $alloc:ident $rest:ident $text:literal) => { path($alloc, $rest, $text)? };
+    (deps $alloc:ident $rest:ident $text:literal) => { deps($alloc, $rest, $text)? };
+}
+
+// The parts of a line, its end, and then what they make.
+macro_rules! take_parts {
+    (($alloc:ident $rest:ident $made:tt) $($text:literal $kind:ident $value:ident),*) => {{
+        $(let ($value, $rest) = take_part!($kind $alloc $rest $text);)*
+        end($rest)?;
+        Some($made)
+    }};
+}
+
+/// The record whose line this is, if it is one as it is written.
+pub(crate) fn canonical(alloc: Global, line: &[u8]) -> Option<Record>
+    ensures { IfSome result (λ event. line.now ≡ line_of event) }
+{
+    match line.get(7) {
+        Some(b'p') => parallel(line),
+        Some(b's') => sync_region(line),
+        Some(b'd') => dependences(alloc, line),
+        Some(b'c') => cancel(alloc, line),
+        Some(b't') => task_or_thread(alloc, line),
+        _ => implicit_task(line),
+    }
+}
+
+/// A record of a parallel region.
+fn parallel(line: &[u8]) -> Option<Record>
+    ensures { IfSome result (λ event. line.now ≡ line_of event) }
+{
+    match parallel_begin(line) {
+        Some(event) => Some(event),
+        None => parallel_end(line),
+    }
+}
+
+/// A cancellation.
+fn cancel(alloc: Global, line: &[u8]) -> Option<Record>
+    ensures { IfSome result (λ event. line.now ≡ line_of event) }
+{
+    match discarding(alloc, line) {
+        Some(event) => Some(event),
+        None => cancelling(line),
+    }
+}
+
+/// A record of a task that is created or scheduled, or of a thread.
+fn task_or_thread(alloc: Global, line: &[u8]) -> Option<Record>
+    ensures { IfSome result (λ event. line.now ≡ line_of event) }
+{
+    match line.get(12) {
+        Some(b'c') => task_create(line),
+        Some(b's') => task_schedule(alloc, line),
+        _ => thread(line),
+    }
+}
+
+/// A task stops running or is fulfilled.
+fn task_schedule(alloc: Global, line: &[u8]) -> Option<Record>
+    ensures { IfSome result (λ event. line.now ≡ line_of event) }
+{
+    match finishing(alloc, line) {
+        Some(event) => Some(event),
+        None => switching(line),
+    }
+}
+
+/// A thread begins or ends.
+fn thread(line: &[u8]) -> Option<Record>
+    ensures { IfSome result (λ event. line.now ≡ line_of event) }
+{
+    match thread_begin(line) {
+        Some(event) => Some(event),
+        None => thread_end(line),
+    }
+}
+
+/// A thread begins.
+fn thread_begin(line: &[u8]) -> Option<Record>
+    ensures { IfSome result (λ event. line.now ≡ line_of event) }
+{
+    lines!(thread_begin take_parts (_alloc line (Record { thread, seq, seen, body: Body::ThreadBegin { kind } })) kind seen seq thread)
+}
+
+/// A thread ends.
+fn thread_end(line: &[u8]) -> Option<Record>
+    ensures { IfSome result (λ event. line.now ≡ line_of event) }
+{
+    lines!(thread_end take_parts (_alloc line (Record { thread, seq, seen, body: Body::ThreadEnd })) seen seq thread)
+}
+
+/// A task begins a parallel region.
+fn parallel_begin(line: &[u8]) -> Option<Record>
+    ensures { IfSome result (λ event. line.now ≡ line_of event) }
+{
+    lines!(parallel_begin take_parts (_alloc line (Record { thread, seq, seen, body: Body::ParallelBegin { requested, task, parallel } })) parallel requested seen seq task thread)
+}
+
+/// A task ends a parallel region.
+fn parallel_end(line: &[u8]) -> Option<Record>
+    ensures { IfSome result (λ event. line.now ≡ line_of event) }
+{
+    lines!(parallel_end take_parts (_alloc line (Record { thread, seq, seen, body: Body::ParallelEnd { task, parallel } })) parallel seen seq task thread)
+}
+
+/// An initial or implicit task begins or ends.
+fn implicit_task(line: &[u8]) -> Option<Record>
+    ensures { IfSome result (λ event. line.now ≡ line_of event) }
+{
+    lines!(implicit_task take_parts (_alloc line (Record { thread, seq, seen, body: Body::ImplicitTask { endpoint, actual, index, flags, parallel, task } })) actual endpoint flags index parallel seen seq task thread)
+}
+
+/// A task is created.
+fn task_create(line: &[u8]) -> Option<Record>
+    ensures { IfSome result (λ event. line.now ≡ line_of event) }
+{
+    lines!(task_create take_parts (_alloc line (Record { thread, seq, seen, body: Body::TaskCreate { deps, flags, task, child } })) child deps flags seen seq task thread)
+}
+
+/// What a task depends on.
+fn dependences(alloc: Global, line: &[u8]) -> Option<Record>
+    ensures { IfSome result (λ event. line.now ≡ line_of event) }
+{
+    lines!(dependences take_parts (alloc line (Record { thread, seq, seen, body: Body::Dependences { task, list } })) list seen seq task thread)
+}
+
+/// A task stops running and is not finished.
+fn switching(line: &[u8]) -> Option<Record>
+    ensures { IfSome result (λ event. line.now ≡ line_of event) }
+{
+    lines!(switching take_parts (_alloc line (Record { thread, seq, seen, body: Body::TaskSchedule { status, prior, next, share: None } })) next prior seen seq status thread)
+}
+
+/// A task, its body or its event is finished.
+fn finishing(alloc: Global, line: &[u8]) -> Option<Record>
+    ensures { IfSome result (λ event. line.now ≡ line_of event) }
+{
+    lines!(finishing take_parts (alloc line (Record { thread, seq, seen, body: Body::TaskSchedule { status, prior, next, share: Some(Claim { kept, root, path }) } })) kept next path prior root seen seq status thread)
+}
+
+/// A region of synchronisation begins or ends.
+fn sync_region(line: &[u8]) -> Option<Record>
+    ensures { IfSome result (λ event. line.now ≡ line_of event) }
+{
+    lines!(sync_region take_parts (_alloc line (Record { thread, seq, seen, body: Body::SyncRegion { kind, endpoint, parallel, task } })) endpoint kind parallel seen seq task thread)
+}
+
+/// A task cancels a region or sees it cancelled.
+fn cancelling(line: &[u8]) -> Option<Record>
+    ensures { IfSome result (λ event. line.now ≡ line_of event) }
+{
+    lines!(cancelling take_parts (_alloc line (Record { thread, seq, seen, body: Body::Cancel { flags, task, share: None } })) flags seen seq task thread)
+}
+
+/// A task is discarded.
+fn discarding(alloc: Global, line: &[u8]) -> Option<Record>
+    ensures { IfSome result (λ event. line.now ≡ line_of event) }
+{
+    lines!(discarding take_parts (alloc line (Record { thread, seq, seen, body: Body::Cancel { flags, task, share: Some(Claim { kept, root, path }) } })) flags kept path root seen seq task thread)
+}
+
+// Each part is a text, and a value behind it.
+
+/// What is behind the text.
+fn after<'l>(rest: &'l [u8], text: &str) -> Option<&'l [u8]>
+    ensures { IfSome result (λ behind. Takes rest.now text.now behind.now) }
+{
+    rest.strip_prefix(text.as_bytes())
+}
+
+/// The line ends here.
+fn end(rest: &[u8]) -> Option<()>
+    ensures { IfSome result (λ _. Takes rest.now (codes "}") []) }
+{
+    let behind = after(rest, "}")?;
+    if behind.is_empty() { Some(()) } else { None }
+}
+
+/// A whole number of at most 18 digits.
+fn id<'l>(rest: &'l [u8], text: &str) -> Option<(u64, &'l [u8])>
+    ensures { IfSome result (λ taken. Takes rest.now (text.now ++ decimal taken.0) taken.1.now) }
+{
+    number(after(rest, text)?)
+}
+
+/// A whole number of 32 bits.
+fn short<'l>(rest: &'l [u8], text: &str) -> Option<(u32, &'l [u8])>
+    ensures { IfSome result (λ taken. Takes rest.now (text.now ++ decimal taken.0) taken.1.now) }
+{
+    let (number, behind) = id(rest, text)?;
+    match u32::try_from(number) {
+        Ok(number) => Some((number, behind)),
+        Err(_) => None,
+    }
+}
+
+/// A whole number of 8 bits.
+fn byte<'l>(rest: &'l [u8], text: &str) -> Option<(u8, &'l [u8])>
+    ensures { IfSome result (λ taken. Takes rest.now (text.now ++ decimal taken.0) taken.1.now) }
+{
+    let (number, behind) = id(rest, text)?;
+    match u8::try_from(number) {
+        Ok(number) => Some((number, behind)),
+        Err(_) => None,
+    }
+}
+
+/// The digits in front as a number, up to 18 of them. A number begins with 0 only where it is 0.
+fn number(rest: &[u8]) -> Option<(u64, &[u8])>
+    ensures { IfSome result (λ taken. Takes rest.now (decimal taken.0) taken.1.now) }
+{
+    let first = digit(rest, 0)?;
+    if first == 0 {
+        return Some((0, &rest[1..]));
+    }
+    Some(digits(rest, first))
+}
+
+/// The same where the first digit is known, and is not 0.
+fn digits(rest: &[u8], first: u64) -> (u64, &[u8])
+    requires some { 0 < first }
+    requires digit { first ≤ 9 }
+    requires within { 0 < length rest.now }
+    requires front { slice_index rest.now 0 ≡ 48 + first }
+    ensures { Takes rest.now (decimal result.0) result.1.now }
+{
+    let mut number = first;
+    let mut len = 1;
+    'digits: while number < ONE_DIGIT_MORE {
+        let Some(next) = digit(rest, len) else {
+            break;
+        };
+        number = 10 * number + next;
+        len += 1;
+    }
+    (number, &rest[len..])
+}
+
+/// The digit at this place.
+fn digit(rest: &[u8], at: usize) -> Option<u64>
+    ensures { IfSome result (λ digit. (digit ≤ 9) × (at < length rest.now) × (slice_index rest.now at ≡ 48 + digit)) }
+{
+    let byte = *rest.get(at)?;
+    if byte.is_ascii_digit() {
+        Some(u64::from(byte - b'0'))
+    } else {
+        None
+    }
+}
+
+/// A whole number, or `null`.
+fn id_or_null<'l>(rest: &'l [u8], text: &str) -> Option<(Option<u64>, &'l [u8])>
+    ensures { IfSome result (λ taken. Takes rest.now (text.now ++ compact_text (number_or_null taken.0)) taken.1.now) }
+{
+    let rest = after(rest, text)?;
+    if let Some(behind) = after(rest, "null") {
+        return Some((None, behind));
+    }
+    let (number, behind) = number(rest)?;
+    Some((Some(number), behind))
+}
+
+/// A truth value.
+fn truth<'l>(rest: &'l [u8], text: &str) -> Option<(bool, &'l [u8])>
+    ensures { IfSome result (λ taken. Takes rest.now (text.now ++ compact_text (boolean taken.0)) taken.1.now) }
+{
+    let rest = after(rest, text)?;
+    if let Some(behind) = after(rest, "true") {
+        return Some((true, behind));
+    }
+    let behind = after(rest, "false")?;
+    Some((false, behind))
+}
+
+/// What is behind the name in quotation marks.
+fn name<'l>(rest: &'l [u8], name: &str) -> Option<&'l [u8]>
+    requires { is_plain_text name.now ≡ true }
+    ensures { IfSome result (λ behind. Takes rest.now (quoted name.now) behind.now) }
+{
+    let rest = after(rest, "\"")?;
+    let rest = after(rest, name)?;
+    let behind = after(rest, "\"")?;
+    Some(behind)
+}
+
+/// How a task stops running.
+fn status<'l>(rest: &'l [u8], text: &str) -> Option<(Status, &'l [u8])>
+    ensures { IfSome result (λ taken. Takes rest.now (text.now ++ quoted (status_name taken.0)) taken.1.now) }
+{
+    let rest = after(rest, text)?;
+    'named: for kind in [
+        Status::Complete,
+        Status::Switch,
+        Status::Yield,
+        Status::Detach,
+        Status::TaskwaitComplete,
+        Status::Cancel,
+        Status::EarlyFulfill,
+        Status::LateFulfill,
+    ] {
+        if let Some(behind) = name(rest, kind.name()) {
+            return Some((kind, behind));
+        }
+    }
+    None
+}
+
+/// Whether a region begins or ends.
+fn endpoint<'l>(rest: &'l [u8], text: &str) -> Option<(Endpoint, &'l [u8])>
+    ensures { IfSome result (λ taken. Takes rest.now (text.now ++ quoted (endpoint_name taken.0)) taken.1.now) }
+{
+    let rest = after(rest, text)?;
+    'named: for kind in [Endpoint::Begin, Endpoint::End, Endpoint::BeginEnd] {
+        if let Some(behind) = name(rest, kind.name()) {
+            return Some((kind, behind));
+        }
+    }
+    None
+}
+
+/// Which construct a region belongs to.
+fn sync_kind<'l>(rest: &'l [u8], text: &str) -> Option<(SyncKind, &'l [u8])>
+    ensures { IfSome result (λ taken. Takes rest.now (text.now ++ quoted (sync_kind_name taken.0)) taken.1.now) }
+{
+    let rest = after(rest, text)?;
+    'named: for kind in [
+        SyncKind::Taskwait,
+        SyncKind::Taskgroup,
+        SyncKind::Barrier,
+        SyncKind::BarrierImplicit,
+        SyncKind::BarrierExplicit,
+        SyncKind::BarrierImplementation,
+        SyncKind::Reduction,
+        SyncKind::BarrierImplicitWorkshare,
+        SyncKind::BarrierImplicitParallel,
+        SyncKind::BarrierTeams,
+    ] {
+        if let Some(behind) = name(rest, kind.name()) {
+            return Some((kind, behind));
+        }
+    }
+    None
+}
+
+/// How a location is used.
+fn dep_kind<'l>(rest: &'l [u8], text: &str) -> Option<(DepKind, &'l [u8])>
+    ensures { IfSome result (λ taken. Takes rest.now (text.now ++ quoted (dep_kind_name taken.0)) taken.1.now) }
+{
+    let rest = after(rest, text)?;
+    'named: for kind in [
+        DepKind::In,
+        DepKind::Out,
+        DepKind::Inout,
+        DepKind::Mutexinoutset,
+        DepKind::Inoutset,
+    ] {
+        if let Some(behind) = name(rest, kind.name()) {
+            return Some((kind, behind));
+        }
+    }
+    None
+}
+
+/// What a thread is there for.
+fn thread_kind<'l>(rest: &'l [u8], text: &str) -> Option<(ThreadKind, &'l [u8])>
+    ensures { IfSome result (λ taken. Takes rest.now (text.now ++ quoted (thread_kind_name taken.0)) taken.1.now) }
+{
+    let rest = after(rest, text)?;
+    'named: for kind in [
+        ThreadKind::Initial,
+        ThreadKind::Worker,
+        ThreadKind::Other,
+        ThreadKind::Unknown,
+    ] {
+        if let Some(behind) = name(rest, kind.name()) {
+            return Some((kind, behind));
+        }
+    }
+    None
+}
+
+/// The names of a task's flags.
+fn task_flags<'l>(rest: &'l [u8], text: &str) -> Option<(TaskFlags, &'l [u8])>
+    ensures { IfSome result (λ taken. Takes rest.now
+        (text.now ++ compact_text (names (flag_names flag.task_flags taken.0.0))) taken.1.now) }
+{
+    let flags: TaskFlags = named_flags(rest, text)?;
+    let behind = flags_in_order(rest, text, flags)?;
+    Some((flags, behind))
+}
+
+/// The names of a cancellation's flags.
+fn cancel_flags<'l>(rest: &'l [u8], text: &str) -> Option<(CancelFlags, &'l [u8])>
+    ensures { IfSome result (λ taken. Takes rest.now
+        (text.now ++ compact_text (names (flag_names flag.cancel_flags taken.0.0))) taken.1.now) }
+{
+    let flags: CancelFlags = named_flags(rest, text)?;
+    let behind = flags_in_order(rest, text, flags)?;
+    Some((flags, behind))
+}
+
+/// A guess at the flags that are named, which `flags_in_order` then makes sure of.
+fn named_flags<F: Flags + Copy>(rest: &[u8], text: &str) -> Option<F>
+    requires exact { F.exact }
+    requires plain { AllByRecursion (λ row. is_plain_text row.0 ≡ true) F.table }
+{
+    let mut rest = after(after(rest, text)?, "[")?;
+    let mut flags = F::empty();
+    'named: for flag in F::flags() {
+        if let Some(behind) = name(rest, flag.name) {
+            flags.insert(flag.value);
+            rest = after(behind, ",").unwrap_or(behind);
+        }
+    }
+    Some(flags)
+}
+
+/// What is behind the names of these flags, which stand in the order of their table.
+fn flags_in_order<'l, F: Flags + Copy>(rest: &'l [u8], text: &str, flags: F) -> Option<&'l [u8]>
+    requires exact { F.exact }
+    requires plain { AllByRecursion (λ row. is_plain_text row.0 ≡ true) F.table }
+    ensures { IfSome result (λ behind. Takes rest.now
+        (text.now ++ compact_text (names (flag_names F.table (F.set_of flags)))) behind.now) }
+{
+    let mut rest = after(after(rest, text)?, "[")?;
+    let mut later = false;
+    'named: for flag in F::flags() {
+        if flags.contains(flag.value) {
+            rest = name(after(rest, comma(later))?, flag.name)?;
+            later = true;
+        }
+    }
+    let behind = after(rest, "]")?;
+    Some(behind)
+}
+
+/// The numbers of a path.
+fn path<'l>(alloc: Global, rest: &'l [u8], text: &str) -> Option<(Path, &'l [u8])>
+    ensures { IfSome result (λ taken. Takes rest.now
+        (text.now ++ compact_text (array (items_of (map whole_number taken.0)))) taken.1.now) }
+{
+    let mut rest = after(after(rest, text)?, "[")?;
+    let mut numbers = Vec::new(alloc);
+    let mut later = false;
+    'numbers: for _ in 0..MAX_DEPTH {
+        let Some((number, behind)) = short(rest, comma(later)) else {
+            break;
+        };
+        if numbers.push(number).is_err() {
+            return None;
+        }
+        rest = behind;
+        later = true;
+    }
+    let behind = after(rest, "]")?;
+    Some((Path::from_vec(numbers), behind))
+}
+
+/// What a task depends on.
+fn deps<'l>(alloc: Global, rest: &'l [u8], text: &str) -> Option<(Deps, &'l [u8])>
+    ensures { IfSome result (λ taken. Takes rest.now
+        (text.now ++ compact_text (array (items_of (map dep_data taken.0)))) taken.1.now) }
+{
+    let mut rest = after(after(rest, text)?, "[")?;
+    let mut items = Vec::new(alloc);
+    let mut later = false;
+    'items: for _ in 0..MAX_DEPENDENCES {
+        let Some((item, behind)) = next_dep(rest, comma(later)) else {
+            break;
+        };
+        if items.push(item).is_err() {
+            return None;
+        }
+        rest = behind;
+        later = true;
+    }
+    let behind = after(rest, "]")?;
+    Some((Deps::from_vec(items), behind))
+}
+
+/// One dependence.
+fn next_dep<'l>(rest: &'l [u8], text: &str) -> Option<(Dep, &'l [u8])>
+    ensures { IfSome result (λ taken. Takes rest.now (text.now ++ compact_text (dep_data taken.0)) taken.1.now) }
+{
+    dep(after(rest, text)?)
+}
+
+/// One dependence alone.
+fn dep(rest: &[u8]) -> Option<(Dep, &[u8])>
+    ensures { IfSome result (λ taken. Takes rest.now (compact_text (dep_data taken.0)) taken.1.now) }
+{
+    let (kind, rest) = dep_kind(rest, "{\"type\":")?;
+    let (var, rest) = id(rest, ",\"var\":")?;
+    let behind = after(rest, "}")?;
+    Some((Dep { var, kind }, behind))
+}
