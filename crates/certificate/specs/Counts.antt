@@ -30,8 +30,8 @@ breaks_after (Ok n) count = count
 breaks_after (Err Again) count = count
 breaks_after (Err Broken) count = next_count count
 
--- the counter of the answers `Again` and of those that no byte was taken of some, after an answer to so many bytes:
--- to take none of none is no stall
+-- the counter of the answers `Again` and of those that no byte was taken of some, after an answer to so
+-- many bytes: to take none of none is no stall
 abbrev pub stalls_after : ℕ → Result ℕ DeviceFault → ℕ → ℕ
 stalls_after offered (Ok n) count = if n == 0 && nat_lt 0 offered then next_count count else count
 stalls_after offered (Err Again) count = next_count count
@@ -48,7 +48,8 @@ abbrev pub cause_told : {X : Type 0} → Result X ReadFault → Option ReadCause
 cause_told (Ok x) = None
 cause_told (Err fault) = Some fault.cause
 
--- the turns that a call has taken so far, each an answer `Again`; with the one after the last that it has, it ends
+-- the turns that a call has taken so far, each an answer `Again`; with the one after the last that it has,
+-- it ends
 pub record TakesTurns (told : Option ReadCause) (turns turns' agains agains' : ℕ) : Type 0 where
   pub later : turns ≤ turns'
   pub within : turns' ≤ max_turns + 1

@@ -26,7 +26,8 @@ unfoldable pub cut : List ℕ → Cut
 cut [] = record { lines = []; rest = [] }
 cut (b ∷ bytes) =
     let later = cut bytes in
-    if b == 10 then record { lines = [] ∷ later.lines; rest = later.rest } else with_byte b later.lines later.rest
+    if b == 10 then record { lines = [] ∷ later.lines; rest = later.rest }
+    else with_byte b later.lines later.rest
 
 -- more than a line may have before its line feed
 abbrev pub is_long : List ℕ → Bool
@@ -34,7 +35,8 @@ is_long line = nat_lt max_line (length line)
 
 -- whether a trace of these records may have one more
 abbrev pub has_room : List Record → Record → Bool
-has_room before r = nat_lt (length before) max_records && (not (is_some (made r.body)) || nat_lt (tasks_in before) max_tasks)
+has_room before r = nat_lt (length before) max_records
+    && (not (is_some (made r.body)) || nat_lt (tasks_in before) max_tasks)
 
 -- the records and one more, where there is room
 abbrev pub with_record : List Record → Result Record ReadCause → Result (List Record) ReadCause
@@ -48,7 +50,8 @@ with_header before (Ok _) = Ok before
 
 -- the records after the line of number n, which is not too long, when these stand before it
 abbrev pub text_adds : ℕ → List Record → List ℕ → Result (List Record) ReadCause
-text_adds n before line = if n == 1 then with_header before (header_says line) else with_record before (line_says line)
+text_adds n before line =
+    if n == 1 then with_header before (header_says line) else with_record before (line_says line)
 
 -- the same of any line
 abbrev pub line_adds : ℕ → List Record → List ℕ → Result (List Record) ReadCause
@@ -56,20 +59,26 @@ line_adds n before line = if is_long line then Err LineTooLong else text_adds n 
 
 -- the records of a file that ends with these bytes, which no line feed ends, in the line of number n
 abbrev pub end_adds : ℕ → List Record → List ℕ → Result (List Record) ReadCause
-end_adds n before rest = if is_long rest then Err LineTooLong else if nat_lt 0 (length rest) then Err Unended else if n == 1 then Err Header else Ok before
+end_adds n before rest =
+    if is_long rest then Err LineTooLong
+    else if nat_lt 0 (length rest) then Err Unended
+    else if n == 1 then Err Header
+    else Ok before
 
 abbrev pub fault_in : ℕ → ReadCause → ReadFault
 fault_in n cause = record { line = n; cause = cause }
 
 -- a step after which more may follow
-abbrev pub go_on : ℕ → Result (List Record) ReadCause → (List Record → Result (List Record) ReadFault) → Result (List Record) ReadFault
+abbrev pub go_on : ℕ → Result (List Record) ReadCause → (List Record → Result (List Record) ReadFault)
+    → Result (List Record) ReadFault
 go_on n (Err cause) next = Err (fault_in n cause)
 go_on n (Ok records) next = next records
 
 -- what the lines from number n on stand for, when these records stand before them
 unfoldable pub from_line : ℕ → List Record → List (List ℕ) → List ℕ → Result (List Record) ReadFault
 from_line n before [] rest = go_on n (end_adds n before rest) Ok
-from_line n before (line ∷ lines) rest = go_on n (line_adds n before line) (λ records. from_line (n + 1) records lines rest)
+from_line n before (line ∷ lines) rest =
+    go_on n (line_adds n before line) (λ records. from_line (n + 1) records lines rest)
 
 -- the same of the bytes of these lines
 abbrev pub rest_says : ℕ → List Record → List ℕ → Result (List Record) ReadFault
@@ -97,7 +106,8 @@ records_of lines = filter_map (λ line. result_ok (line_says line)) lines
 abbrev pub records_before : List (List ℕ) → ℕ → List Record
 records_before lines k = records_of (drop 1 (take k lines))
 
--- the cause of the fault at place k: of the line there, or past the last line of the bytes that no line feed ends
+-- the cause of the fault at place k: of the line there, or past the last line of the bytes that no line
+-- feed ends
 abbrev pub fault_of : List Record → ℕ → List ℕ → Option (List ℕ) → Option ReadCause
 fault_of before k rest (Some line) = result_err (line_adds (k + 1) before line)
 fault_of before k rest None = result_err (end_adds (k + 1) before rest)

@@ -67,7 +67,8 @@ named name_of [] name = None
 named name_of (x ∷ xs) name = if bytes_eq (name_of x) name then Some x else named name_of xs name
 
 abbrev pub status : List ℕ → Data → Option Status
-status name d = text name d >>= named status_name (Complete ∷ Yield ∷ Cancel ∷ Detach ∷ EarlyFulfill ∷ LateFulfill ∷ Switch ∷ TaskwaitComplete ∷ [])
+status name d = text name d >>= named status_name (Complete ∷ Yield ∷ Cancel ∷ Detach ∷ EarlyFulfill
+    ∷ LateFulfill ∷ Switch ∷ TaskwaitComplete ∷ [])
 
 abbrev pub endpoint : List ℕ → Data → Option Endpoint
 endpoint name d = text name d >>= named endpoint_name (Begin ∷ End ∷ BeginEnd ∷ [])
@@ -82,7 +83,9 @@ abbrev pub begin_or_end : List ℕ → Data → Option Endpoint
 begin_or_end name d = endpoint name d >>= not_both
 
 abbrev pub sync_kind : List ℕ → Data → Option SyncKind
-sync_kind name d = text name d >>= named sync_kind_name (Barrier ∷ BarrierImplicit ∷ BarrierExplicit ∷ BarrierImplementation ∷ Taskwait ∷ Taskgroup ∷ Reduction ∷ BarrierImplicitWorkshare ∷ BarrierImplicitParallel ∷ BarrierTeams ∷ [])
+sync_kind name d = text name d >>= named sync_kind_name
+    (Barrier ∷ BarrierImplicit ∷ BarrierExplicit ∷ BarrierImplementation ∷ Taskwait ∷ Taskgroup
+    ∷ Reduction ∷ BarrierImplicitWorkshare ∷ BarrierImplicitParallel ∷ BarrierTeams ∷ [])
 
 abbrev pub dep_kind : List ℕ → Data → Option DepKind
 dep_kind name d = text name d >>= named dep_kind_name (In ∷ Out ∷ Inout ∷ Mutexinoutset ∷ Inoutset ∷ [])
@@ -99,7 +102,8 @@ flag_of flags d = option_and_then (find_name flags) (as_str d)
 -- the flags that the items name, in any order and with repeats, beside those that were found
 abbrev pub flags_from : List (List ℕ × ℕ) → ℕ → Items → Option ℕ
 flags_from flags found no_items = Some found
-flags_from flags found (item d ds) = option_and_then (λ bit. flags_from flags (bit_or found bit) ds) (flag_of flags d)
+flags_from flags found (item d ds) =
+    option_and_then (λ bit. flags_from flags (bit_or found bit) ds) (flag_of flags d)
 
 abbrev pub flags : List (List ℕ × ℕ) → List ℕ → Data → Option ℕ
 flags table name d = list name d >>= flags_from table 0
@@ -119,7 +123,8 @@ no_id (Some n) = None
 
 -- the task that runs next: an id where the status demands one, elsewhere `null` or nothing
 abbrev pub next : Status → List ℕ → Data → Option (Option ℕ)
-next status name d = whole_or_null name d >>= λ next. if demands_next status then option_map Some next else no_id next
+next status name d =
+    whole_or_null name d >>= λ next. if demands_next status then option_map Some next else no_id next
 
 -- ---- lists
 

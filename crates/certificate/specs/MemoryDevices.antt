@@ -5,7 +5,8 @@ use Rattle.certificate.specs.declared.device.DeviceFault.{DeviceFault}
 use Rattle.certificate.specs.declared.device.DeviceFault.TheVariants.{Again, Broken}
 use Rattle.certificate.specs.Counts.{next_count, agains_after, breaks_after, stalls_after}
 
--- the bytes left, how many a read gives, how many reads answer `Again` first, the number of reads so far, the one that breaks, and the counters
+-- the bytes left, how many a read gives, how many reads answer `Again` first, the number of reads so far,
+-- the one that breaks, and the counters
 pub record SourceView : Type 0 where
   pub left : List ℕ
   pub per_read : ℕ
@@ -21,7 +22,8 @@ is_number number n = option_map_or (λ k. k == n) number false
 
 -- what a read into a buffer with this room answers
 abbrev pub read_answer : SourceView → ℕ → Result ℕ DeviceFault
-read_answer s room = if is_number s.broken_read s.reads then Err Broken else if nat_lt s.reads s.agains_first then Err Again else Ok (min (min s.per_read room) (length s.left))
+read_answer s room = if is_number s.broken_read s.reads then Err Broken
+    else if nat_lt s.reads s.agains_first then Err Again else Ok (min (min s.per_read room) (length s.left))
 
 -- the source after a read that gave this many bytes
 abbrev pub after_read : SourceView → Result ℕ DeviceFault → ℕ → SourceView
@@ -39,7 +41,8 @@ abbrev pub given_by : Result ℕ DeviceFault → ℕ
 given_by (Ok n) = n
 given_by (Err e) = 0
 
--- the bytes taken, the room for more, the number of writes so far, the one that breaks, the first that takes nothing, and the counters
+-- the bytes taken, the room for more, the number of writes so far, the one that breaks, the first that
+-- takes nothing, and the counters
 pub record SinkView : Type 0 where
   pub taken : List ℕ
   pub room : ℕ

@@ -18,8 +18,8 @@ abbrev pub IsLineGiven : ℕ → List ℕ → Option (List ℕ) → Type 0
 IsLineGiven n bytes None = ⊥
 IsLineGiven n bytes (Some left) = (1 ≤ n) × (n + line_feeds left ≤ line_feeds bytes + 1)
 
--- a fault that is told in the line of number n is that of the file, or one of the device or of memory while that line
--- was read, and then no line before it has a fault
+-- a fault that is told in the line of number n is that of the file, or one of the device or of memory while
+-- that line was read, and then no line before it has a fault
 abbrev pub IsToldRightly : ReadCause → ℕ → List ℕ → Option (List ℕ) → Type 0
 IsToldRightly Device n bytes left = IsLineAfterGiven n bytes left × IsFaultlessBefore n bytes
 IsToldRightly TurnsSpent n bytes left = IsLineAfterGiven n bytes left × IsFaultlessBefore n bytes
@@ -37,10 +37,13 @@ IsAnswer (Err fault) bytes left = IsToldRightly fault.cause fault.line bytes lef
 abbrev pub IsBetween : Option (List ℕ) → ℕ → List Record → List ℕ → Option (List ℕ) → Type 0
 IsBetween None n kept window left = Unit {0}
 IsBetween (Some bytes) n kept window None = ⊥
-IsBetween (Some bytes) n kept window (Some left) = (records_said bytes ≡ rest_says n kept (window ++ left)) × (n + line_feeds (window ++ left) ≡ line_feeds bytes + 1)
+IsBetween (Some bytes) n kept window (Some left) =
+    (records_said bytes ≡ rest_says n kept (window ++ left))
+    × (n + line_feeds (window ++ left) ≡ line_feeds bytes + 1)
 
 -- after the line of number n was read: there was one, there was none, or it has a fault
-abbrev pub IsAfter : Result Bool ReadCause → Option (List ℕ) → ℕ → List Record → List ℕ → Option (List ℕ) → Type 0
+abbrev pub IsAfter : Result Bool ReadCause → Option (List ℕ) → ℕ → List Record → List ℕ → Option (List ℕ)
+    → Type 0
 IsAfter (Ok true) known n kept window left = IsBetween known (n + 1) kept window left
 IsAfter (Ok false) known n kept window left = IfSome known (λ bytes. file_says bytes ≡ Ok (trace_of kept))
 IsAfter (Err cause) known n kept window left = IfSome known (λ bytes. IsToldRightly cause n bytes left)

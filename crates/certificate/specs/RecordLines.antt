@@ -197,7 +197,9 @@ version_number = 1
 
 -- the header of a trace file of version 1
 abbrev pub names_format : Data → Bool
-names_format d = option_map_or (λ s. bytes_eq s format_name) (text member.format d) false && option_map_or (λ n. n == version_number) (whole member.version d) false
+names_format d =
+    option_map_or (λ s. bytes_eq s format_name) (text member.format d) false
+    && option_map_or (λ n. n == version_number) (whole member.version d) false
 
 abbrev pub is_header : List ℕ → Bool
 is_header line = option_map_or names_format (value_of line) false

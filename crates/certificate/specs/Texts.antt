@@ -38,7 +38,8 @@ number_or_null (Some n) = whole_number n
 -- the names of the flags that are among the bits, in the order of the table
 unfoldable pub flag_names : List (List ℕ × ℕ) → ℕ → List (List ℕ)
 flag_names [] bits = []
-flag_names (row ∷ rows) bits = if has_flag bits row.1 then row.0 ∷ flag_names rows bits else flag_names rows bits
+flag_names (row ∷ rows) bits =
+    if has_flag bits row.1 then row.0 ∷ flag_names rows bits else flag_names rows bits
 
 abbrev pub names : List (List ℕ) → Data
 names texts = array (items_of (map string texts))
@@ -46,7 +47,8 @@ names texts = array (items_of (map string texts))
 -- what a finishing record says of its task's place
 abbrev pub claim_members : Option Claim → List (List ℕ × Data)
 claim_members None = []
-claim_members (Some c) = (member.kept, whole_number c.kept) ∷ (member.root, whole_number c.root) ∷ (member.path, array (items_of (map whole_number c.path))) ∷ []
+claim_members (Some c) = (member.kept, whole_number c.kept) ∷ (member.root, whole_number c.root) ∷
+    (member.path, array (items_of (map whole_number c.path))) ∷ []
 
 -- one dependence
 abbrev pub dep_data : Dep → Data
@@ -54,28 +56,40 @@ dep_data d = object_of ((member.type, string (dep_kind_name d.kind)) ∷ (member
 
 -- the name of the callback, and its arguments
 abbrev pub body_members : Body → List (List ℕ × Data)
-body_members (ThreadBegin kind) = (member.cb, string callback.thread_begin) ∷ (member.kind, string (thread_kind_name kind)) ∷ []
+body_members (ThreadBegin kind) =
+    (member.cb, string callback.thread_begin) ∷ (member.kind, string (thread_kind_name kind)) ∷ []
 body_members ThreadEnd = (member.cb, string callback.thread_end) ∷ []
 body_members (ParallelBegin requested task parallel) =
-    (member.cb, string callback.parallel_begin) ∷ (member.requested, whole_number requested) ∷ (member.task, whole_number task) ∷ (member.parallel, whole_number parallel) ∷ []
-body_members (ParallelEnd task parallel) = (member.cb, string callback.parallel_end) ∷ (member.task, whole_number task) ∷ (member.parallel, whole_number parallel) ∷ []
+    (member.cb, string callback.parallel_begin) ∷ (member.requested, whole_number requested) ∷
+    (member.task, whole_number task) ∷ (member.parallel, whole_number parallel) ∷ []
+body_members (ParallelEnd task parallel) = (member.cb, string callback.parallel_end) ∷
+    (member.task, whole_number task) ∷ (member.parallel, whole_number parallel) ∷ []
 body_members (ImplicitTask endpoint actual index flags parallel task) =
-    (member.cb, string callback.implicit_task) ∷ (member.endpoint, string (endpoint_name endpoint)) ∷ (member.actual, whole_number actual) ∷ (member.index, whole_number index)
-    ∷ (member.flags, names (flag_names task_flags flags.0)) ∷ (member.parallel, whole_number parallel) ∷ (member.task, whole_number task) ∷ []
+    (member.cb, string callback.implicit_task) ∷ (member.endpoint, string (endpoint_name endpoint)) ∷
+    (member.actual, whole_number actual) ∷ (member.index, whole_number index)
+    ∷ (member.flags, names (flag_names task_flags flags.0)) ∷ (member.parallel, whole_number parallel) ∷
+    (member.task, whole_number task) ∷ []
 body_members (TaskCreate deps flags task child) =
-    (member.cb, string callback.task_create) ∷ (member.deps, boolean deps) ∷ (member.flags, names (flag_names task_flags flags.0)) ∷ (member.task, whole_number task) ∷ (member.child, whole_number child) ∷ []
-body_members (Dependences task list) = (member.cb, string callback.dependences) ∷ (member.task, whole_number task) ∷ (member.list, array (items_of (map dep_data list))) ∷ []
+    (member.cb, string callback.task_create) ∷ (member.deps, boolean deps)
+    ∷ (member.flags, names (flag_names task_flags flags.0)) ∷ (member.task, whole_number task) ∷
+    (member.child, whole_number child) ∷ []
+body_members (Dependences task list) = (member.cb, string callback.dependences) ∷
+    (member.task, whole_number task) ∷ (member.list, array (items_of (map dep_data list))) ∷ []
 body_members (TaskSchedule status prior next share) =
-    (member.cb, string callback.task_schedule) ∷ (member.status, string (status_name status)) ∷ (member.prior, whole_number prior) ∷ (member.next, number_or_null next) ∷ claim_members share
+    (member.cb, string callback.task_schedule) ∷ (member.status, string (status_name status)) ∷
+    (member.prior, whole_number prior) ∷ (member.next, number_or_null next) ∷ claim_members share
 body_members (SyncRegion kind endpoint parallel task) =
-    (member.cb, string callback.sync_region) ∷ (member.kind, string (sync_kind_name kind)) ∷ (member.endpoint, string (endpoint_name endpoint))
+    (member.cb, string callback.sync_region) ∷ (member.kind, string (sync_kind_name kind)) ∷
+    (member.endpoint, string (endpoint_name endpoint))
     ∷ (member.parallel, number_or_null parallel) ∷ (member.task, whole_number task) ∷ []
 body_members (Cancel flags task share) =
-    (member.cb, string callback.cancel) ∷ (member.flags, names (flag_names cancel_flags flags.0)) ∷ (member.task, whole_number task) ∷ claim_members share
+    (member.cb, string callback.cancel) ∷ (member.flags, names (flag_names cancel_flags flags.0)) ∷
+    (member.task, whole_number task) ∷ claim_members share
 
 -- what its thread says of it, and then the callback
 abbrev pub record_members : Record → List (List ℕ × Data)
-record_members r = (member.thread, whole_number r.thread) ∷ (member.seq, whole_number r.seq) ∷ (member.seen, whole_number r.seen) ∷ body_members r.body
+record_members r = (member.thread, whole_number r.thread) ∷ (member.seq, whole_number r.seq) ∷
+    (member.seen, whole_number r.seen) ∷ body_members r.body
 
 -- the JSON object of a record
 abbrev pub data_of : Record → Data

@@ -31,8 +31,10 @@ IsDeviceFault _ = ⊥
 
 -- why there is no next line
 abbrev pub ShowsFault : ReadCause → List ℕ → Option (List ℕ) → Type 0
-ShowsFault LineTooLong window rest = (k : ℕ) → k ≤ max_line → (k < length window) × (slice_index window k ≢ 10)
-ShowsFault Unended window rest = (0 < length window) × (length window ≤ max_line) × LineFeedAt window None × IsAtEnd rest
+ShowsFault LineTooLong window rest =
+    (k : ℕ) → k ≤ max_line → (k < length window) × (slice_index window k ≢ 10)
+ShowsFault Unended window rest =
+    (0 < length window) × (length window ≤ max_line) × LineFeedAt window None × IsAtEnd rest
 ShowsFault Device window rest = LineFeedAt window None
 ShowsFault TurnsSpent window rest = LineFeedAt window None
 ShowsFault _ window rest = ⊥

@@ -1,16 +1,16 @@
-//! The members of the header and of each callback's record (OpenMP 5.2, 19.5.2), by the names that they have in a file.
+//! The members of the header and of each callback's record (OpenMP 5.2, 19.5.2), by the names that they
+//! have in a file.
 
 // Each table stands once. Its call names the shape that its rows are put into, and what the shape is given.
 //
-// A row of members is `field: kind "member"`, in the order of the Rust fields. A list whose items are kept stands last:
-// it is brought within its limit as it is looked up, and the other members must have been looked up before. The kinds:
-// - `id`: a whole number of 64 bits; `short`: one of at most 32 bits; `thread`: one of at most 8 bits.
-// - `id_or_null`: an id, or none. `next`: the same, where the status says which.
-// - `truth`: true or false.
-// - `status`, `endpoint`, `begin_or_end`, `sync_kind`, `thread_kind`, `dep_kind`: a name.
-// - `flags`: a list of names.
-// - `path`: a list of numbers of at most 32 bits. `deps`: a list of objects with the members of `Dep`.
-// - `claim`: the members of `Claim`, where the record finishes a task.
+// A row of members is `field: kind "member"`, in the order of the Rust fields. A list whose items are kept
+// stands last: it is brought within its limit as it is looked up, and the other members must have been
+// looked up before. The kinds: - `id`: a whole number of 64 bits; `short`: one of at most 32 bits;
+// `thread`: one of at most 8 bits. - `id_or_null`: an id, or none. `next`: the same, where the status says
+// which. - `truth`: true or false. - `status`, `endpoint`, `begin_or_end`, `sync_kind`, `thread_kind`,
+// `dep_kind`: a name. - `flags`: a list of names. - `path`: a list of numbers of at most 32 bits. `deps`: a
+// list of objects with the members of `Dep`. - `claim`: the members of `Claim`, where the record finishes a
+// task.
 
 // The header: its members, and what each says.
 macro_rules! header {
@@ -103,8 +103,9 @@ macro_rules! members {
     };
 }
 
-// The line of each record as it is written, part by part: a text that is the same for all, and then a value. The
-// members stand in the order of their names (`finishing` and `discarding` have a claim). Reading and writing share it.
+// The line of each record as it is written, part by part: a text that is the same for all, and then a
+// value. The members stand in the order of their names (`finishing` and `discarding` have a claim). Reading
+// and writing share it.
 macro_rules! lines {
     (thread_begin $shape:ident $given:tt $kind:tt $seen:tt $seq:tt $thread:tt) => {
         $shape! {

@@ -1,5 +1,5 @@
-//! Lines as they are written, read part by part. Any other line, also with a number of more than 18 digits, is left
-//! to the general way.
+//! Lines as they are written, read part by part. Any other line, also with a number of more than 18 digits,
+//! is left to the general way.
 ghost use Rattle.std.specs.Prelude.{◌≡◌, ◌++◌, ◌+◌, ◌<◌, ◌≤◌, true, [], IfSome, codes, decimal, length, map, slice_index};
 ghost use Rattle.std.specs.List.{AllByRecursion};
 ghost use Rattle.json.specs.Print.{quoted};
@@ -277,7 +277,8 @@ fn digits(rest: &[u8], first: u64) -> (u64, &[u8])
 
 /// The digit at this place.
 fn digit(rest: &[u8], at: usize) -> Option<u64>
-    ensures { IfSome result (λ digit. (digit ≤ 9) × (at < length rest.now) × (slice_index rest.now at ≡ 48 + digit)) }
+    ensures { IfSome result (λ digit. (digit ≤ 9) × (at < length rest.now) ×
+        (slice_index rest.now at ≡ 48 + digit)) }
 {
     let byte = *rest.get(at)?;
     if byte.is_ascii_digit() {
@@ -289,7 +290,8 @@ fn digit(rest: &[u8], at: usize) -> Option<u64>
 
 /// A whole number, or `null`.
 fn id_or_null<'l>(rest: &'l [u8], text: &str) -> Option<(Option<u64>, &'l [u8])>
-    ensures { IfSome result (λ taken. Takes rest.now (text.now ++ compact_text (number_or_null taken.0)) taken.1.now) }
+    ensures { IfSome result (λ taken. Takes rest.now (text.now ++ compact_text
+        (number_or_null taken.0)) taken.1.now) }
 {
     let rest = after(rest, text)?;
     if let Some(behind) = after(rest, "null") {
@@ -301,7 +303,8 @@ fn id_or_null<'l>(rest: &'l [u8], text: &str) -> Option<(Option<u64>, &'l [u8])>
 
 /// A truth value.
 fn truth<'l>(rest: &'l [u8], text: &str) -> Option<(bool, &'l [u8])>
-    ensures { IfSome result (λ taken. Takes rest.now (text.now ++ compact_text (boolean taken.0)) taken.1.now) }
+    ensures { IfSome result (λ taken. Takes rest.now (text.now ++ compact_text
+        (boolean taken.0)) taken.1.now) }
 {
     let rest = after(rest, text)?;
     if let Some(behind) = after(rest, "true") {
@@ -346,7 +349,8 @@ fn status<'l>(rest: &'l [u8], text: &str) -> Option<(Status, &'l [u8])>
 
 /// Whether a region begins or ends.
 fn endpoint<'l>(rest: &'l [u8], text: &str) -> Option<(Endpoint, &'l [u8])>
-    ensures { IfSome result (λ taken. Takes rest.now (text.now ++ quoted (endpoint_name taken.0)) taken.1.now) }
+    ensures { IfSome result (λ taken. Takes rest.now (text.now ++ quoted
+        (endpoint_name taken.0)) taken.1.now) }
 {
     let rest = after(rest, text)?;
     'named: for kind in [Endpoint::Begin, Endpoint::End, Endpoint::BeginEnd] {
@@ -359,7 +363,8 @@ fn endpoint<'l>(rest: &'l [u8], text: &str) -> Option<(Endpoint, &'l [u8])>
 
 /// Which construct a region belongs to.
 fn sync_kind<'l>(rest: &'l [u8], text: &str) -> Option<(SyncKind, &'l [u8])>
-    ensures { IfSome result (λ taken. Takes rest.now (text.now ++ quoted (sync_kind_name taken.0)) taken.1.now) }
+    ensures { IfSome result (λ taken. Takes rest.now (text.now ++ quoted
+        (sync_kind_name taken.0)) taken.1.now) }
 {
     let rest = after(rest, text)?;
     'named: for kind in [
@@ -383,7 +388,8 @@ fn sync_kind<'l>(rest: &'l [u8], text: &str) -> Option<(SyncKind, &'l [u8])>
 
 /// How a location is used.
 fn dep_kind<'l>(rest: &'l [u8], text: &str) -> Option<(DepKind, &'l [u8])>
-    ensures { IfSome result (λ taken. Takes rest.now (text.now ++ quoted (dep_kind_name taken.0)) taken.1.now) }
+    ensures { IfSome result (λ taken. Takes rest.now (text.now ++ quoted
+        (dep_kind_name taken.0)) taken.1.now) }
 {
     let rest = after(rest, text)?;
     'named: for kind in [
@@ -402,7 +408,8 @@ fn dep_kind<'l>(rest: &'l [u8], text: &str) -> Option<(DepKind, &'l [u8])>
 
 /// What a thread is there for.
 fn thread_kind<'l>(rest: &'l [u8], text: &str) -> Option<(ThreadKind, &'l [u8])>
-    ensures { IfSome result (λ taken. Takes rest.now (text.now ++ quoted (thread_kind_name taken.0)) taken.1.now) }
+    ensures { IfSome result (λ taken. Takes rest.now (text.now ++ quoted
+        (thread_kind_name taken.0)) taken.1.now) }
 {
     let rest = after(rest, text)?;
     'named: for kind in [
@@ -519,7 +526,8 @@ fn deps<'l>(alloc: Global, rest: &'l [u8], text: &str) -> Option<(Deps, &'l [u8]
 
 /// One dependence.
 fn next_dep<'l>(rest: &'l [u8], text: &str) -> Option<(Dep, &'l [u8])>
-    ensures { IfSome result (λ taken. Takes rest.now (text.now ++ compact_text (dep_data taken.0)) taken.1.now) }
+    ensures { IfSome result (λ taken. Takes rest.now (text.now ++ compact_text
+        (dep_data taken.0)) taken.1.now) }
 {
     dep(after(rest, text)?)
 }

@@ -1,6 +1,6 @@
-//! The trace file: what its lines stand for, a reader of it from any source, and traces and plain bytes written
-//! to any sink. Read `device`, `faults`, `reading` and `writing` for what a caller sees, and `laws` for what
-//! follows of a file; `lines` and below it is how a line is read, `texts` how it is written.
+//! The trace file: what its lines stand for, a reader of it from any source, and traces and plain bytes
+//! written to any sink. Read `device`, `faults`, `reading` and `writing` for what a caller sees, and `laws`
+//! for what follows of a file; `lines` and below it is how a line is read, `texts` how it is written.
 #![tactic(auto)]
 
 mod callbacks;

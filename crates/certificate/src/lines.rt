@@ -18,8 +18,9 @@ use ompt_events::{Body, CancelFlags, Claim, Record};
 use serde_json::Value;
 use std::alloc::Global;
 
-// The shapes into which the rows of a callback's members are put. Each member is looked up before any number is
-// brought within its bounds: a member that is missing or of the wrong kind is told before a limit.
+// The shapes into which the rows of a callback's members are put. Each member is looked up before any
+// number is brought within its bounds: a member that is missing or of the wrong kind is told before a
+// limit.
 
 // A member of this kind, looked up.
 macro_rules! look_up {

@@ -34,7 +34,8 @@ fn are_whole(items: &Vec<Value>) -> bool
 /// The path of these whole numbers.
 fn short_path(alloc: Global, numbers: &Vec<Value>) -> Result<Path, ReadCause>
     requires { IsSome (members.each members.whole_of (items_view numbers.now.items)) }
-    ensures { IsSaid result (bounded spec.path_fits (members.each members.whole_of (items_view numbers.now.items))) }
+    ensures { IsSaid result (bounded spec.path_fits (members.each members.whole_of
+        (items_view numbers.now.items))) }
 {
     if numbers.len() > MAX_DEPTH {
         return Err(ReadCause::Limit);

@@ -28,7 +28,8 @@ pub fn read<S: Source>(alloc: Global, source: &mut S) -> Result<Trace, ReadFault
         (λ bytes. IsAnswer result bytes (S.remaining source.new)) }
 
     // Each answer `Again` is a turn, and the 10,001st ends the call.
-    ensures turns { (turns : ℕ) × TakesTurns (cause_told result) 0 turns (S.agains source.old) (S.agains source.new) }
+    ensures turns { (turns : ℕ) × TakesTurns (cause_told result) 0 turns (S.agains source.old)
+        (S.agains source.new) }
 
     // `Device` is told exactly where the source broke.
     ensures breaks { S.breaks source.new ≡ breaks_told (cause_told result) (S.breaks source.old) }
@@ -63,10 +64,12 @@ fn read_line<S: Source>(
 ) -> Result<bool, ReadCause>
     requires line { 1 ≤ line }
     requires turns { turns.old ≤ MAX_TURNS }
-    ensures after { (known : Option (List ℕ)) → IsBetween known line kept.old window.old (S.remaining source.old)
+    ensures after { (known : Option (List ℕ)) → IsBetween known line kept.old window.old
+        (S.remaining source.old)
         → IsAfter result known line kept.new window.new (S.remaining source.new) }
     ensures grows { result ≡ Ok true → Grows line kept.old kept.new }
-    ensures turns { TakesTurns (result_err result) turns.old turns.new (S.agains source.old) (S.agains source.new) }
+    ensures turns { TakesTurns (result_err result) turns.old turns.new (S.agains source.old)
+        (S.agains source.new) }
     ensures breaks { S.breaks source.new ≡ breaks_told (result_err result) (S.breaks source.old) }
 {
     match next_line(window, source, turns)? {
@@ -102,7 +105,8 @@ fn next_line<S: Source>(
         (prepend_known window.new (S.remaining source.new)) }
     ensures found { IfOk result (λ found. ShowsLine found window.new (S.remaining source.new)) }
     ensures fault { IfErr result (λ cause. ShowsFault cause window.new (S.remaining source.new)) }
-    ensures turns { TakesTurns (result_err result) turns.old turns.new (S.agains source.old) (S.agains source.new) }
+    ensures turns { TakesTurns (result_err result) turns.old turns.new (S.agains source.old)
+        (S.agains source.new) }
     ensures breaks { S.breaks source.new ≡ breaks_told (result_err result) (S.breaks source.old) }
 {
     'search: loop {
@@ -132,7 +136,8 @@ fn ask<S: Source>(window: &mut Window, source: &mut S, turns: &mut u32) -> Resul
     ensures end { result ≡ Ok 0 → IsAtEnd (S.remaining source.new) }
     ensures none { result ≡ Ok 0 → window.new ≡ window.old }
     ensures fault { IfErr result (λ cause. (window.new ≡ window.old) × IsDeviceFault cause) }
-    ensures turns { TakesTurns (result_err result) turns.old turns.new (S.agains source.old) (S.agains source.new) }
+    ensures turns { TakesTurns (result_err result) turns.old turns.new (S.agains source.old)
+        (S.agains source.new) }
     ensures breaks { S.breaks source.new ≡ breaks_told (result_err result) (S.breaks source.old) }
 {
     'turns: while *turns <= MAX_TURNS {

@@ -94,7 +94,8 @@ impl<R: StdRead> Source for FromRead<R> {
 
     fn read(&mut self, buffer: &mut [u8]) -> Result<usize, DeviceFault>
         ensures bound { ReadsAtMost result buffer.new }
-        ensures bytes { ReadConsumes (R.remaining self.old.reader) (R.remaining self.new.reader) result buffer.new }
+        ensures bytes { ReadConsumes (R.remaining self.old.reader)
+            (R.remaining self.new.reader) result buffer.new }
         ensures agains { self.new.agains ≡ agains_after result self.old.agains }
         ensures breaks { self.new.breaks ≡ breaks_after result self.old.breaks }
 
@@ -143,7 +144,8 @@ impl<W: StdWrite> Sink for ToWrite<W> {
 
     fn write(&mut self, bytes: &[u8]) -> Result<usize, DeviceFault>
         ensures bound { WritesAtMost result bytes.now }
-        ensures bytes { WriteAppends (W.contents self.old.writer) (W.contents self.new.writer) result bytes.now }
+        ensures bytes { WriteAppends (W.contents self.old.writer)
+            (W.contents self.new.writer) result bytes.now }
         ensures stalls { self.new.stalls ≡ stalls_after (length bytes.now) result self.old.stalls }
         ensures breaks { self.new.breaks ≡ breaks_after result self.old.breaks }
 

@@ -108,7 +108,8 @@ pub(crate) fn put_header(out: &mut Vec<u8>) -> Result<(), AllocError>
 
 /// A thread begins.
 fn put_thread_begin(out: &mut Vec<u8>, event: &Record, kind: ThreadKind) -> Result<(), AllocError>
-    ensures { OnOk result (Puts out.old.items out.new.items (line_of (with_body event.now (Body.ThreadBegin kind)))) }
+    ensures { OnOk result (Puts out.old.items out.new.items (line_of (with_body event.now
+        (Body.ThreadBegin kind)))) }
 {
     lines!(thread_begin put_parts (out) kind (event.seen) (event.seq) (event.thread))
 }
@@ -301,7 +302,8 @@ fn put_byte(out: &mut Vec<u8>, text: &str, number: u8) -> Result<(), AllocError>
 
 /// A whole number, or `null`.
 fn put_id_or_null(out: &mut Vec<u8>, text: &str, found: Option<u64>) -> Result<(), AllocError>
-    ensures { OnOk result (Puts out.old.items out.new.items (text.now ++ compact_text (number_or_null found))) }
+    ensures { OnOk result (Puts out.old.items out.new.items (text.now ++ compact_text
+        (number_or_null found))) }
 {
     match found {
         Some(number) => put_id(out, text, number),

@@ -142,7 +142,8 @@ fn read_at<S: Source>(bytes: &mut Vec<u8>, at: usize, source: &mut S) -> Result<
     ensures len { length bytes.new.items ≡ length bytes.old.items }
     ensures front { take at bytes.new.items ≡ take at bytes.old.items }
     ensures bound { IfOk result (λ count. at + count ≤ length bytes.new.items) }
-    ensures bytes { ReadConsumes (S.remaining source.old) (S.remaining source.new) result (drop at bytes.new.items) }
+    ensures bytes { ReadConsumes (S.remaining source.old) (S.remaining source.new) result
+        (drop at bytes.new.items) }
     ensures agains { S.agains source.new ≡ agains_after result (S.agains source.old) }
     ensures breaks { S.breaks source.new ≡ breaks_after result (S.breaks source.old) }
 {

@@ -13,8 +13,8 @@ use std::alloc::Global;
 /// The lines that wait are handed over once they have so many bytes.
 const BLOCK: usize = 65_536;
 
-/// Writes the text of the trace: the header, then the line of each record. After a fault a prefix of it went out.
-/// The lines are put together in blocks of some 64 KiB.
+/// Writes the text of the trace: the header, then the line of each record. After a fault a prefix of it
+/// went out. The lines are put together in blocks of some 64 KiB.
 pub fn write<S: Sink>(alloc: Global, trace: &Trace, sink: &mut S) -> Result<(), WriteFault>
     ensures ok { OnOk result
         (Appends (S.contents sink.old) (S.contents sink.new) (trace_text trace.now)) }
@@ -78,17 +78,21 @@ pub fn write_bytes<S: Sink>(bytes: &[u8], sink: &mut S) -> Result<(), WriteFault
     Ok(())
 }
 
-/// Hands all the bytes to the sink, in a call that has taken so many turns already. Says how many it has taken then.
+/// Hands all the bytes to the sink, in a call that has taken so many turns already. Says how many it has
+/// taken then.
 fn send<S: Sink>(bytes: &[u8], sink: &mut S, before: u32) -> Result<u32, WriteFault>
     requires { before ≤ MAX_TURNS }
     ensures ok { OnOk result (Appends (S.contents sink.old) (S.contents sink.new) bytes.now) }
     ensures prefix { OnErr result
         ((n : ℕ) × Appends (S.contents sink.old) (S.contents sink.new) (take n bytes.now)) }
     ensures few { IfOk result (λ turns. turns ≤ MAX_TURNS) }
-    ensures counted { IfOk result (λ turns. (start : ℕ) → S.stalls sink.old ≡ count_more start before → S.stalls sink.new ≡ count_more start turns) }
-    ensures ended { IfErr result (λ fault. (start : ℕ) → S.stalls sink.old ≡ count_more start before → (turns : ℕ) × TakesStalls (Err fault) turns start (S.stalls sink.new)) }
+    ensures counted { IfOk result (λ turns. (start : ℕ) → S.stalls sink.old ≡ count_more start before
+        → S.stalls sink.new ≡ count_more start turns) }
+    ensures ended { IfErr result (λ fault. (start : ℕ) → S.stalls sink.old ≡ count_more start before →
+        (turns : ℕ) × TakesStalls (Err fault) turns start (S.stalls sink.new)) }
     ensures kept { OnOk result (S.breaks sink.new ≡ S.breaks sink.old) }
-    ensures breaks { IfErr result (λ fault. S.breaks sink.new ≡ breaks_written (Err fault) (S.breaks sink.old)) }
+    ensures breaks { IfErr result (λ fault. S.breaks sink.new ≡ breaks_written (Err fault)
+        (S.breaks sink.old)) }
     ensures memory { result ≢ Err WriteFault.Memory }
 {
     let mut at = 0;
@@ -110,8 +114,10 @@ fn send<S: Sink>(bytes: &[u8], sink: &mut S, before: u32) -> Result<u32, WriteFa
 fn offer<S: Sink>(bytes: &[u8], sink: &mut S) -> Result<usize, WriteFault>
     requires { 0 < length bytes.now }
     ensures bound { IfOk result (λ n. n ≤ length bytes.now) }
-    ensures bytes { IfOk result (λ n. Appends (S.contents sink.old) (S.contents sink.new) (take n bytes.now)) }
-    ensures stalls { IfOk result (λ n. S.stalls sink.new ≡ stalls_after (length bytes.now) (Ok n) (S.stalls sink.old)) }
+    ensures bytes { IfOk result (λ n. Appends (S.contents sink.old) (S.contents sink.new)
+        (take n bytes.now)) }
+    ensures stalls { IfOk result (λ n. S.stalls sink.new ≡ stalls_after (length bytes.now) (Ok n)
+        (S.stalls sink.old)) }
     ensures breaks { OnOk result (S.breaks sink.new ≡ S.breaks sink.old) }
     ensures fault { IfErr result (λ fault. fault ≡ WriteFault.Device) }
     ensures broken { OnErr result (S.breaks sink.new ≡ next_count (S.breaks sink.old)) }

@@ -1,5 +1,6 @@
 -- The machine of credits: each root gets a whole, a task that creates another one gives it half of its share,
--- and what a task has left is entered when the task is over (F. Mattern, Information Processing Letters 30, 1989).
+-- and what a task has left is entered when the task is over (F. Mattern, Information Processing Letters 30,
+-- 1989).
 use Rattle.std.specs.Prelude.{ℕ, Bool, true, false, ◌==◌, ◌&&◌, not, if◌then◌else◌, List, [], ◌∷◌, ◌++◌, map, filter, fold}
 use Rattle.std.specs.List.{list_any}
 use Rattle.credit.specs.declared.share.Half.{Half}
@@ -19,8 +20,8 @@ pub record Credit : Type 0 where
   pub holder : Holder
   pub share : List Half
 
--- what may happen: a root is made; a task creates another one; a task is finished; a task is detached, and then
--- waits for its event alone; the event of a detached task is fulfilled
+-- what may happen: a root is made; a task creates another one; a task is finished; a task is detached, and
+-- then waits for its event alone; the event of a detached task is fulfilled
 pub data Event : Type 0 where
   Root : (task : ℕ) → Event
   Create : (creator child : ℕ) → Event
@@ -82,10 +83,11 @@ detached_halves c =
 -- the credits, with others in place of the first one that passes the test; as they were where none passes
 abbrev pub exchange : (Credit → Bool) → (Credit → List Credit) → List Credit → List Credit
 exchange passes others [] = []
-exchange passes others (c ∷ credits) = if passes c then others c ++ credits else c ∷ exchange passes others credits
+exchange passes others (c ∷ credits) =
+    if passes c then others c ++ credits else c ∷ exchange passes others credits
 
--- the credits after an event, which changes nothing where it does not fit: where the task to be made was made before,
--- or who should have a share has none
+-- the credits after an event, which changes nothing where it does not fit: where the task to be made was
+-- made before, or who should have a share has none
 abbrev pub next_credits : List Credit → Event → List Credit
 next_credits credits (Root task) = if is_made task credits then credits else whole_of task ∷ credits
 next_credits credits (Create creator child) =
@@ -100,8 +102,10 @@ credits_after events = fold next_credits [] events
 
 -- the shares of the root's credit that a task or an event has
 abbrev pub live_shares : ℕ → List Credit → List (List Half)
-live_shares root credits = map (λ c. c.share) (filter (λ c. (c.root == root) && not (is_entered c.holder)) credits)
+live_shares root credits =
+    map (λ c. c.share) (filter (λ c. (c.root == root) && not (is_entered c.holder)) credits)
 
 -- the shares of the root's credit that were entered
 abbrev pub entered_shares : ℕ → List Credit → List (List Half)
-entered_shares root credits = map (λ c. c.share) (filter (λ c. (c.root == root) && is_entered c.holder) credits)
+entered_shares root credits =
+    map (λ c. c.share) (filter (λ c. (c.root == root) && is_entered c.holder) credits)

@@ -1,5 +1,5 @@
--- The path of a share: how many Keep halves stand before each of its Give halves, the last one first, and behind
--- the last one. Read upward, as a walk from a node to the root meets them.
+-- The path of a share: how many Keep halves stand before each of its Give halves, the last one first, and
+-- behind the last one. Read upward, as a walk from a node to the root meets them.
 use Rattle.std.specs.Prelude.{ℕ, ◌+◌, List, [], ◌∷◌, ◌++◌, replicate}
 use Rattle.credit.specs.declared.share.Half.{Half}
 use Rattle.credit.specs.declared.share.Half.TheVariants.{Keep, Give}

@@ -23,7 +23,8 @@ overlaps s t = begins_with s t || begins_with t s
 
 -- one of the two shares overlaps one of the others, or the other one of the two
 abbrev pub overlaps_either : List Half → List Half → List (List Half) → Bool
-overlaps_either first second shares = list_any (overlaps first) shares || list_any (overlaps second) shares || overlaps first second
+overlaps_either first second shares =
+    list_any (overlaps first) shares || list_any (overlaps second) shares || overlaps first second
 
 -- the half with which a task goes on
 abbrev pub keep_half : List Half → List Half

@@ -36,7 +36,8 @@ place children (number ∷ up) = option_and_then (λ index. children index numbe
 
 -- what has come back there
 abbrev pub progress_at : Tree → List ℕ → Progress
-progress_at tree up = option_map_or (λ index. (node_at tree index).progress) (place (child tree) up) no_progress
+progress_at tree up =
+    option_map_or (λ index. (node_at tree index).progress) (place (child tree) up) no_progress
 
 -- when the run was entered, if it ends at this number of Keep halves or before
 abbrev pub time_within : Option Run → ℕ → Option ℕ
@@ -67,11 +68,13 @@ pub record IsLinked (tree : Tree) : Type 0 where
 
 -- no share overlaps another one
 abbrev pub IsApart : List (List Half) → Type 0
-IsApart shares = (i j : ℕ) (s t : List Half) → slice_get shares i ≡ Some s → slice_get shares j ≡ Some t → begins_with s t ≡ true → i ≡ j
+IsApart shares = (i j : ℕ) (s t : List Half) → slice_get shares i ≡ Some s → slice_get shares j ≡ Some t
+    → begins_with s t ≡ true → i ≡ j
 
 -- no shorter share begins this one
 abbrev pub IsClear : List (List Half) → List Half → Type 0
-IsClear shares s = (i : ℕ) (t : List Half) → slice_get shares i ≡ Some t → begins_with s t ≡ true → length s ≤ length t
+IsClear shares s =
+    (i : ℕ) (t : List Half) → slice_get shares i ≡ Some t → begins_with s t ≡ true → length s ≤ length t
 
 -- the share is held by the first ones from `since` on
 abbrev pub IsHeldFrom : List (List Half) → Option ℕ → List Half → Type 0
@@ -85,10 +88,14 @@ count_below (suc bound) test = (if test bound then 1 else 0) + count_below bound
 -- what the nodes say of runs and counts is so
 pub record IsCounted (shares : List (List Half)) (at : List ℕ → Progress) : Type 0 where
   pub apart : IsApart shares
-  pub run : (up : List ℕ) (run : Run) → (at up).run ≡ Some run → slice_get shares run.time ≡ Some (keeps (prefix up) run.keeps)
-  pub entered : (time : ℕ) (up : List ℕ) (keeps_count : ℕ) → slice_get shares time ≡ Some (keeps (prefix up) keeps_count) → (at up).run ≡ Some (record { keeps = keeps_count; time = time })
+  pub run : (up : List ℕ) (run : Run) → (at up).run ≡ Some run
+      → slice_get shares run.time ≡ Some (keeps (prefix up) run.keeps)
+  pub entered : (time : ℕ) (up : List ℕ) (keeps_count : ℕ)
+      → slice_get shares time ≡ Some (keeps (prefix up) keeps_count) → (at up).run ≡ Some
+      (record { keeps = keeps_count; time = time })
   pub held : (up : List ℕ) → is_some (at up).since ≡ true → is_some (at up).run ≡ true
-  pub count : (up : List ℕ) (bound : ℕ) → ((n : ℕ) → is_some (at (n ∷ up)).since ≡ true → n < bound) → count_below bound (λ n. is_some (at (n ∷ up)).since) ≡ (at up).held_children
+  pub count : (up : List ℕ) (bound : ℕ) → ((n : ℕ) → is_some (at (n ∷ up)).since ≡ true → n < bound)
+      → count_below bound (λ n. is_some (at (n ∷ up)).since) ≡ (at up).held_children
 
 -- what the nodes say is so
 pub record IsKnown (shares : List (List Half)) (at : List ℕ → Progress) : Type 0 where
@@ -100,8 +107,10 @@ pub record IsSettling (shares : List (List Half)) (at : List ℕ → Progress) (
   pub counted : IsCounted shares at
   pub clear : IsClear shares (prefix here)
   pub unmarked : (up : List ℕ) → begins_with (prefix here) (prefix up) ≡ true → (at up).since ≡ None
-  pub unheld : (up : List ℕ) → begins_with (prefix here) (prefix up) ≡ true → (upto : ℕ) → upto < length shares → Hold (take upto shares) (prefix up) → ⊥
-  pub settled : (up : List ℕ) → begins_with (prefix here) (prefix up) ≡ false → IsClear shares (prefix up) → IsHeldFrom shares (at up).since (prefix up)
+  pub unheld : (up : List ℕ) → begins_with (prefix here) (prefix up) ≡ true → (upto : ℕ)
+      → upto < length shares → Hold (take upto shares) (prefix up) → ⊥
+  pub settled : (up : List ℕ) → begins_with (prefix here) (prefix up) ≡ false → IsClear shares
+      (prefix up) → IsHeldFrom shares (at up).since (prefix up)
 
 -- the later one of two times, if both are known
 abbrev pub both_of : Option ℕ → Option ℕ → Option ℕ
@@ -116,7 +125,8 @@ since_all since start first (suc count) = both_of (since_all since start first c
 
 -- from when a child is held
 abbrev pub child_since : Tree → ℕ → ℕ → Option ℕ
-child_since tree index number = option_and_then (λ k. (node_at tree k).progress.since) (child tree index number)
+child_since tree index number =
+    option_and_then (λ k. (node_at tree k).progress.since) (child tree index number)
 
 -- the node is held: its run was entered, and as many children are held as the run has Keep halves
 pub data IsFull (progress : Progress) : Type 0 where
@@ -141,4 +151,5 @@ abbrev pub with_since : Node → ℕ → Node
 with_since node time = record node { progress = record node.progress { since = Some time } }
 
 abbrev pub with_child : Node → Node
-with_child node = record node { progress = record node.progress { held_children = node.progress.held_children + 1 } }
+with_child node =
+    record node { progress = record node.progress { held_children = node.progress.held_children + 1 } }

@@ -1,8 +1,8 @@
 //! Why a call on credits is refused.
 use thiserror::Error;
 
-/// Why a call on credits is refused. As a `u8` it is the fault's number. `Overlap` and `TooDeep` are told before
-/// `Memory`: where one of them applies, no memory is asked for.
+/// Why a call on credits is refused. As a `u8` it is the fault's number. `Overlap` and `TooDeep` are told
+/// before `Memory`: where one of them applies, no memory is asked for.
 #[derive(Clone, Copy, Debug, PartialEq, Eq, Error)]
 pub enum CreditFault {
     /// No memory was found.

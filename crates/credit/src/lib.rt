@@ -1,6 +1,6 @@
 //! Credits that are halved when work is handed on, and the purse that says when all of one has come back
-//! (F. Mattern, "Global quiescence detection based on credit distribution and recovery", Information Processing
-//! Letters 30, 1989).
+//! (F. Mattern, "Global quiescence detection based on credit distribution and recovery", Information
+//! Processing Letters 30, 1989).
 #![tactic(auto)]
 
 mod fault;

@@ -13,10 +13,10 @@ use std::marker::Model;
 
 /// The shares of one credit that have come back, in the order in which they were entered (F. Mattern, 1989).
 ///
-/// A tree tells which shares they hold: it has a node for each share that ends with a Give half and at or below which
-/// one was entered, and the whole as its root. A node is held where a share was entered that goes on from the node's
-/// with Keep halves alone, and the children before its end are held. So each call takes as many steps as its share
-/// has Give halves, but for what its own description says.
+/// A tree tells which shares they hold: it has a node for each share that ends with a Give half and at or
+/// below which one was entered, and the whole as its root. A node is held where a share was entered that
+/// goes on from the node's with Keep halves alone, and the children before its end are held. So each call
+/// takes as many steps as its share has Give halves, but for what its own description says.
 #[derive(Debug, Drop)]
 pub struct Purse {
     shares: Vec<Share>,
@@ -47,8 +47,8 @@ impl Purse {
     }
 
     /// Enters the share. One that overlaps a share in the purse is refused as `Overlap`, and another only as
-    /// `Memory`; it comes back then, and the purse is as it was. It may look at each share in the purse where one
-    /// may overlap the new one.
+    /// `Memory`; it comes back then, and the purse is as it was. It may look at each share in the purse
+    /// where one may overlap the new one.
     pub fn enter(&mut self, share: Share) -> Result<(), (Share, CreditFault)>
         ensures entered { OnOk result (self.new ≡ self.old ++ share ∷ []) }
         ensures unchanged { OnErr result (self.new ≡ self.old) }
@@ -68,8 +68,9 @@ impl Purse {
         ))
     }
 
-    /// Enters two shares, or neither. Where one of them overlaps a share in the purse, or the other one, they are
-    /// refused as `Overlap`, and else only as `Memory`; they come back then, and the purse is as it was.
+    /// Enters two shares, or neither. Where one of them overlaps a share in the purse, or the other one,
+    /// they are refused as `Overlap`, and else only as `Memory`; they come back then, and the purse is as
+    /// it was.
     pub fn enter_both(
         &mut self,
         first: Share,
@@ -92,8 +93,8 @@ impl Purse {
         ))
     }
 
-    /// Whether the shares in the purse hold this one, so that all of it has come back: each list of halves that
-    /// begins with it, and is at least as long as it and as each of them, begins with one of them.
+    /// Whether the shares in the purse hold this one, so that all of it has come back: each list of halves
+    /// that begins with it, and is at least as long as it and as each of them, begins with one of them.
     /// `Memory` is the only refusal.
     pub fn holds(&self, share: &Share) -> Result<bool, CreditFault>
         ensures held { IfOk result (λ held. IsTrue held ↔ Hold self.now share.now) }
@@ -102,8 +103,9 @@ impl Purse {
         Ok(self.held_since(share).is_some())
     }
 
-    /// How many of the shares in the purse, in the order in which they were entered, hold this one, or `None` where
-    /// all of them don't. Where the share ends with a Keep half, it may look at each child of the node above that one.
+    /// How many of the shares in the purse, in the order in which they were entered, hold this one, or
+    /// `None` where all of them don't. Where the share ends with a Keep half, it may look at each child of
+    /// the node above that one.
     pub fn held_since(&self, share: &Share) -> Option<usize>
         ensures { (upto : ℕ) → IsTrue (is_by result upto) ↔ Hold (take upto self.now) share.now }
     {
@@ -170,7 +172,8 @@ fn prepare_and_add(tree: &mut Tree, shares: &mut Vec<Share>, share: Share) -> Re
     Ok(())
 }
 
-/// Adds two shares that overlap neither another one nor one another, or gives them back where there is no memory.
+/// Adds two shares that overlap neither another one nor one another, or gives them back where there is no
+/// memory.
 fn add_both(
     tree: &mut Tree,
     shares: &mut Vec<Share>,
@@ -225,8 +228,8 @@ fn add(tree: &mut Tree, shares: &mut Vec<Share>, share: Share, index: usize)
     settle(tree, shares.as_slice(), entered.runs(), index);
 }
 
-/// Marks what is held since the last of the shares was entered, at the node with this index: that node, if it is, and
-/// those above it as far as they are.
+/// Marks what is held since the last of the shares was entered, at the node with this index: that node, if
+/// it is, and those above it as far as they are.
 fn settle(tree: &mut Tree, shares: &[Share], runs: &[u64], index: usize)
     requires linked { IsLinked tree.old }
     requires place { place (child tree.old) (reverse runs.now) ≡ Some index }

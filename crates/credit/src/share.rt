@@ -62,10 +62,10 @@ impl Share {
         }
     }
 
-    /// The share that is entered when a task is over that was never detached: at each number of `path` that many
-    /// Keep halves and then a Give half, and at the end `kept` Keep halves. `path` says, from the root down, the
-    /// number of each task among its parent's children, counted from 0, and has at most 1,024 numbers; `kept` is
-    /// how many children the task itself created. `Memory` is the only refusal.
+    /// The share that is entered when a task is over that was never detached: at each number of `path` that
+    /// many Keep halves and then a Give half, and at the end `kept` Keep halves. `path` says, from the root
+    /// down, the number of each task among its parent's children, counted from 0, and has at most 1,024
+    /// numbers; `kept` is how many children the task itself created. `Memory` is the only refusal.
     pub fn of(alloc: Global, path: &[u32], kept: u32) -> Result<Share, CreditFault>
         requires { length path.now ≤ 1024 }
         ensures value { IfOk result (λ share. share ≡ finish_share path.now kept) }
@@ -79,8 +79,8 @@ impl Share {
         })
     }
 
-    /// The share with these runs: at each of them that many Keep halves and then a Give half, and at the end `last`
-    /// Keep halves, at most 2^48 halves in all. Takes no memory.
+    /// The share with these runs: at each of them that many Keep halves and then a Give half, and at the
+    /// end `last` Keep halves, at most 2^48 halves in all. Takes no memory.
     pub fn of_runs(runs: Vec<u64>, last: u64) -> Share
         requires { length (finish_share runs.items last) ≤ 2 ^ 48 }
         ensures { result ≡ finish_share runs.items last }
@@ -101,8 +101,9 @@ impl Share {
         self.runs.starts_with(other.runs.as_slice()) && other.last <= run
     }
 
-    /// The two halves of the share, the one to keep and then the one to give away. A share that has 1,025 Give
-    /// halves, or 2^48 halves in all, is refused as `TooDeep`, and another only as `Memory`; it comes back then.
+    /// The two halves of the share, the one to keep and then the one to give away. A share that has 1,025
+    /// Give halves, or 2^48 halves in all, is refused as `TooDeep`, and another only as `Memory`; it comes
+    /// back then.
     pub fn halve(self) -> Result<(Share, Share), (Share, CreditFault)>
         ensures halves { IfOk result (λ halves. (halves.0 ≡ keep_half self) × (halves.1 ≡ give_half self)) }
         ensures too_deep { IsTrue (is_too_deep self) → IsErr result }

@@ -34,8 +34,8 @@ pub(crate) struct Node {
     pub progress: Progress,
 }
 
-/// The nodes, the root first, and where the children of each one stand by their numbers. A map in the order of its
-/// keys takes no longer for numbers that someone chose to make it slow.
+/// The nodes, the root first, and where the children of each one stand by their numbers. A map in the order
+/// of its keys takes no longer for numbers that someone chose to make it slow.
 #[derive(Debug, Drop)]
 pub(crate) struct Tree {
     pub nodes: Vec<Node>,
@@ -144,8 +144,8 @@ impl Tree {
         self.node(child).progress.since
     }
 
-    /// From when the children with the numbers from `first` to below `end` are all held, but no earlier than `start`.
-    /// It looks at no more children than are held, and one.
+    /// From when the children with the numbers from `first` to below `end` are all held, but no earlier
+    /// than `start`. It looks at no more children than are held, and one.
     pub fn since_all(&self, index: usize, start: usize, first: u64, end: u64) -> Option<usize>
         requires { first ≤ end }
         ensures { result ≡ since_all (child_since self.now index) start first (end - first) }
@@ -211,7 +211,8 @@ impl Tree {
     fn reach_to(&mut self, index: usize, number: u64)
         requires within { index < length self.old.nodes.items }
         requires small { number ≤ 2 ^ 48 }
-        ensures nodes { self.new.nodes.items ≡ slice_set self.old.nodes.items index (with_reach (node_at self.old index) number) }
+        ensures nodes { self.new.nodes.items ≡ slice_set self.old.nodes.items index (with_reach
+            (node_at self.old index) number) }
         ensures children { self.new.children ≡ self.old.children }
     {
         let node = self.nodes[index];
@@ -224,7 +225,8 @@ impl Tree {
     /// Notes the run that was entered at a node.
     pub fn put_run(&mut self, index: usize, run: Run)
         requires { index < length self.old.nodes.items }
-        ensures nodes { self.new.nodes.items ≡ slice_set self.old.nodes.items index (with_run (node_at self.old index) run) }
+        ensures nodes { self.new.nodes.items ≡ slice_set self.old.nodes.items index (with_run
+            (node_at self.old index) run) }
         ensures children { self.new.children ≡ self.old.children }
     {
         let node = self.nodes[index];
@@ -238,7 +240,8 @@ impl Tree {
     /// Notes from when a node is held.
     pub fn mark(&mut self, index: usize, time: usize)
         requires { index < length self.old.nodes.items }
-        ensures nodes { self.new.nodes.items ≡ slice_set self.old.nodes.items index (with_since (node_at self.old index) time) }
+        ensures nodes { self.new.nodes.items ≡ slice_set self.old.nodes.items index (with_since
+            (node_at self.old index) time) }
         ensures children { self.new.children ≡ self.old.children }
     {
         let node = self.nodes[index];
@@ -253,7 +256,8 @@ impl Tree {
     pub fn count_child(&mut self, index: usize)
         requires within { index < length self.old.nodes.items }
         requires small { (node_at self.old index).progress.held_children < 2 ^ 63 }
-        ensures nodes { self.new.nodes.items ≡ slice_set self.old.nodes.items index (with_child (node_at self.old index)) }
+        ensures nodes { self.new.nodes.items ≡ slice_set self.old.nodes.items index (with_child
+            (node_at self.old index)) }
         ensures children { self.new.children ≡ self.old.children }
     {
         let node = self.nodes[index];

@@ -1,6 +1,7 @@
--- How a ledger keeps the shares of all roots and pools in one purse: each of them in a region of its own, which no
--- share of another one overlaps. A region is told by three times the upper half of the root's number, and which of
--- three kinds it is, and the lower half. Within the pools' regions the numbers of a path are odd, but for the last.
+-- How a ledger keeps the shares of all roots and pools in one purse: each of them in a region of its own,
+-- which no share of another one overlaps. A region is told by three times the upper half of the root's
+-- number, and which of three kinds it is, and the lower half. Within the pools' regions the numbers of a
+-- path are odd, but for the last.
 use Rattle.std.specs.Prelude.{ℕ, ◌+◌, ◌*◌, ◌/◌, ◌%◌, ◌^◌, List, [], ◌∷◌, ◌++◌, Option, None, Some, map}
 use Rattle.std.specs.List.{flat_map}
 use Rattle.ompt_events.specs.declared.records.Part.{Part}
@@ -29,12 +30,14 @@ second_code root None part s = start_share (region 2 root) ++ s
 second_code root (Some child) part s = start_share (pool_runs root child.0 child.1) ++ part_halves part
 
 abbrev pub codes : Entry → List (List Half)
-codes e = tree_code e.root (tree_share e) ∷ second_code e.root (parent_and_number e.path) e.part (tree_share e) ∷ []
+codes e = tree_code e.root (tree_share e) ∷ second_code e.root (parent_and_number e.path) e.part
+    (tree_share e) ∷ []
 
 abbrev pub all_codes : List Entry → List (List Half)
 all_codes entries = flat_map codes entries
 
--- the tree share of an entry as runs: how many Keep halves stand before each Give half, and how many at the end
+-- the tree share of an entry as runs: how many Keep halves stand before each Give half, and how many at the
+-- end
 abbrev pub tree_runs : List ℕ → ℕ → Part → List ℕ
 tree_runs path kept Whole = path
 tree_runs path kept Body = path

@@ -1,4 +1,5 @@
--- What an entry of the ledger brings back, and what a ledger holds (F. Mattern, Information Processing Letters 30, 1989).
+-- What an entry of the ledger brings back, and what a ledger holds (F. Mattern, Information Processing
+-- Letters 30, 1989).
 use Rattle.std.specs.Prelude.{◌≤◌, ◌<◌, ◌^◌, ◌==◌, ◌&&◌, ◌||◌, ℕ, Bool, false, List, [], ◌∷◌, ◌++◌, length, Option, None, Some, if◌then◌else◌, nat_eq, nat_le}
 use Rattle.std.specs.List.{flat_map, position_from}
 use Rattle.std.specs.Option.{option_map_or}
@@ -41,13 +42,15 @@ is_same_path p q = pointwise nat_eq p q
 abbrev pub overlaps_in_pool : Option (List ℕ × ℕ) → Part → Option (List ℕ × ℕ) → Part → Bool
 overlaps_in_pool None part other other_part = false
 overlaps_in_pool (Some s) part None other_part = false
-overlaps_in_pool (Some s) part (Some t) other_part = is_same_path s.0 t.0 && overlaps (pool_share s.1 part) (pool_share t.1 other_part)
+overlaps_in_pool (Some s) part (Some t) other_part =
+    is_same_path s.0 t.0 && overlaps (pool_share s.1 part) (pool_share t.1 other_part)
 
 -- a share of one entry overlaps one of the other entry, of the same credit
 abbrev pub is_overlap : Entry → Entry → Bool
 is_overlap e f =
     (e.root == f.root)
-    && (overlaps (tree_share e) (tree_share f) || overlaps_in_pool (parent_and_number e.path) e.part (parent_and_number f.path) f.part)
+    && (overlaps (tree_share e) (tree_share f) || overlaps_in_pool (parent_and_number e.path) e.part
+    (parent_and_number f.path) f.part)
 
 -- the shares of the root's credit that came back with these entries
 abbrev pub tree_shares : ℕ → List Entry → List (List Half)
@@ -60,17 +63,21 @@ share_in_pool parent (Some s) part = if is_same_path s.0 parent then pool_share 
 
 -- the shares of the credit of this task's child tasks that came back with these entries
 abbrev pub pool_shares : ℕ → List ℕ → List Entry → List (List Half)
-pool_shares root parent entries = flat_map (λ e. if e.root == root then share_in_pool parent (parent_and_number e.path) e.part else []) entries
+pool_shares root parent entries = flat_map (λ e. if e.root == root then share_in_pool parent
+    (parent_and_number e.path) e.part else []) entries
 
--- the entries hold the share with which a child of a task starts: in the tree where it is to be complete with all
--- its descendants, in its parent's pool where it alone is
+-- the entries hold the share with which a child of a task starts: in the tree where it is to be complete
+-- with all its descendants, in its parent's pool where it alone is
 abbrev pub IsChildHeld : List Entry → ℕ → List ℕ → ℕ → Cover → Type 0
-IsChildHeld entries root parent number Descendants = Hold (tree_shares root entries) (start_share (parent ++ number ∷ []))
-IsChildHeld entries root parent number Children = Hold (pool_shares root parent entries) (start_share (number ∷ []))
+IsChildHeld entries root parent number Descendants =
+    Hold (tree_shares root entries) (start_share (parent ++ number ∷ []))
+IsChildHeld entries root parent number Children =
+    Hold (pool_shares root parent entries) (start_share (number ∷ []))
 
 -- they hold each child of the span
 abbrev pub IsSpanHeld : List Entry → Span → Cover → Type 0
-IsSpanHeld entries span cover = (number : ℕ) → span.from ≤ number → number < span.to → IsChildHeld entries span.root span.path number cover
+IsSpanHeld entries span cover = (number : ℕ) → span.from ≤ number → number < span.to
+    → IsChildHeld entries span.root span.path number cover
 
 -- a ledger has at most 2^22 entries
 abbrev pub is_full : List Entry → Bool
@@ -78,4 +85,5 @@ is_full entries = nat_le (2 ^ 22) (length entries)
 
 -- why an entry is refused
 abbrev pub fault_of : List Entry → Entry → LedgerFault
-fault_of entries e = if is_full entries then Full else option_map_or (λ index. Overlap index) (position_from (is_overlap e) 0 entries) Memory
+fault_of entries e = if is_full entries then Full else option_map_or (λ index. Overlap index)
+    (position_from (is_overlap e) 0 entries) Memory

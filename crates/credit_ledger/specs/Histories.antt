@@ -28,7 +28,8 @@ IsPossible entries Look = Unit {0}
 -- each call was possible, and its reply was the length that it met
 abbrev pub IsLegalFrom : List Entry → List Step → Type 0
 IsLegalFrom entries [] = Unit {0}
-IsLegalFrom entries (step ∷ history) = IsPossible entries step.call × (step.reply ≡ length entries) × IsLegalFrom (after_call entries step.call) history
+IsLegalFrom entries (step ∷ history) = IsPossible entries step.call × (step.reply ≡ length entries)
+    × IsLegalFrom (after_call entries step.call) history
 
 -- the history of a ledger that was empty at first
 abbrev pub IsLegal : List Step → Type 0

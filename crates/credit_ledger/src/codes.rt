@@ -62,7 +62,8 @@ pub(crate) fn pool_code(
     part: Part,
 ) -> Result<Share, AllocError>
     requires { length parent.now ≤ 1024 }
-    ensures { IfOk result (λ share. share ≡ start_share (pool_runs root parent.now number) ++ part_halves part) }
+    ensures { IfOk result (λ share. share ≡ start_share (pool_runs root parent.now number)
+        ++ part_halves part) }
 {
     let mut runs = region_runs(alloc, 1, root)?;
     push_odd_path(&mut runs, parent)?;
@@ -96,7 +97,8 @@ fn push_path(runs: &mut Vec<u64>, path: &[u32]) -> Result<(), AllocError>
 /// Adds the odd numbers that stand for those of a path.
 fn push_odd_path(runs: &mut Vec<u64>, path: &[u32]) -> Result<(), AllocError>
     ensures runs { OnOk result (runs.new.items ≡ runs.old.items ++ map (λ n. 2 * n + 1) path.now) }
-    ensures small { OnOk result (length (start_share (map (λ n. 2 * n + 1) path.now)) ≤ length path.now * 2 ^ 34) }
+    ensures small { OnOk result (length (start_share (map
+        (λ n. 2 * n + 1) path.now)) ≤ length path.now * 2 ^ 34) }
 {
     'numbers: for number in path {
         runs.push(2 * u64::from(*number) + 1)?;

@@ -1,13 +1,14 @@
 //! What the ledger holds, and what it is asked about.
 use ompt_events::{Part, Path};
 
-/// What one finishing record brings back (a profile of OMPT's events: a record that finishes a task claims where the
-/// task stands below its root, and how many children it created).
+/// What one finishing record brings back (a profile of OMPT's events: a record that finishes a task claims
+/// where the task stands below its root, and how many children it created).
 #[derive(Debug, Drop)]
 pub struct Entry {
     /// The thread of the record.
     pub thread: u8,
-    /// How much of the task is finished: all, or of a detachable task its body or its event (OpenMP 5.2, 12.5.2).
+    /// How much of the task is finished: all, or of a detachable task its body or its event (OpenMP 5.2,
+    /// 12.5.2).
     pub part: Part,
     /// How many children the task created.
     pub kept: u32,
@@ -33,6 +34,7 @@ pub struct Span {
 pub enum Cover {
     /// The child tasks alone, as a taskwait does (OpenMP 5.2, 15.5).
     Children,
-    /// The child tasks and all their descendants, as a taskgroup and a barrier do (OpenMP 5.2, 15.4 and 15.3).
+    /// The child tasks and all their descendants, as a taskgroup and a barrier do (OpenMP 5.2, 15.4 and
+    /// 15.3).
     Descendants,
 }

@@ -20,8 +20,8 @@ const MOST_ENTRIES: usize = 1 << 22;
 
 /// The entries of finished tasks, in the order in which they were entered.
 ///
-/// One purse has the shares of all roots and pools, each of them in a region of its own, two of each entry. So the
-/// time from which the purse holds a share tells the ledger's length from which it is held.
+/// One purse has the shares of all roots and pools, each of them in a region of its own, two of each entry.
+/// So the time from which the purse holds a share tells the ledger's length from which it is held.
 #[derive(Debug, Drop)]
 pub struct Ledger {
     entries: Vec<Entry>,
@@ -67,10 +67,10 @@ impl Ledger {
         self.entries.get(index as usize)
     }
 
-    /// Adds an entry, and gives its index. A ledger with 2^22 entries is refused as `Full`; an entry of which a share
-    /// overlaps one of another entry, of the same root's credit or of the pool of the same parent, as `Overlap` with
-    /// the least such entry's index; and another one only as `Memory`. The entry comes back then, and the ledger is
-    /// as it was. The entry's path has at most 1,024 numbers.
+    /// Adds an entry, and gives its index. A ledger with 2^22 entries is refused as `Full`; an entry of
+    /// which a share overlaps one of another entry, of the same root's credit or of the pool of the same
+    /// parent, as `Overlap` with the least such entry's index; and another one only as `Memory`. The entry
+    /// comes back then, and the ledger is as it was. The entry's path has at most 1,024 numbers.
     pub fn enter(&mut self, entry: Entry) -> Result<u32, (Entry, LedgerFault)>
         requires { length entry.path ≤ 1024 }
         ensures index { IfOk result (λ index. index ≡ length self.old) }
@@ -94,9 +94,10 @@ impl Ledger {
         }
     }
 
-    /// Whether the first `upto` entries (all, where there are fewer) of the span's root hold each child of the span:
-    /// in the tree for `Descendants`, in its parent's pool for `Children`. An empty span is held. `Memory` is the only
-    /// refusal. The span's path has at most 1,024 numbers. It stops at the first child that isn't held.
+    /// Whether the first `upto` entries (all, where there are fewer) of the span's root hold each child of
+    /// the span: in the tree for `Descendants`, in its parent's pool for `Children`. An empty span is held.
+    /// `Memory` is the only refusal. The span's path has at most 1,024 numbers. It stops at the first child
+    /// that isn't held.
     pub fn holds(&self, upto: u32, span: &Span, cover: Cover) -> Result<bool, LedgerFault>
         requires { length span.now.path ≤ 1024 }
         ensures held { IfOk result (λ held. IsTrue held ↔ IsSpanHeld (take upto self.now) span.now cover) }
@@ -111,9 +112,9 @@ impl Ledger {
         Ok(true)
     }
 
-    /// From which length of the ledger a child of a task is held: in the tree for `Descendants`, in its parent's pool
-    /// for `Children`. `None` is told where all entries don't hold it. `Memory` is the only refusal. The parent's path
-    /// has at most 1,024 numbers.
+    /// From which length of the ledger a child of a task is held: in the tree for `Descendants`, in its
+    /// parent's pool for `Children`. `None` is told where all entries don't hold it. `Memory` is the only
+    /// refusal. The parent's path has at most 1,024 numbers.
     pub fn held_from(
         &self,
         root: u64,

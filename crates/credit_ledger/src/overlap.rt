@@ -24,7 +24,8 @@ fn do_overlap_in_tree(entry: &Entry, other: &Entry) -> bool
 
 /// Whether they are the same task's, and its shares of its parent's pool overlap.
 fn do_overlap_in_pool(entry: &Entry, other: &Entry) -> bool
-    ensures { result ≡ overlaps_in_pool (parent_and_number entry.now.path) entry.now.part (parent_and_number other.now.path) other.now.part }
+    ensures { result ≡ overlaps_in_pool (parent_and_number entry.now.path) entry.now.part
+        (parent_and_number other.now.path) other.now.part }
 {
     if entry.path.as_slice().is_empty() {
         return false;
