@@ -5,12 +5,14 @@
 //
 // A row of members is `field: kind "member"`, in the order of the Rust fields. A list whose items are kept
 // stands last: it is brought within its limit as it is looked up, and the other members must have been
-// looked up before. The kinds: - `id`: a whole number of 64 bits; `short`: one of at most 32 bits;
-// `thread`: one of at most 8 bits. - `id_or_null`: an id, or none. `next`: the same, where the status says
-// which. - `truth`: true or false. - `status`, `endpoint`, `begin_or_end`, `sync_kind`, `thread_kind`,
-// `dep_kind`: a name. - `flags`: a list of names. - `path`: a list of numbers of at most 32 bits. `deps`: a
-// list of objects with the members of `Dep`. - `claim`: the members of `Claim`, where the record finishes a
-// task.
+// looked up before. The kinds:
+// - `id`: a whole number of 64 bits; `short`: one of at most 32 bits; `thread`: one of at most 8 bits.
+// - `id_or_null`: an id, or none. `next`: the same, where the status says which.
+// - `truth`: true or false.
+// - `status`, `endpoint`, `begin_or_end`, `sync_kind`, `thread_kind`, `dep_kind`: a name.
+// - `flags`: a list of names.
+// - `path`: a list of numbers of at most 32 bits. `deps`: a list of objects with the members of `Dep`.
+// - `claim`: the members of `Claim`, where the record finishes a task.
 
 // The header: its members, and what each says.
 macro_rules! header {
