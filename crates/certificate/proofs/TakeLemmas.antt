@@ -1,5 +1,5 @@
 -- The parts of a line, taken one after another.
-use Rattle.std.proofs.Common.{◌≡◌, ℕ, ◌+◌, ◌-◌, ◌*◌, ◌/◌, ◌%◌, ◌<◌, ◌≤◌, Bool, true, false, cond, Option, None, Some, List, [], ◌∷◌, ◌++◌, length, map, take, drop, get_or, decimal, ◌==◌, arith, sym, ap, ◌∙◌, append_assoc, append-nil}
+use Rattle.std.proofs.Common.{◌≡◌, ℕ, ◌+◌, ◌-◌, ◌*◌, ◌/◌, ◌%◌, ◌^◌, ◌<◌, ◌≤◌, Bool, true, false, cond, Option, None, Some, List, [], ◌∷◌, ◌++◌, length, map, take, drop, get_or, decimal, ◌==◌, arith, sym, ap, ◌∙◌, append_assoc, append-nil}
 use Rattle.std.specs.Prelude.{IfSome, MatchOption}
 use Rattle.std.specs.Borrow.{Bor}
 use Rattle.std.proofs.lemmas.Bool.Decides.{Decides-eqb}
@@ -36,14 +36,14 @@ Takes-prefix rest text (Some behind) cases = record { is = strip_prefix_is Decid
 
 -- ---- digits
 
-pub decimal-more : (n d : ℕ) → 0 < n → n < 100000000000000000 → d ≤ 9 → decimal (10 * n + d) ≡ decimal n ++ ((48 + d) ∷ [])
+pub decimal-more : (n d : ℕ) → 0 < n → 10 * n + d < 2 ^ 64 → d ≤ 9 → decimal (10 * n + d) ≡ decimal n ++ ((48 + d) ∷ [])
 decimal-more n d some few low =
     let tens : (10 * n + d) / 10 ≡ n = omega arith in
     let ones : (10 * n + d) % 10 ≡ d = omega arith in
     decimal_step (10 * n + d) (omega arith) (omega arith) ∙ ap (λ m. decimal m ++ ((48 + (10 * n + d) % 10) ∷ [])) tens ∙ ap (λ m. decimal n ++ ((48 + m) ∷ [])) ones
 
 -- the first digits, and one more
-pub digits-more : (rest : List ℕ) (len n d : ℕ) → len < length rest → get_or rest len 0 ≡ 48 + d → 0 < n → n < 100000000000000000 → d ≤ 9 → take len rest ≡ decimal n → take (len + 1) rest ≡ decimal (10 * n + d)
+pub digits-more : (rest : List ℕ) (len n d : ℕ) → len < length rest → get_or rest len 0 ≡ 48 + d → 0 < n → 10 * n + d < 2 ^ 64 → d ≤ 9 → take len rest ≡ decimal n → take (len + 1) rest ≡ decimal (10 * n + d)
 digits-more rest len n d within here some few low taken =
     take_more rest len 0 within ∙ ap (λ b. take len rest ++ (b ∷ [])) here ∙ ap (λ front. front ++ ((48 + d) ∷ [])) taken ∙ sym (decimal-more n d some few low)
 

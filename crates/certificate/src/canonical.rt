@@ -1,6 +1,5 @@
-//! Lines as they are written, read part by part. Any other line, also with a number of more than 18 digits,
-//! is left to the general way.
-ghost use Rattle.std.specs.Prelude.{◌≡◌, ◌++◌, ◌+◌, ◌<◌, ◌≤◌, true, [], IfSome, codes, decimal, length, map, slice_index};
+//! Lines as they are written, read part by part. Any other line is left to the general way.
+ghost use Rattle.std.specs.Prelude.{◌≡◌, ◌++◌, ◌+◌, ◌*◌, ◌^◌, ◌<◌, ◌≤◌, true, [], IfSome, codes, decimal, length, map, slice_index};
 ghost use Rattle.std.specs.List.{AllByRecursion};
 ghost use Rattle.json.specs.Print.{quoted};
 ghost use Rattle.serde_json.specs.Data.{array, boolean};
@@ -18,9 +17,6 @@ use ompt_events::{
     Record, Status, SyncKind, TaskFlags, ThreadKind,
 };
 use std::alloc::Global;
-
-/// Below it, a number has less than 18 digits, and one more is read.
-const ONE_DIGIT_MORE: u64 = 100_000_000_000_000_000;
 
 // A part of a line, by the kind of its value.
 macro_rules! take_part {
@@ -215,7 +211,7 @@ fn end(rest: &[u8]) -> Option<()>
     if behind.is_empty() { Some(()) } else { None }
 }
 
-/// A whole number of at most 18 digits.
+/// A whole number.
 fn id<'l>(rest: &'l [u8], text: &str) -> Option<(u64, &'l [u8])>
     ensures { IfSome result (λ taken. Takes rest.now (text.now ++ decimal taken.0) taken.1.now) }
 {
@@ -244,7 +240,7 @@ fn byte<'l>(rest: &'l [u8], text: &str) -> Option<(u8, &'l [u8])>
     }
 }
 
-/// The digits in front as a number, up to 18 of them. A number begins with 0 only where it is 0.
+/// The digits in front as a number of 64 bits. It begins with 0 only where it is 0.
 fn number(rest: &[u8]) -> Option<(u64, &[u8])>
     ensures { IfSome result (λ taken. Takes rest.now (decimal taken.0) taken.1.now) }
 {
@@ -252,27 +248,31 @@ fn number(rest: &[u8]) -> Option<(u64, &[u8])>
     if first == 0 {
         return Some((0, &rest[1..]));
     }
-    Some(digits(rest, first))
+    digits(rest, first)
 }
 
 /// The same where the first digit is known, and is not 0.
-fn digits(rest: &[u8], first: u64) -> (u64, &[u8])
+fn digits(rest: &[u8], first: u64) -> Option<(u64, &[u8])>
     requires some { 0 < first }
     requires digit { first ≤ 9 }
     requires within { 0 < length rest.now }
     requires front { slice_index rest.now 0 ≡ 48 + first }
-    ensures { Takes rest.now (decimal result.0) result.1.now }
+    ensures { IfSome result (λ taken. Takes rest.now (decimal taken.0) taken.1.now) }
 {
     let mut number = first;
     let mut len = 1;
-    'digits: while number < ONE_DIGIT_MORE {
-        let Some(next) = digit(rest, len) else {
-            break;
-        };
-        number = 10 * number + next;
+    'digits: while let Some(next) = digit(rest, len) {
+        number = one_more(number, next)?;
         len += 1;
     }
-    (number, &rest[len..])
+    Some((number, &rest[len..]))
+}
+
+/// The number with one digit more.
+fn one_more(number: u64, digit: u64) -> Option<u64>
+    ensures { IfSome result (λ more. (more ≡ 10 * number + digit) × (more < 2 ^ 64)) }
+{
+    number.checked_mul(10)?.checked_add(digit)
 }
 
 /// The digit at this place.
@@ -480,13 +480,23 @@ fn flags_in_order<'l, F: Flags + Copy>(rest: &'l [u8], text: &str, flags: F) -> 
     Some(behind)
 }
 
+/// How often the byte stands before the end of a list.
+fn room(rest: &[u8], byte: u8) -> usize
+    ensures { result ≤ length rest.now }
+{
+    rest.iter()
+        .take_while(|b| **b != b']')
+        .filter(|b| **b == byte)
+        .count()
+}
+
 /// The numbers of a path.
 fn path<'l>(alloc: Global, rest: &'l [u8], text: &str) -> Option<(Path, &'l [u8])>
     ensures { IfSome result (λ taken. Takes rest.now
         (text.now ++ compact_text (array (items_of (map whole_number taken.0)))) taken.1.now) }
 {
     let mut rest = after(after(rest, text)?, "[")?;
-    let mut numbers = Vec::new(alloc);
+    let mut numbers = Vec::with_capacity(alloc, room(rest, b',') + 1).ok()?;
     let mut later = false;
     'numbers: for _ in 0..MAX_DEPTH {
         let Some((number, behind)) = short(rest, comma(later)) else {
@@ -508,7 +518,7 @@ fn deps<'l>(alloc: Global, rest: &'l [u8], text: &str) -> Option<(Deps, &'l [u8]
         (text.now ++ compact_text (array (items_of (map dep_data taken.0)))) taken.1.now) }
 {
     let mut rest = after(after(rest, text)?, "[")?;
-    let mut items = Vec::new(alloc);
+    let mut items = Vec::with_capacity(alloc, room(rest, b'{')).ok()?;
     let mut later = false;
     'items: for _ in 0..MAX_DEPENDENCES {
         let Some((item, behind)) = next_dep(rest, comma(later)) else {

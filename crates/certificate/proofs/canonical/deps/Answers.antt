@@ -1,4 +1,4 @@
-use Rattle.std.proofs.Common.{◌≡◌, [], ◌∷◌, ◌++◌, true, not, refl, ap, ◌∙◌}
+use Rattle.std.proofs.Common.{rules, ◌≡◌, [], ◌∷◌, ◌++◌, true, not, refl, ap, ◌∙◌}
 use Rattle.std.specs.Result.{is_ok}
 use Rattle.serde_json.specs.Written.{compact_text, comma_if}
 use Rattle.certificate.specs.Texts.{Takes, dep_data}
@@ -6,7 +6,9 @@ use Rattle.certificate.proofs.TakeLemmas.{Takes-both, IsTaken-none, IsTaken-more
 use Rattle.certificate.proofs.canonical.deps.Goals as goal
 
 pub items-init : goal.items-init
-items-init c = rw c.new-items.ensures.items (IsTaken-none dep_data _ _ _ (Takes-both _ _ _ _ _ c.in_ok-after.ensures c.in_ok-rest.ensures))
+items-init c =
+    let none : c.in_ok-items.items.items ≡ [] = search rules in
+    rw none (IsTaken-none dep_data _ _ _ (Takes-both _ _ _ _ _ c.in_ok-after.ensures c.in_ok-rest.ensures))
 
 pub items-preserved : goal.items-preserved
 items-preserved c =

@@ -5,7 +5,6 @@ use Rattle.certificate.proofs.canonical.digits.Given as goal
 abbrev pub invariant-digits : goal.invariant-digits
 invariant-digits l = record {
   some : 0 < l.number;
-  few : l.number < 1000000000000000000;
   within : l.len ≤ length l.rest;
   taken : take l.len l.rest ≡ decimal l.number;
 }

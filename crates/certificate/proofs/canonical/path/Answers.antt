@@ -1,4 +1,4 @@
-use Rattle.std.proofs.Common.{◌≡◌, [], ◌∷◌, ◌++◌, true, not, refl, ap, ◌∙◌}
+use Rattle.std.proofs.Common.{rules, ◌≡◌, [], ◌∷◌, ◌++◌, true, not, refl, ap, ◌∙◌}
 use Rattle.std.specs.Result.{is_ok}
 use Rattle.serde_json.specs.Written.{compact_text, comma_if}
 use Rattle.certificate.specs.Texts.{Takes, whole_number}
@@ -6,7 +6,9 @@ use Rattle.certificate.proofs.TakeLemmas.{Takes-both, IsTaken-none, IsTaken-more
 use Rattle.certificate.proofs.canonical.path.Goals as goal
 
 pub numbers-init : goal.numbers-init
-numbers-init c = rw c.new-numbers.ensures.items (IsTaken-none whole_number _ _ _ (Takes-both _ _ _ _ _ c.in_ok-after.ensures c.in_ok-rest.ensures))
+numbers-init c =
+    let none : c.in_ok-numbers.numbers.items ≡ [] = search rules in
+    rw none (IsTaken-none whole_number _ _ _ (Takes-both _ _ _ _ _ c.in_ok-after.ensures c.in_ok-rest.ensures))
 
 pub numbers-preserved : goal.numbers-preserved
 numbers-preserved c =
