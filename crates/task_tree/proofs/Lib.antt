@@ -1,0 +1,3 @@
+pub mod NumberingLemmas
+pub mod MakerLemmas
+pub mod ChildrenLemmas

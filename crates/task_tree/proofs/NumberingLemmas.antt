@@ -1,0 +1,44 @@
+-- How a numbering grows.
+use Rattle.std.proofs.Common.{◌≡◌, ◌≢◌, ◌∙◌, ℕ, List, [], ◌∷◌, ◌++◌, length, Option, Some, None, true, false, refl, sym, ap, subst, inl, inr}
+use Rattle.std.proofs.lemmas.Bool.{cases_eq, false≢true}
+use Rattle.std.proofs.lemmas.Option.{none-some, same_Some}
+use Rattle.std.specs.Prelude.{slice_get, is_some, Contains, ◌↔◌}
+use Rattle.std.specs.Ordering.{nat_cmp}
+use Rattle.std.specs.BTreeMap.{BTreeMap, get, Updates}
+use Rattle.ompt_events.proofs.ListLemmas.{get_pushed, get_last, pushed_cases, get_contains, contains_get}
+use Rattle.ompt_events.proofs.NumberMaps.{updated_here, updated_there}
+use Rattle.task_tree.specs.Numbering.{AreIndices, IsNoted}
+
+-- one more id stands under the next index
+pub indices_more : (ids : List ℕ) (old new : BTreeMap ℕ ℕ) (id : ℕ) → AreIndices ids old → (Contains ids id → ⊥) → Updates nat_cmp old new id (Some (length ids)) → AreIndices (ids ++ id ∷ []) new
+indices_more ids old new id are fresh updates other index = elim (cases_eq other id) [
+  | inl same ↦ (
+    λ found.
+        let last : length ids ≡ index = same_Some (length ids) index (sym here ∙ ap (get nat_cmp new) (sym same) ∙ found) in
+        get_last ids id index (sym last) ∙ ap Some (sym same),
+    λ stands. elim (pushed_cases ids id other index stands) [
+      | inl before ↦ absurd (fresh (let P : ℕ → Type 0 = Contains ids in subst P same (get_contains ids other index before)))
+      | inr last ↦ ap (get nat_cmp new) same ∙ here ∙ ap Some (sym last.0)
+    ],
+  )
+  | inr apart ↦ (
+    λ found. get_pushed ids id other index ((are other index).0 (sym (updated_there old new id (Some (length ids)) updates other apart) ∙ found)),
+    λ stands. elim (pushed_cases ids id other index stands) [
+      | inl before ↦ updated_there old new id (Some (length ids)) updates other apart ∙ (are other index).1 before
+      | inr last ↦ absurd (apart (sym last.1))
+    ],
+  )
+]
+  where
+    here : get nat_cmp new id ≡ Some (length ids)
+    here = updated_here old new id (Some (length ids)) updates
+
+-- an id that has an index was noted, and one that was noted has an index
+pub index_noted : (ids : List ℕ) (id : ℕ) (index : Option ℕ) → ((k : ℕ) → (index ≡ Some k) ↔ (slice_get ids k ≡ Some id)) → is_some index ≡ true → Contains ids id
+index_noted ids id None is found = absurd (false≢true found)
+index_noted ids id (Some k) is found = get_contains ids id k ((is k).0 refl)
+
+pub index_missing : (ids : List ℕ) (id : ℕ) (index : Option ℕ) → ((k : ℕ) → (index ≡ Some k) ↔ (slice_get ids k ≡ Some id)) → is_some index ≡ false → Contains ids id → ⊥
+index_missing ids id index is none noted =
+    let at = contains_get ids id noted in
+    false≢true (sym none ∙ ap is_some ((is at.0).1 at.1))

@@ -1,0 +1,13 @@
+//! The tree of tasks: which task created which, in which order, and the root below which each one stands.
+//!
+//! `Family` has parents, numbers, roots and children; `Tree` has the paths too. Read `family` and `tree` for
+//! what a caller sees, then `numbering`, `makers`, `children`, `roots` and `rootless`, the steps of a build.
+#![tactic(auto)]
+
+mod children;
+mod fault;
+mod makers;
+mod numbering;
+
+pub use fault::TreeFault;
+pub use numbering::Numbering;
