@@ -1,3 +1,4 @@
 pub mod NumberingLemmas
 pub mod MakerLemmas
 pub mod ChildrenLemmas
+pub mod RootLemmas

@@ -4,3 +4,4 @@ pub mod Numbering
 pub mod Makers
 pub mod Faults
 pub mod Children
+pub mod Roots

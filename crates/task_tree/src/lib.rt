@@ -8,6 +8,7 @@ mod children;
 mod fault;
 mod makers;
 mod numbering;
+mod roots;
 
 pub use fault::TreeFault;
 pub use numbering::Numbering;
