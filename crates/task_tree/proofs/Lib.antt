@@ -2,3 +2,4 @@ pub mod NumberingLemmas
 pub mod MakerLemmas
 pub mod ChildrenLemmas
 pub mod RootLemmas
+pub mod RootlessLemmas

@@ -1,8 +1,9 @@
 -- How a numbering grows.
-use Rattle.std.proofs.Common.{◌≡◌, ◌≢◌, ◌∙◌, ℕ, List, [], ◌∷◌, ◌++◌, length, Option, Some, None, true, false, refl, sym, ap, subst, inl, inr}
+use Rattle.std.proofs.Common.{◌≡◌, ◌≢◌, ◌∙◌, ℕ, List, [], ◌∷◌, ◌++◌, length, Option, Some, None, true, false, refl, sym, ap, subst, inl, inr, ◌⊎◌, ◌<◌, ◌+◌, zero, suc, arith}
 use Rattle.std.proofs.lemmas.Bool.{cases_eq, false≢true}
 use Rattle.std.proofs.lemmas.Option.{none-some, same_Some}
 use Rattle.std.specs.Prelude.{slice_get, is_some, Contains, ◌↔◌}
+use Rattle.std.proofs.lemmas.List.Elements.{Contains-append_right, Contains-append_cases}
 use Rattle.std.specs.Ordering.{nat_cmp}
 use Rattle.std.specs.BTreeMap.{BTreeMap, get, Updates}
 use Rattle.ompt_events.proofs.ListLemmas.{get_pushed, get_last, pushed_cases, get_contains, contains_get}
@@ -38,7 +39,23 @@ pub index_noted : (ids : List ℕ) (id : ℕ) (index : Option ℕ) → ((k : ℕ
 index_noted ids id None is found = absurd (false≢true found)
 index_noted ids id (Some k) is found = get_contains ids id k ((is k).0 refl)
 
-pub index_missing : (ids : List ℕ) (id : ℕ) (index : Option ℕ) → ((k : ℕ) → (index ≡ Some k) ↔ (slice_get ids k ≡ Some id)) → is_some index ≡ false → Contains ids id → ⊥
-index_missing ids id index is none noted =
-    let at = contains_get ids id noted in
-    false≢true (sym none ∙ ap is_some ((is at.0).1 at.1))
+pub noted_index : (ids : List ℕ) (id : ℕ) (index : Option ℕ) → ((k : ℕ) → (index ≡ Some k) ↔ (slice_get ids k ≡ Some id)) → Contains ids id → is_some index ≡ true
+noted_index ids id index is noted = let at = contains_get ids id noted in ap is_some ((is at.0).1 at.1)
+
+-- whether an id was noted
+pub contains_or_not : (ids : List ℕ) (id : ℕ) → Contains ids id ⊎ (Contains ids id → ⊥)
+contains_or_not [] id = inr (λ has. let low = has.1 in omega arith)
+contains_or_not (x ∷ xs) id = elim (cases_eq x id) [
+  | inl same ↦ inl (0, omega arith, same)
+  | inr apart ↦ elim (contains_or_not xs id) [
+    | inl later ↦ inl (Contains-append_right (x ∷ []) xs id later)
+    | inr none ↦ inr (λ has. elim (Contains-append_cases (x ∷ []) xs id has) [
+      | inl first ↦ apart (only first)
+      | inr later ↦ none later
+    ])
+  ]
+]
+  where
+    only : Contains (x ∷ []) id → x ≡ id
+    only (zero, below, is) = is
+    only (suc k, below, is) = absurd (omega arith)

@@ -5,3 +5,4 @@ pub mod Makers
 pub mod Faults
 pub mod Children
 pub mod Roots
+pub mod Rootless

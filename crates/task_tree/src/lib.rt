@@ -8,6 +8,7 @@ mod children;
 mod fault;
 mod makers;
 mod numbering;
+mod rootless;
 mod roots;
 
 pub use fault::TreeFault;

@@ -1,5 +1,5 @@
 //! A list of ids, each once, in which the place of an id is found without a walk.
-ghost use Rattle.std.specs.Prelude.{◌≡◌, ◌↔◌, ◌++◌, ◌∷◌, Some, [], ℕ, slice_get, Contains, IfOk, OnOk};
+ghost use Rattle.std.specs.Prelude.{◌≡◌, ◌↔◌, ◌++◌, ◌∷◌, Some, [], ℕ, slice_get, Contains, IsTrue, IfOk, OnOk};
 ghost use Rattle.task_tree.specs.Numbering.{IsNoted};
 
 use std::alloc::{AllocError, Global};
@@ -50,6 +50,13 @@ impl Numbering {
         self.indices.get(&id).copied()
     }
 
+    /// Whether the id was noted.
+    pub fn contains(&self, id: u64) -> bool
+        ensures { IsTrue result ↔ Contains self.now id }
+    {
+        self.index_of(id).is_some()
+    }
+
     /// Notes the id, if there is one, and answers whether it was noted before.
     pub(crate) fn note(&mut self, found: Option<u64>) -> Result<bool, AllocError>
         ensures { IfOk result (IsNoted self.old self.new found) }
@@ -57,7 +64,7 @@ impl Numbering {
         let Some(id) = found else {
             return Ok(false);
         };
-        if self.index_of(id).is_some() {
+        if self.contains(id) {
             return Ok(true);
         }
         self.add(id)?;

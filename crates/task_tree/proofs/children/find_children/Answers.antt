@@ -1,8 +1,7 @@
-use Rattle.std.proofs.Common.{◌≡◌, ◌<◌, ◌≤◌, ◌∙◌, ℕ, length, Some, None, refl, sym, ap, arith, rules, take}
+use Rattle.std.proofs.Common.{◌≡◌, ◌∙◌, length, sym, arith}
 use Rattle.ompt_events.specs.Records.{creation}
 use Rattle.ompt_events.specs.Places.{at}
 use Rattle.ompt_events.proofs.PlaceLemmas.{at_read}
-use Rattle.task_tree.specs.Children.{AreChildren, AreLinks}
 use Rattle.task_tree.proofs.ChildrenLemmas.{children_start, links_start, children_other, links_other, children_linked, links_linked, lists_short}
 use Rattle.task_tree.proofs.children.find_children.Goals as goal
 use Rattle.task_tree.proofs.children.find_children.Goals.{in-Some+in_ok-link_child, in_default}

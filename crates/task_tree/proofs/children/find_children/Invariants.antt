@@ -1,4 +1,3 @@
-use Rattle.std.proofs.Common.{◌<◌, ◌≤◌, length}
 use Rattle.task_tree.specs.Children.{AreChildren, AreLinks}
 use Rattle.task_tree.proofs.children.find_children.Given as goal
 

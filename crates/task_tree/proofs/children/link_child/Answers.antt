@@ -1,4 +1,4 @@
-use Rattle.std.proofs.Common.{◌≡◌, ◌<◌, ◌≤◌, ◌∙◌, length, Some, refl, sym, ap, arith, rules}
+use Rattle.std.proofs.Common.{refl, arith, rules}
 use Rattle.std.proofs.lemmas.Option.{slice_get_within}
 use Rattle.task_tree.proofs.ChildrenLemmas.{linked_both}
 use Rattle.task_tree.proofs.children.link_child.Goals as goal

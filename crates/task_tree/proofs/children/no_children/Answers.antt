@@ -1,5 +1,4 @@
-use Rattle.std.proofs.Common.{ℕ, ◌≡◌, ◌<◌, ◌≤◌, length, [], refl, sym, ap, ◌∙◌, arith}
-use Rattle.task_tree.specs.Children.{AreEmpty}
+use Rattle.std.proofs.Common.{length, ap, ◌∙◌, arith}
 use Rattle.task_tree.proofs.ChildrenLemmas.{empty_more}
 use Rattle.task_tree.proofs.children.no_children.Goals as goal
 

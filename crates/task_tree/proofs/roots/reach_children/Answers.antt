@@ -1,6 +1,6 @@
-use Rattle.std.proofs.Common.{◌≡◌, ◌<◌, ◌≤◌, ◌∙◌, ℕ, List, length, take, sym, ap, arith, rules}
+use Rattle.std.proofs.Common.{◌∙◌, take, arith}
 use Rattle.std.proofs.lemmas.List.{take_more, take_all}
-use Rattle.task_tree.specs.Roots.{Spreads, none, more}
+use Rattle.task_tree.specs.Roots.{none, more}
 use Rattle.task_tree.proofs.RootLemmas.{spreads_keeps}
 use Rattle.task_tree.proofs.roots.reach_children.Goals as goal
 

@@ -1,8 +1,7 @@
-use Rattle.std.proofs.Common.{◌≡◌, ◌<◌, ◌≤◌, ◌∙◌, ℕ, Some, None, length, sym, ap, arith, rules}
+use Rattle.std.proofs.Common.{◌≡◌, ◌∙◌, length, sym, arith}
 use Rattle.ompt_events.specs.Records.{begun_root}
 use Rattle.ompt_events.specs.Places.{at}
 use Rattle.ompt_events.proofs.PlaceLemmas.{at_read}
-use Rattle.task_tree.specs.Roots.{IsSeeded}
 use Rattle.task_tree.proofs.RootLemmas.{reach_start, seeded_other, seeded_more}
 use Rattle.task_tree.proofs.roots.reach_roots.Goals as goal
 use Rattle.task_tree.proofs.roots.reach_roots.Goals.{in-Some+in_ok-reach, in_default}
