@@ -3,3 +3,4 @@ pub mod MakerLemmas
 pub mod ChildrenLemmas
 pub mod RootLemmas
 pub mod RootlessLemmas
+pub mod FamilyLemmas

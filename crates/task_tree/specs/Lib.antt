@@ -6,3 +6,4 @@ pub mod Faults
 pub mod Children
 pub mod Roots
 pub mod Rootless
+pub mod Family

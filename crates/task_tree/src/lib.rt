@@ -5,11 +5,13 @@
 #![tactic(auto)]
 
 mod children;
+mod family;
 mod fault;
 mod makers;
 mod numbering;
 mod rootless;
 mod roots;
 
+pub use family::Family;
 pub use fault::TreeFault;
 pub use numbering::Numbering;

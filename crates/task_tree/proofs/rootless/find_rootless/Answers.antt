@@ -1,4 +1,4 @@
-use Rattle.std.proofs.Common.{◌≡◌, ◌<◌, ◌∙◌, ℕ, length, sym, arith, below_more, true, false}
+use Rattle.std.proofs.Common.{◌∙◌, sym, arith, below_more}
 use Rattle.std.proofs.lemmas.Bool.{false≢true}
 use Rattle.task_tree.proofs.RootlessLemmas.{rootless_here, here_rootless, first_rootless, free_of_rootless}
 use Rattle.task_tree.proofs.rootless.find_rootless.Goals as goal

@@ -1,4 +1,4 @@
-use Rattle.std.proofs.Common.{◌≡◌, ◌<◌, Some, length, sym, ap, arith, rules}
+use Rattle.std.proofs.Common.{◌<◌, length, arith, rules}
 use Rattle.std.proofs.lemmas.Option.{slice_get_within}
 use Rattle.task_tree.proofs.RootlessLemmas.{root_missing}
 use Rattle.task_tree.proofs.rootless.has_no_root.Goals as goal
