@@ -1,9 +1,9 @@
 -- How the lists of children and the links grow.
-use Rattle.std.proofs.Common.{◌≡◌, ◌≢◌, ◌∙◌, ℕ, zero, suc, ◌<◌, ◌≤◌, ◌+◌, ◌^◌, List, [], ◌∷◌, ◌++◌, length, Option, Some, None, Bool, true, false, cond, refl, sym, ap, subst, arith, inl, inr, ◌⊎◌, add-one, set, get_or}
-use Rattle.std.proofs.lemmas.Bool.{cases_eq, cases_lt, eq-eqb}
+use Rattle.std.proofs.Common.{◌≡◌, ◌≢◌, ◌∙◌, ℕ, ◌<◌, ◌≤◌, ◌+◌, ◌^◌, List, [], ◌∷◌, ◌++◌, length, Option, Some, None, refl, sym, ap, arith, inl, inr, set}
+use Rattle.std.proofs.lemmas.Bool.{cases_eq, cases_lt}
 use Rattle.std.proofs.lemmas.Option.{none-some, same_Some, slice_get_within, slice_get-get_or, slice_get_past}
 use Rattle.std.proofs.lemmas.List.{get_or-set_same, get_or-set_other, length-set, length-replicate, get_or-replicate, length_push}
-use Rattle.std.specs.Prelude.{◌↔◌, slice_get, option_and_then, option_map, replicate}
+use Rattle.std.specs.Prelude.{◌↔◌, slice_get, option_map, replicate}
 use Rattle.std.specs.Global.{Vec}
 use Rattle.task_tree.specs.declared.children.Link.{Link}
 use Rattle.ompt_events.specs.declared.records.Record.{Record}

@@ -1,5 +1,5 @@
 -- What the tables of a family say of the tree of tasks.
-use Rattle.std.proofs.Common.{◌≡◌, ◌∙◌, ℕ, zero, suc, ◌<◌, ◌≤◌, List, [], ◌∷◌, ◌++◌, length, get_or, Option, Some, None, refl, sym, ap, subst, arith, inl, inr, ◌⊎◌}
+use Rattle.std.proofs.Common.{◌≡◌, ◌∙◌, ℕ, zero, suc, ◌<◌, List, [], ◌∷◌, ◌++◌, length, get_or, Option, Some, None, refl, sym, ap, subst, arith, inl, inr}
 use Rattle.std.proofs.lemmas.Bool.{cases_order}
 use Rattle.std.proofs.lemmas.Option.{none-some, same_Some, slice_get_within, slice_get-get_or, slice_get_read}
 use Rattle.std.specs.Prelude.{◌↔◌, slice_get, Contains, option_map, option_and_then}
@@ -9,17 +9,18 @@ use Rattle.ompt_events.specs.declared.records.Body.TheVariants.{TaskCreate}
 use Rattle.ompt_events.specs.declared.cause.Cause.TheVariants.{CreatedTwice, Rootless}
 use Rattle.ompt_events.specs.Records.{made, begun_root, created, creation, named}
 use Rattle.ompt_events.specs.Places.{at}
-use Rattle.ompt_events.specs.Tree.{IsRooted, IsParent, IsChild, HasPath, top, below, children, child_number}
+use Rattle.ompt_events.specs.Tree.{IsParent, IsChild, HasPath, top, below, children, child_number}
 use Rattle.ompt_events.specs.Causes.{created_twice, unmade, rootless, IsFirstWith, IsFreeOf, IsMalformed}
 use Rattle.ompt_events.specs.CauseNames.{cause_number}
 use Rattle.ompt_events.specs.declared.cause.Cause.{Cause}
 use Rattle.ompt_events.proofs.PlaceLemmas.{at_within}
 use Rattle.ompt_events.proofs.RecordLemmas.{begun_at_made, created_at_made, creation_at_created, root_or_created}
-use Rattle.ompt_events.proofs.ListLemmas.{contains_get, get_contains}
+use Rattle.ompt_events.proofs.ListLemmas.{contains_get}
 use Rattle.ompt_events.proofs.TreeLemmas.{child_place, before_child}
 use Rattle.task_tree.specs.declared.children.Link.{Link}
 use Rattle.task_tree.specs.Makers.{AreNoted}
-use Rattle.task_tree.specs.Family.{FamilyView, IsFamilyOf, IsLinkOf, IsRootOf}
+use Rattle.task_tree.specs.Family.{FamilyView, IsFamilyOf, IsLinkOf, IsStandingOf}
+use Rattle.task_tree.specs.declared.roots.Standing.{Standing}
 use Rattle.task_tree.proofs.NumberingLemmas.{contains_or_not}
 use Rattle.task_tree.proofs.RootLemmas.{rooted_made}
 use Rattle.task_tree.proofs.RootlessLemmas.{path_rooted}
@@ -142,20 +143,33 @@ path_noted rs tasks root task path noted stands =
     let maker = rooted_made rs task (path_rooted rs root task path stands) in
     noted.each maker.0 task (at_within made rs maker.0 task maker.1) maker.1
 
-pub root_is : (rs : List Record) (family : FamilyView) (task : ℕ) (found : Option ℕ) → IsFamilyOf rs family → ((root : ℕ) → (found ≡ Some root) ↔ IsRootOf family task root) → (root : ℕ) → (found ≡ Some root) ↔ ((path : List ℕ) × HasPath rs root task path)
-root_is rs family task found are is root = (
-  λ says. let stands = (is root).0 says in are.roots.rooted stands.0 task root stands.1 stands.2,
-  λ stands.
-      let index = contains_get family.tasks task (path_noted rs family.tasks root task stands.0 are.noted stands.1) in
-      let within = slice_get_within family.tasks index.0 task index.1 in
-      from index.0 index.1 stands.0 stands.1 (get_or family.roots index.0 None) (slice_get-get_or family.roots index.0 None (omega (arith, within, are.roots.all))),
-)
+-- where a task stands is one place
+pub standing_is : (rs : List Record) (family : FamilyView) (task : ℕ) (found : Option Standing) → IsFamilyOf rs family → ((standing : Standing) → (found ≡ Some standing) ↔ IsStandingOf family task standing) → (root : ℕ) (path : List ℕ) → HasPath rs root task path → (standing : Standing) × (found ≡ Some standing) × (standing.root ≡ root) × (standing.depth ≡ length path)
+standing_is rs family task found are is root path stands =
+    let index = contains_get family.tasks task (path_noted rs family.tasks root task path are.noted stands) in
+    let within = slice_get_within family.tasks index.0 task index.1 in
+    from index.0 index.1 (get_or family.roots index.0 None) (slice_get-get_or family.roots index.0 None (omega (arith, within, are.roots.all)))
   where
-    from : (index : ℕ) → slice_get family.tasks index ≡ Some task → (path : List ℕ) → HasPath rs root task path → (o : Option ℕ) → slice_get family.roots index ≡ Some o → found ≡ Some root
-    from index is_task path stands None e = absurd (are.roots.unrooted index task is_task e (path_rooted rs root task path stands))
-    from index is_task path stands (Some other) e =
-        let known = are.roots.rooted index task other is_task e in
-        (is other).1 (index, is_task, e) ∙ ap Some (one_path rs other root task known.0 path are.once known.1 stands).0
+    from : (index : ℕ) → slice_get family.tasks index ≡ Some task → (o : Option Standing) → slice_get family.roots index ≡ Some o → (standing : Standing) × (found ≡ Some standing) × (standing.root ≡ root) × (standing.depth ≡ length path)
+    from index is_task None e = absurd (are.roots.unrooted index task is_task e (path_rooted rs root task path stands))
+    from index is_task (Some standing) e =
+        let known = are.roots.rooted index task standing is_task e in
+        let same = one_path rs standing.root root task known.0 path are.once known.1 stands in
+        (standing, (is standing).1 (index, is_task, e), same.0, sym known.2 ∙ ap length same.1)
+
+pub root_is : (rs : List Record) (family : FamilyView) (task : ℕ) (found : Option Standing) → IsFamilyOf rs family → ((standing : Standing) → (found ≡ Some standing) ↔ IsStandingOf family task standing) → (root : ℕ) → (option_map (λ (s : Standing). s.root) found ≡ Some root) ↔ ((path : List ℕ) × HasPath rs root task path)
+root_is rs family task found are is root = (to found refl, from)
+  where
+    to : (o : Option Standing) → found ≡ o → option_map (λ (s : Standing). s.root) o ≡ Some root → (path : List ℕ) × HasPath rs root task path
+    to None e says = absurd (none-some root says)
+    to (Some standing) e says =
+        let known = (is standing).0 e in
+        let stands = are.roots.rooted known.0 task standing known.1 known.2 in
+        let P : ℕ → Type 0 = λ r. HasPath rs r task stands.0 in
+        (stands.0, subst P (same_Some standing.root root says) stands.1)
+
+    from : (path : List ℕ) × HasPath rs root task path → option_map (λ (s : Standing). s.root) found ≡ Some root
+    from (path, stands) = let standing = standing_is rs family task found are is root path stands in ap (option_map (λ (s : Standing). s.root)) standing.1 ∙ ap Some standing.2
 
 -- a task that is not noted has no children
 pub no_children : (rs : List Record) (family : FamilyView) (task : ℕ) → IsFamilyOf rs family → (Contains family.tasks task → ⊥) → children rs task ≡ []

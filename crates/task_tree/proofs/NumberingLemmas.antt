@@ -1,14 +1,14 @@
 -- How a numbering grows.
-use Rattle.std.proofs.Common.{◌≡◌, ◌≢◌, ◌∙◌, ℕ, List, [], ◌∷◌, ◌++◌, length, Option, Some, None, true, false, refl, sym, ap, subst, inl, inr, ◌⊎◌, ◌<◌, ◌+◌, zero, suc, arith}
+use Rattle.std.proofs.Common.{◌≡◌, ◌∙◌, ℕ, List, [], ◌∷◌, ◌++◌, length, Option, Some, None, true, refl, sym, ap, subst, inl, inr, ◌⊎◌, zero, suc, arith}
 use Rattle.std.proofs.lemmas.Bool.{cases_eq, false≢true}
-use Rattle.std.proofs.lemmas.Option.{none-some, same_Some}
+use Rattle.std.proofs.lemmas.Option.{same_Some}
 use Rattle.std.specs.Prelude.{slice_get, is_some, Contains, ◌↔◌}
 use Rattle.std.proofs.lemmas.List.Elements.{Contains-append_right, Contains-append_cases}
 use Rattle.std.specs.Ordering.{nat_cmp}
 use Rattle.std.specs.BTreeMap.{BTreeMap, get, Updates}
 use Rattle.ompt_events.proofs.ListLemmas.{get_pushed, get_last, pushed_cases, get_contains, contains_get}
 use Rattle.ompt_events.proofs.NumberMaps.{updated_here, updated_there}
-use Rattle.task_tree.specs.Numbering.{AreIndices, IsNoted}
+use Rattle.task_tree.specs.Numbering.{AreIndices}
 
 -- one more id stands under the next index
 pub indices_more : (ids : List ℕ) (old new : BTreeMap ℕ ℕ) (id : ℕ) → AreIndices ids old → (Contains ids id → ⊥) → Updates nat_cmp old new id (Some (length ids)) → AreIndices (ids ++ id ∷ []) new

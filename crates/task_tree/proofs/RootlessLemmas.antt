@@ -1,22 +1,22 @@
 -- Which records speak of a task without a root.
-use Rattle.std.proofs.Common.{◌≡◌, ◌∙◌, ℕ, ◌<◌, ◌≤◌, ◌+◌, List, length, get_or, Option, Some, None, refl, sym, ap, subst, arith, inl, inr, ◌⊎◌, Bool, true, false}
+use Rattle.std.proofs.Common.{◌≡◌, ◌∙◌, ℕ, ◌<◌, ◌≤◌, List, length, get_or, Option, Some, None, refl, sym, ap, subst, arith, inl, inr, Bool, true, false}
 use Rattle.std.proofs.lemmas.Option.{none-some, same_Some, slice_get_within, slice_get-get_or}
 use Rattle.std.proofs.lemmas.Bool.{false≢true}
 use Rattle.std.specs.Prelude.{◌↔◌, is_some, not, slice_get, Contains, IsSomeAnd}
 use Rattle.ompt_events.specs.declared.records.Record.{Record}
-use Rattle.ompt_events.specs.declared.records.Body.{Body}
 use Rattle.ompt_events.specs.declared.cause.Cause.TheVariants.{Rootless}
 use Rattle.ompt_events.specs.Records.{made, named, created, region_named}
 use Rattle.ompt_events.specs.Places.{at}
 use Rattle.ompt_events.specs.Tree.{IsRooted, root as root_rooted, child as child_rooted, HasPath, top, below}
-use Rattle.ompt_events.specs.Causes.{IsNamedAt, IsMade, IsForked, HasNoRoot, unmade, unrooted, no_region, HasCause, rootless, IsFirstWith, IsFreeOf}
+use Rattle.ompt_events.specs.Causes.{IsMade, IsForked, HasNoRoot, unmade, unrooted, no_region, HasCause, rootless, IsFirstWith, IsFreeOf}
 use Rattle.ompt_events.proofs.PlaceLemmas.{none_from_test, read_get, at_read, at_within}
 use Rattle.ompt_events.proofs.RecordLemmas.{created_at_made}
 use Rattle.ompt_events.proofs.TreeLemmas.{child_place}
-use Rattle.ompt_events.proofs.ListLemmas.{contains_get, get_contains}
+use Rattle.ompt_events.proofs.ListLemmas.{contains_get}
 use Rattle.task_tree.specs.Makers.{AreNoted, forked_region}
+use Rattle.task_tree.specs.declared.roots.Standing.{Standing}
 use Rattle.task_tree.specs.Roots.{AreRoots}
-use Rattle.task_tree.specs.Rootless.{NamesUnmade, CreatesUnrooted, NamesNoRegion, IsRootless}
+use Rattle.task_tree.specs.Rootless.{IsRootless}
 use Rattle.task_tree.proofs.MakerLemmas.{forked_at, region_at}
 
 -- a task that stands below a root is rooted
@@ -53,7 +53,7 @@ and_some None P x e h = absurd (none-some x e)
 and_some (Some y) P x e h = let Q = P in subst Q (sym (same_Some y x e)) h
 
 -- what a test of the record finds is that its place has the cause
-pub rootless_here : (rs : List Record) (tasks regions : List ℕ) (roots : List (Option ℕ)) (i : ℕ) (r : Record) → AreNoted made rs (length rs) tasks → AreNoted forked_region rs (length rs) regions → AreRoots rs tasks roots → i < length rs → r ≡ get_or rs i r → IsRootless tasks regions roots r.body → HasNoRoot rs i
+pub rootless_here : (rs : List Record) (tasks regions : List ℕ) (roots : List (Option Standing)) (i : ℕ) (r : Record) → AreNoted made rs (length rs) tasks → AreNoted forked_region rs (length rs) regions → AreRoots rs tasks roots → i < length rs → r ≡ get_or rs i r → IsRootless tasks regions roots r.body → HasNoRoot rs i
 rootless_here rs tasks regions roots i r noted begun are within read (inl (k, task, low, is, fresh)) =
     unmade task (r, read_get rs i r within read, (k, low, is)) (λ is_made. fresh (made_noted rs tasks task noted is_made))
 rootless_here rs tasks regions roots i r noted begun are within read (inr (inl h)) =
@@ -66,7 +66,7 @@ rootless_here rs tasks regions roots i r noted begun are within read (inr (inr h
     no_region found.0 (at_read region_named rs i r within read ∙ found.1) (λ forks. found.2 (forked_noted rs regions found.0 begun forks))
 
 -- and back
-pub here_rootless : (rs : List Record) (tasks regions : List ℕ) (roots : List (Option ℕ)) (i : ℕ) (r : Record) → AreNoted made rs (length rs) tasks → AreNoted forked_region rs (length rs) regions → AreRoots rs tasks roots → i < length rs → r ≡ get_or rs i r → HasNoRoot rs i → IsRootless tasks regions roots r.body
+pub here_rootless : (rs : List Record) (tasks regions : List ℕ) (roots : List (Option Standing)) (i : ℕ) (r : Record) → AreNoted made rs (length rs) tasks → AreNoted forked_region rs (length rs) regions → AreRoots rs tasks roots → i < length rs → r ≡ get_or rs i r → HasNoRoot rs i → IsRootless tasks regions roots r.body
 here_rootless rs tasks regions roots i r noted begun are within read (unmade task (other, stands, has) fresh) =
     let same : other ≡ r = same_Some other r (sym stands ∙ read_get rs i r within read) in
     let P : Record → Type 0 = λ q. Contains (named q.body) task in
@@ -78,9 +78,9 @@ here_rootless rs tasks regions roots i r noted begun are within read (unrooted t
     no_root : (t : ℕ) → (IsRooted rs t → ⊥) → (index : ℕ) → slice_get tasks index ≡ Some t → slice_get roots index ≡ Some None
     no_root t never index is = of (get_or roots index None) (slice_get-get_or roots index None (let inside = slice_get_within tasks index t is in omega (arith, inside, are.all)))
       where
-        of : (o : Option ℕ) → slice_get roots index ≡ Some o → slice_get roots index ≡ Some None
+        of : (o : Option Standing) → slice_get roots index ≡ Some o → slice_get roots index ≡ Some None
         of None e = e
-        of (Some root) e = absurd (never (path_rooted rs root t (are.rooted index t root is e).0 (are.rooted index t root is e).1))
+        of (Some standing) e = let stands = are.rooted index t standing is e in absurd (never (path_rooted rs standing.root t stands.0 stands.1))
 here_rootless rs tasks regions roots i r noted begun are within read (no_region region names none) =
     inr (inr (and_some (region_named r.body) (λ g. Contains regions g → ⊥) region (sym (at_read region_named rs i r within read) ∙ names) (λ has. none (noted_forked rs regions region begun has))))
 
@@ -106,7 +106,7 @@ free_of_rootless rs n none all i has =
     none i (let inside = rootless_within rs i here in omega arith) here
 
 -- what the test of a task's root says
-pub root_missing : (tasks : List ℕ) (roots : List (Option ℕ)) (task found : ℕ) (b : Bool) → ((k : ℕ) → (Some found ≡ Some k) ↔ (slice_get tasks k ≡ Some task)) → found < length roots → is_some (get_or roots found None) ≡ not b → (b ≡ true) ↔ ((index : ℕ) → slice_get tasks index ≡ Some task → slice_get roots index ≡ Some None)
+pub root_missing : (tasks : List ℕ) (roots : List (Option Standing)) (task found : ℕ) (b : Bool) → ((k : ℕ) → (Some found ≡ Some k) ↔ (slice_get tasks k ≡ Some task)) → found < length roots → is_some (get_or roots found None) ≡ not b → (b ≡ true) ↔ ((index : ℕ) → slice_get tasks index ≡ Some task → slice_get roots index ≡ Some None)
 root_missing tasks roots task found true is within none = (
   λ yes index is_task. ap (slice_get roots) (sym (same_Some found index ((is index).1 is_task))) ∙ slice_get-get_or roots found None within ∙ ap Some (none_from_test (get_or roots found None) none),
   λ missing. refl,

@@ -6,6 +6,7 @@ use Rattle.ompt_events.specs.declared.cause.Cause.TheVariants.{CreatedTwice, Roo
 use Rattle.ompt_events.specs.Records.{made}
 use Rattle.ompt_events.specs.Causes.{IsFreeOf}
 use Rattle.task_tree.specs.declared.children.Link.{Link}
+use Rattle.task_tree.specs.declared.roots.Standing.{Standing}
 use Rattle.task_tree.specs.Makers.{AreNoted}
 use Rattle.task_tree.specs.Children.{AreChildren, AreLinks}
 use Rattle.task_tree.specs.Roots.{AreRoots}
@@ -16,10 +17,10 @@ pub record FamilyView : Type 0 where
   pub tasks : List ℕ
   pub lists : List (Vec ℕ)
   pub links : List (Option Link)
-  pub roots : List (Option ℕ)
+  pub roots : List (Option Standing)
 
 -- there is one entry for each task
-abbrev pub AreAligned : List ℕ → List (Vec ℕ) → List (Option Link) → List (Option ℕ) → Type 0
+abbrev pub AreAligned : List ℕ → List (Vec ℕ) → List (Option Link) → List (Option Standing) → Type 0
 AreAligned tasks lists links roots =
     (length lists ≡ length tasks) × (length links ≡ length tasks) × (length roots ≡ length tasks)
 
@@ -37,6 +38,6 @@ abbrev pub IsLinkOf : FamilyView → ℕ → Link → Type 0
 IsLinkOf family task link =
     (index : ℕ) × (slice_get family.tasks index ≡ Some task) × (slice_get family.links index ≡ Some (Some link))
 
-abbrev pub IsRootOf : FamilyView → ℕ → ℕ → Type 0
-IsRootOf family task root =
-    (index : ℕ) × (slice_get family.tasks index ≡ Some task) × (slice_get family.roots index ≡ Some (Some root))
+abbrev pub IsStandingOf : FamilyView → ℕ → Standing → Type 0
+IsStandingOf family task standing =
+    (index : ℕ) × (slice_get family.tasks index ≡ Some task) × (slice_get family.roots index ≡ Some (Some standing))

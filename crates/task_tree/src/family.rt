@@ -2,7 +2,7 @@
 ghost use Rattle.std.specs.Prelude.{ℕ, ◌≡◌, ◌↔◌, List, Some, IfOk, IfErr};
 ghost use Rattle.ompt_events.specs.declared.records.Record.{Record};
 ghost use Rattle.ompt_events.specs.Tree.{IsParent, IsChild, HasPath, children};
-ghost use Rattle.task_tree.specs.Family.{IsFamilyOf, IsLinkOf, IsRootOf};
+ghost use Rattle.task_tree.specs.Family.{IsFamilyOf, IsLinkOf, IsStandingOf};
 ghost use Rattle.task_tree.specs.Faults.{IsTreeFault};
 
 use crate::children::{Children, Link, find_children};
@@ -10,7 +10,7 @@ use crate::fault::TreeFault;
 use crate::makers::{Made, find_made};
 use crate::numbering::Numbering;
 use crate::rootless::find_rootless;
-use crate::roots::find_roots;
+use crate::roots::{Standing, find_roots};
 use ompt_events::{Cause, Record, Trace};
 use std::alloc::Global;
 use std::marker::Model;
@@ -22,7 +22,7 @@ pub struct Family {
     tasks: Numbering,
     lists: Vec<Vec<u64>>,
     links: Vec<Option<Link>>,
-    roots: Vec<Option<u64>>,
+    roots: Vec<Option<Standing>>,
 }
 
 impl Model for Family {
@@ -90,7 +90,7 @@ impl Family {
         ensures { (records : List Record) → IsFamilyOf records self.now → (root : ℕ)
             → (result ≡ Some root) ↔ ((path : List ℕ) × HasPath records root task path) }
     {
-        self.root_of(task)
+        self.standing_of(task).map(|standing| standing.root)
     }
 
     /// The children of the task in the order of their numbers; empty where no record makes the task.
@@ -110,9 +110,9 @@ impl Family {
         self.links[self.tasks.index_of(task)?]
     }
 
-    /// What is known of the task's root.
-    fn root_of(&self, task: u64) -> Option<u64>
-        ensures { (root : ℕ) → (result ≡ Some root) ↔ IsRootOf self.now task root }
+    /// Where the task stands.
+    fn standing_of(&self, task: u64) -> Option<Standing>
+        ensures { (standing : Standing) → (result ≡ Some standing) ↔ IsStandingOf self.now task standing }
     {
         self.roots[self.tasks.index_of(task)?]
     }

@@ -9,6 +9,7 @@ ghost use Rattle.task_tree.specs.Roots.{AreRoots};
 ghost use Rattle.task_tree.specs.Rootless.{NamesUnmade, CreatesUnrooted, NamesNoRegion, IsRootless};
 
 use crate::numbering::Numbering;
+use crate::roots::Standing;
 use ompt_events::{Body, Record};
 
 /// The first record that names a task which no record makes, creates one whose chain of parents reaches no
@@ -17,7 +18,7 @@ pub(crate) fn find_rootless(
     records: &[Record],
     tasks: &Numbering,
     regions: &Numbering,
-    roots: &[Option<u64>],
+    roots: &[Option<Standing>],
 ) -> Option<usize>
     requires tasks { AreNoted made records.now (length records.now) tasks.now }
     requires regions { AreNoted forked_region records.now (length records.now) regions.now }
@@ -33,7 +34,12 @@ pub(crate) fn find_rootless(
 }
 
 /// Whether the record is one of these.
-fn is_rootless(body: &Body, tasks: &Numbering, regions: &Numbering, roots: &[Option<u64>]) -> bool
+fn is_rootless(
+    body: &Body,
+    tasks: &Numbering,
+    regions: &Numbering,
+    roots: &[Option<Standing>],
+) -> bool
     requires { length roots.now ≡ length tasks.now }
     ensures { IsTrue result ↔ IsRootless tasks.now regions.now roots.now body.now }
 {
@@ -56,7 +62,7 @@ fn names_unmade(body: &Body, tasks: &Numbering) -> bool
 }
 
 /// Whether the record creates a task without a root.
-fn creates_unrooted(body: &Body, tasks: &Numbering, roots: &[Option<u64>]) -> bool
+fn creates_unrooted(body: &Body, tasks: &Numbering, roots: &[Option<Standing>]) -> bool
     requires { length roots.now ≡ length tasks.now }
     ensures { IsTrue result ↔ CreatesUnrooted tasks.now roots.now body.now }
 {
@@ -67,7 +73,7 @@ fn creates_unrooted(body: &Body, tasks: &Numbering, roots: &[Option<u64>]) -> bo
 }
 
 /// Whether no root of the task is known.
-fn has_no_root(task: u64, tasks: &Numbering, roots: &[Option<u64>]) -> bool
+fn has_no_root(task: u64, tasks: &Numbering, roots: &[Option<Standing>]) -> bool
     requires { length roots.now ≡ length tasks.now }
     ensures { IsTrue result ↔ ((index : ℕ) → slice_get tasks.now index ≡ Some task
         → slice_get roots.now index ≡ Some None) }

@@ -1,7 +1,7 @@
 use Rattle.std.proofs.Common.{◌≡◌, ◌<◌, ◌≤◌, ◌∙◌, Some, length, arith, rules, refl}
 use Rattle.std.specs.Prelude.{slice_get}
 use Rattle.std.proofs.lemmas.Option.{slice_get_within, slice_get_read}
-use Rattle.task_tree.proofs.RootLemmas.{task_reached, list_read, turned, spreads_keeps, roots_found}
+use Rattle.task_tree.proofs.RootLemmas.{below_it, below_it, task_reached, list_read, turned, spreads_keeps, roots_found}
 use Rattle.task_tree.proofs.roots.find_roots.Goals as goal
 
 pub offset_bounds-lists-task : goal.offset_bounds-lists-task
@@ -24,7 +24,7 @@ bounds-lists-task c =
 pub reached-smaller : goal.reached-smaller
 reached-smaller c =
     let within : c.reached.next < length c.reached.order.items = search rules in
-    let keeps = spreads_keeps c.args.tasks.now c.index-task.result.now.root c.reached.roots.items c.reached.order.items c.deref.result.now c.reach_children.new.roots.items c.reach_children.new.order.items c.in_ok-reach_children.ensures in
+    let keeps = spreads_keeps c.args.tasks.now (below_it c.index-task.result.now.standing) c.reached.roots.items c.reached.order.items c.deref.result.now c.reach_children.new.roots.items c.reach_children.new.order.items c.in_ok-reach_children.ensures in
     let total = keeps.total in
     omega (arith, within, total)
 

@@ -3,6 +3,7 @@ use Rattle.std.specs.Prelude.{Contains, slice_get}
 use Rattle.ompt_events.specs.Tree.{children}
 use Rattle.task_tree.specs.Roots.{missing, IsSeeded}
 use Rattle.task_tree.specs.declared.roots.Reached.{Reached}
+use Rattle.task_tree.specs.declared.roots.Standing.{Standing}
 use Rattle.task_tree.proofs.roots.find_roots.Given as goal
 
 -- what was reached so far, and the children of the first `next` of it
@@ -12,7 +13,7 @@ invariant-reached l = record {
   next : l.next ≤ length l.order.items;
   closed : (k task child index : ℕ) (entry : Reached) → k < l.next → slice_get l.order.items k ≡ Some entry → slice_get l.tasks entry.index ≡ Some task
       → Contains (children l.records task) child → slice_get l.tasks index ≡ Some child
-      → (root : ℕ) × (slice_get l.roots.items index ≡ Some (Some root));
+      → (standing : Standing) × (slice_get l.roots.items index ≡ Some (Some standing));
 }
 
 -- each turn reaches tasks that had no root, and passes one that has

@@ -1,4 +1,3 @@
-use Rattle.std.proofs.Common.{sym}
 use Rattle.task_tree.proofs.FamilyLemmas.{rootless_fault}
 use Rattle.task_tree.proofs.family.Family.build.Goals as goal
 

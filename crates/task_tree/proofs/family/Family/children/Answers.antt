@@ -1,4 +1,4 @@
-use Rattle.std.proofs.Common.{◌≡◌, ◌<◌, ◌∙◌, length, Some, None, sym, ap, arith, rules}
+use Rattle.std.proofs.Common.{◌<◌, ◌∙◌, length, sym, arith, rules}
 use Rattle.std.proofs.lemmas.Option.{slice_get_within, none-some}
 use Rattle.ompt_events.proofs.ListLemmas.{contains_get}
 use Rattle.task_tree.proofs.RootLemmas.{list_read}

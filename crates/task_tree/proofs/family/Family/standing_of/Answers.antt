@@ -1,7 +1,7 @@
-use Rattle.std.proofs.Common.{◌≡◌, ◌<◌, ◌∙◌, length, sym, arith, rules}
+use Rattle.std.proofs.Common.{◌<◌, length, arith, rules}
 use Rattle.std.proofs.lemmas.Option.{slice_get_within}
 use Rattle.task_tree.proofs.FamilyLemmas.{table_read}
-use Rattle.task_tree.proofs.family.Family.root_of.Goals as goal
+use Rattle.task_tree.proofs.family.Family.standing_of.Goals as goal
 
 pub index-requires : goal.index-requires
 index-requires c =
