@@ -97,7 +97,7 @@ parent_noted rs tasks i parent task noted free creates = elim (contains_or_not t
 -- ---- the look-ups
 
 -- the link of a created task
-link_found : (rs : List Record) (family : FamilyView) (i parent task : ℕ) → IsFamilyOf rs family → at creation rs i ≡ Some (parent, task) → (link : Link) × IsLinkOf family task link × (link.parent ≡ parent)
+pub link_found : (rs : List Record) (family : FamilyView) (i parent task : ℕ) → IsFamilyOf rs family → at creation rs i ≡ Some (parent, task) → (link : Link) × IsLinkOf family task link × (link.parent ≡ parent)
 link_found rs family i parent task are creates =
     let within = at_within creation rs i (parent, task) creates in
     let index = contains_get family.tasks task (are.noted.each i task within (creation_made rs parent task i creates)) in
@@ -106,7 +106,7 @@ link_found rs family i parent task are creates =
     (found.0, (index.0, index.1, found.1), found.2)
 
 -- a link is that of a child
-link_child : (rs : List Record) (family : FamilyView) (task : ℕ) (link : Link) → IsFamilyOf rs family → IsLinkOf family task link → IsChild rs link.parent link.number task
+pub link_child : (rs : List Record) (family : FamilyView) (task : ℕ) (link : Link) → IsFamilyOf rs family → IsLinkOf family task link → IsChild rs link.parent link.number task
 link_child rs family task link are (index, is, stands) = are.links.only index task link is stands
 
 pub parent_is : (rs : List Record) (family : FamilyView) (task : ℕ) (found : Option Link) → IsFamilyOf rs family → ((link : Link) → (found ≡ Some link) ↔ IsLinkOf family task link) → (parent : ℕ) → (option_map (λ (l : Link). l.parent) found ≡ Some parent) ↔ IsParent rs parent task

@@ -4,3 +4,4 @@ pub mod ChildrenLemmas
 pub mod RootLemmas
 pub mod RootlessLemmas
 pub mod FamilyLemmas
+pub mod PathLemmas

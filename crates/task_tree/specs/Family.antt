@@ -36,8 +36,10 @@ pub record IsFamilyOf (rs : List Record) (family : FamilyView) : Type 0 where
 -- what the tables say of a task
 abbrev pub IsLinkOf : FamilyView → ℕ → Link → Type 0
 IsLinkOf family task link =
-    (index : ℕ) × (slice_get family.tasks index ≡ Some task) × (slice_get family.links index ≡ Some (Some link))
+    (index : ℕ) × (slice_get family.tasks index ≡ Some task)
+    × (slice_get family.links index ≡ Some (Some link))
 
 abbrev pub IsStandingOf : FamilyView → ℕ → Standing → Type 0
 IsStandingOf family task standing =
-    (index : ℕ) × (slice_get family.tasks index ≡ Some task) × (slice_get family.roots index ≡ Some (Some standing))
+    (index : ℕ) × (slice_get family.tasks index ≡ Some task)
+    × (slice_get family.roots index ≡ Some (Some standing))

@@ -1,9 +1,10 @@
--- What the steps of building a tree know. What a tree is, is defined in `ompt_events` (Tree); read Family first,
--- which says when a family is that of the records.
+-- When a family or a tree is that of the records, and what the steps of building one know. What a tree of tasks
+-- is, is defined in `ompt_events` (Tree). Read Family and Paths first, then the steps in their order.
+pub mod Family
+pub mod Paths
+pub mod Fault
 pub mod Numbering
 pub mod Makers
-pub mod Faults
 pub mod Children
 pub mod Roots
 pub mod Rootless
-pub mod Family

@@ -5,7 +5,8 @@ use Rattle.std.specs.BTreeMap.{BTreeMap, get}
 
 -- each id stands under its index, and nothing else does
 abbrev pub AreIndices : List ℕ → BTreeMap ℕ ℕ → Type 0
-AreIndices ids indices = (id index : ℕ) → (get nat_cmp indices id ≡ Some index) ↔ (slice_get ids index ≡ Some id)
+AreIndices ids indices =
+    (id index : ℕ) → (get nat_cmp indices id ≡ Some index) ↔ (slice_get ids index ≡ Some id)
 
 -- the new list has the id that was found, if one was; and whether the old one had it
 abbrev pub IsNoted : List ℕ → List ℕ → Option ℕ → Bool → Type 0

@@ -12,11 +12,13 @@ NamesUnmade tasks body = Any (λ task. Contains tasks task → ⊥) (named body)
 -- a task is created of which no root is known
 abbrev pub CreatesUnrooted : List ℕ → List (Option Standing) → Body → Type 0
 CreatesUnrooted tasks roots body =
-    IsSomeAnd (created body) (λ task. (index : ℕ) → slice_get tasks index ≡ Some task → slice_get roots index ≡ Some None)
+    IsSomeAnd (created body) (λ task. (index : ℕ) → slice_get tasks index ≡ Some task
+    → slice_get roots index ≡ Some None)
 
 -- a region is named that was not noted as begun
 abbrev pub NamesNoRegion : List ℕ → Body → Type 0
 NamesNoRegion regions body = IsSomeAnd (region_named body) (λ region. Contains regions region → ⊥)
 
 abbrev pub IsRootless : List ℕ → List ℕ → List (Option Standing) → Body → Type 0
-IsRootless tasks regions roots body = NamesUnmade tasks body ⊎ (CreatesUnrooted tasks roots body ⊎ NamesNoRegion regions body)
+IsRootless tasks regions roots body =
+    NamesUnmade tasks body ⊎ (CreatesUnrooted tasks roots body ⊎ NamesNoRegion regions body)

@@ -33,8 +33,10 @@ pub(crate) fn find_children(
     requires noted { AreNoted made records.now (length records.now) tasks.now }
     requires once { IsFreeOf records.now CreatedTwice }
     requires few { length records.now ≤ 2 ^ 22 }
-    ensures lists { IfOk result (λ found. AreChildren records.now (length records.now) tasks.now found.lists.items) }
-    ensures links { IfOk result (λ found. AreLinks records.now (length records.now) tasks.now found.links.items) }
+    ensures lists { IfOk result (λ found. AreChildren records.now
+        (length records.now) tasks.now found.lists.items) }
+    ensures links { IfOk result (λ found. AreLinks records.now
+        (length records.now) tasks.now found.links.items) }
 {
     let mut lists = no_children(alloc, tasks.as_slice().len())?;
     let mut links = no_links(alloc, tasks.as_slice().len())?;
@@ -57,7 +59,8 @@ fn link_child(
     requires lists { length lists.old.items ≡ length tasks.now }
     requires links { length links.old.items ≡ length tasks.now }
     requires few { (up : ℕ) → slice_get tasks.now up ≡ Some parent → IsShort lists.old.items up }
-    ensures { OnOk result (IsLinked tasks.now lists.old.items lists.new.items links.old.items links.new.items parent child) }
+    ensures { OnOk result
+        (IsLinked tasks.now lists.old.items lists.new.items links.old.items links.new.items parent child) }
 {
     // A parent that no record makes is found later, as a cause of malformed records.
     let Some(up) = tasks.index_of(parent) else {

@@ -3,7 +3,7 @@ ghost use Rattle.std.specs.Prelude.{ℕ, ◌≡◌, ◌↔◌, List, Some, IfOk,
 ghost use Rattle.ompt_events.specs.declared.records.Record.{Record};
 ghost use Rattle.ompt_events.specs.Tree.{IsParent, IsChild, HasPath, children};
 ghost use Rattle.task_tree.specs.Family.{IsFamilyOf, IsLinkOf, IsStandingOf};
-ghost use Rattle.task_tree.specs.Faults.{IsTreeFault};
+ghost use Rattle.task_tree.specs.Fault.{IsTreeFault};
 
 use crate::children::{Children, Link, find_children};
 use crate::fault::TreeFault;
@@ -30,15 +30,21 @@ impl Model for Family {
 
     ghost Value = { FamilyView };
 
-    ghost view = { λ family. record { tasks = family.tasks; lists = family.lists.items; links = family.links.items; roots = family.roots.items } };
+    ghost view = { λ family. record {
+      tasks = family.tasks;
+      lists = family.lists.items;
+      links = family.links.items;
+      roots = family.roots.items;
+    } };
 
-    ghost invariant = { λ family. AreAligned family.tasks family.lists.items family.links.items family.roots.items };
+    ghost invariant = { λ family.
+        AreAligned family.tasks family.lists.items family.links.items family.roots.items };
 }
 
 impl Family {
     /// The family of the trace's tasks. Refused are records that no real run can produce since a task or a
-    /// parallel region is made again, or else since one is spoken of that has no root or no begin; and any records
-    /// where memory runs out.
+    /// parallel region is made again, or else since one is spoken of that has no root or no begin; and any
+    /// records where memory runs out.
     pub fn build(alloc: Global, trace: &Trace) -> Result<Family, TreeFault>
         ensures family { IfOk result (IsFamilyOf trace.now.records) }
         ensures fault { IfErr result (IsTreeFault trace.now.records) }
@@ -76,7 +82,8 @@ impl Family {
         self.link_of(task).map(|link| link.parent)
     }
 
-    /// How many children the task's parent created before it; none for a root, or where no record makes the task.
+    /// How many children the task's parent created before it; none for a root, or where no record makes the
+    /// task.
     pub fn number(&self, task: u64) -> Option<u32>
         ensures { (records : List Record) → IsFamilyOf records self.now → (number : ℕ)
             → (result ≡ Some number) ↔ ((parent : ℕ) × IsChild records parent number task) }
@@ -84,8 +91,8 @@ impl Family {
         self.link_of(task).map(|link| link.number)
     }
 
-    /// The initial or implicit task at the top of the task's chain of parents, which is the task itself if it is
-    /// one; none where no record makes the task.
+    /// The initial or implicit task at the top of the task's chain of parents, which is the task itself if
+    /// it is one; none where no record makes the task.
     pub fn root(&self, task: u64) -> Option<u64>
         ensures { (records : List Record) → IsFamilyOf records self.now → (root : ℕ)
             → (result ≡ Some root) ↔ ((path : List ℕ) × HasPath records root task path) }
@@ -95,7 +102,8 @@ impl Family {
 
     /// The children of the task in the order of their numbers; empty where no record makes the task.
     pub fn children(&self, task: u64) -> &[u64]
-        ensures { (records : List Record) → IsFamilyOf records self.now → result.now ≡ children records task }
+        ensures { (records : List Record) → IsFamilyOf records self.now
+            → result.now ≡ children records task }
     {
         match self.tasks.index_of(task) {
             Some(index) => self.lists[index].as_slice(),
@@ -104,14 +112,14 @@ impl Family {
     }
 
     /// The link of a created task.
-    fn link_of(&self, task: u64) -> Option<Link>
+    pub(crate) fn link_of(&self, task: u64) -> Option<Link>
         ensures { (link : Link) → (result ≡ Some link) ↔ IsLinkOf self.now task link }
     {
         self.links[self.tasks.index_of(task)?]
     }
 
     /// Where the task stands.
-    fn standing_of(&self, task: u64) -> Option<Standing>
+    pub(crate) fn standing_of(&self, task: u64) -> Option<Standing>
         ensures { (standing : Standing) → (result ≡ Some standing) ↔ IsStandingOf self.now task standing }
     {
         self.roots[self.tasks.index_of(task)?]

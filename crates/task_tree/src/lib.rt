@@ -9,9 +9,12 @@ mod family;
 mod fault;
 mod makers;
 mod numbering;
+mod paths;
 mod rootless;
 mod roots;
+mod tree;
 
 pub use family::Family;
 pub use fault::TreeFault;
 pub use numbering::Numbering;
+pub use tree::Tree;

@@ -4,7 +4,7 @@ ghost use Rattle.ompt_events.specs.declared.cause.Cause.TheVariants.{CreatedTwic
 ghost use Rattle.ompt_events.specs.Records.{made};
 ghost use Rattle.ompt_events.specs.Causes.{IsFreeOf};
 ghost use Rattle.task_tree.specs.Makers.{AreNoted, forked_region};
-ghost use Rattle.task_tree.specs.Faults.{IsFound};
+ghost use Rattle.task_tree.specs.Fault.{IsFound};
 
 use crate::fault::TreeFault;
 use crate::numbering::Numbering;
@@ -20,7 +20,8 @@ pub(crate) struct Made {
 /// Notes what the records make, or finds the first record that makes a task or a region again.
 pub(crate) fn find_made(alloc: Global, records: &[Record]) -> Result<Made, TreeFault>
     ensures tasks { IfOk result (λ found. AreNoted made records.now (length records.now) found.tasks) }
-    ensures regions { IfOk result (λ found. AreNoted forked_region records.now (length records.now) found.regions) }
+    ensures regions { IfOk result (λ found. AreNoted forked_region records.now
+        (length records.now) found.regions) }
     ensures free { IfOk result (λ _. IsFreeOf records.now CreatedTwice) }
     ensures found { IfErr result (IsFound records.now CreatedTwice) }
 {

@@ -67,7 +67,8 @@ fn reach_roots(
 ) -> Result<(), AllocError>
     requires roots { roots.old.items ≡ replicate (length tasks.now) None }
     requires order { order.old.items ≡ [] }
-    ensures { OnOk result (IsSeeded records.now (length records.now) tasks.now roots.new.items order.new.items) }
+    ensures { OnOk result (IsSeeded records.now
+        (length records.now) tasks.now roots.new.items order.new.items) }
 {
     for event in records {
         if let Some(root) = event.body.begun_root() {
@@ -86,7 +87,8 @@ fn reach_children(
     order: &mut Vec<Reached>,
 ) -> Result<(), AllocError>
     requires { length roots.old.items ≡ length tasks.now }
-    ensures { OnOk result (Spreads tasks.now standing roots.old.items order.old.items children.now roots.new.items order.new.items) }
+    ensures { OnOk result
+        (Spreads tasks.now standing roots.old.items order.old.items children.now roots.new.items order.new.items) }
 {
     for child in children {
         reach(tasks, *child, standing, roots, order)?;
@@ -103,7 +105,8 @@ fn reach(
     order: &mut Vec<Reached>,
 ) -> Result<(), AllocError>
     requires { length roots.old.items ≡ length tasks.now }
-    ensures { OnOk result (Reaches tasks.now task standing roots.old.items order.old.items roots.new.items order.new.items) }
+    ensures { OnOk result
+        (Reaches tasks.now task standing roots.old.items order.old.items roots.new.items order.new.items) }
 {
     let Some(index) = tasks.index_of(task) else {
         return Ok(());
