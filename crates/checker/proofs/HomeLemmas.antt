@@ -11,7 +11,7 @@ use Rattle.ompt_events.specs.Records.{started}
 use Rattle.ompt_events.specs.Places.{at, thread_at}
 use Rattle.ompt_events.specs.Tree.{IsExplicit}
 use Rattle.ompt_events.specs.Causes.{IsMoved, HasCause, moved, IsFirstWith, IsFreeOf}
-use Rattle.checker.proofs.NumberMaps.{updated_here, updated_there}
+use Rattle.ompt_events.proofs.NumberMaps.{updated_here, updated_there}
 use Rattle.ompt_events.proofs.PlaceLemmas.{at_within, thread_none}
 
 -- each explicit task that was started stands under the one thread that started it

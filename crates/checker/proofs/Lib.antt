@@ -1,5 +1,4 @@
 mod AuditedLemmas
-mod NumberMaps
 mod MakerLemmas
 mod HomeLemmas
 mod CurrentLemmas

@@ -14,7 +14,7 @@ use Rattle.ompt_events.specs.Causes.{IsMadeAgain, HasCause, created_twice, forke
 use Rattle.checker.specs.Audited.{AreAudited}
 use Rattle.checker.specs.Search.{AreMakers}
 use Rattle.checker.proofs.AuditedLemmas.{no_fork}
-use Rattle.checker.proofs.NumberMaps.{updated_here, updated_there}
+use Rattle.ompt_events.proofs.NumberMaps.{updated_here, updated_there}
 use Rattle.ompt_events.proofs.PlaceLemmas.{at_within}
 use Rattle.ompt_events.proofs.RecordLemmas.{begun_at_made, created_at_made, creation_at_created, created_at_creation}
 

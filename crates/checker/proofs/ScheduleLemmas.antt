@@ -15,7 +15,7 @@ use Rattle.checker.specs.Merge.{IsAwaited, AreAwaited}
 use Rattle.checker.specs.Audited.{AreAudited}
 use Rattle.checker.proofs.AuditedLemmas.{no_discard, no_fulfilment}
 use Rattle.checker.specs.Search.{AreMakers}
-use Rattle.checker.proofs.NumberMaps.{updated_here, updated_there}
+use Rattle.ompt_events.proofs.NumberMaps.{updated_here, updated_there}
 use Rattle.ompt_events.proofs.PlaceLemmas.{at_within}
 use Rattle.ompt_events.proofs.RecordLemmas.{created_at_made}
 

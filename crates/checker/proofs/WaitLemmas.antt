@@ -29,7 +29,7 @@ use Rattle.checker.specs.Regions.{AreLinked}
 use Rattle.checker.specs.Waits.{length_of, latest_of, AreDone, IsRaised, AreLimits, IsLateAt, IsFirstLate, IsFirstCreated}
 use Rattle.ompt_events.proofs.PlaceLemmas.{at_read, at_within}
 use Rattle.checker.proofs.AuditedLemmas.{only_whole, only_waits, no_wait_completed, no_dependences}
-use Rattle.checker.proofs.NumberMaps.{updated_here, updated_there}
+use Rattle.ompt_events.proofs.NumberMaps.{updated_here, updated_there}
 use Rattle.ompt_events.proofs.RecordLemmas.{creation_at_created, created_at_made}
 
 -- a task that is complete at a record of a region was finished whole by an entry that is seen there

@@ -5,5 +5,7 @@ pub mod TreeLemmas
 pub mod RegionLemmas
 pub mod HappensBeforeLemmas
 pub mod LinearizationLemmas
+pub mod ListLemmas
+pub mod NumberMaps
 mod CircleLemmas
 mod StateLemmas

@@ -17,6 +17,10 @@ IsExplicit rs task = (i : ℕ) × (at created rs i ≡ Some task)
 abbrev pub IsCreatedAt : List Record → ℕ → ℕ → ℕ → Type 0
 IsCreatedAt rs i parent task = at creation rs i ≡ Some (parent, task)
 
+-- the parent created the task
+abbrev pub IsParent : List Record → ℕ → ℕ → Type 0
+IsParent rs parent task = (i : ℕ) × IsCreatedAt rs i parent task
+
 -- the task's chain of parents reaches a root
 pub data IsRooted (rs : List Record) : ℕ → Type 0 where
   root : {task : ℕ} → IsRoot rs task → IsRooted rs task

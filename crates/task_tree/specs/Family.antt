@@ -1,0 +1,45 @@
+-- When a family is that of the records.
+use Rattle.std.specs.Prelude.{ℕ, ◌≡◌, List, length, Option, Some, slice_get}
+use Rattle.std.specs.Global.{Vec}
+use Rattle.ompt_events.specs.declared.records.Record.{Record}
+use Rattle.ompt_events.specs.declared.cause.Cause.TheVariants.{CreatedTwice, Rootless}
+use Rattle.ompt_events.specs.Records.{made}
+use Rattle.ompt_events.specs.Causes.{IsFreeOf}
+use Rattle.task_tree.specs.declared.children.Link.{Link}
+use Rattle.task_tree.specs.declared.roots.Standing.{Standing}
+use Rattle.task_tree.specs.Makers.{AreNoted}
+use Rattle.task_tree.specs.Children.{AreChildren, AreLinks}
+use Rattle.task_tree.specs.Roots.{AreRoots}
+
+-- what clauses see of a family: the tasks in the order in which they are made, and by index of the task its
+-- children, its link to its parent and its root
+pub record FamilyView : Type 0 where
+  pub tasks : List ℕ
+  pub lists : List (Vec ℕ)
+  pub links : List (Option Link)
+  pub roots : List (Option Standing)
+
+-- there is one entry for each task
+abbrev pub AreAligned : List ℕ → List (Vec ℕ) → List (Option Link) → List (Option Standing) → Type 0
+AreAligned tasks lists links roots =
+    (length lists ≡ length tasks) × (length links ≡ length tasks) × (length roots ≡ length tasks)
+
+-- each table is right for all records, which make each task once and speak of tasks with roots alone
+pub record IsFamilyOf (rs : List Record) (family : FamilyView) : Type 0 where
+  pub noted : AreNoted made rs (length rs) family.tasks
+  pub children : AreChildren rs (length rs) family.tasks family.lists
+  pub links : AreLinks rs (length rs) family.tasks family.links
+  pub roots : AreRoots rs family.tasks family.roots
+  pub once : IsFreeOf rs CreatedTwice
+  pub rooted : IsFreeOf rs Rootless
+
+-- what the tables say of a task
+abbrev pub IsLinkOf : FamilyView → ℕ → Link → Type 0
+IsLinkOf family task link =
+    (index : ℕ) × (slice_get family.tasks index ≡ Some task)
+    × (slice_get family.links index ≡ Some (Some link))
+
+abbrev pub IsStandingOf : FamilyView → ℕ → Standing → Type 0
+IsStandingOf family task standing =
+    (index : ℕ) × (slice_get family.tasks index ≡ Some task)
+    × (slice_get family.roots index ≡ Some (Some standing))

@@ -1,0 +1,15 @@
+-- A list of ids, each once, with the index of each.
+use Rattle.std.specs.Prelude.{ℕ, ◌≡◌, ◌↔◌, ◌++◌, ◌∷◌, [], List, Option, Some, None, Bool, true, false, Contains, slice_get}
+use Rattle.std.specs.Ordering.{nat_cmp}
+use Rattle.std.specs.BTreeMap.{BTreeMap, get}
+
+-- each id stands under its index, and nothing else does
+abbrev pub AreIndices : List ℕ → BTreeMap ℕ ℕ → Type 0
+AreIndices ids indices =
+    (id index : ℕ) → (get nat_cmp indices id ≡ Some index) ↔ (slice_get ids index ≡ Some id)
+
+-- the new list has the id that was found, if one was; and whether the old one had it
+abbrev pub IsNoted : List ℕ → List ℕ → Option ℕ → Bool → Type 0
+IsNoted old new None again = (new ≡ old) × (again ≡ false)
+IsNoted old new (Some id) true = (new ≡ old) × Contains old id
+IsNoted old new (Some id) false = (new ≡ old ++ id ∷ []) × (Contains old id → ⊥)

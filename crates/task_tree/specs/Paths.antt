@@ -1,0 +1,33 @@
+-- The path of each task, by index of the task.
+use Rattle.std.specs.Prelude.{ℕ, ◌≡◌, ◌++◌, List, length, reverse, Some, option_map, slice_get}
+use Rattle.std.specs.Global.{Vec}
+use Rattle.ompt_events.specs.declared.records.Record.{Record}
+use Rattle.ompt_events.specs.Tree.{HasPath}
+use Rattle.task_tree.specs.Family.{FamilyView, IsFamilyOf}
+
+-- at the index of each task stands its path
+pub record ArePaths (rs : List Record) (tasks : List ℕ) (paths : List (Vec ℕ)) : Type 0 where
+  pub all : length paths ≡ length tasks
+  pub each : (index task root : ℕ) (path : List ℕ) → slice_get tasks index ≡ Some task
+      → HasPath rs root task path
+      → option_map (λ (found : Vec ℕ). found.items) (slice_get paths index) ≡ Some path
+
+-- after so many steps up from a task with this path: the numbers that were passed, the last one first
+pub record IsClimbed (rs : List Record) (root : ℕ) (path : List ℕ) (steps current : ℕ)
+    (numbers : List ℕ) : Type 0 where
+  pub up : List ℕ
+  pub passed : List ℕ
+  pub parts : path ≡ up ++ passed
+  pub stands : HasPath rs root current up
+  pub reversed : numbers ≡ reverse passed
+  pub all : length passed ≡ steps
+
+-- what clauses see of a tree: its family, and by index of the task its path
+pub record TreeView : Type 0 where
+  pub family : FamilyView
+  pub paths : List (Vec ℕ)
+
+-- the tree is that of the records
+pub record IsTreeOf (rs : List Record) (tree : TreeView) : Type 0 where
+  pub family : IsFamilyOf rs tree.family
+  pub paths : ArePaths rs tree.family.tasks tree.paths

@@ -1,0 +1,24 @@
+-- Which records speak of a task without a root, by what is known of tasks and regions.
+use Rattle.std.specs.Prelude.{ℕ, ◌≡◌, ◌⊎◌, List, Option, Some, None, Contains, IsSomeAnd, slice_get}
+use Rattle.std.specs.List.{Any}
+use Rattle.ompt_events.specs.declared.records.Body.{Body}
+use Rattle.ompt_events.specs.Records.{named, created, region_named}
+use Rattle.task_tree.specs.declared.roots.Standing.{Standing}
+
+-- a task is named that was not noted as made
+abbrev pub NamesUnmade : List ℕ → Body → Type 0
+NamesUnmade tasks body = Any (λ task. Contains tasks task → ⊥) (named body)
+
+-- a task is created of which no root is known
+abbrev pub CreatesUnrooted : List ℕ → List (Option Standing) → Body → Type 0
+CreatesUnrooted tasks roots body =
+    IsSomeAnd (created body) (λ task. (index : ℕ) → slice_get tasks index ≡ Some task
+    → slice_get roots index ≡ Some None)
+
+-- a region is named that was not noted as begun
+abbrev pub NamesNoRegion : List ℕ → Body → Type 0
+NamesNoRegion regions body = IsSomeAnd (region_named body) (λ region. Contains regions region → ⊥)
+
+abbrev pub IsRootless : List ℕ → List ℕ → List (Option Standing) → Body → Type 0
+IsRootless tasks regions roots body =
+    NamesUnmade tasks body ⊎ (CreatesUnrooted tasks roots body ⊎ NamesNoRegion regions body)

@@ -1,0 +1,89 @@
+//! A list of ids, each once, in which the place of an id is found without a walk.
+ghost use Rattle.std.specs.Prelude.{◌≡◌, ◌↔◌, ◌++◌, ◌∷◌, Some, [], ℕ, slice_get, Contains, IsTrue, IfOk, OnOk};
+ghost use Rattle.task_tree.specs.Numbering.{IsNoted};
+
+use std::alloc::{AllocError, Global};
+use std::collections::BTreeMap;
+use std::marker::Model;
+
+/// Ids in the order in which they were noted, each once. An id's index is its place in the list.
+/// Look-ups take logarithmic time whatever the ids are: no file can choose ids that make them slow.
+#[derive(Debug, Drop)]
+pub struct Numbering {
+    ids: Vec<u64>,
+    indices: BTreeMap<u64, usize>,
+}
+
+impl Model for Numbering {
+    ghost use Rattle.std.specs.Prelude.{List, ℕ};
+    ghost use Rattle.task_tree.specs.Numbering.{AreIndices};
+
+    ghost Value = { List ℕ };
+
+    ghost view = { λ numbering. numbering.ids.items };
+
+    ghost invariant = { λ numbering. AreIndices numbering.ids.items numbering.indices };
+}
+
+impl Numbering {
+    /// No id.
+    pub(crate) fn new(alloc: Global) -> Numbering
+        ensures { result ≡ [] }
+    {
+        Numbering {
+            ids: Vec::new(alloc),
+            indices: BTreeMap::new(alloc),
+        }
+    }
+
+    /// The ids in order.
+    pub fn as_slice(&self) -> &[u64]
+        ensures { result.now ≡ self.now }
+    {
+        self.ids.as_slice()
+    }
+
+    /// The id's index, if it was noted.
+    pub fn index_of(&self, id: u64) -> Option<usize>
+        ensures { (index : ℕ) → (result ≡ Some index) ↔ (slice_get self.now index ≡ Some id) }
+    {
+        self.indices.get(&id).copied()
+    }
+
+    /// Whether the id was noted.
+    pub fn contains(&self, id: u64) -> bool
+        ensures { IsTrue result ↔ Contains self.now id }
+    {
+        self.index_of(id).is_some()
+    }
+
+    /// Notes the id, if there is one, and answers whether it was noted before.
+    pub(crate) fn note(&mut self, found: Option<u64>) -> Result<bool, AllocError>
+        ensures { IfOk result (IsNoted self.old self.new found) }
+    {
+        let Some(id) = found else {
+            return Ok(false);
+        };
+        if self.contains(id) {
+            return Ok(true);
+        }
+        self.add(id)?;
+        Ok(false)
+    }
+
+    /// Adds an id that was not noted before.
+    fn add(&mut self, id: u64) -> Result<(), AllocError>
+        requires { Contains self.old id → ⊥ }
+        ensures { OnOk result (self.new ≡ self.old ++ id ∷ []) }
+    {
+        let index = self.ids.len();
+        self.ids.push(id)?;
+        match self.indices.insert(id, index) {
+            Ok(_) => Ok(()),
+            Err(fault) => {
+                self.ids.pop();
+                Err(fault.into())
+            }
+        }
+    }
+}

@@ -1,0 +1,43 @@
+//! The path of each task below its root.
+ghost use Rattle.std.specs.Prelude.{ℕ, ◌≡◌, List, IfOk, Contains};
+ghost use Rattle.ompt_events.specs.declared.records.Record.{Record};
+ghost use Rattle.ompt_events.specs.Tree.{HasPath};
+ghost use Rattle.task_tree.specs.Family.{IsFamilyOf};
+ghost use Rattle.task_tree.specs.Paths.{ArePaths};
+
+use crate::family::Family;
+use std::alloc::{AllocError, Global};
+
+/// By index of the task its path.
+pub(crate) fn find_paths(alloc: Global, family: &Family) -> Result<Vec<Vec<u32>>, AllocError>
+    ensures { IfOk result (λ paths. (records : List Record) → IsFamilyOf records family.now
+        → ArePaths records family.now.tasks paths.items) }
+{
+    let tasks = family.tasks().as_slice();
+    let mut paths = Vec::with_capacity(alloc, tasks.len())?;
+    for task in tasks {
+        paths.push(path_of(alloc, family, *task)?)?;
+    }
+    Ok(paths)
+}
+
+/// The numbers of the children from the root down to the task.
+fn path_of(alloc: Global, family: &Family, task: u64) -> Result<Vec<u32>, AllocError>
+    ensures { IfOk result (λ found. (records : List Record) → IsFamilyOf records family.now
+        → (root : ℕ) (path : List ℕ) → HasPath records root task path → found.items ≡ path) }
+{
+    let depth = family
+        .standing_of(task)
+        .map_or(0, |standing| standing.depth);
+    let mut numbers = Vec::new(alloc);
+    let mut current = task;
+    for _step in 0..depth {
+        // A task this far from its root has a parent.
+        if let Some(link) = family.link_of(current) {
+            numbers.push(link.number)?;
+            current = link.parent;
+        }
+    }
+    numbers.reverse();
+    Ok(numbers)
+}

@@ -1,0 +1,120 @@
+//! The root below which each task stands.
+ghost use Rattle.std.specs.Prelude.{◌≡◌, ◌<◌, ◌≤◌, [], Some, None, IfOk, OnOk, length, replicate};
+ghost use Rattle.ompt_events.specs.Records.{made};
+ghost use Rattle.task_tree.specs.Makers.{AreNoted};
+ghost use Rattle.task_tree.specs.Children.{AreChildren};
+ghost use Rattle.task_tree.specs.Roots.{AreRoots, Reaches, Spreads, IsSeeded};
+
+use crate::numbering::Numbering;
+use ompt_events::Record;
+use std::alloc::{AllocError, Global};
+
+/// Where a task stands: its root, and how many steps below it.
+#[derive(Clone, Copy, Debug, PartialEq, Eq)]
+pub(crate) struct Standing {
+    pub(crate) depth: usize,
+    pub(crate) root: u64,
+}
+
+/// A task whose chain of parents reaches a root.
+#[derive(Clone, Copy, Debug, PartialEq, Eq)]
+pub(crate) struct Reached {
+    pub(crate) index: usize,
+    pub(crate) standing: Standing,
+}
+
+/// By index of the task where it stands, if its chain of parents reaches a root.
+pub(crate) fn find_roots(
+    alloc: Global,
+    records: &[Record],
+    tasks: &Numbering,
+    lists: &[Vec<u64>],
+) -> Result<Vec<Option<Standing>>, AllocError>
+    requires noted { AreNoted made records.now (length records.now) tasks.now }
+    requires lists { AreChildren records.now (length records.now) tasks.now lists.now }
+    ensures { IfOk result (λ roots. AreRoots records.now tasks.now roots.items) }
+{
+    let mut roots = no_roots(alloc, tasks.as_slice().len())?;
+    let mut order = Vec::new(alloc);
+    reach_roots(records, tasks, &mut roots, &mut order)?;
+    // Each task is reached once, a parent before its children.
+    let mut next = 0;
+    'reached: while next < order.len() {
+        let task: Reached = order[next];
+        let below = Standing {
+            depth: task.standing.depth + 1,
+            root: task.standing.root,
+        };
+        reach_children(tasks, &lists[task.index], below, &mut roots, &mut order)?;
+        next += 1;
+    }
+    Ok(roots)
+}
+
+/// No root for any task.
+fn no_roots(alloc: Global, tasks: usize) -> Result<Vec<Option<Standing>>, AllocError>
+    ensures { IfOk result (λ roots. roots.items ≡ replicate tasks None) }
+{
+    vec![in alloc; None; tasks]
+}
+
+/// Reaches the roots themselves.
+fn reach_roots(
+    records: &[Record],
+    tasks: &Numbering,
+    roots: &mut Vec<Option<Standing>>,
+    order: &mut Vec<Reached>,
+) -> Result<(), AllocError>
+    requires roots { roots.old.items ≡ replicate (length tasks.now) None }
+    requires order { order.old.items ≡ [] }
+    ensures { OnOk result (IsSeeded records.now
+        (length records.now) tasks.now roots.new.items order.new.items) }
+{
+    for event in records {
+        if let Some(root) = event.body.begun_root() {
+            reach(tasks, root, Standing { depth: 0, root }, roots, order)?;
+        }
+    }
+    Ok(())
+}
+
+/// Reaches the children of a task, which stand there.
+fn reach_children(
+    tasks: &Numbering,
+    children: &[u64],
+    standing: Standing,
+    roots: &mut Vec<Option<Standing>>,
+    order: &mut Vec<Reached>,
+) -> Result<(), AllocError>
+    requires { length roots.old.items ≡ length tasks.now }
+    ensures { OnOk result
+        (Spreads tasks.now standing roots.old.items order.old.items children.now roots.new.items order.new.items) }
+{
+    for child in children {
+        reach(tasks, *child, standing, roots, order)?;
+    }
+    Ok(())
+}
+
+/// Reaches a task that stands there, unless it was reached before.
+fn reach(
+    tasks: &Numbering,
+    task: u64,
+    standing: Standing,
+    roots: &mut Vec<Option<Standing>>,
+    order: &mut Vec<Reached>,
+) -> Result<(), AllocError>
+    requires { length roots.old.items ≡ length tasks.now }
+    ensures { OnOk result
+        (Reaches tasks.now task standing roots.old.items order.old.items roots.new.items order.new.items) }
+{
+    let Some(index) = tasks.index_of(task) else {
+        return Ok(());
+    };
+    if roots[index].is_some() {
+        return Ok(());
+    }
+    order.push(Reached { index, standing })?;
+    roots[index] = Some(standing);
+    Ok(())
+}

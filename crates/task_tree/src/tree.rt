@@ -1,0 +1,99 @@
+//! The tree of tasks with the path of each.
+ghost use Rattle.std.specs.Prelude.{ℕ, ◌≡◌, ◌↔◌, List, Some, IfOk, IfErr, option_copied};
+ghost use Rattle.ompt_events.specs.declared.records.Record.{Record};
+ghost use Rattle.ompt_events.specs.Tree.{IsParent, IsChild, HasPath, children};
+ghost use Rattle.task_tree.specs.Fault.{IsTreeFault};
+ghost use Rattle.task_tree.specs.Paths.{IsTreeOf};
+
+use crate::family::Family;
+use crate::fault::TreeFault;
+use crate::paths::find_paths;
+use ompt_events::Trace;
+use std::alloc::Global;
+use std::marker::Model;
+
+/// The tasks that the records of a trace make, each with its parent, its number, its path, its root and its
+/// children. Paths are stored: their memory is the sum of the depths of all tasks, which a chain of tasks
+/// makes quadratic. `Family` has all but the paths.
+#[derive(Debug, Drop)]
+pub struct Tree {
+    family: Family,
+    paths: Vec<Vec<u32>>,
+}
+
+impl Model for Tree {
+    ghost use Rattle.std.specs.Prelude.{◌≡◌, length};
+    ghost use Rattle.task_tree.specs.Paths.{TreeView};
+
+    ghost Value = { TreeView };
+
+    ghost view = { λ tree. record { family = tree.family; paths = tree.paths.items } };
+
+    ghost invariant = { λ tree. length tree.paths.items ≡ length tree.family.tasks };
+}
+
+impl Tree {
+    /// The tree of the trace's tasks. Refused are records that no real run can produce since a task or a
+    /// parallel region is made again, or else since one is spoken of that has no root or no begin; and any
+    /// records where memory runs out.
+    pub fn build(alloc: Global, trace: &Trace) -> Result<Tree, TreeFault>
+        ensures tree { IfOk result (IsTreeOf trace.now.records) }
+        ensures fault { IfErr result (IsTreeFault trace.now.records) }
+    {
+        let family = Family::build(alloc, trace)?;
+        let paths = find_paths(alloc, &family)?;
+        Ok(Tree { family, paths })
+    }
+
+    /// The tree without its paths.
+    pub fn family(&self) -> &Family
+        ensures { result.now ≡ self.now.family }
+    {
+        &self.family
+    }
+
+    /// The task that created this one; none for a root, or where no record makes the task.
+    pub fn parent(&self, task: u64) -> Option<u64>
+        ensures { (records : List Record) → IsTreeOf records self.now → (parent : ℕ)
+            → (result ≡ Some parent) ↔ IsParent records parent task }
+    {
+        self.family.parent(task)
+    }
+
+    /// How many children the task's parent created before it; none for a root, or where no record makes the
+    /// task.
+    pub fn number(&self, task: u64) -> Option<u32>
+        ensures { (records : List Record) → IsTreeOf records self.now → (number : ℕ)
+            → (result ≡ Some number) ↔ ((parent : ℕ) × IsChild records parent number task) }
+    {
+        self.family.number(task)
+    }
+
+    /// The numbers of the children from the root down to the task, empty for a root; none where no record
+    /// makes the task.
+    pub fn path(&self, task: u64) -> Option<&[u32]>
+        ensures { (records : List Record) → IsTreeOf records self.now → (path : List ℕ)
+            → (option_copied result ≡ Some path) ↔ ((root : ℕ) × HasPath records root task path) }
+    {
+        match self.family.tasks().index_of(task) {
+            Some(index) => Some(self.paths[index].as_slice()),
+            None => None,
+        }
+    }
+
+    /// The initial or implicit task at the top of the task's chain of parents, which is the task itself if
+    /// it is one; none where no record makes the task.
+    pub fn root(&self, task: u64) -> Option<u64>
+        ensures { (records : List Record) → IsTreeOf records self.now → (root : ℕ)
+            → (result ≡ Some root) ↔ ((path : List ℕ) × HasPath records root task path) }
+    {
+        self.family.root(task)
+    }
+
+    /// The children of the task in the order of their numbers; empty where no record makes the task.
+    pub fn children(&self, task: u64) -> &[u64]
+        ensures { (records : List Record) → IsTreeOf records self.now → result.now ≡ children records task }
+    {
+        self.family.children(task)
+    }
+}
