@@ -10,13 +10,14 @@ mod names;
 mod refusals;
 mod shares;
 mod tables;
+mod tree;
 mod verdict;
 
 use anyhow::{Result, bail};
 use std::env;
 
 const WORDS: &str =
-    "values, read, write, lines, names, tables, shares, ledger, devices, refusals or verdict";
+    "values, read, write, lines, names, tables, shares, ledger, devices, refusals, tree or verdict";
 
 /// Does what the word asks for.
 fn run(rt: &HostRuntime, word: &str) -> Result<()> {
@@ -31,6 +32,7 @@ fn run(rt: &HostRuntime, word: &str) -> Result<()> {
         "ledger" => ledger::each(rt),
         "devices" => devices::all(rt),
         "refusals" => refusals::all(rt),
+        "tree" => tree::of_input(rt),
         "verdict" => verdict::of_input(rt),
         _ => bail!("the word must be {WORDS}"),
     }

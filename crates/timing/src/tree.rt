@@ -1,0 +1,44 @@
+//! The tree of a trace's tasks.
+use crate::lines::told;
+use anyhow::{Result, bail};
+use certificate::{FromRead, read};
+use ompt_events::Trace;
+use task_tree::{Tree, TreeFault};
+
+/// Prints where each task of the trace on standard input stands.
+pub fn of_input(rt: &HostRuntime) -> Result<()> {
+    match read(rt.alloc(), &mut FromRead::new(rt.reader())) {
+        Ok(trace) => of_trace(rt, &trace),
+        Err(fault) => bail!("{}", told(rt.alloc(), fault)?),
+    }
+}
+
+/// Prints the tree, or why there is none.
+fn of_trace(rt: &HostRuntime, trace: &Trace) -> Result<()> {
+    match Tree::build(rt.alloc(), trace) {
+        Ok(tree) => {
+            for task in tree.family().tasks().as_slice() {
+                of_task(rt, &tree, *task)?;
+            }
+            of_task(rt, &tree, u64::MAX)
+        }
+        Err(TreeFault::Memory) => bail!("out of memory"),
+        Err(TreeFault::Malformed { at, cause }) => {
+            println!(rt; "malformed at {at}: {cause:?}")?;
+            Ok(())
+        }
+    }
+}
+
+/// Prints where the task stands.
+fn of_task(rt: &HostRuntime, tree: &Tree, task: u64) -> Result<()> {
+    let parent = tree.parent(task);
+    let number = tree.number(task);
+    let root = tree.root(task);
+    let path = tree.path(task);
+    let children = tree.children(task);
+    println!(rt;
+        "{task}: parent {parent:?}, number {number:?}, root {root:?}, path {path:?}, children {children:?}"
+    )?;
+    Ok(())
+}
