@@ -1,7 +1,7 @@
 //! Parents, numbers, roots and children.
-ghost use Rattle.std.specs.Prelude.{ℕ, ◌≡◌, ◌↔◌, List, Some, IfOk, IfErr};
+ghost use Rattle.std.specs.Prelude.{ℕ, ◌≡◌, ◌↔◌, List, Some, IsTrue, IfOk, IfErr};
 ghost use Rattle.ompt_events.specs.declared.records.Record.{Record};
-ghost use Rattle.ompt_events.specs.Tree.{IsParent, IsChild, HasPath, children};
+ghost use Rattle.ompt_events.specs.Tree.{IsRoot, IsParent, IsChild, HasPath, children};
 ghost use Rattle.task_tree.specs.Family.{IsFamilyOf, IsLinkOf, IsStandingOf};
 ghost use Rattle.task_tree.specs.Fault.{IsTreeFault};
 
@@ -100,6 +100,14 @@ impl Family {
         self.standing_of(task).map(|standing| standing.root)
     }
 
+    /// Whether the task is an initial or implicit one that the records begin.
+    pub fn is_root(&self, task: u64) -> bool
+        ensures { (records : List Record) → IsFamilyOf records self.now
+            → IsTrue result ↔ IsRoot records task }
+    {
+        is_task(self.root(task), task)
+    }
+
     /// The children of the task in the order of their numbers; empty where no record makes the task.
     pub fn children(&self, task: u64) -> &[u64]
         ensures { (records : List Record) → IsFamilyOf records self.now
@@ -124,4 +132,11 @@ impl Family {
     {
         self.roots[self.tasks.index_of(task)?]
     }
+}
+
+/// Whether it is this task.
+fn is_task(found: Option<u64>, task: u64) -> bool
+    ensures { IsTrue result ↔ (found ≡ Some task) }
+{
+    found == Some(task)
 }
