@@ -9,7 +9,7 @@ use Rattle.ompt_events.specs.declared.records.Body.TheVariants.{TaskCreate}
 use Rattle.ompt_events.specs.declared.cause.Cause.TheVariants.{CreatedTwice, Rootless}
 use Rattle.ompt_events.specs.Records.{made, begun_root, created, creation, named}
 use Rattle.ompt_events.specs.Places.{at}
-use Rattle.ompt_events.specs.Tree.{IsRoot, IsParent, IsChild, HasPath, top, below, children, child_number}
+use Rattle.ompt_events.specs.Tree.{IsParent, IsChild, HasPath, top, below, children, child_number}
 use Rattle.ompt_events.specs.Causes.{created_twice, unmade, rootless, IsFirstWith, IsFreeOf, IsMalformed}
 use Rattle.ompt_events.specs.CauseNames.{cause_number}
 use Rattle.ompt_events.specs.declared.cause.Cause.{Cause}
@@ -210,11 +210,3 @@ rootless_fault rs i free first = record {
     only other (zero, low, is) less = let P : Cause → Type 0 = IsFreeOf rs in subst P is free
     only other (suc zero, low, is) less = absurd (let same = ap cause_number is in omega arith)
     only other (suc (suc k), low, is) less = absurd (omega arith)
-
--- a task is a root exactly where it is its own
-top_root : (rs : List Record) (root task : ℕ) (path : List ℕ) → HasPath rs root task path → IsRoot rs root
-top_root rs root task path (top is) = is
-top_root rs root task path (below number {parent = parent} {path = up} stands child) = top_root rs root parent up stands
-
-pub own_root : (rs : List Record) (task : ℕ) → ((path : List ℕ) × HasPath rs task task path) ↔ IsRoot rs task
-own_root rs task = (λ (path, stands). top_root rs task task path stands, λ is. ([], top is))

@@ -1,7 +1,10 @@
 pub mod NumberingLemmas
+pub mod SubjectLemmas
 pub mod MakerLemmas
 pub mod ChildrenLemmas
 pub mod RootLemmas
 pub mod RootlessLemmas
 pub mod FamilyLemmas
 pub mod PathLemmas
+pub mod LookupLemmas
+pub mod NamedLemmas

@@ -1,9 +1,10 @@
 -- How what is noted of the records grows, and when a record makes something again.
 use Rattle.std.proofs.Common.{◌≡◌, ◌∙◌, ℕ, ◌<◌, ◌≤◌, ◌+◌, List, [], ◌∷◌, length, Option, Some, None, Bool, true, false, refl, sym, ap, subst, arith, inl, inr, ◌⊎◌}
-use Rattle.std.proofs.lemmas.Bool.{cases_eq, false≢true}
+use Rattle.std.proofs.lemmas.Bool.{cases_eq, false≢true, true≢false}
 use Rattle.std.proofs.lemmas.Option.{none-some, same_Some}
 use Rattle.std.proofs.lemmas.List.Elements.{Contains-push, Contains-push_cases, Contains-append_left}
-use Rattle.std.specs.Prelude.{slice_get, option_and_then, option_map, Contains}
+use Rattle.std.proofs.lemmas.List.{length_push}
+use Rattle.std.specs.Prelude.{◌++◌, is_some, slice_get, option_and_then, option_map, Contains}
 use Rattle.ompt_events.specs.declared.records.Record.{Record}
 use Rattle.ompt_events.specs.declared.records.Body.{Body}
 use Rattle.ompt_events.specs.declared.cause.Cause.TheVariants.{CreatedTwice}
@@ -11,8 +12,9 @@ use Rattle.ompt_events.specs.Records.{made, forked}
 use Rattle.ompt_events.specs.Places.{at}
 use Rattle.ompt_events.specs.Causes.{HasCause, created_twice, forked_twice, IsFirstWith, IsFreeOf}
 use Rattle.ompt_events.proofs.PlaceLemmas.{at_within}
+use Rattle.ompt_events.proofs.ListLemmas.{get_pushed, get_last, get_contains, pushed_cases}
 use Rattle.task_tree.specs.Numbering.{IsNoted}
-use Rattle.task_tree.specs.Makers.{AreNoted, forked_region}
+use Rattle.task_tree.specs.Makers.{AreNoted, AreMade, forked_region}
 
 -- nothing is noted of no records
 pub noted_none : (says : Body → Option ℕ) (rs : List Record) (ids : List ℕ) → ids ≡ [] → AreNoted says rs 0 ids
@@ -112,3 +114,45 @@ first_here rs i before has = record { within = twice_within rs i has; has = has;
 
 pub free_of_twice : (rs : List Record) (n : ℕ) → ((k : ℕ) → k < n → HasCause rs k CreatedTwice → ⊥) → length rs ≤ n → IsFreeOf rs CreatedTwice
 free_of_twice rs n none all i has = none i (let inside = twice_within rs i has in omega arith) has
+
+-- ---- where each task is made
+
+pub made_none : (rs : List Record) (tasks places : List ℕ) → tasks ≡ [] → places ≡ [] → AreMade rs 0 tasks places
+made_none rs tasks places empty none = record {
+  all = ap length none ∙ sym (ap length empty);
+  few = let zero_long = ap length empty in omega (arith, zero_long);
+  apart = λ a b id is. absurd (none-some id (sym (ap (λ l. slice_get l a) empty) ∙ is));
+  each = λ index task is. absurd (none-some task (sym (ap (λ l. slice_get l index) empty) ∙ is));
+}
+
+-- a record that makes none
+pub made_other : (rs : List Record) (i : ℕ) (found : Option ℕ) (old new places : List ℕ) → AreMade rs i old places → at made rs i ≡ found → is_some found ≡ false → IsNoted old new found false → AreMade rs (i + 1) new places
+made_other rs i (Some task) old new places are makes none noted = absurd (true≢false none)
+made_other rs i None old new places are makes none (same, new_one) = rw same (record {
+  all = are.all;
+  few = let few = are.few in omega (arith, few);
+  apart = are.apart;
+  each = λ index task is. let place = are.each index task is in (place.0, place.1, omega (arith, place.2), place.3);
+})
+
+-- one that does
+pub made_more : (rs : List Record) (i : ℕ) (found : Option ℕ) (old new places : List ℕ) → AreMade rs i old places → at made rs i ≡ found → is_some found ≡ true → IsNoted old new found false → AreMade rs (i + 1) new (places ++ i ∷ [])
+made_more rs i None old new places are makes some noted = absurd (false≢true some)
+made_more rs i (Some task) old new places are makes some (same, fresh) = rw same (record {
+  all = length_push places i ∙ ap (λ n. n + 1) are.all ∙ sym (length_push old task);
+  few = let few = are.few in let longer = length_push old task in omega (arith, few, longer);
+  apart = λ a b id at_a at_b. elim (pushed_cases old task id a at_a) [
+    | inl before_a ↦ elim (pushed_cases old task id b at_b) [
+      | inl before_b ↦ are.apart a b id before_a before_b
+      | inr last_b ↦ absurd (fresh (let P : ℕ → Type 0 = Contains old in subst P (sym last_b.1) (get_contains old id a before_a)))
+    ]
+    | inr last_a ↦ elim (pushed_cases old task id b at_b) [
+      | inl before_b ↦ absurd (fresh (let P : ℕ → Type 0 = Contains old in subst P (sym last_a.1) (get_contains old id b before_b)))
+      | inr last_b ↦ last_a.0 ∙ sym last_b.0
+    ]
+  ];
+  each = λ index other is. elim (pushed_cases old task other index is) [
+    | inl before ↦ let place = are.each index other before in (place.0, get_pushed places i place.0 index place.1, omega (arith, place.2), place.3)
+    | inr last ↦ (i, get_last places i index (last.0 ∙ sym are.all), omega arith, makes ∙ ap Some last.1)
+  ];
+})

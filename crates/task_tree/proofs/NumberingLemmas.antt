@@ -8,7 +8,7 @@ use Rattle.std.specs.Ordering.{nat_cmp}
 use Rattle.std.specs.BTreeMap.{BTreeMap, get, Updates}
 use Rattle.ompt_events.proofs.ListLemmas.{get_pushed, get_last, pushed_cases, get_contains, contains_get}
 use Rattle.ompt_events.proofs.NumberMaps.{updated_here, updated_there}
-use Rattle.task_tree.specs.Numbering.{AreIndices}
+use Rattle.task_tree.specs.Numbering.{AreIndices, AreApart}
 
 -- one more id stands under the next index
 pub indices_more : (ids : List ℕ) (old new : BTreeMap ℕ ℕ) (id : ℕ) → AreIndices ids old → (Contains ids id → ⊥) → Updates nat_cmp old new id (Some (length ids)) → AreIndices (ids ++ id ∷ []) new
@@ -59,3 +59,10 @@ contains_or_not (x ∷ xs) id = elim (cases_eq x id) [
     only : Contains (x ∷ []) id → x ≡ id
     only (zero, below, is) = is
     only (suc k, below, is) = absurd (omega arith)
+
+-- an id stands at one index
+pub apart_of : (ids : List ℕ) (indices : BTreeMap ℕ ℕ) → AreIndices ids indices → AreApart ids
+apart_of ids indices are a b id at_a at_b = same_Some a b (sym ((are id a).1 at_a) ∙ (are id b).1 at_b)
+
+pub index_is : (ids : List ℕ) (id near : ℕ) → AreApart ids → slice_get ids near ≡ Some id → (index : ℕ) → (Some near ≡ Some index) ↔ (slice_get ids index ≡ Some id)
+index_is ids id near apart is index = (λ same. ap (slice_get ids) (sym (same_Some near index same)) ∙ is, λ is_too. ap Some (apart near index id is is_too))

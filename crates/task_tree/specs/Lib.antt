@@ -4,7 +4,9 @@ pub mod Family
 pub mod Paths
 pub mod Fault
 pub mod Numbering
+pub mod Slots
 pub mod Makers
+pub mod Subjects
 pub mod Children
 pub mod Roots
 pub mod Rootless

@@ -3,6 +3,10 @@ use Rattle.std.specs.Prelude.{ℕ, ◌≡◌, ◌↔◌, ◌++◌, ◌∷◌, []
 use Rattle.std.specs.Ordering.{nat_cmp}
 use Rattle.std.specs.BTreeMap.{BTreeMap, get}
 
+-- no id stands at two indices
+abbrev pub AreApart : List ℕ → Type 0
+AreApart ids = (a b id : ℕ) → slice_get ids a ≡ Some id → slice_get ids b ≡ Some id → a ≡ b
+
 -- each id stands under its index, and nothing else does
 abbrev pub AreIndices : List ℕ → BTreeMap ℕ ℕ → Type 0
 AreIndices ids indices =

@@ -1,8 +1,11 @@
 //! Parents, numbers, roots and children.
-ghost use Rattle.std.specs.Prelude.{ℕ, ◌≡◌, ◌↔◌, List, Some, IsTrue, IfOk, IfErr};
+ghost use Rattle.std.specs.Prelude.{ℕ, ◌≡◌, ◌↔◌, ◌<◌, List, Some, None, IfOk, IfErr, IsTrue, length, slice_get, slice_index_or};
 ghost use Rattle.ompt_events.specs.declared.records.Record.{Record};
-ghost use Rattle.ompt_events.specs.Tree.{IsRoot, IsParent, IsChild, HasPath, children};
+ghost use Rattle.ompt_events.specs.Records.{made};
+ghost use Rattle.ompt_events.specs.Places.{at as says_at};
+ghost use Rattle.ompt_events.specs.Tree.{IsRoot, IsExplicit, IsParent, IsChild, HasPath, children};
 ghost use Rattle.task_tree.specs.Family.{IsFamilyOf, IsLinkOf, IsStandingOf};
+ghost use Rattle.task_tree.specs.Subjects.{subject, object, Calls};
 ghost use Rattle.task_tree.specs.Fault.{IsTreeFault};
 
 use crate::children::{Children, Link, find_children};
@@ -11,6 +14,8 @@ use crate::makers::{Made, find_made};
 use crate::numbering::Numbering;
 use crate::rootless::find_rootless;
 use crate::roots::{Standing, find_roots};
+use crate::slot::Slot;
+use crate::subjects::{Subjects, find_subjects};
 use ompt_events::{Cause, Record, Trace};
 use std::alloc::Global;
 use std::marker::Model;
@@ -20,6 +25,9 @@ use std::marker::Model;
 #[derive(Debug, Drop)]
 pub struct Family {
     tasks: Numbering,
+    places: Vec<u32>,
+    subjects: Vec<Slot>,
+    objects: Vec<Slot>,
     lists: Vec<Vec<u64>>,
     links: Vec<Option<Link>>,
     roots: Vec<Option<Standing>>,
@@ -32,13 +40,16 @@ impl Model for Family {
 
     ghost view = { λ family. record {
       tasks = family.tasks;
+      places = family.places.items;
+      subjects = family.subjects.items;
+      objects = family.objects.items;
       lists = family.lists.items;
       links = family.links.items;
       roots = family.roots.items;
     } };
 
     ghost invariant = { λ family.
-        AreAligned family.tasks family.lists.items family.links.items family.roots.items };
+        AreAligned family.tasks family.places.items family.lists.items family.links.items family.roots.items };
 }
 
 impl Family {
@@ -50,7 +61,12 @@ impl Family {
         ensures fault { IfErr result (IsTreeFault trace.now.records) }
     {
         let records = trace.records();
-        let Made { tasks, regions } = find_made(alloc, records)?;
+        let Made {
+            tasks,
+            places,
+            regions,
+        } = find_made(alloc, records)?;
+        let Subjects { subjects, objects } = find_subjects(alloc, records, &tasks)?;
         let Children { lists, links } = find_children(alloc, records, &tasks)?;
         let roots = find_roots(alloc, records, &tasks, lists.as_slice())?;
         match find_rootless(records, &tasks, &regions, roots.as_slice()) {
@@ -60,6 +76,9 @@ impl Family {
             }),
             None => Ok(Family {
                 tasks,
+                places,
+                subjects,
+                objects,
                 lists,
                 links,
                 roots,
@@ -72,6 +91,76 @@ impl Family {
         ensures { result.now ≡ self.now.tasks }
     {
         &self.tasks
+    }
+
+    /// The place of the record that makes the task; none where no record does.
+    pub fn maker(&self, task: u64) -> Option<usize>
+        ensures { (records : List Record) → IsFamilyOf records self.now → (place : ℕ)
+            → (result ≡ Some place) ↔ (says_at made records place ≡ Some task) }
+    {
+        match self.tasks.index_of(task) {
+            Some(index) => Some(self.made_at(index)),
+            None => None,
+        }
+    }
+
+    /// The place of the record that makes the task at this index.
+    pub fn made_at(&self, index: usize) -> usize
+        requires { index < length self.now.tasks }
+        ensures { (records : List Record) → IsFamilyOf records self.now
+            → says_at made records result ≡ slice_get self.now.tasks index }
+    {
+        self.places[index] as usize
+    }
+
+    /// The index of the task that the record at a place is of: the root that begins or ends, the parent that
+    /// creates, the prior task of a schedule, the task that is discarded, or the one that does what the
+    /// record says; none for the begin or end of a thread.
+    pub fn subject(&self, at: usize) -> Option<usize>
+        ensures { (records : List Record) → IsFamilyOf records self.now
+            → Calls self.now.tasks (says_at subject records at) result }
+    {
+        slot_at(self.subjects.as_slice(), at)
+    }
+
+    /// The index of the second task that the record names: the child that is created, or the next task of a
+    /// schedule.
+    pub fn object(&self, at: usize) -> Option<usize>
+        ensures { (records : List Record) → IsFamilyOf records self.now
+            → Calls self.now.tasks (says_at object records at) result }
+    {
+        slot_at(self.objects.as_slice(), at)
+    }
+
+    /// Whether the task is an initial or implicit one.
+    pub fn is_root(&self, task: u64) -> bool
+        ensures { (records : List Record) → IsFamilyOf records self.now
+            → IsTrue result ↔ IsRoot records task }
+    {
+        match self.tasks.index_of(task) {
+            Some(index) => !self.is_explicit_at(index),
+            None => false,
+        }
+    }
+
+    /// Whether another task created the task.
+    pub fn is_explicit(&self, task: u64) -> bool
+        ensures { (records : List Record) → IsFamilyOf records self.now
+            → IsTrue result ↔ IsExplicit records task }
+    {
+        match self.tasks.index_of(task) {
+            Some(index) => self.is_explicit_at(index),
+            None => false,
+        }
+    }
+
+    /// Whether another task created the task at this index.
+    pub fn is_explicit_at(&self, index: usize) -> bool
+        requires { index < length self.now.tasks }
+        ensures { (records : List Record) → IsFamilyOf records self.now → (task : ℕ)
+            → slice_get self.now.tasks index ≡ Some task → IsTrue result ↔ IsExplicit records task }
+    {
+        self.links[index].is_some()
     }
 
     /// The task that created this one; none for a root, or where no record makes the task.
@@ -100,14 +189,6 @@ impl Family {
         self.standing_of(task).map(|standing| standing.root)
     }
 
-    /// Whether the task is an initial or implicit one that the records begin.
-    pub fn is_root(&self, task: u64) -> bool
-        ensures { (records : List Record) → IsFamilyOf records self.now
-            → IsTrue result ↔ IsRoot records task }
-    {
-        is_task(self.root(task), task)
-    }
-
     /// The children of the task in the order of their numbers; empty where no record makes the task.
     pub fn children(&self, task: u64) -> &[u64]
         ensures { (records : List Record) → IsFamilyOf records self.now
@@ -134,9 +215,13 @@ impl Family {
     }
 }
 
-/// Whether it is this task.
-fn is_task(found: Option<u64>, task: u64) -> bool
-    ensures { IsTrue result ↔ (found ≡ Some task) }
+/// The index that stands in the slot there, if one does.
+fn slot_at(slots: &[Slot], at: usize) -> Option<usize>
+    ensures { result ≡ slice_index_or slots.now at None }
 {
-    found == Some(task)
+    if at < slots.len() {
+        slots[at].get()
+    } else {
+        None
+    }
 }

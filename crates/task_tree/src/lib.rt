@@ -1,7 +1,8 @@
 //! The tree of tasks: which task created which, in which order, and the root below which each one stands.
 //!
-//! `Family` has parents, numbers, roots and children; `Tree` has the paths too. Read `family` and `tree` for
-//! what a caller sees, then `numbering`, `makers`, `children`, `roots` and `rootless`, the steps of a build.
+//! `Family` has parents, numbers, roots and children, and the index of each task that a record names, so that
+//! no later phase searches for a task again; `Tree` has the paths too. Read `family` and `tree` for what a
+//! caller sees, then `numbering`, `makers`, `subjects`, `children`, `roots` and `rootless`, the steps of a build.
 #![tactic(auto)]
 
 mod children;
@@ -12,6 +13,8 @@ mod numbering;
 mod paths;
 mod rootless;
 mod roots;
+mod slot;
+mod subjects;
 mod tree;
 
 pub use family::Family;

@@ -50,6 +50,18 @@ impl Numbering {
         self.indices.get(&id).copied()
     }
 
+    /// The id's index, looked for here first.
+    pub(crate) fn index_near(&self, id: u64, near: usize) -> Option<usize>
+        ensures { (index : ℕ) → (result ≡ Some index) ↔ (slice_get self.now index ≡ Some id) }
+    {
+        if near < self.ids.len() {
+            if self.ids[near] == id {
+                return Some(near);
+            }
+        }
+        self.index_of(id)
+    }
+
     /// Whether the id was noted.
     pub fn contains(&self, id: u64) -> bool
         ensures { IsTrue result ↔ Contains self.now id }

@@ -1,0 +1,58 @@
+-- How what is found of the records' tasks grows, and what it says.
+use Rattle.std.proofs.Common.{◌≡◌, ◌∙◌, ℕ, ◌+◌, List, [], ◌∷◌, ◌++◌, length, Option, Some, None, refl, sym, ap, subst, arith, inl, inr}
+use Rattle.std.proofs.lemmas.Bool.{cases_eq}
+use Rattle.std.proofs.lemmas.Option.{none-some, same_Some}
+use Rattle.std.proofs.lemmas.List.{length_push}
+use Rattle.std.specs.Prelude.{◌↔◌, slice_get, Contains}
+use Rattle.ompt_events.specs.declared.records.Record.{Record}
+use Rattle.ompt_events.specs.declared.records.Body.{Body}
+use Rattle.ompt_events.specs.Places.{at}
+use Rattle.ompt_events.proofs.ListLemmas.{get_pushed, get_last, contains_get}
+use Rattle.task_tree.specs.Subjects.{Finds, Calls, AreFound}
+
+-- nothing is found of no records
+pub found_none : (says : Body → Option ℕ) (rs : List Record) (tasks : List ℕ) (slots : List (Option ℕ)) → slots ≡ [] → AreFound says rs 0 tasks slots
+found_none says rs tasks slots empty = record {
+  all = ap length empty;
+  each = λ i below. absurd (omega arith);
+}
+
+-- one record more
+pub found_more : (says : Body → Option ℕ) (rs : List Record) (n : ℕ) (tasks : List ℕ) (slots : List (Option ℕ)) (slot : Option ℕ) → AreFound says rs n tasks slots → Finds tasks (at says rs n) slot → AreFound says rs (n + 1) tasks (slots ++ slot ∷ [])
+found_more says rs n tasks slots slot are finds = record {
+  all = length_push slots slot ∙ ap (λ k. k + 1) are.all;
+  each = λ i below. elim (cases_eq i n) [
+    | inl same ↦ (slot, get_last slots slot i (same ∙ sym are.all), let P : ℕ → Type 0 = λ k. Finds tasks (at says rs k) slot in subst P (sym same) finds)
+    | inr apart ↦ let old = are.each i (omega arith) in (old.0, get_pushed slots slot old.0 i old.1, old.2)
+  ];
+}
+
+-- what a look-up of the task gives
+pub finds_no_task : (tasks : List ℕ) → Finds tasks None None
+finds_no_task tasks task is = absurd (none-some task is)
+
+pub finds_none : (tasks : List ℕ) (task : ℕ) (index : Option ℕ) → ((k : ℕ) → (index ≡ Some k) ↔ (slice_get tasks k ≡ Some task)) → index ≡ None → Finds tasks (Some task) None
+finds_none tasks task index is none other same has =
+    let stands = contains_get tasks other has in
+    none-some stands.0 (sym none ∙ (is stands.0).1 (stands.1 ∙ sym same))
+
+-- where the task is in the list, its index is known
+pub finds_calls : (tasks : List ℕ) (found slot : Option ℕ) → Finds tasks found slot → ((task : ℕ) → found ≡ Some task → Contains tasks task) → Calls tasks found slot
+finds_calls tasks None None finds has = refl
+finds_calls tasks None (Some index) (task, is, stands) has = absurd (none-some task is)
+finds_calls tasks (Some task) None finds has = absurd (finds task refl (has task refl))
+finds_calls tasks (Some task) (Some index) (other, is, stands) has = (index, refl, stands ∙ sym is)
+
+-- ---- what a call says, for the phases on top
+
+pub call_index : (tasks : List ℕ) (found slot : Option ℕ) (task : ℕ) → Calls tasks found slot → found ≡ Some task → (index : ℕ) × (slot ≡ Some index) × (slice_get tasks index ≡ Some task)
+call_index tasks None slot task calls is = absurd (none-some task is)
+call_index tasks (Some other) slot task (index, here, stands) is = (index, here, stands ∙ is)
+
+pub call_task : (tasks : List ℕ) (found slot : Option ℕ) (index : ℕ) → Calls tasks found slot → slot ≡ Some index → (task : ℕ) × (found ≡ Some task) × (slice_get tasks index ≡ Some task)
+call_task tasks None slot index none is = absurd (none-some index (sym none ∙ is))
+call_task tasks (Some task) slot index (other, here, stands) is = (task, refl, ap (slice_get tasks) (same_Some index other (sym is ∙ here)) ∙ stands)
+
+pub call_none : (tasks : List ℕ) (found slot : Option ℕ) → Calls tasks found slot → slot ≡ None → found ≡ None
+call_none tasks None slot none is = refl
+call_none tasks (Some task) slot (index, here, stands) is = absurd (none-some index (sym is ∙ here))

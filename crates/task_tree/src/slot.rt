@@ -1,0 +1,54 @@
+//! An index or none, in 32 bits.
+ghost use Rattle.std.specs.Prelude.{◌≡◌, ◌<◌, Some, None};
+
+use std::marker::Model;
+
+/// The index of a task, or none.
+#[derive(Clone, Copy, Debug, PartialEq, Eq)]
+pub(crate) struct Slot {
+    code: u32,
+}
+
+impl Model for Slot {
+    ghost use Rattle.std.specs.Prelude.{Option, ℕ};
+    ghost use Rattle.task_tree.specs.Slots.{index_of_code, code_of_index, code_again};
+
+    ghost Value = { Option ℕ };
+
+    ghost view = { λ slot. index_of_code slot.code };
+
+    ghost inverse = { λ index. record { code = code_of_index index } };
+
+    ghost inverse_ok = { λ slot _. code_again (λ code. record { code = code }) slot.code };
+}
+
+/// The code of no index.
+const NONE: u32 = u32::MAX;
+
+impl Slot {
+    /// No index.
+    pub(crate) fn none() -> Slot
+        ensures { result ≡ None }
+    {
+        Slot { code: NONE }
+    }
+
+    /// This index.
+    pub(crate) fn some(index: usize) -> Slot
+        requires { index < 4294967295 }
+        ensures { result ≡ Some index }
+    {
+        Slot { code: index as u32 }
+    }
+
+    /// The index.
+    pub(crate) fn get(self) -> Option<usize>
+        ensures { result ≡ self }
+    {
+        if self.code == NONE {
+            None
+        } else {
+            Some(self.code as usize)
+        }
+    }
+}
