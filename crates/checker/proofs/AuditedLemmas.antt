@@ -7,20 +7,16 @@ use Rattle.std.proofs.lemmas.List.Elements.{All-more}
 use Rattle.std.proofs.lemmas.Option.{none-some, same_Some, slice_get-get_or, slice_get_within}
 use Rattle.ompt_events.specs.declared.records.Record.{Record}
 use Rattle.ompt_events.specs.declared.records.Body.{Body}
-use Rattle.ompt_events.specs.declared.records.Body.TheVariants.{ParallelBegin, ParallelEnd, ImplicitTask, Dependences, TaskSchedule, SyncRegion, Cancel}
-use Rattle.ompt_events.specs.declared.records.Part.{Part}
-use Rattle.ompt_events.specs.declared.records.Part.TheVariants.{Whole}
+use Rattle.ompt_events.specs.declared.records.Body.TheVariants.{Dependences, TaskSchedule, SyncRegion}
 use Rattle.ompt_events.specs.declared.names.Status.TheVariants as status
 use Rattle.ompt_events.specs.declared.names.Endpoint.{Endpoint}
-use Rattle.ompt_events.specs.declared.names.Endpoint.TheVariants.{Begin, End, BeginEnd}
 use Rattle.ompt_events.specs.declared.names.SyncKind.{SyncKind}
 use Rattle.ompt_events.specs.declared.names.SyncKind.TheVariants.{Taskwait}
 use Rattle.ompt_events.specs.declared.deps.Dep.{Dep}
-use Rattle.ompt_events.specs.Flags as flag
-use Rattle.ompt_events.specs.Flags.{has_flag}
-use Rattle.ompt_events.specs.Records.{discarded, fulfilled, wait_completed, forked, region_named, dependences, finish, region}
+use Rattle.ompt_events.specs.Records.{wait_completed, dependences, region}
 use Rattle.ompt_events.specs.Places.{at}
-use Rattle.checker.specs.Audited.{is_audited, is_host_task, AreAudited}
+use Rattle.checker.specs.Audited.{is_audited, AreAudited}
+use Rattle.checker.specs.Waits.{AreTaskwaits, HaveNoDependences}
 
 pub audited_at : (rs : List Record) → AreAudited rs → (i : ℕ) (r : Record) → slice_get rs i ≡ Some r → is_audited r.body ≡ true
 audited_at rs are i r stands =
@@ -46,89 +42,27 @@ never {X} f none rs are i x says = there (slice_get rs i) refl says
     there None e says' = none-some x says'
     there (Some r) e says' = none r.body x (audited_at rs are i r e) says'
 
-both_left : (a b : Bool) → (a && b) ≡ true → a ≡ true
-both_left true b h = refl
-both_left false b h = h
-
-discards_none : (b : Body) (x : ℕ) → is_audited b ≡ true → discarded b ≡ Some x → ⊥
-discards_none (Cancel flags task share) x ok says = false≢true ok
-discards_none _ x ok says = none-some x says
-
-fulfils_none : (b : Body) (x : ℕ) → is_audited b ≡ true → fulfilled b ≡ Some x → ⊥
-fulfils_none (TaskSchedule status.EarlyFulfill prior next share) x ok says = false≢true ok
-fulfils_none (TaskSchedule status.LateFulfill prior next share) x ok says = false≢true ok
-fulfils_none _ x ok says = none-some x says
-
 pub completes_no_wait : (b : Body) (x : ℕ) → is_audited b ≡ true → wait_completed b ≡ Some x → ⊥
 completes_no_wait (TaskSchedule status.TaskwaitComplete prior next share) x ok says = false≢true ok
 completes_no_wait _ x ok says = none-some x says
-
-forks_none : (b : Body) (x : ℕ × ℕ) → is_audited b ≡ true → forked b ≡ Some x → ⊥
-forks_none (ParallelBegin requested task parallel) x ok says = false≢true ok
-forks_none _ x ok says = none-some x says
-
-names_no_region : (b : Body) (x : ℕ) → is_audited b ≡ true → region_named b ≡ Some x → ⊥
-names_no_region (ParallelEnd task parallel) x ok says = false≢true ok
-names_no_region (ImplicitTask Begin actual index flags parallel task) x ok says =
-    let initial : has_flag flags.0 flag.initial ≡ true = both_left (has_flag flags.0 flag.initial) (is_host_task flags.0) ok in
-    none-some x (rw initial at says)
-names_no_region _ x ok says = none-some x says
 
 lists_none : (b : Body) (x : ℕ × List Dep) → is_audited b ≡ true → dependences b ≡ Some x → ⊥
 lists_none (Dependences task list) x ok says = false≢true ok
 lists_none _ x ok says = none-some x says
 
-finishes_part : (b : Body) (x : ℕ × Part) → is_audited b ≡ true → finish b ≡ Some x → x.1 ≡ Whole
-finishes_part (TaskSchedule status.Complete prior next share) x ok says = sym (ap (λ (p : ℕ × Part). p.1) (same_Some (prior, Whole) x says))
-finishes_part (TaskSchedule status.Cancel prior next share) x ok says = absurd (false≢true ok)
-finishes_part (TaskSchedule status.Detach prior next share) x ok says = absurd (false≢true ok)
-finishes_part (TaskSchedule status.LateFulfill prior next share) x ok says = absurd (false≢true ok)
-finishes_part (TaskSchedule status.TaskwaitComplete prior next share) x ok says = absurd (false≢true ok)
-finishes_part (Cancel flags task share) x ok says = absurd (false≢true ok)
-finishes_part _ x ok says = absurd (none-some x says)
-
-region_waits : (b : Body) (x : ℕ × SyncKind × Endpoint) → is_audited b ≡ true → region b ≡ Some x → (x.1 ≡ Taskwait) × (x.2 ≢ BeginEnd)
-region_waits (SyncRegion Taskwait Begin parallel own) x ok says = (
-  sym (ap (λ (p : ℕ × SyncKind × Endpoint). p.1) (same_Some (own, Taskwait, Begin) x says)),
-  λ both. let is : Begin ≡ BeginEnd = ap (λ (p : ℕ × SyncKind × Endpoint). p.2) (same_Some (own, Taskwait, Begin) x says) ∙ both in cc,
-)
-region_waits (SyncRegion Taskwait End parallel own) x ok says = (
-  sym (ap (λ (p : ℕ × SyncKind × Endpoint). p.1) (same_Some (own, Taskwait, End) x says)),
-  λ both. let is : End ≡ BeginEnd = ap (λ (p : ℕ × SyncKind × Endpoint). p.2) (same_Some (own, Taskwait, End) x says) ∙ both in cc,
-)
+region_waits : (b : Body) (x : ℕ × SyncKind × Endpoint) → is_audited b ≡ true → region b ≡ Some x → x.1 ≡ Taskwait
+region_waits (SyncRegion Taskwait endpoint parallel own) x ok says = sym (ap (λ (p : ℕ × SyncKind × Endpoint). p.1) (same_Some (own, Taskwait, endpoint) x says))
 region_waits (SyncRegion kind endpoint parallel own) x ok says = absurd (false≢true ok)
 region_waits _ x ok says = absurd (none-some x says)
 
 -- ---- the same at a place
 
-pub no_discard : (rs : List Record) → AreAudited rs → (i task : ℕ) → at discarded rs i ≡ Some task → ⊥
-no_discard = never discarded discards_none
-
-pub no_fulfilment : (rs : List Record) → AreAudited rs → (i task : ℕ) → at fulfilled rs i ≡ Some task → ⊥
-no_fulfilment = never fulfilled fulfils_none
-
-pub no_wait_completed : (rs : List Record) → AreAudited rs → (i task : ℕ) → at wait_completed rs i ≡ Some task → ⊥
-no_wait_completed = never wait_completed completes_no_wait
-
-pub no_fork : (rs : List Record) → AreAudited rs → (i : ℕ) (x : ℕ × ℕ) → at forked rs i ≡ Some x → ⊥
-no_fork = never forked forks_none
-
-pub no_region_named : (rs : List Record) → AreAudited rs → (i parallel : ℕ) → at region_named rs i ≡ Some parallel → ⊥
-no_region_named = never region_named names_no_region
-
-pub no_dependences : (rs : List Record) → AreAudited rs → (i : ℕ) (x : ℕ × List Dep) → at dependences rs i ≡ Some x → ⊥
+pub no_dependences : (rs : List Record) → AreAudited rs → HaveNoDependences rs
 no_dependences = never dependences lists_none
 
-pub only_whole : (rs : List Record) → AreAudited rs → (i task : ℕ) (part : Part) → at finish rs i ≡ Some (task, part) → part ≡ Whole
-only_whole rs are i task part says = there (slice_get rs i) refl says
-  where
-    there : (o : Option Record) → slice_get rs i ≡ o → option_and_then (λ (r : Record). finish r.body) o ≡ Some (task, part) → part ≡ Whole
-    there None e says' = absurd (none-some (task, part) says')
-    there (Some r) e says' = finishes_part r.body (task, part) (audited_at rs are i r e) says'
-
-pub only_waits : (rs : List Record) → AreAudited rs → (i task : ℕ) (kind : SyncKind) (endpoint : Endpoint) → at region rs i ≡ Some (task, kind, endpoint) → (kind ≡ Taskwait) × (endpoint ≢ BeginEnd)
+pub only_waits : (rs : List Record) → AreAudited rs → AreTaskwaits rs
 only_waits rs are i task kind endpoint says = there (slice_get rs i) refl says
   where
-    there : (o : Option Record) → slice_get rs i ≡ o → option_and_then (λ (r : Record). region r.body) o ≡ Some (task, kind, endpoint) → (kind ≡ Taskwait) × (endpoint ≢ BeginEnd)
+    there : (o : Option Record) → slice_get rs i ≡ o → option_and_then (λ (r : Record). region r.body) o ≡ Some (task, kind, endpoint) → kind ≡ Taskwait
     there None e says' = absurd (none-some (task, kind, endpoint) says')
     there (Some r) e says' = region_waits r.body (task, kind, endpoint) (audited_at rs are i r e) says'

@@ -1,14 +1,11 @@
 mod AuditedLemmas
-mod MakerLemmas
 mod HomeLemmas
 mod CurrentLemmas
-mod RootedLemmas
-mod SettleLemmas
-mod RootlessLemmas
 mod RegionLemmas
 mod MergeLemmas
 mod EntryLemmas
 mod MergingLemmas
 mod ScheduleLemmas
+mod PhaseLemmas
 mod VerdictLemmas
 mod WaitLemmas

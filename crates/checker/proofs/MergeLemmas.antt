@@ -5,10 +5,11 @@ use Rattle.std.proofs.lemmas.Option.{none-some, same_Some}
 use Rattle.std.specs.Prelude.{slice_get, slice_index, option_map, MatchOption, IfSome}
 use Rattle.ompt_events.specs.declared.records.Record.{Record}
 use Rattle.ompt_events.specs.Places.{thread_at, seen_at}
-use Rattle.ompt_events.specs.HappensBefore.{thread_order, creation, discard, fulfilment, IsStep, program, ledger}
-use Rattle.checker.specs.Audited.{AreAudited}
-use Rattle.checker.proofs.AuditedLemmas.{no_discard, no_fulfilment}
-use Rattle.checker.specs.Merge.{AreAwaited, Stands, MayFollow, AreHeads, IsLeastEntry, IsReadyHead}
+use Rattle.ompt_events.specs.declared.cause.Cause.TheVariants.{Moved}
+use Rattle.ompt_events.specs.Causes.{IsFreeOf}
+use Rattle.ompt_events.specs.HappensBefore.{IsProgramStep, thread_order, creation, discard, fulfilment, IsStep, program, ledger, HappensBefore, step, chain}
+use Rattle.checker.proofs.ScheduleLemmas.{step_awaits, awaits_before}
+use Rattle.checker.specs.Merge.{HaveCreations, AreClosed, StartsOrFulfils, Stands, MayFollow, AreHeads, IsLeastEntry, IsReadyHead}
 
 pub stands_same : (placed : List Bool) (a b : ℕ) → a ≡ b → Stands placed a → Stands placed b
 stands_same placed a b same stands = ap (slice_get placed) (sym same) ∙ stands
@@ -23,8 +24,8 @@ stands_or_not placed i = stands (slice_get placed i)
     stands (Some false) = inr (λ e. let b : false ≡ true = same_Some false true e in cc)
 
 -- the head of a thread that passes the test may stand next
-pub may_follow : (rs : List Record) → AreAudited rs → (awaited : List (Option ℕ)) (placed : List Bool) (heads : List ℕ) (least : Option ℕ) (thread head : ℕ) → AreAwaited rs (length rs) awaited → AreHeads rs placed heads → IsLeastEntry rs placed least → thread < length heads → slice_index heads thread ≡ head → IsReadyHead rs awaited placed least head → MayFollow rs placed head
-may_follow rs audited awaited placed heads least thread head awaits are is_least low is ready = record {
+pub may_follow : (rs : List Record) → StartsOrFulfils rs → (awaited : List (Option ℕ)) (placed : List Bool) (heads : List ℕ) (least : Option ℕ) (thread head : ℕ) → HaveCreations rs (length rs) awaited → AreHeads rs placed heads → IsLeastEntry rs placed least → thread < length heads → slice_index heads thread ≡ head → IsReadyHead rs awaited placed least head → MayFollow rs placed head
+may_follow rs apart awaited placed heads least thread head awaits are is_least low is ready = record {
   within = ready.within;
   missing = λ standing. are.missing thread low (stands_same placed head (slice_index heads thread) (sym is) standing);
   steps = λ a step. stands_before a step;
@@ -35,9 +36,9 @@ may_follow rs audited awaited placed heads least thread head awaits are is_least
 
     stands_before : (a : ℕ) → IsStep rs a head → Stands placed a
     stands_before a (program (thread_order earlier inside same)) = are.below thread a (same ∙ runs) (rw is earlier)
-    stands_before a (program (creation task creates starts)) = ready.is_created a (awaits.each head a ready.within (task, starts, creates))
-    stands_before a (program (discard task creates gone)) = absurd (no_discard rs audited head task gone)
-    stands_before a (program (fulfilment task creates done)) = absurd (no_fulfilment rs audited head task done)
+    stands_before a (program (creation task creates starts)) = ready.is_created a (awaits.each head a ready.within (step_awaits rs apart a head (inr (inl (task, creates, starts.starts)))))
+    stands_before a (program (discard task creates gone)) = ready.is_created a (awaits.each head a ready.within (step_awaits rs apart a head (inr (inr (task, creates, gone)))))
+    stands_before a (program (fulfilment task creates done)) = ready.is_created a (awaits.each head a ready.within (step_awaits rs apart a head (inl (task, creates, done))))
     stands_before a (ledger finishes less) = elim (stands_or_not placed a) [
       | inl standing ↦ standing
       | inr missing ↦
@@ -46,11 +47,16 @@ may_follow rs audited awaited placed heads least thread head awaits are is_least
           absurd (omega (arith, entry.2, bound, less))
     ]
 
+-- where each step leads from a record that stands, all that happens before stands
+all_before : (rs : List Record) (placed : List Bool) (a i : ℕ) → AreClosed rs placed → ((c : ℕ) → IsStep rs c i → Stands placed c) → HappensBefore rs a i → Stands placed a
+all_before rs placed a i closed steps (step s) = steps a s
+all_before rs placed a i closed steps (chain {b = mid} first second) = closed a mid first (all_before rs placed mid i closed steps second)
+
 -- a record that may stand next passes the test
-pub ready_head : (rs : List Record) (awaited : List (Option ℕ)) (placed : List Bool) (least : Option ℕ) (i : ℕ) → AreAwaited rs (length rs) awaited → IsLeastEntry rs placed least → MayFollow rs placed i → IsReadyHead rs awaited placed least i
-ready_head rs awaited placed least i awaits is_least may = record {
+pub ready_head : (rs : List Record) (awaited : List (Option ℕ)) (placed : List Bool) (least : Option ℕ) (i : ℕ) → IsFreeOf rs Moved → AreClosed rs placed → HaveCreations rs (length rs) awaited → IsLeastEntry rs placed least → MayFollow rs placed i → IsReadyHead rs awaited placed least i
+ready_head rs awaited placed least i at_home closed awaits is_least may = record {
   within = may.within;
-  is_created = λ c found. let h = awaits.only i c found in may.steps c (program (creation h.0 h.2 h.1));
+  is_created = λ c found. all_before rs placed c i closed may.steps (awaits_before rs i c at_home (awaits.only i c found));
   is_entered = λ entry found. elim (cases_lt entry (seen_at rs i)) [
     | inl less ↦
         let reached = is_least.reached entry found in
@@ -87,16 +93,16 @@ thread_of rs i within = found (slice_get rs i) refl
     found (Some r) e = (r.thread, ap (option_map (λ (q : Record). q.thread)) e)
 
 -- where no head passes the test no record may stand next, and where one does, none before the first of them
-pub none_found : (rs : List Record) (awaited : List (Option ℕ)) (placed : List Bool) (heads : List ℕ) (least first : Option ℕ) (n : ℕ) → AreAwaited rs (length rs) awaited → AreHeads rs placed heads → IsLeastEntry rs placed least → length heads ≤ n → MatchOption first ((t : ℕ) → t < n → IsReadyHead rs awaited placed least (slice_index heads t) → ⊥) (λ place. (t : ℕ) → t < n → slice_index heads t < place → IsReadyHead rs awaited placed least (slice_index heads t) → ⊥) → MatchOption first ((i : ℕ) → MayFollow rs placed i → ⊥) (λ place. (i : ℕ) → i < place → MayFollow rs placed i → ⊥)
-none_found rs awaited placed heads least None n awaits are is_least all none = λ i may.
+pub none_found : (rs : List Record) (awaited : List (Option ℕ)) (placed : List Bool) (heads : List ℕ) (least first : Option ℕ) (n : ℕ) → IsFreeOf rs Moved → AreClosed rs placed → HaveCreations rs (length rs) awaited → AreHeads rs placed heads → IsLeastEntry rs placed least → length heads ≤ n → MatchOption first ((t : ℕ) → t < n → IsReadyHead rs awaited placed least (slice_index heads t) → ⊥) (λ place. (t : ℕ) → t < n → slice_index heads t < place → IsReadyHead rs awaited placed least (slice_index heads t) → ⊥) → MatchOption first ((i : ℕ) → MayFollow rs placed i → ⊥) (λ place. (i : ℕ) → i < place → MayFollow rs placed i → ⊥)
+none_found rs awaited placed heads least None n at_home closed awaits are is_least all none = λ i may.
     let thread = thread_of rs i may.within in
     let same = is_head rs placed heads i thread.0 are thread.1 may in
-    none thread.0 (let low = are.all i thread.0 thread.1 in omega arith) (rw same (ready_head rs awaited placed least i awaits is_least may))
-none_found rs awaited placed heads least (Some place) n awaits are is_least all none = λ i before may.
+    none thread.0 (let low = are.all i thread.0 thread.1 in omega arith) (rw same (ready_head rs awaited placed least i at_home closed awaits is_least may))
+none_found rs awaited placed heads least (Some place) n at_home closed awaits are is_least all none = λ i before may.
     let thread = thread_of rs i may.within in
     let same = is_head rs placed heads i thread.0 are thread.1 may in
-    none thread.0 (let low = are.all i thread.0 thread.1 in omega arith) (rw same before) (rw same (ready_head rs awaited placed least i awaits is_least may))
+    none thread.0 (let low = are.all i thread.0 thread.1 in omega arith) (rw same before) (rw same (ready_head rs awaited placed least i at_home closed awaits is_least may))
 
-pub first_found : (rs : List Record) → AreAudited rs → (awaited : List (Option ℕ)) (placed : List Bool) (heads : List ℕ) (least first : Option ℕ) (n : ℕ) → AreAwaited rs (length rs) awaited → AreHeads rs placed heads → IsLeastEntry rs placed least → n ≤ length heads → IfSome first (λ place. IsReadyHead rs awaited placed least place × ((t : ℕ) × (t < n) × (slice_index heads t ≡ place))) → IfSome first (MayFollow rs placed)
-first_found rs audited awaited placed heads least None n awaits are is_least low found = found
-first_found rs audited awaited placed heads least (Some place) n awaits are is_least low (ready, (t, below, is)) = may_follow rs audited awaited placed heads least t place awaits are is_least (omega arith) is ready
+pub first_found : (rs : List Record) → StartsOrFulfils rs → (awaited : List (Option ℕ)) (placed : List Bool) (heads : List ℕ) (least first : Option ℕ) (n : ℕ) → HaveCreations rs (length rs) awaited → AreHeads rs placed heads → IsLeastEntry rs placed least → n ≤ length heads → IfSome first (λ place. IsReadyHead rs awaited placed least place × ((t : ℕ) × (t < n) × (slice_index heads t ≡ place))) → IfSome first (MayFollow rs placed)
+first_found rs apart awaited placed heads least None n awaits are is_least low found = found
+first_found rs apart awaited placed heads least (Some place) n awaits are is_least low (ready, (t, below, is)) = may_follow rs apart awaited placed heads least t place awaits are is_least (omega arith) is ready

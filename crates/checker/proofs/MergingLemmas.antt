@@ -17,8 +17,7 @@ use Rattle.ompt_events.specs.HappensBefore.{step}
 use Rattle.ompt_events.specs.declared.cause.Cause.TheVariants.{NoOrder}
 use Rattle.ompt_events.specs.Causes.{HasCause, no_order, HasNoOrder, IsFirstWith}
 use Rattle.ompt_events.specs.Linearization.{IsDue, IsReady, IsFirstReady, IsGreedy, IsGrounded, IsLinearization}
-use Rattle.checker.specs.Merge.{Stands, MayFollow, AreHeads, AreFirstHeads}
-use Rattle.checker.proofs.RootedLemmas.{contains_none}
+use Rattle.checker.specs.Merge.{AreClosed, Stands, MayFollow, AreHeads, AreFirstHeads}
 use Rattle.checker.proofs.MergeLemmas.{stands_or_not, is_head}
 use Rattle.ompt_events.proofs.LinearizationLemmas.{IsClosed, due_from_steps, closed_more, greedy_more, greedy_grounded, grounded_rising}
 use Rattle.ompt_events.proofs.HappensBeforeLemmas.{before_to, before_from}
@@ -65,6 +64,13 @@ pub record IsMerging (rs : List Record) (placed : List Bool) (heads : List ℕ) 
   -- the records that are left to place
   pub left : List ℕ
   pub permutation : IsPermutation (places rs) (order ++ left)
+
+-- what stands does so with all that happens before it
+pub merging_closed : (rs : List Record) (placed : List Bool) (heads order : List ℕ) → IsMerging rs placed heads order → AreClosed rs placed
+merging_closed rs placed heads order merging a b before stands = merging.from_order a (merging.closed b (merging.to_order b stands) a before)
+
+contains_none : (i : ℕ) → Contains (let l : List ℕ = [] in l) i → ⊥
+contains_none i (k, below, is) = absurd (omega arith)
 
 pub merging_start : (rs : List Record) (heads : List ℕ) (placed : List Bool) → placed ≡ replicate (length rs) false → AreFirstHeads rs heads → IsMerging rs placed heads []
 merging_start rs heads placed is first = rw is (record {

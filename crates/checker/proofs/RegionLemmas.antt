@@ -17,11 +17,10 @@ use Rattle.ompt_events.specs.Records.{region}
 use Rattle.ompt_events.specs.Places.{at}
 use Rattle.ompt_events.specs.Regions.{after_region, open_regions, kind_at, is_called_barrier, EndsRegion}
 use Rattle.ompt_events.specs.Causes.{HasNoBegin, HasCause, region_order, barrier_order, IsFirstWith, IsFreeOf}
-use Rattle.checker.specs.Audited.{AreAudited}
+use Rattle.checker.specs.Waits.{AreTaskwaits}
 use Rattle.ompt_events.proofs.RegionLemmas.{open_none, open_other, open_own}
 use Rattle.checker.specs.Regions.{below_of, top_after, IsStack, SetsTo, AreLinked}
 use Rattle.ompt_events.proofs.PlaceLemmas.{at_within}
-use Rattle.checker.proofs.AuditedLemmas.{only_waits}
 
 -- a stack stays when a link is added
 stack_more : (links : List (Option ℕ)) (link top : Option ℕ) (stack : List ℕ) → IsStack links top stack → IsStack (links ++ link ∷ []) top stack
@@ -105,14 +104,14 @@ open_more_own rs n own kind endpoint innermost after links are says found sets =
           },
         )
 
-pub has_no_begin : (rs : List Record) → AreAudited rs → (i : ℕ) → HasCause rs i RegionOrder → HasNoBegin rs i
+pub has_no_begin : (rs : List Record) → AreTaskwaits rs → (i : ℕ) → HasCause rs i RegionOrder → HasNoBegin rs i
 has_no_begin rs are i (region_order h) = h
 has_no_begin rs are i (barrier_order (task, kind, endpoint, says, called, explicit)) =
-    let waits : is_called_barrier Taskwait ≡ true = rw ((only_waits rs are i task kind endpoint says).0) at called in
+    let waits : is_called_barrier Taskwait ≡ true = rw (are i task kind endpoint says) at called in
     absurd (false≢true waits)
 
 -- an end that misses its begin
-pub misses_here : (rs : List Record) → AreAudited rs → (i own : ℕ) (kind : SyncKind) (endpoint : Endpoint) (innermost : BTreeMap ℕ ℕ) (links : List (Option ℕ)) → AreOpen rs i innermost links → ((k : ℕ) → k < i → HasNoBegin rs k → ⊥) → at region rs i ≡ Some (own, kind, endpoint) → (endpoint ≡ End) × ((begin : ℕ) → get nat_cmp innermost own ≡ Some begin → kind_at rs begin ≢ Some kind) → IsFirstWith rs RegionOrder i
+pub misses_here : (rs : List Record) → AreTaskwaits rs → (i own : ℕ) (kind : SyncKind) (endpoint : Endpoint) (innermost : BTreeMap ℕ ℕ) (links : List (Option ℕ)) → AreOpen rs i innermost links → ((k : ℕ) → k < i → HasNoBegin rs k → ⊥) → at region rs i ≡ Some (own, kind, endpoint) → (endpoint ≡ End) × ((begin : ℕ) → get nat_cmp innermost own ≡ Some begin → kind_at rs begin ≢ Some kind) → IsFirstWith rs RegionOrder i
 misses_here rs audited i own kind endpoint innermost links are free says (is_end, none) = record {
   within = at_within region rs i (own, kind, endpoint) says;
   has = region_order (
@@ -137,7 +136,7 @@ begins_here rs n links linked (task, kind, h) =
     h.none found.0 found.2.innermost found.2.same_kind
 
 -- every end up to the last has its begin
-pub free_of_misses : (rs : List Record) → AreAudited rs → (n : ℕ) → ((k : ℕ) → k < n → HasNoBegin rs k → ⊥) → length rs ≤ n → IsFreeOf rs RegionOrder
+pub free_of_misses : (rs : List Record) → AreTaskwaits rs → (n : ℕ) → ((k : ℕ) → k < n → HasNoBegin rs k → ⊥) → length rs ≤ n → IsFreeOf rs RegionOrder
 free_of_misses rs audited n free all i has =
     let h = has_no_begin rs audited i has in
     free i (let inside = at_within region rs i (h.0, h.1, End) h.2.ends in omega arith) h

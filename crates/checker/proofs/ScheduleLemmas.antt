@@ -1,124 +1,241 @@
 -- Which creations are awaited, and when file order is an order.
-use Rattle.std.proofs.Common.{◌≡◌, ◌≢◌, ◌∙◌, ℕ, ◌<◌, ◌+◌, List, [], ◌∷◌, ◌++◌, length, Option, Some, None, refl, sym, ap, subst, arith, inl, inr}
-use Rattle.std.proofs.lemmas.Bool.{cases_eq}
-use Rattle.std.proofs.lemmas.Option.{none-some, same_Some, slice_get-get_or, slice_get_within}
-use Rattle.std.proofs.lemmas.List.{get_or_append_left, get_or_push, length_push}
-use Rattle.std.specs.Prelude.{slice_get, MatchOption}
-use Rattle.std.specs.Ordering.{nat_cmp}
-use Rattle.std.specs.BTreeMap.{BTreeMap, get, Updates}
+use Rattle.std.proofs.Common.{◌≡◌, ◌≢◌, ◌∙◌, ℕ, zero, suc, ◌<◌, ◌≤◌, ◌+◌, List, [], ◌∷◌, ◌++◌, length, get_or, Option, Some, None, Bool, true, false, cond, refl, sym, ap, subst, arith, inl, inr, ◌⊎◌}
+use Rattle.std.proofs.lemmas.Bool.{cases_eq, false≢true}
+use Rattle.std.proofs.lemmas.Option.{none-some, same_Some, slice_get_within, slice_get-get_or}
+use Rattle.std.proofs.lemmas.List.{length_push}
+use Rattle.std.specs.Prelude.{◌↔◌, is_some, slice_get, option_and_then}
+use Rattle.std.specs.Option.{option_or}
 use Rattle.ompt_events.specs.declared.records.Record.{Record}
-use Rattle.ompt_events.specs.Records.{created, started, made}
-use Rattle.ompt_events.specs.Places.{at, seen_at}
+use Rattle.ompt_events.specs.declared.records.Body.{Body}
+use Rattle.ompt_events.specs.declared.records.Body.TheVariants.{TaskSchedule, Cancel}
+use Rattle.ompt_events.specs.declared.names.Status.TheVariants as status
+use Rattle.ompt_events.specs.declared.cause.Cause.TheVariants.{Moved}
+use Rattle.ompt_events.specs.Flags as flag
+use Rattle.ompt_events.specs.Flags.{has_flag}
+use Rattle.ompt_events.specs.Records.{made, created, started, discarded, fulfilled}
+use Rattle.ompt_events.specs.Places.{at, thread_at, seen_at}
+use Rattle.ompt_events.specs.Traces.{IsTrace, IsSound, HasItsNext}
 use Rattle.ompt_events.specs.Tree.{IsExplicit}
 use Rattle.ompt_events.specs.HappensBefore.{IsStart, IsFinishing, thread_order, creation, discard, fulfilment, IsStep, program, ledger, HappensBefore, step, chain}
-use Rattle.checker.specs.Merge.{IsAwaited, AreAwaited}
-use Rattle.checker.specs.Audited.{AreAudited}
-use Rattle.checker.proofs.AuditedLemmas.{no_discard, no_fulfilment}
-use Rattle.checker.specs.Search.{AreMakers}
-use Rattle.ompt_events.proofs.NumberMaps.{updated_here, updated_there}
-use Rattle.ompt_events.proofs.PlaceLemmas.{at_within}
+use Rattle.ompt_events.specs.Causes.{IsFreeOf, moved}
+use Rattle.ompt_events.proofs.ListLemmas.{get_pushed, get_last, pushed_cases}
+use Rattle.ompt_events.proofs.PlaceLemmas.{at_within, at_read}
 use Rattle.ompt_events.proofs.RecordLemmas.{created_at_made}
+use Rattle.task_tree.specs.Subjects.{subject, object, Calls}
+use Rattle.task_tree.specs.Family.{FamilyView, IsFamilyOf}
+use Rattle.task_tree.proofs.SubjectLemmas.{call_task, call_none}
+use Rattle.task_tree.proofs.FamilyLemmas.{made_once}
+use Rattle.checker.specs.Merge.{awaited, Awaits, StartsOrFulfils, HaveCreations}
 
--- the tasks that were next in the first n records are the keys
-pub record AreStarted (rs : List Record) (n : ℕ) (starts : BTreeMap ℕ ℕ) : Type 0 where
-  pub each : (task k : ℕ) → k < n → at started rs k ≡ Some task → get nat_cmp starts task ≢ None
-  pub only : (task k : ℕ) → get nat_cmp starts task ≡ Some k → (k < n) × (at started rs k ≡ Some task)
+-- ---- what a record awaits
 
-pub started_none : (rs : List Record) (n : ℕ) (starts : BTreeMap ℕ ℕ) → AreStarted rs n starts → at started rs n ≡ None → AreStarted rs (n + 1) starts
-started_none rs n starts are none = record {
-  each = λ task k below starts_it. elim (cases_eq k n) [
-    | inl same ↦ absurd (none-some task (sym none ∙ ap (at started rs) (sym same) ∙ starts_it))
-    | inr apart ↦ are.each task k (omega arith) starts_it
-  ];
-  only = λ task k found. let old = are.only task k found in (omega (arith, old.0), old.1);
-}
+started_keeps : (b : Body) (task : ℕ) → started b ≡ Some task → discarded b ≡ None
+started_keeps (Cancel flags own share) task starts = absurd (none-some task starts)
+started_keeps _ task starts = refl
 
-pub started_more : (rs : List Record) (n task : ℕ) (starts after : BTreeMap ℕ ℕ) → AreStarted rs n starts → at started rs n ≡ Some task → Updates nat_cmp starts after task (Some n) → AreStarted rs (n + 1) after
-started_more rs n task starts after are says updates = record {
-  each = λ other k below starts_it none. elim (cases_eq other task) [
-    | inl same ↦ none-some n (sym none ∙ ap (get nat_cmp after) same ∙ updated_here starts after task (Some n) updates)
-    | inr apart ↦ elim (cases_eq k n) [
-      | inl is ↦ apart (same_Some other task (sym starts_it ∙ ap (at started rs) is ∙ says))
-      | inr before ↦ are.each other k (omega arith) starts_it (sym (updated_there starts after task (Some n) updates other apart) ∙ none)
-    ]
-  ];
-  only = λ other k found. elim (cases_eq other task) [
-    | inl same ↦
-        let is : n ≡ k = same_Some n k (sym (updated_here starts after task (Some n) updates) ∙ ap (get nat_cmp after) (sym same) ∙ found) in
-        (omega arith, ap (at started rs) (sym is) ∙ says ∙ ap Some (sym same))
-    | inr apart ↦ let old = are.only other k (sym (updated_there starts after task (Some n) updates other apart) ∙ found) in (omega (arith, old.0), old.1)
-  ];
-}
+awaited_start : (b : Body) (task : ℕ) (o : Option ℕ) → fulfilled b ≡ o → ((other : ℕ) → o ≡ Some other → ⊥) → started b ≡ Some task → awaited b ≡ Some task
+awaited_start b task None e apart starts = ap (λ o. option_or o (option_or (discarded b) (started b))) e ∙ ap (λ o. option_or o (started b)) (started_keeps b task starts) ∙ starts
+awaited_start b task (Some other) e apart starts = absurd (apart other refl)
 
--- the record starts the task, which nothing started before
-pub starts_here : (rs : List Record) (n task : ℕ) (starts : BTreeMap ℕ ℕ) → AreStarted rs n starts → at started rs n ≡ Some task → get nat_cmp starts task ≡ None → IsStart rs n task
-starts_here rs n task starts are says none = record { starts = says; first = λ k below there. are.each task k below there none }
+awaited_discard : (b : Body) (task : ℕ) → discarded b ≡ Some task → awaited b ≡ Some task
+awaited_discard (Cancel flags own share) task gone = ap (λ o. option_or o None) gone
+awaited_discard _ task gone = absurd (none-some task gone)
 
--- it starts no task that was started before
-pub started_before : (rs : List Record) (n task k other : ℕ) (starts : BTreeMap ℕ ℕ) → AreStarted rs n starts → at started rs n ≡ Some task → get nat_cmp starts task ≡ Some k → IsStart rs n other → ⊥
-started_before rs n task k other starts are says found start =
-    let same : other ≡ task = same_Some other task (sym start.starts ∙ says) in
-    let old = are.only task k found in
-    start.first k old.0 (old.1 ∙ ap Some (sym same))
+option_cases : (a b : Option ℕ) (x : ℕ) → option_or a b ≡ Some x → (a ≡ Some x) ⊎ (b ≡ Some x)
+option_cases None b x is = inr is
+option_cases (Some y) b x is = inl is
 
--- one more record, with the creation that it awaits
-pub awaited_more : (rs : List Record) (n : ℕ) (awaited : List (Option ℕ)) (found : Option ℕ) → AreAwaited rs n awaited → MatchOption found ((c : ℕ) → IsAwaited rs n c → ⊥) (λ c. IsAwaited rs n c × ((other : ℕ) → IsAwaited rs n other → other ≡ c)) → AreAwaited rs (n + 1) (awaited ++ found ∷ [])
-awaited_more rs n awaited found are here = record {
-  all = length_push awaited found ∙ ap (λ k. k + 1) are.all;
-  each = λ i c below is. elim (cases_eq i n) [
-    | inl same ↦ last i same ∙ ap Some (is_found found c here (let P : ℕ → Type 0 = λ j. IsAwaited rs j c in subst P same is))
-    | inr apart ↦ let old = are.each i c (omega arith) is in before i (slice_get_within awaited i (Some c) old) ∙ old
-  ];
-  only = λ i c is. elim (cases_eq i n) [
-    | inl same ↦ let P : ℕ → Type 0 = λ j. IsAwaited rs j c in subst P (sym same) (is_awaited found c here (same_Some found (Some c) (sym (last i same) ∙ is)))
-    | inr apart ↦
-        let inside : i < length awaited = let w = slice_get_within (awaited ++ found ∷ []) i (Some c) is in omega (arith, w, length_push awaited found, are.all) in
-        are.only i c (sym (before i inside) ∙ is)
-  ];
-}
+awaited_of : (b : Body) (task : ℕ) → awaited b ≡ Some task → (fulfilled b ≡ Some task) ⊎ ((discarded b ≡ Some task) ⊎ (started b ≡ Some task))
+awaited_of b task is = elim (option_cases (fulfilled b) (option_or (discarded b) (started b)) task is) [
+  | inl fulfils ↦ inl fulfils
+  | inr rest ↦ inr (option_cases (discarded b) (started b) task rest)
+]
+
+-- the same at a place
+awaited_at : (rs : List Record) (i task : ℕ) → at awaited rs i ≡ Some task → (at fulfilled rs i ≡ Some task) ⊎ ((at discarded rs i ≡ Some task) ⊎ (at started rs i ≡ Some task))
+awaited_at rs i task is = there (slice_get rs i) is
   where
-    last : (i : ℕ) → i ≡ n → slice_get (awaited ++ found ∷ []) i ≡ Some found
-    last i same = slice_get-get_or (awaited ++ found ∷ []) i None (rw (length_push awaited found) (omega (arith, are.all))) ∙ ap Some (get_or_push awaited found None i (are.all ∙ sym same))
+    there : (o : Option Record) → option_and_then (λ (r : Record). awaited r.body) o ≡ Some task → (option_and_then (λ (r : Record). fulfilled r.body) o ≡ Some task) ⊎ ((option_and_then (λ (r : Record). discarded r.body) o ≡ Some task) ⊎ (option_and_then (λ (r : Record). started r.body) o ≡ Some task))
+    there None is' = absurd (none-some task is')
+    there (Some r) is' = awaited_of r.body task is'
 
-    before : (i : ℕ) → i < length awaited → slice_get (awaited ++ found ∷ []) i ≡ slice_get awaited i
-    before i inside = slice_get-get_or (awaited ++ found ∷ []) i None (rw (length_push awaited found) (omega arith)) ∙ ap Some (get_or_append_left awaited (found ∷ []) None i inside) ∙ sym (slice_get-get_or awaited i None inside)
+-- a step from a creation that is none of the thread's order
+abbrev pub IsCreationStep : List Record → ℕ → ℕ → Type 0
+IsCreationStep rs c i =
+    ((task : ℕ) × (at created rs c ≡ Some task) × (at fulfilled rs i ≡ Some task)) ⊎ (((task : ℕ) × (at created rs c ≡ Some task) × (at started rs i ≡ Some task)) ⊎ ((task : ℕ) × (at created rs c ≡ Some task) × (at discarded rs i ≡ Some task)))
 
-    is_found : (o : Option ℕ) (c : ℕ) → MatchOption o ((d : ℕ) → IsAwaited rs n d → ⊥) (λ d. IsAwaited rs n d × ((other : ℕ) → IsAwaited rs n other → other ≡ d)) → IsAwaited rs n c → o ≡ Some c
-    is_found None c h is = absurd (h c is)
-    is_found (Some d) c h is = ap Some (sym (h.1 c is))
+pub step_awaits : (rs : List Record) → StartsOrFulfils rs → (c i : ℕ) → IsCreationStep rs c i → Awaits rs i c
+step_awaits rs apart c i (inl (task, creates, fulfils)) = (task, there (slice_get rs i) fulfils, creates)
+  where
+    there : (o : Option Record) → option_and_then (λ (r : Record). fulfilled r.body) o ≡ Some task → option_and_then (λ (r : Record). awaited r.body) o ≡ Some task
+    there None is = absurd (none-some task is)
+    there (Some r) is = ap (λ o. option_or o (option_or (discarded r.body) (started r.body))) is
+step_awaits rs apart c i (inr (inl (task, creates, starts))) = (task, there (slice_get rs i) (apart i) starts, creates)
+  where
+    there : (o : Option Record) → ((t other : ℕ) → option_and_then (λ (r : Record). fulfilled r.body) o ≡ Some t → option_and_then (λ (r : Record). started r.body) o ≡ Some other → ⊥) → option_and_then (λ (r : Record). started r.body) o ≡ Some task → option_and_then (λ (r : Record). awaited r.body) o ≡ Some task
+    there None none is = absurd (none-some task is)
+    there (Some r) none is = awaited_start r.body task (fulfilled r.body) refl (λ other fulfils. none other task fulfils is) is
+step_awaits rs apart c i (inr (inr (task, creates, gone))) = (task, there (slice_get rs i) gone, creates)
+  where
+    there : (o : Option Record) → option_and_then (λ (r : Record). discarded r.body) o ≡ Some task → option_and_then (λ (r : Record). awaited r.body) o ≡ Some task
+    there None is = absurd (none-some task is)
+    there (Some r) is = awaited_discard r.body task is
 
-    is_awaited : (o : Option ℕ) (c : ℕ) → MatchOption o ((d : ℕ) → IsAwaited rs n d → ⊥) (λ d. IsAwaited rs n d × ((other : ℕ) → IsAwaited rs n other → other ≡ d)) → o ≡ Some c → IsAwaited rs n c
-    is_awaited None c h e = absurd (none-some c e)
-    is_awaited (Some d) c h e = let P : ℕ → Type 0 = IsAwaited rs n in subst P (same_Some d c e) h.0
+-- ---- what is awaited happens before
 
--- what a record awaits that starts nothing, a task that was started before, or a task for the first time
-pub awaits_none : (rs : List Record) (n : ℕ) → at started rs n ≡ None → (c : ℕ) → IsAwaited rs n c → ⊥
-awaits_none rs n none c (task, start, creates) = none-some task (sym none ∙ start.starts)
+starts_below : (rs : List Record) (task n : ℕ) → ((s : ℕ) × (s < n) × IsStart rs s task) ⊎ ((k : ℕ) → k < n → at started rs k ≢ Some task)
+starts_below rs task zero = inr (λ k below. absurd (omega arith))
+starts_below rs task (suc n) = elim (starts_below rs task n) [
+  | inl found ↦ inl (found.0, omega (arith, found.1), found.2)
+  | inr none ↦ here (at started rs n) refl none
+]
+  where
+    here : (o : Option ℕ) → at started rs n ≡ o → ((k : ℕ) → k < n → at started rs k ≢ Some task) → ((s : ℕ) × (s < suc n) × IsStart rs s task) ⊎ ((k : ℕ) → k < suc n → at started rs k ≢ Some task)
+    here None e none = inr (λ k below starts. elim (cases_eq k n) [
+      | inl same ↦ none-some task (sym e ∙ ap (at started rs) (sym same) ∙ starts)
+      | inr apart ↦ none k (omega arith) starts
+    ])
+    here (Some other) e none = elim (cases_eq other task) [
+      | inl same ↦ inl (n, omega arith, record { starts = e ∙ ap Some same; first = none })
+      | inr different ↦ inr (λ k below starts. elim (cases_eq k n) [
+        | inl is ↦ different (same_Some other task (sym e ∙ ap (at started rs) (sym is) ∙ starts))
+        | inr apart ↦ none k (omega arith) starts
+      ])
+    ]
 
-pub awaits_before : (rs : List Record) (n task k : ℕ) (starts : BTreeMap ℕ ℕ) → AreStarted rs n starts → at started rs n ≡ Some task → get nat_cmp starts task ≡ Some k → (c : ℕ) → IsAwaited rs n c → ⊥
-awaits_before rs n task k starts are says found c (other, start, creates) = started_before rs n task k other starts are says found start
+same_option : (a b : Option ℕ) → (a ≢ b → ⊥) → a ≡ b
+same_option None None both = refl
+same_option None (Some y) both = absurd (both (λ e. none-some y e))
+same_option (Some x) None both = absurd (both (λ e. none-some x (sym e)))
+same_option (Some x) (Some y) both = elim (cases_eq x y) [
+  | inl same ↦ ap Some same
+  | inr apart ↦ absurd (both (λ e. apart (same_Some x y e)))
+]
 
-pub awaits_first : (rs : List Record) (makers : BTreeMap ℕ ℕ) (n task : ℕ) (starts : BTreeMap ℕ ℕ) (found : Option ℕ) → AreMakers rs (length rs) makers → AreStarted rs n starts → at started rs n ≡ Some task → get nat_cmp starts task ≡ None → MatchOption found (IsExplicit rs task → ⊥) (λ place. at created rs place ≡ Some task) → MatchOption found ((c : ℕ) → IsAwaited rs n c → ⊥) (λ c. IsAwaited rs n c × ((other : ℕ) → IsAwaited rs n other → other ≡ c))
-awaits_first rs makers n task starts None are known says none here = λ c (other, start, creates).
-    let same : other ≡ task = same_Some other task (sym start.starts ∙ says) in
-    here (c, creates ∙ ap Some same)
-awaits_first rs makers n task starts (Some place) are known says none here = (
-  (task, starts_here rs n task starts known says none, here),
-  λ c (other, start, creates).
-      let same : other ≡ task = same_Some other task (sym start.starts ∙ says) in
-      let makes : at made rs c ≡ Some task = created_at_made task rs c (creates ∙ ap Some same) in
-      let makes_too : at made rs place ≡ Some task = created_at_made task rs place here in
-      same_Some c place (sym (are.each task c (at_within made rs c task makes) makes) ∙ are.each task place (at_within made rs place task makes_too) makes_too),
+-- a task starts on one thread, so each of its starts is behind its creation
+start_before : (rs : List Record) (task c i : ℕ) → IsFreeOf rs Moved → at created rs c ≡ Some task → at started rs i ≡ Some task → HappensBefore rs c i
+start_before rs task c i at_home creates starts = elim (starts_below rs task i) [
+  | inr none ↦ step (program (creation task creates (record { starts = starts; first = none })))
+  | inl (s, below, first) ↦
+      let same = same_option (thread_at rs s) (thread_at rs i) (λ other. at_home i (moved (task, s, (c, creates), starts, below, first.starts, other))) in
+      chain (step (program (creation task creates first))) (step (program (thread_order below (at_within started rs i task starts) same)))
+]
+
+pub awaits_before : (rs : List Record) (i c : ℕ) → IsFreeOf rs Moved → Awaits rs i c → HappensBefore rs c i
+awaits_before rs i c at_home (task, waits, creates) = elim (awaited_at rs i task waits) [
+  | inl fulfils ↦ step (program (fulfilment task creates fulfils))
+  | inr (inl gone) ↦ step (program (discard task creates gone))
+  | inr (inr starts) ↦ start_before rs task c i at_home creates starts
+]
+
+-- ---- from a trace
+
+sound_apart : (b : Body) → HasItsNext b → (task other : ℕ) → fulfilled b ≡ Some task → started b ≡ Some other → ⊥
+sound_apart (TaskSchedule status.EarlyFulfill prior next share) sound task other fulfils starts = false≢true (sym sound ∙ ap is_some starts)
+sound_apart (TaskSchedule status.LateFulfill prior next share) sound task other fulfils starts = false≢true (sym sound ∙ ap is_some starts)
+sound_apart _ sound task other fulfils starts = none-some task fulfils
+
+pub trace_apart : (rs : List Record) → IsTrace rs → StartsOrFulfils rs
+trace_apart rs trace i task other fulfils starts = there (slice_get rs i) refl fulfils starts
+  where
+    sound_at : (r : Record) → slice_get rs i ≡ Some r → IsSound r.body
+    sound_at r e =
+        let within = slice_get_within rs i r e in
+        let P : Record → Type 0 = λ q. IsSound q.body in
+        subst P (same_Some (get_or rs i r) r (sym (slice_get-get_or rs i r within) ∙ e)) (trace.sound i r within)
+
+    there : (o : Option Record) → slice_get rs i ≡ o → option_and_then (λ (r : Record). fulfilled r.body) o ≡ Some task → option_and_then (λ (r : Record). started r.body) o ≡ Some other → ⊥
+    there None e fulfils' starts' = none-some task fulfils'
+    there (Some r) e fulfils' starts' = sound_apart r.body (sound_at r e).next task other fulfils' starts'
+
+-- ---- one record more
+
+pub creations_more : (rs : List Record) (n : ℕ) (creations : List (Option ℕ)) (found : Option ℕ) → HaveCreations rs n creations → ((c : ℕ) → (found ≡ Some c) ↔ Awaits rs n c) → HaveCreations rs (n + 1) (creations ++ found ∷ [])
+creations_more rs n creations found are here = record {
+  all = length_push creations found ∙ ap (λ k. k + 1) are.all;
+  each = λ i c below waits. elim (cases_eq i n) [
+    | inl same ↦ get_last creations found i (same ∙ sym are.all) ∙ ap Some ((here c).1 (let P : ℕ → Type 0 = λ j. Awaits rs j c in subst P same waits))
+    | inr apart ↦ get_pushed creations found (Some c) i (are.each i c (omega arith) waits)
+  ];
+  only = λ i c is. elim (pushed_cases creations found (Some c) i is) [
+    | inl old ↦ are.only i c old
+    | inr (last, same) ↦ let P : ℕ → Type 0 = λ j. Awaits rs j c in subst P (sym (last ∙ are.all)) ((here c).0 same)
+  ];
+}
+
+-- ---- by the family
+
+fulfilled_awaited : (b : Body) → is_some (fulfilled b) ≡ true → awaited b ≡ subject b
+fulfilled_awaited (TaskSchedule status.EarlyFulfill prior next share) is = refl
+fulfilled_awaited (TaskSchedule status.LateFulfill prior next share) is = refl
+fulfilled_awaited _ is = absurd (false≢true is)
+
+discarded_awaited : (b : Body) → is_some (discarded b) ≡ true → awaited b ≡ subject b
+discarded_awaited (Cancel flags own share) is = flagged (has_flag flags.0 flag.discarded_task) is
+  where
+    flagged : (test : Bool) → is_some (cond test (Some own) None) ≡ true → option_or (cond test (Some own) None) None ≡ Some own
+    flagged true is' = refl
+    flagged false is' = absurd (false≢true is')
+discarded_awaited _ is = absurd (false≢true is)
+
+started_awaited : (b : Body) → is_some (started b) ≡ true → started b ≡ object b
+started_awaited (TaskSchedule status prior next share) is = refl
+started_awaited _ is = absurd (false≢true is)
+
+none_of : {X : Type 0} (o : Option X) → is_some o ≡ false → o ≡ None
+none_of None is = refl
+none_of (Some x) is = absurd (false≢true (sym is))
+
+-- which of the two tasks of the record is awaited, by what the record says
+pub awaited_subject : (rs : List Record) (i : ℕ) (r : Record) → i < length rs → r ≡ get_or rs i r → (is_some (fulfilled r.body) ≡ true) ⊎ (is_some (discarded r.body) ≡ true) → at awaited rs i ≡ at subject rs i
+awaited_subject rs i r within read (inl is) = at_read awaited rs i r within read ∙ fulfilled_awaited r.body is ∙ sym (at_read subject rs i r within read)
+awaited_subject rs i r within read (inr is) = at_read awaited rs i r within read ∙ discarded_awaited r.body is ∙ sym (at_read subject rs i r within read)
+
+rest_awaited : (b : Body) → is_some (fulfilled b) ≡ false → is_some (discarded b) ≡ false → awaited b ≡ started b
+rest_awaited b no_fulfilment no_discard = ap (λ o. option_or o (option_or (discarded b) (started b))) (none_of (fulfilled b) no_fulfilment) ∙ ap (λ o. option_or o (started b)) (none_of (discarded b) no_discard)
+
+pub awaited_object : (rs : List Record) (i : ℕ) (r : Record) → i < length rs → r ≡ get_or rs i r → is_some (fulfilled r.body) ≡ false → is_some (discarded r.body) ≡ false → is_some (started r.body) ≡ true → at awaited rs i ≡ at object rs i
+awaited_object rs i r within read no_fulfilment no_discard is = at_read awaited rs i r within read ∙ rest_awaited r.body no_fulfilment no_discard ∙ started_awaited r.body is ∙ sym (at_read object rs i r within read)
+
+pub awaited_none : (rs : List Record) (i : ℕ) (r : Record) → i < length rs → r ≡ get_or rs i r → is_some (fulfilled r.body) ≡ false → is_some (discarded r.body) ≡ false → is_some (started r.body) ≡ false → at awaited rs i ≡ None
+awaited_none rs i r within read no_fulfilment no_discard no_start = at_read awaited rs i r within read ∙ rest_awaited r.body no_fulfilment no_discard ∙ none_of (started r.body) no_start
+
+-- the creation of the awaited task is where it was made
+pub creation_found : (rs : List Record) (family : FamilyView) (i index place : ℕ) (slot : Option ℕ) → IsFamilyOf rs family → Calls family.tasks (at awaited rs i) slot → slot ≡ Some index → ((task : ℕ) → slice_get family.tasks index ≡ Some task → IsExplicit rs task) → at made rs place ≡ slice_get family.tasks index → (c : ℕ) → (Some place ≡ Some c) ↔ Awaits rs i c
+creation_found rs family i index place slot are calls is explicit makes c =
+    let called = call_task family.tasks (at awaited rs i) slot index calls is in
+    let by = explicit called.0 called.2 in
+    let same : by.0 ≡ place = made_once rs called.0 by.0 place are.once (created_at_made called.0 rs by.0 by.1) (makes ∙ called.2) in (
+      λ here. (called.0, called.1, ap (at created rs) (sym (same ∙ same_Some place c here)) ∙ by.1),
+      λ (task, waits, creates).
+          let creates_it : at created rs c ≡ Some called.0 = creates ∙ sym waits ∙ called.1 in
+          ap Some (sym same ∙ made_once rs called.0 by.0 c are.once (created_at_made called.0 rs by.0 by.1) (created_at_made called.0 rs c creates_it)),
+    )
+
+pub creation_none : (rs : List Record) (family : FamilyView) (i index : ℕ) (slot : Option ℕ) → Calls family.tasks (at awaited rs i) slot → slot ≡ Some index → ((task : ℕ) → slice_get family.tasks index ≡ Some task → IsExplicit rs task → ⊥) → (c : ℕ) → (None ≡ Some c) ↔ Awaits rs i c
+creation_none rs family i index slot calls is never c =
+    let called = call_task family.tasks (at awaited rs i) slot index calls is in (
+      λ here. absurd (none-some c here),
+      λ (task, waits, creates). absurd (never called.0 called.2 (c, creates ∙ sym waits ∙ called.1)),
+    )
+
+pub nothing_awaited : (rs : List Record) (family : FamilyView) (i : ℕ) (slot : Option ℕ) → Calls family.tasks (at awaited rs i) slot → slot ≡ None → (c : ℕ) → (None ≡ Some c) ↔ Awaits rs i c
+nothing_awaited rs family i slot calls is c = (
+  λ here. absurd (none-some c here),
+  λ (task, waits, creates). absurd (none-some task (sym (call_none family.tasks (at awaited rs i) slot calls is) ∙ waits)),
 )
 
-pub awaits_here : (rs : List Record) (makers : BTreeMap ℕ ℕ) (n task : ℕ) (starts : BTreeMap ℕ ℕ) (found : Option ℕ) → AreMakers rs (length rs) makers → AreStarted rs n starts → at started rs n ≡ Some task → (get nat_cmp starts task ≡ None → MatchOption found (IsExplicit rs task → ⊥) (λ place. at created rs place ≡ Some task)) → ((k : ℕ) → get nat_cmp starts task ≡ Some k → found ≡ None) → MatchOption found ((c : ℕ) → IsAwaited rs n c → ⊥) (λ c. IsAwaited rs n c × ((other : ℕ) → IsAwaited rs n other → other ≡ c))
-awaits_here rs makers n task starts found are known says first later = by_case (get nat_cmp starts task) refl
-  where
-    by_case : (o : Option ℕ) → get nat_cmp starts task ≡ o → MatchOption found ((c : ℕ) → IsAwaited rs n c → ⊥) (λ c. IsAwaited rs n c × ((other : ℕ) → IsAwaited rs n other → other ≡ c))
-    by_case None e = awaits_first rs makers n task starts found are known says e (first e)
-    by_case (Some k) e =
-        let P : Option ℕ → Type 0 = λ o. MatchOption o ((c : ℕ) → IsAwaited rs n c → ⊥) (λ c. IsAwaited rs n c × ((other : ℕ) → IsAwaited rs n other → other ≡ c)) in
-        subst P (sym (later k e)) (awaits_before rs n task k starts known says e)
+-- ---- when file order is an order
+
+-- one more record that awaits only what stands before it
+pub awaits_more : (rs : List Record) (n : ℕ) → ((i c : ℕ) → i < n → Awaits rs i c → c < i) → ((c : ℕ) → Awaits rs n c → c < n) → (i c : ℕ) → i < n + 1 → Awaits rs i c → c < i
+awaits_more rs n before here i c below waits = elim (cases_eq i n) [
+  | inl same ↦
+      let P : ℕ → Type 0 = λ j. Awaits rs j c in
+      let less = here c (subst P same waits) in
+      omega (arith, less, same)
+  | inr apart ↦ before i c (omega arith) waits
+]
 
 -- what steps do, what happens before does
 pub before_less : (rs : List Record) → ((a b : ℕ) → IsStep rs a b → a < b) → (a b : ℕ) → HappensBefore rs a b → a < b
@@ -128,10 +245,10 @@ before_less rs steps a b (chain {b = mid} first second) =
     let two = before_less rs steps mid b second in
     omega (arith, one, two)
 
--- each kind of step that there is, as the two tests have it
-pub steps_less : (rs : List Record) → AreAudited rs → (awaited : List (Option ℕ)) → AreAwaited rs (length rs) awaited → ((i c : ℕ) → slice_get awaited i ≡ Some (Some c) → c < i) → ((a b : ℕ) → IsFinishing rs a → seen_at rs a < seen_at rs b → a < b) → (a b : ℕ) → IsStep rs a b → a < b
-steps_less rs audited awaited are by_creation by_entry a b (program (thread_order earlier within same)) = earlier
-steps_less rs audited awaited are by_creation by_entry a b (program (creation task creates start)) = by_creation b a (are.each b a (at_within started rs b task start.starts) (task, start, creates))
-steps_less rs audited awaited are by_creation by_entry a b (program (discard task creates gone)) = absurd (no_discard rs audited b task gone)
-steps_less rs audited awaited are by_creation by_entry a b (program (fulfilment task creates done)) = absurd (no_fulfilment rs audited b task done)
-steps_less rs audited awaited are by_creation by_entry a b (ledger finishes less) = by_entry a b finishes less
+-- each kind of step, as the two tests have it
+pub steps_less : (rs : List Record) → StartsOrFulfils rs → ((i c : ℕ) → Awaits rs i c → c < i) → ((a b : ℕ) → IsFinishing rs a → seen_at rs a < seen_at rs b → a < b) → (a b : ℕ) → IsStep rs a b → a < b
+steps_less rs apart by_creation by_entry a b (program (thread_order earlier within same)) = earlier
+steps_less rs apart by_creation by_entry a b (program (creation task creates start)) = by_creation b a (step_awaits rs apart a b (inr (inl (task, creates, start.starts))))
+steps_less rs apart by_creation by_entry a b (program (discard task creates gone)) = by_creation b a (step_awaits rs apart a b (inr (inr (task, creates, gone))))
+steps_less rs apart by_creation by_entry a b (program (fulfilment task creates done)) = by_creation b a (step_awaits rs apart a b (inl (task, creates, done)))
+steps_less rs apart by_creation by_entry a b (ledger finishes less) = by_entry a b finishes less

@@ -3,7 +3,6 @@
 pub mod Verdicts
 pub mod Audited
 pub mod Search
-pub mod Rooted
 pub mod Regions
 pub mod Merge
 pub mod Waits

@@ -1,24 +1,39 @@
 -- The records while they are put into an order.
 use Rattle.std.specs.Prelude.{ℕ, ◌≡◌, ◌<◌, ◌≤◌, List, length, Bool, true, Option, Some, slice_get, slice_index, Contains}
+use Rattle.std.specs.Option.{option_or}
 use Rattle.std.specs.List.Sorted.{IsNonDecreasingBy}
 use Rattle.ompt_events.specs.declared.records.Record.{Record}
-use Rattle.ompt_events.specs.Records.{created}
+use Rattle.ompt_events.specs.declared.records.Body.{Body}
+use Rattle.ompt_events.specs.Records.{created, started, discarded, fulfilled}
 use Rattle.ompt_events.specs.Places.{at, thread_at, seen_at}
-use Rattle.ompt_events.specs.HappensBefore.{IsStart, IsFinishing, IsStep}
+use Rattle.ompt_events.specs.HappensBefore.{IsFinishing, IsStep, HappensBefore}
 
--- the record at i starts the task that is created at c
-abbrev pub IsAwaited : List Record → ℕ → ℕ → Type 0
-IsAwaited rs i c = (task : ℕ) × IsStart rs i task × (at created rs c ≡ Some task)
+-- the task that the record fulfils, discards or starts: it was created before
+abbrev pub awaited : Body → Option ℕ
+awaited body = option_or (fulfilled body) (option_or (discarded body) (started body))
 
--- of the first n records each names the creation that it awaits
-pub record AreAwaited (rs : List Record) (n : ℕ) (awaited : List (Option ℕ)) : Type 0 where
-  pub all : length awaited ≡ n
-  pub each : (i c : ℕ) → i < n → IsAwaited rs i c → slice_get awaited i ≡ Some (Some c)
-  pub only : (i c : ℕ) → slice_get awaited i ≡ Some (Some c) → IsAwaited rs i c
+-- the record at i awaits the creation at c
+abbrev pub Awaits : List Record → ℕ → ℕ → Type 0
+Awaits rs i c = (task : ℕ) × (at awaited rs i ≡ Some task) × (at created rs c ≡ Some task)
+
+-- no record fulfils one task and starts another
+abbrev pub StartsOrFulfils : List Record → Type 0
+StartsOrFulfils rs =
+    (i task other : ℕ) → at fulfilled rs i ≡ Some task → at started rs i ≡ Some other → ⊥
+
+-- the first n records each have the creation that they await
+pub record HaveCreations (rs : List Record) (n : ℕ) (creations : List (Option ℕ)) : Type 0 where
+  pub all : length creations ≡ n
+  pub each : (i c : ℕ) → i < n → Awaits rs i c → slice_get creations i ≡ Some (Some c)
+  pub only : (i c : ℕ) → slice_get creations i ≡ Some (Some c) → Awaits rs i c
 
 -- the record stands in the order already
 abbrev pub Stands : List Bool → ℕ → Type 0
 Stands placed i = slice_get placed i ≡ Some true
+
+-- with a record that stands all stand that happen before it
+abbrev pub AreClosed : List Record → List Bool → Type 0
+AreClosed rs placed = (a b : ℕ) → HappensBefore rs a b → Stands placed b → Stands placed a
 
 -- the record may stand next: it doesn't stand yet, and each step that leads to it starts at one that does
 pub record MayFollow (rs : List Record) (placed : List Bool) (i : ℕ) : Type 0 where
@@ -42,10 +57,10 @@ pub record IsLeastEntry (rs : List Record) (placed : List Bool) (least : Option 
       × (seen_at rs i ≡ entry)
 
 -- what is tested of the head of a thread
-pub record IsReadyHead (rs : List Record) (awaited : List (Option ℕ)) (placed : List Bool)
+pub record IsReadyHead (rs : List Record) (creations : List (Option ℕ)) (placed : List Bool)
     (least : Option ℕ) (i : ℕ) : Type 0 where
   pub within : i < length rs
-  pub is_created : (c : ℕ) → slice_get awaited i ≡ Some (Some c) → Stands placed c
+  pub is_created : (c : ℕ) → slice_get creations i ≡ Some (Some c) → Stands placed c
   pub is_entered : (entry : ℕ) → least ≡ Some entry → seen_at rs i ≤ entry
 
 -- the first record of each thread

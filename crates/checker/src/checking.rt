@@ -1,26 +1,27 @@
 //! The check as a whole.
 ghost use Rattle.std.specs.Prelude.{◌≡◌, IfOk, IfErr, OnOk, length};
-ghost use Rattle.ompt_events.specs.declared.cause.Cause.TheVariants.{CreatedTwice, Rootless, NotCurrent, Moved, NoOrder};
+ghost use Rattle.ompt_events.specs.declared.cause.Cause.TheVariants.{Moved};
 ghost use Rattle.ompt_events.specs.Places.{places};
 ghost use Rattle.ompt_events.specs.Linearization.{IsLinearization, IsGreedy};
 ghost use Rattle.ompt_events.specs.Causes.{IsFreeOf};
+ghost use Rattle.task_tree.specs.Family.{IsFamilyOf};
 ghost use Rattle.checker.specs.Audited.{AreAudited};
-ghost use Rattle.checker.specs.Search.{IsFound, IsLeastFound, AreMakers};
+ghost use Rattle.checker.specs.Search.{IsClear, IsLeastFound};
+ghost use Rattle.checker.specs.Regions.{AreLinked};
 ghost use Rattle.checker.specs.Verdicts.{IsVerdict};
 
 use crate::current::find_misfit;
 use crate::homes::find_moved;
-use crate::makers::find_makers;
 use crate::merge::find_order;
 use crate::regions::find_links;
-use crate::rooted::find_rootless;
 use crate::schedule::{creations_awaited, is_in_order};
 use crate::search::SearchFault;
 use crate::verdict::{CheckFault, Order, Verdict, Why};
 use crate::waits::find_unfinished;
-use ompt_events::{Record, Trace};
+use ompt_events::{Cause, Record, Trace};
 use std::alloc::{AllocError, Global};
-use std::collections::BTreeMap;
+use task_states::{gap, nested, target};
+use task_tree::Family;
 
 /// The verdict on the records: malformed with the lowest-numbered cause that occurs, at the first record that
 /// shows it; else no at the first end of a taskwait that covers an unfinished task; else yes with the greedy
@@ -30,72 +31,127 @@ pub fn check(alloc: Global, trace: &Trace) -> Result<Verdict, CheckFault>
     requires { AreAudited trace.now.records }
     ensures { IfOk result (IsVerdict trace.now.records) }
 {
-    match verdict_of(alloc, trace.records()) {
+    match verdict_of(alloc, trace) {
         Ok(verdict) => Ok(verdict),
         Err(SearchFault::Memory) => Err(CheckFault::Memory),
         Err(SearchFault::Malformed { at, cause }) => Ok(Verdict::Malformed { at, cause }),
     }
 }
 
-/// The verdict on records that are not malformed.
-fn verdict_of(alloc: Global, records: &[Record]) -> Result<Verdict, SearchFault>
-    requires { AreAudited records.now }
-    ensures verdict { IfOk result (IsVerdict records.now) }
-    ensures malformed { IfErr result (IsLeastFound records.now) }
+/// The verdict, or the fault of the first phase that finds a cause. Each phase needs that the causes before
+/// its own do not occur.
+fn verdict_of(alloc: Global, trace: &Trace) -> Result<Verdict, SearchFault>
+    requires { AreAudited trace.now.records }
+    ensures verdict { IfOk result (IsVerdict trace.now.records) }
+    ensures malformed { IfErr result (IsLeastFound trace.now.records) }
 {
-    let makers = find_makers(alloc, records)?;
-    find_misplaced(alloc, records, &makers)?;
-    let links = find_links(alloc, records)?;
-    let places = order_of(alloc, records, &makers)?;
-    match find_unfinished(alloc, records, &links)? {
+    numbers_have_no_gap(trace)?;
+    let family = family_of(alloc, trace)?;
+    tasks_are_current(alloc, trace, &family)?;
+    tasks_stay(alloc, trace, &family)?;
+    let links = links_of(alloc, trace)?;
+    regions_are_not_nested(alloc, trace)?;
+    let order = order_of(alloc, trace, &family)?;
+    no_task_is_for_a_device(trace)?;
+    match find_unfinished(alloc, trace.records(), &family, &links)? {
         Some((at, task)) => Ok(Verdict::No {
             at,
             why: Why::Unfinished(task),
         }),
         None => Ok(Verdict::Yes {
-            order: Order::from_vec(places),
+            order: Order::from_vec(order),
         }),
     }
 }
 
-/// Searches for the first record of a task without a root, of one that its thread does not run,
-/// or of one that has moved to another thread, in this order.
-fn find_misplaced(
-    alloc: Global,
-    records: &[Record],
-    makers: &BTreeMap<u64, usize>,
-) -> Result<(), SearchFault>
-    requires makers { AreMakers records.now (length records.now) makers.now }
-    requires audited { AreAudited records.now }
-    requires once { IsFreeOf records.now CreatedTwice }
-    ensures rooted { OnOk result (IsFreeOf records.now Rootless) }
-    ensures current { OnOk result (IsFreeOf records.now NotCurrent) }
-    ensures at_home { OnOk result (IsFreeOf records.now Moved) }
-    ensures malformed { IfErr result (IsLeastFound records.now) }
+/// Excludes SeqGap.
+fn numbers_have_no_gap(trace: &Trace) -> Result<(), SearchFault>
+    ensures clear { OnOk result (IsClear trace.now.records 1) }
+    ensures least { IfErr result (IsLeastFound trace.now.records) }
 {
-    find_rootless(alloc, records, makers)?;
-    find_misfit(alloc, records, makers)?;
-    find_moved(alloc, records, makers)
+    match gap(trace) {
+        Some(at) => Err(SearchFault::Malformed {
+            at,
+            cause: Cause::SeqGap,
+        }),
+        None => Ok(()),
+    }
 }
 
-/// The greedy order of all records. Searches for the first record that has none.
-fn order_of(
-    alloc: Global,
-    records: &[Record],
-    makers: &BTreeMap<u64, usize>,
-) -> Result<Vec<usize>, SearchFault>
-    requires makers { AreMakers records.now (length records.now) makers.now }
-    requires audited { AreAudited records.now }
-    ensures linearization { IfOk result (λ order. IsLinearization records.now order.items) }
-    ensures greedy { IfOk result (λ order. IsGreedy records.now order.items) }
-    ensures free { OnOk result (IsFreeOf records.now NoOrder) }
-    ensures found { IfErr result (IsFound records.now NoOrder) }
+/// The tree of tasks. Excludes CreatedTwice and Rootless.
+fn family_of(alloc: Global, trace: &Trace) -> Result<Family, SearchFault>
+    requires { IsClear trace.now.records 1 }
+    ensures family { IfOk result (IsFamilyOf trace.now.records) }
+    ensures clear { OnOk result (IsClear trace.now.records 3) }
+    ensures least { IfErr result (IsLeastFound trace.now.records) }
 {
-    let awaited = creations_awaited(alloc, records, makers)?;
+    Ok(Family::build(alloc, trace)?)
+}
+
+/// Excludes NotCurrent.
+fn tasks_are_current(alloc: Global, trace: &Trace, family: &Family) -> Result<(), SearchFault>
+    requires clear { IsClear trace.now.records 3 }
+    requires family { IsFamilyOf trace.now.records family.now }
+    requires audited { AreAudited trace.now.records }
+    ensures clear { OnOk result (IsClear trace.now.records 4) }
+    ensures least { IfErr result (IsLeastFound trace.now.records) }
+{
+    find_misfit(alloc, trace.records(), family)
+}
+
+/// Excludes Moved.
+fn tasks_stay(alloc: Global, trace: &Trace, family: &Family) -> Result<(), SearchFault>
+    requires clear { IsClear trace.now.records 4 }
+    requires family { IsFamilyOf trace.now.records family.now }
+    ensures clear { OnOk result (IsClear trace.now.records 5) }
+    ensures least { IfErr result (IsLeastFound trace.now.records) }
+{
+    find_moved(alloc, trace.records(), family)
+}
+
+/// The begin of each end of a region. Excludes RegionOrder.
+fn links_of(alloc: Global, trace: &Trace) -> Result<Vec<Option<usize>>, SearchFault>
+    requires clear { IsClear trace.now.records 5 }
+    requires audited { AreAudited trace.now.records }
+    ensures linked { IfOk result (λ links. AreLinked trace.now.records (length trace.now.records) links.items) }
+    ensures clear { OnOk result (IsClear trace.now.records 6) }
+    ensures least { IfErr result (IsLeastFound trace.now.records) }
+{
+    find_links(alloc, trace.records())
+}
+
+/// Excludes NestedParallel.
+fn regions_are_not_nested(alloc: Global, trace: &Trace) -> Result<(), SearchFault>
+    requires { IsClear trace.now.records 6 }
+    ensures clear { OnOk result (IsClear trace.now.records 7) }
+    ensures least { IfErr result (IsLeastFound trace.now.records) }
+{
+    match nested(alloc, trace) {
+        Ok(Some(at)) => Err(SearchFault::Malformed {
+            at,
+            cause: Cause::NestedParallel,
+        }),
+        Ok(None) => Ok(()),
+        Err(_) => Err(SearchFault::Memory),
+    }
+}
+
+/// The greedy order of all records. Excludes NoOrder.
+fn order_of(alloc: Global, trace: &Trace, family: &Family) -> Result<Vec<usize>, SearchFault>
+    requires clear { IsClear trace.now.records 7 }
+    requires family { IsFamilyOf trace.now.records family.now }
+    requires at_home { IsFreeOf trace.now.records Moved }
+    ensures linearization { IfOk result (λ order. IsLinearization trace.now.records order.items) }
+    ensures greedy { IfOk result (λ order. IsGreedy trace.now.records order.items) }
+    ensures clear { OnOk result (IsClear trace.now.records 8) }
+    ensures least { IfErr result (IsLeastFound trace.now.records) }
+{
+    let records = trace.records();
     // A file in time order costs one pass.
-    if is_in_order(records, &awaited) {
+    if is_in_order(records, family) {
         return Ok(file_order(alloc, records)?);
     }
+    let awaited = creations_awaited(alloc, records, family)?;
     find_order(alloc, records, &awaited)
 }
 
@@ -108,4 +164,19 @@ fn file_order(alloc: Global, records: &[Record]) -> Result<Vec<usize>, AllocErro
         order.push(at)?;
     }
     Ok(order)
+}
+
+/// Excludes TargetTask.
+fn no_task_is_for_a_device(trace: &Trace) -> Result<(), SearchFault>
+    requires { IsClear trace.now.records 8 }
+    ensures clear { OnOk result (IsClear trace.now.records 9) }
+    ensures least { IfErr result (IsLeastFound trace.now.records) }
+{
+    match target(trace) {
+        Some(at) => Err(SearchFault::Malformed {
+            at,
+            cause: Cause::TargetTask,
+        }),
+        None => Ok(()),
+    }
 }

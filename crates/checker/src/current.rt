@@ -1,19 +1,19 @@
 //! Which task each thread runs.
-ghost use Rattle.std.specs.Prelude.{ℕ, ◌≡◌, ◌≢◌, ◌↔◌, Some, true, IsTrue, IsSomeAnd, IfOk, IfErr, OnOk, length, replicate, slice_get};
+ghost use Rattle.std.specs.Prelude.{ℕ, ◌≡◌, ◌≢◌, ◌↔◌, Some, true, IsTrue, IsSomeAnd, IfOk, IfErr, OnOk, replicate, slice_get};
 ghost use Rattle.ompt_events.specs.declared.cause.Cause.TheVariants.{NotCurrent};
 ghost use Rattle.ompt_events.specs.Records.{started};
 ghost use Rattle.ompt_events.specs.Tree.{IsRoot};
 ghost use Rattle.ompt_events.specs.Threads.{Misfits, at_start, after_body};
 ghost use Rattle.ompt_events.specs.Causes.{IsFreeOf};
 ghost use Rattle.checker.specs.Audited.{is_audited, AreAudited};
-ghost use Rattle.checker.specs.Search.{IsFound, AreMakers};
+ghost use Rattle.task_tree.specs.Family.{IsFamilyOf};
+ghost use Rattle.checker.specs.Search.{IsFound};
 
-use crate::makers::is_root;
 use crate::search::SearchFault;
 use ompt_events::{Body, Cause, Record};
 use std::alloc::{AllocError, Global};
-use std::collections::BTreeMap;
 use std::marker::Model;
+use task_tree::Family;
 
 /// Thread numbers are below this.
 const THREADS: usize = 256;
@@ -73,8 +73,8 @@ impl ThreadWalk {
     }
 
     /// Whether the record speaks for a task that the thread does not run.
-    fn misfits(&self, body: &Body, records: &[Record], makers: &BTreeMap<u64, usize>) -> bool
-        requires makers { AreMakers records.now (length records.now) makers.now }
+    fn misfits(&self, body: &Body, records: &[Record], family: &Family) -> bool
+        requires family { IsFamilyOf records.now family.now }
         requires audited { is_audited body.now ≡ true }
         ensures { IsTrue result ↔ Misfits records.now self.now body.now }
     {
@@ -84,7 +84,7 @@ impl ThreadWalk {
         if differs(body.ended_root(), self.innermost()) {
             return true;
         }
-        differs(root_start(records, makers, body), self.innermost())
+        differs(root_start(records, family, body), self.innermost())
     }
 }
 
@@ -96,14 +96,14 @@ fn differs(task: Option<u64>, from: Option<u64>) -> bool
 }
 
 /// The root that runs next, if one does.
-fn root_start(records: &[Record], makers: &BTreeMap<u64, usize>, body: &Body) -> Option<u64>
-    requires { AreMakers records.now (length records.now) makers.now }
+fn root_start(records: &[Record], family: &Family, body: &Body) -> Option<u64>
+    requires { IsFamilyOf records.now family.now }
     ensures { (task : ℕ) → (result ≡ Some task)
         ↔ ((started body.now ≡ Some task) × IsRoot records.now task) }
 {
     match body.started() {
         Some(task) => {
-            if is_root(records, makers, task) {
+            if family.is_root(task) {
                 Some(task)
             } else {
                 None
@@ -117,9 +117,9 @@ fn root_start(records: &[Record], makers: &BTreeMap<u64, usize>, body: &Body) ->
 pub(crate) fn find_misfit(
     alloc: Global,
     records: &[Record],
-    makers: &BTreeMap<u64, usize>,
+    family: &Family,
 ) -> Result<(), SearchFault>
-    requires makers { AreMakers records.now (length records.now) makers.now }
+    requires family { IsFamilyOf records.now family.now }
     requires audited { AreAudited records.now }
     ensures free { OnOk result (IsFreeOf records.now NotCurrent) }
     ensures found { IfErr result (IsFound records.now NotCurrent) }
@@ -127,7 +127,7 @@ pub(crate) fn find_misfit(
     let mut walks = new_walks(alloc)?;
     for (at, event) in records.iter().enumerate() {
         let walk = &mut walks[event.thread as usize];
-        if walk.misfits(&event.body, records, makers) {
+        if walk.misfits(&event.body, records, family) {
             return Err(SearchFault::Malformed {
                 at,
                 cause: Cause::NotCurrent,

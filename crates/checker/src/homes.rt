@@ -1,30 +1,31 @@
 //! Which thread each explicit task runs on.
-ghost use Rattle.std.specs.Prelude.{ℕ, ◌≡◌, ◌≢◌, ◌↔◌, Some, IsTrue, IsSomeAnd, IfErr, OnOk, length};
+ghost use Rattle.std.specs.Prelude.{ℕ, ◌≡◌, ◌≢◌, ◌↔◌, Some, IsTrue, IsSomeAnd, IfErr, OnOk};
 ghost use Rattle.ompt_events.specs.declared.cause.Cause.TheVariants.{Moved};
 ghost use Rattle.ompt_events.specs.Records.{started};
 ghost use Rattle.ompt_events.specs.Tree.{IsExplicit};
 ghost use Rattle.ompt_events.specs.Causes.{IsFreeOf};
-ghost use Rattle.checker.specs.Search.{IsFound, AreMakers};
+ghost use Rattle.task_tree.specs.Family.{IsFamilyOf};
+ghost use Rattle.checker.specs.Search.{IsFound};
 
-use crate::makers::is_explicit;
 use crate::search::SearchFault;
 use ompt_events::{Body, Cause, Record};
 use std::alloc::Global;
 use std::collections::BTreeMap;
+use task_tree::Family;
 
 /// Searches for the first record after which an explicit task runs on a second thread.
 pub(crate) fn find_moved(
     alloc: Global,
     records: &[Record],
-    makers: &BTreeMap<u64, usize>,
+    family: &Family,
 ) -> Result<(), SearchFault>
-    requires { AreMakers records.now (length records.now) makers.now }
+    requires { IsFamilyOf records.now family.now }
     ensures free { OnOk result (IsFreeOf records.now Moved) }
     ensures found { IfErr result (IsFound records.now Moved) }
 {
     let mut homes: BTreeMap<u64, u8> = BTreeMap::new(alloc);
     for (at, event) in records.iter().enumerate() {
-        if let Some(task) = explicit_start(records, makers, &event.body) {
+        if let Some(task) = explicit_start(records, family, &event.body) {
             let before = homes.insert(task, event.thread)?;
             if is_other(before, event.thread) {
                 return Err(SearchFault::Malformed {
@@ -38,14 +39,14 @@ pub(crate) fn find_moved(
 }
 
 /// The explicit task that runs next, if one does.
-fn explicit_start(records: &[Record], makers: &BTreeMap<u64, usize>, body: &Body) -> Option<u64>
-    requires { AreMakers records.now (length records.now) makers.now }
+fn explicit_start(records: &[Record], family: &Family, body: &Body) -> Option<u64>
+    requires { IsFamilyOf records.now family.now }
     ensures { (task : ℕ) → (result ≡ Some task)
         ↔ ((started body.now ≡ Some task) × IsExplicit records.now task) }
 {
     match body.started() {
         Some(task) => {
-            if is_explicit(records, makers, task) {
+            if family.is_explicit(task) {
                 Some(task)
             } else {
                 None

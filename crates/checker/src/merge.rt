@@ -1,12 +1,11 @@
 //! The greedy order of the records.
 ghost use Rattle.std.specs.Prelude.{false, IfNone, replicate, ℕ, ◌≡◌, ◌<◌, ◌≤◌, ◌↔◌, ⊤, Some, IsTrue, IfSome, IfOk, IfErr, OnOk, MatchOption, length, option_map, slice_get, slice_index_or};
-ghost use Rattle.ompt_events.specs.declared.cause.Cause.TheVariants.{NoOrder};
+ghost use Rattle.ompt_events.specs.declared.cause.Cause.TheVariants.{Moved, NoOrder};
 ghost use Rattle.ompt_events.specs.Places.{thread_at};
 ghost use Rattle.ompt_events.specs.Linearization.{IsLinearization, IsGreedy};
 ghost use Rattle.ompt_events.specs.Causes.{IsFreeOf};
-ghost use Rattle.checker.specs.Audited.{AreAudited};
 ghost use Rattle.checker.specs.Search.{IsFound};
-ghost use Rattle.checker.specs.Merge.{AreAwaited, Stands, MayFollow, AreHeads, IsLeastEntry, IsReadyHead, AreFirstHeads, AreEntries};
+ghost use Rattle.checker.specs.Merge.{HaveCreations, AreClosed, StartsOrFulfils, Stands, MayFollow, AreHeads, IsLeastEntry, IsReadyHead, AreFirstHeads, AreEntries};
 
 use crate::search::SearchFault;
 use ompt_events::{Cause, Record, finish};
@@ -17,10 +16,11 @@ use std::alloc::{AllocError, Global};
 pub(crate) fn find_order(
     alloc: Global,
     records: &[Record],
-    awaited: &[Option<usize>],
+    creations: &[Option<usize>],
 ) -> Result<Vec<usize>, SearchFault>
-    requires awaited { AreAwaited records.now (length records.now) awaited.now }
-    requires audited { AreAudited records.now }
+    requires creations { HaveCreations records.now (length records.now) creations.now }
+    requires apart { StartsOrFulfils records.now }
+    requires at_home { IsFreeOf records.now Moved }
     ensures linearization { IfOk result (λ order. IsLinearization records.now order.items) }
     ensures greedy { IfOk result (λ order. IsGreedy records.now order.items) }
     ensures free { OnOk result (IsFreeOf records.now NoOrder) }
@@ -33,7 +33,7 @@ pub(crate) fn find_order(
     let mut order = Vec::with_capacity(alloc, records.len())?;
     'merge: while let Some(place) = first_ready(
         records,
-        awaited,
+        creations,
         &placed,
         &heads,
         entry_at(&entries, low),
@@ -147,13 +147,15 @@ fn entry_at(entries: &[(u32, usize)], low: usize) -> Option<u32>
 /// Of the heads of the threads the first in file order that may stand next.
 fn first_ready(
     records: &[Record],
-    awaited: &[Option<usize>],
+    creations: &[Option<usize>],
     placed: &[bool],
     heads: &[usize],
     least: Option<u32>,
 ) -> Option<usize>
-    requires audited { AreAudited records.now }
-    requires awaited { AreAwaited records.now (length records.now) awaited.now }
+    requires creations { HaveCreations records.now (length records.now) creations.now }
+    requires apart { StartsOrFulfils records.now }
+    requires at_home { IsFreeOf records.now Moved }
+    requires closed { AreClosed records.now placed.now }
     requires heads { AreHeads records.now placed.now heads.now }
     requires least { IsLeastEntry records.now placed.now least }
     ensures none { MatchOption result ((i : ℕ) → MayFollow records.now placed.now i → ⊥) (λ place. (i : ℕ)
@@ -162,7 +164,7 @@ fn first_ready(
 {
     let mut first = None;
     for head in heads {
-        if is_before(*head, first) && is_ready(records, awaited, placed, least, *head) {
+        if is_before(*head, first) && is_ready(records, creations, placed, least, *head) {
             first = Some(*head);
         }
     }
@@ -182,35 +184,35 @@ fn is_before(place: usize, found: Option<usize>) -> bool
 /// Whether the creation that the head of a thread awaits stands, and each ledger entry that it names.
 fn is_ready(
     records: &[Record],
-    awaited: &[Option<usize>],
+    creations: &[Option<usize>],
     placed: &[bool],
     least: Option<u32>,
     head: usize,
 ) -> bool
-    ensures { IsTrue result ↔ IsReadyHead records.now awaited.now placed.now least head }
+    ensures { IsTrue result ↔ IsReadyHead records.now creations.now placed.now least head }
 {
     if head >= records.len() {
         return false;
     }
-    is_created(awaited, placed, head) && is_entered(records[head].seen, least)
+    is_created(creations, placed, head) && is_entered(records[head].seen, least)
 }
 
 /// Whether the creation that the record awaits stands.
-fn is_created(awaited: &[Option<usize>], placed: &[bool], head: usize) -> bool
-    ensures { IsTrue result ↔ ((c : ℕ) → slice_get awaited.now head ≡ Some (Some c) → Stands placed.now c) }
+fn is_created(creations: &[Option<usize>], placed: &[bool], head: usize) -> bool
+    ensures { IsTrue result ↔ ((c : ℕ) → slice_get creations.now head ≡ Some (Some c) → Stands placed.now c) }
 {
-    match awaited_at(awaited, head) {
+    match creation_at(creations, head) {
         Some(creation) => stands(placed, creation),
         None => true,
     }
 }
 
 /// The creation that the record awaits, if it awaits one.
-fn awaited_at(awaited: &[Option<usize>], place: usize) -> Option<usize>
-    ensures { (c : ℕ) → (result ≡ Some c) ↔ (slice_get awaited.now place ≡ Some (Some c)) }
+fn creation_at(creations: &[Option<usize>], place: usize) -> Option<usize>
+    ensures { (c : ℕ) → (result ≡ Some c) ↔ (slice_get creations.now place ≡ Some (Some c)) }
 {
-    if place < awaited.len() {
-        awaited[place]
+    if place < creations.len() {
+        creations[place]
     } else {
         None
     }

@@ -3,7 +3,7 @@ ghost use Rattle.std.specs.Prelude.{ℕ, ◌≡◌, ◌≢◌, ◌↔◌, Some, 
 ghost use Rattle.ompt_events.specs.declared.cause.Cause.TheVariants.{RegionOrder};
 ghost use Rattle.ompt_events.specs.Regions.{kind_at};
 ghost use Rattle.ompt_events.specs.Causes.{IsFreeOf};
-ghost use Rattle.checker.specs.Audited.{AreAudited};
+ghost use Rattle.checker.specs.Waits.{AreTaskwaits};
 ghost use Rattle.checker.specs.Search.{IsFound};
 ghost use Rattle.checker.specs.Regions.{AreLinked, SetsTo, top_after};
 
@@ -18,7 +18,7 @@ pub(crate) fn find_links(
     alloc: Global,
     records: &[Record],
 ) -> Result<Vec<Option<usize>>, SearchFault>
-    requires { AreAudited records.now }
+    requires { AreTaskwaits records.now }
     ensures linked { IfOk result (λ links. AreLinked records.now (length records.now) links.items) }
     ensures free { OnOk result (IsFreeOf records.now RegionOrder) }
     ensures found { IfErr result (IsFound records.now RegionOrder) }

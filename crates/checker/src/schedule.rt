@@ -1,81 +1,78 @@
-//! Which creation each start of a task awaits, and whether file order is an order of the records.
-ghost use Rattle.std.specs.Prelude.{ℕ, ◌≡◌, ◌<◌, Some, None, IsTrue, IfOk, OnOk, MatchOption, length, slice_get};
-ghost use Rattle.std.specs.Ordering.{nat_cmp};
-ghost use Rattle.std.specs.BTreeMap.{Updates, get};
-ghost use Rattle.ompt_events.specs.Records.{created};
+//! Which creation each record awaits, and whether file order is an order of the records.
+ghost use Rattle.std.specs.Prelude.{ℕ, ◌≡◌, ◌<◌, ◌↔◌, Some, IsTrue, IfOk, length};
 ghost use Rattle.ompt_events.specs.Places.{seen_at};
 ghost use Rattle.ompt_events.specs.Places.{at as says_at};
-ghost use Rattle.ompt_events.specs.Tree.{IsExplicit};
 ghost use Rattle.ompt_events.specs.HappensBefore.{IsFinishing, IsStep};
-ghost use Rattle.checker.specs.Audited.{AreAudited};
-ghost use Rattle.checker.specs.Search.{AreMakers};
-ghost use Rattle.checker.specs.Merge.{AreAwaited};
+ghost use Rattle.task_tree.specs.Family.{IsFamilyOf};
+ghost use Rattle.task_tree.specs.Subjects.{Calls};
+ghost use Rattle.checker.specs.Merge.{awaited, Awaits, StartsOrFulfils, HaveCreations};
 
-use crate::makers::creation_of;
 use ompt_events::{Record, finish};
 use std::alloc::{AllocError, Global};
-use std::collections::BTreeMap;
+use task_tree::Family;
 
-/// For each record the creation that it awaits: that of the explicit task that it starts.
+/// For each record the creation that it awaits: that of the explicit task that it starts, discards or
+/// fulfils.
 pub(crate) fn creations_awaited(
     alloc: Global,
     records: &[Record],
-    makers: &BTreeMap<u64, usize>,
+    family: &Family,
 ) -> Result<Vec<Option<usize>>, AllocError>
-    requires { AreMakers records.now (length records.now) makers.now }
-    ensures { IfOk result (λ awaited. AreAwaited records.now (length records.now) awaited.items) }
+    requires { IsFamilyOf records.now family.now }
+    ensures { IfOk result (λ creations. HaveCreations records.now (length records.now) creations.items) }
 {
-    let mut starts: BTreeMap<u64, usize> = BTreeMap::new(alloc);
-    let mut awaited: Vec<Option<usize>> = Vec::with_capacity(alloc, records.len())?;
-    for (at, event) in records.iter().enumerate() {
-        let creation = match event.body.started() {
-            Some(task) => note_start(records, makers, &mut starts, task, at)?,
-            None => None,
-        };
-        awaited.push(creation)?;
+    let mut creations: Vec<Option<usize>> = Vec::with_capacity(alloc, records.len())?;
+    for at in 0..records.len() {
+        creations.push(creation_awaited(records, family, at))?;
     }
-    Ok(awaited)
+    Ok(creations)
 }
 
-/// Notes that the task is started, and gives its creation where that is its first start.
-fn note_start(
-    records: &[Record],
-    makers: &BTreeMap<u64, usize>,
-    starts: &mut BTreeMap<u64, usize>,
-    task: u64,
-    at: usize,
-) -> Result<Option<usize>, AllocError>
-    requires { AreMakers records.now (length records.now) makers.now }
-    ensures noted { OnOk result (Updates nat_cmp starts.old starts.new task (Some at)) }
-    ensures first { IfOk result (λ creation. get nat_cmp starts.old task ≡ None
-        → MatchOption creation (IsExplicit records.now task
-        → ⊥) (λ place. says_at created records.now place ≡ Some task)) }
-    ensures later { IfOk result (λ creation. (k : ℕ) → get nat_cmp starts.old task ≡ Some k
-        → creation ≡ None) }
+/// The creation of the task that the record at a place starts, discards or fulfils, if it is explicit.
+fn creation_awaited(records: &[Record], family: &Family, at: usize) -> Option<usize>
+    requires within { at < length records.now }
+    requires family { IsFamilyOf records.now family.now }
+    ensures { (c : ℕ) → (result ≡ Some c) ↔ Awaits records.now at c }
 {
-    let before = starts.insert(task, at)?;
-    if before.is_none() {
-        return Ok(creation_of(records, makers, task));
+    match awaited_index(records, family, at) {
+        Some(index) if family.is_explicit_at(index) => Some(family.made_at(index)),
+        _ => None,
     }
-    Ok(None)
+}
+
+/// The index of the task that the record at a place fulfils, discards or starts.
+fn awaited_index(records: &[Record], family: &Family, at: usize) -> Option<usize>
+    requires within { at < length records.now }
+    requires family { IsFamilyOf records.now family.now }
+    ensures { Calls family.now.tasks (says_at awaited records.now at) result }
+{
+    let body = &records[at].body;
+    if body.fulfilled().is_some() || body.discarded().is_some() {
+        family.subject(at)
+    } else if body.started().is_some() {
+        family.object(at)
+    } else {
+        None
+    }
 }
 
 /// Whether what happens before a record stands before it in the file.
-pub(crate) fn is_in_order(records: &[Record], awaited: &[Option<usize>]) -> bool
-    requires awaited { AreAwaited records.now (length records.now) awaited.now }
-    requires audited { AreAudited records.now }
+pub(crate) fn is_in_order(records: &[Record], family: &Family) -> bool
+    requires family { IsFamilyOf records.now family.now }
+    requires apart { StartsOrFulfils records.now }
     ensures { IsTrue result → (a b : ℕ) → IsStep records.now a b → a < b }
 {
-    are_created_before(awaited) && are_entered_before(records)
+    are_created_before(records, family) && are_entered_before(records)
 }
 
-/// Whether each creation stands before the start that awaits it.
-fn are_created_before(awaited: &[Option<usize>]) -> bool
-    ensures { IsTrue result → (i c : ℕ) → slice_get awaited.now i ≡ Some (Some c) → c < i }
+/// Whether each creation stands before the records that await it.
+fn are_created_before(records: &[Record], family: &Family) -> bool
+    requires { IsFamilyOf records.now family.now }
+    ensures { IsTrue result → (i c : ℕ) → Awaits records.now i c → c < i }
 {
-    for (at, creation) in awaited.iter().enumerate() {
-        if let Some(place) = creation {
-            if *place >= at {
+    for at in 0..records.len() {
+        if let Some(place) = creation_awaited(records, family, at) {
+            if place >= at {
                 return false;
             }
         }

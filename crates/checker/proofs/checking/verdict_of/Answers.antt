@@ -1,23 +1,20 @@
-use Rattle.std.proofs.Common.{ℕ}
-use Rattle.ompt_events.specs.Violations.{IsUnfinished}
-use Rattle.std.proofs.lemmas.Result.{err_from_is_err_and}
-use Rattle.checker.proofs.VerdictLemmas.{least_region, well_formed, always_complete}
+use Rattle.ompt_events.specs.declared.cause.Cause.TheVariants.{Moved}
+use Rattle.std.proofs.Common.{ℕ, refl, arith}
+use Rattle.checker.specs.Waits.{AreComplete}
+use Rattle.checker.proofs.AuditedLemmas.{only_waits, no_dependences}
+use Rattle.checker.proofs.VerdictLemmas.{approved}
 use Rattle.checker.proofs.checking.verdict_of.Goals as goal
 
-pub returns-in_err-links-clause-malformed : goal.returns-in_err-links-clause-malformed
-returns-in_err-links-clause-malformed c =
-    let p = err_from_is_err_and c.from_residual-in_err-links.result c.from_residual-in_err-links.ensures.1 in
-    let before = c.in_ok-find_misplaced.ensures in
-    rw (p.1, p.2) (least_region c.args.records.now c.in_err-links.field-0.0 c.in_ok-makers.ensures.free before.rooted before.current before.at_home c.in_err-links.ensures.found)
+pub order_of-requires-clause-at_home : goal.order_of-requires-clause-at_home
+order_of-requires-clause-at_home c = c.in_ok-tasks_stay.ensures.clear Moved (4, omega arith, refl)
+
+pub find_unfinished-requires-clause-only_waits : goal.find_unfinished-requires-clause-only_waits
+find_unfinished-requires-clause-only_waits c = rw c.records.ensures.value (only_waits c.args.trace.now.records c.requires)
+
+pub find_unfinished-requires-clause-no_dependences : goal.find_unfinished-requires-clause-no_dependences
+find_unfinished-requires-clause-no_dependences c = rw c.records.ensures.value (no_dependences c.args.trace.now.records c.requires)
 
 pub returns-clause-verdict : goal.returns-clause-verdict
 returns-clause-verdict c =
-    let before = c.in_ok-find_misplaced.ensures in
-    let finished : (i task : ℕ) → IsUnfinished c.args.records.now i task → ⊥ = rw c.in-None.is at c.in_ok-at.ensures in
-    rw c.from_vec.ensures (record {
-      well_formed = well_formed c.args.records.now c.in_ok-makers.ensures.free before.rooted before.current before.at_home c.in_ok-links.ensures.free c.in_ok-places.ensures.free;
-      linearization = c.in_ok-places.ensures.linearization;
-      greedy = c.in_ok-places.ensures.greedy;
-      finished = finished;
-      always_complete = always_complete c.args.records.now c.requires finished;
-    })
+    let complete : (i : ℕ) → AreComplete c.args.trace.now.records i = rw (c.in-None.is, c.records.ensures.value) at c.in_ok-at.ensures in
+    rw c.from_vec.ensures (approved c.args.trace.now.records c.in_ok-order.order.items c.in_ok-no_task_is_for_a_device.ensures.clear c.in_ok-order.ensures.linearization c.in_ok-order.ensures.greedy complete)

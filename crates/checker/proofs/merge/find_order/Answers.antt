@@ -5,7 +5,7 @@ use Rattle.ompt_events.specs.Places.{thread_at}
 use Rattle.checker.specs.Merge.{Stands, MayFollow}
 use Rattle.ompt_events.proofs.PlaceLemmas.{thread_index}
 use Rattle.checker.proofs.EntryLemmas.{least_entry}
-use Rattle.checker.proofs.MergingLemmas.{merging_start, merging_more, none_stands, missing_less, passed_more, first_unordered, all_ordered, stands_ordered, unordered_within}
+use Rattle.checker.proofs.MergingLemmas.{merging_start, merging_closed, merging_more, none_stands, missing_less, passed_more, first_unordered, all_ordered, stands_ordered, unordered_within}
 use Rattle.checker.proofs.merge.find_order.Goals as goal
 
 pub merge-init : goal.merge-init
@@ -81,3 +81,6 @@ returns-clause-free c = λ i has.
     let merging = c.merge.invariant.merging in
     let every : (j : ℕ) → j < length c.merge.placed.items → Stands c.merge.placed.items j = rw c.deref-2.ensures.value at c.in-None.ensures.every in
     stands_ordered c.args.records.now c.merge.placed.items c.merge.heads.items c.merge.order.items i merging (every i (rw merging.all (unordered_within c.args.records.now i has))) has
+
+pub first_ready-requires-clause-closed : goal.first_ready-requires-clause-closed
+first_ready-requires-clause-closed c = rw c.deref.ensures.value (merging_closed c.args.records.now c.merge.placed.items c.merge.heads.items c.merge.order.items c.merge.invariant.merging)

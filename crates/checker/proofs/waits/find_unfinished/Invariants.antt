@@ -1,7 +1,7 @@
 use Rattle.std.proofs.Common.{ℕ, ◌<◌}
-use Rattle.ompt_events.specs.Violations.{IsUnfinished}
+use Rattle.checker.specs.Waits.{AreComplete}
 use Rattle.checker.proofs.waits.find_unfinished.Given as goal
 
--- nothing so far is unfinished
+-- what is required at the records so far is complete there
 abbrev pub invariant-loop-at : goal.invariant-loop-at
-invariant-loop-at l = (k task : ℕ) → k < l.at → IsUnfinished l.records k task → ⊥
+invariant-loop-at l = (k : ℕ) → k < l.at → AreComplete l.records k

@@ -1,12 +1,11 @@
 use Rattle.std.proofs.Common.{◌≡◌, length}
-use Rattle.checker.specs.Waits.{AreLimits}
-use Rattle.checker.proofs.WaitLemmas.{AreLatest}
+use Rattle.checker.specs.Waits.{AreLatest, AreLimits}
 use Rattle.checker.proofs.waits.wait_limits.Given as goal
 
--- the limits so far are known, and the greatest lengths from which the next ones come
+-- the limits of the records so far, and of each task what the next record has
 abbrev pub invariant-loop-at : goal.invariant-loop-at
 invariant-loop-at l = record {
+  latest : AreLatest l.records l.at l.family.tasks l.latest.items;
+  limits : AreLimits l.records l.at l.limits.items;
   all : length l.limits.items ≡ l.at;
-  limits : AreLimits l.records l.done l.at l.limits.items;
-  latest : AreLatest l.records l.done l.at l.latest;
 }
