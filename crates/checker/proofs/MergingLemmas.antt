@@ -1,23 +1,24 @@
 -- The merge of the threads, one record on.
-use Rattle.std.proofs.Common.{zero, suc, ◌≡◌, ◌≢◌, ◌∙◌, ℕ, ◌<◌, ◌≤◌, ◌+◌, List, [], ◌∷◌, ◌++◌, length, get_or, Some, Bool, true, false, refl, sym, ap, subst, arith, inl, inr, ◌⊎◌}
+use Rattle.std.proofs.Common.{zero, suc, ◌≡◌, ◌≢◌, ◌∙◌, ℕ, ◌<◌, ◌≤◌, ◌+◌, List, [], ◌∷◌, ◌++◌, length, get_or, Option, Some, None, Bool, true, false, refl, sym, ap, subst, arith, inl, inr, ◌⊎◌}
 use Rattle.std.proofs.lemmas.Bool.{cases_eq, cases_lt, false≢true}
-use Rattle.std.proofs.lemmas.Option.{same_Some, slice_get-get_or, slice_get_within}
+use Rattle.std.proofs.lemmas.Option.{none-some, same_Some, slice_get-get_or, slice_get_within}
 use Rattle.std.proofs.lemmas.List.{length-set, length-replicate, get_or-set_same, get_or-set_other, get_or-replicate, get_or_default, get_or-take, length-take, append-nil}
 use Rattle.std.proofs.lemmas.List.Elements.{Contains-push, Contains-push_cases, Contains-append_left, Contains-append_cases}
 use Rattle.std.proofs.lemmas.List.Sorted.{IsPermutation-refl, IsPermutation-more, Contains-permutation}
 use Rattle.std.specs.List.Sorted.{IsPermutation}
 use Rattle.std.specs.List.{remove}
-use Rattle.ompt_events.proofs.PlaceLemmas.{contains_place, nothing_left}
+use Rattle.ompt_events.proofs.PlaceLemmas.{contains_place, nothing_left, at_read}
 use Rattle.std.proofs.Math.ListN.{set}
-use Rattle.std.specs.Prelude.{slice_get, slice_index, Contains, ⊤, replicate, sum_by}
+use Rattle.std.specs.Prelude.{is_some, IfSome, slice_get, slice_index, Contains, ⊤, replicate, sum_by}
 use Rattle.std.proofs.lemmas.List.Sums.{sum_by-set}
 use Rattle.ompt_events.specs.declared.records.Record.{Record}
-use Rattle.ompt_events.specs.Places.{places, thread_at}
-use Rattle.ompt_events.specs.HappensBefore.{step}
+use Rattle.ompt_events.specs.Places.{at, places, thread_at}
+use Rattle.ompt_events.specs.Records.{created, finish}
+use Rattle.ompt_events.specs.HappensBefore.{IsProgramStep, thread_order, creation, discard, fulfilment, IsStep, program, ledger, step}
 use Rattle.ompt_events.specs.declared.cause.Cause.TheVariants.{NoOrder}
 use Rattle.ompt_events.specs.Causes.{HasCause, no_order, HasNoOrder, IsFirstWith}
 use Rattle.ompt_events.specs.Linearization.{IsDue, IsReady, IsFirstReady, IsGreedy, IsGrounded, IsLinearization}
-use Rattle.checker.specs.Merge.{AreClosed, Stands, MayFollow, AreHeads, AreFirstHeads}
+use Rattle.checker.specs.Merge.{IsHint, HintsAt, AreClosed, Stands, MayFollow, AreHeads, AreFirstHeads}
 use Rattle.checker.proofs.MergeLemmas.{stands_or_not, is_head}
 use Rattle.ompt_events.proofs.LinearizationLemmas.{IsClosed, due_from_steps, closed_more, greedy_more, greedy_grounded, grounded_rising}
 use Rattle.ompt_events.proofs.HappensBeforeLemmas.{before_to, before_from}
@@ -285,3 +286,36 @@ first_unordered rs placed heads order i merging none within missing before = rec
 
 pub unordered_within : (rs : List Record) (i : ℕ) → HasCause rs i NoOrder → i < length rs
 unordered_within rs i (no_order h) = h.within
+
+-- a record that neither creates nor finishes is no step to one before it in the file
+no_step : (rs : List Record) (place a i : ℕ) → at created rs place ≡ None → at finish rs place ≡ None → i < place → place ≡ a → IsStep rs a i → ⊥
+no_step rs place a i no_creation no_finish before same (program (thread_order earlier within there)) = absurd (omega arith)
+no_step rs place a i no_creation no_finish before same (program (creation task creates start)) = none-some task (sym no_creation ∙ ap (at created rs) same ∙ creates)
+no_step rs place a i no_creation no_finish before same (program (discard task creates gone)) = none-some task (sym no_creation ∙ ap (at created rs) same ∙ creates)
+no_step rs place a i no_creation no_finish before same (program (fulfilment task creates done)) = none-some task (sym no_creation ∙ ap (at created rs) same ∙ creates)
+no_step rs place a i no_creation no_finish before same (ledger finishes less) = false≢true (ap is_some (sym no_finish ∙ ap (at finish rs) same) ∙ finishes)
+
+-- so none before the next record may follow it
+none_before : (rs : List Record) (placed : List Bool) (place : ℕ) → place < length placed → ((i : ℕ) → i < place → MayFollow rs placed i → ⊥) → at created rs place ≡ None → at finish rs place ≡ None → (i : ℕ) → i < place + 1 → MayFollow rs (set placed place true) i → ⊥
+none_before rs placed place within before no_creation no_finish i below may = elim (cases_eq i place) [
+  | inl same ↦ may.missing (let P : ℕ → Type 0 = λ j. Stands (set placed place true) j in subst P (sym same) (stands_here placed place within))
+  | inr apart ↦ before i (omega arith) (record {
+    within = may.within;
+    missing = λ stands. may.missing (stands_still placed place i stands);
+    steps = λ a s. elim (stands_cases placed place a (may.steps a s)) [
+      | inl old ↦ old
+      | inr same ↦ absurd (no_step rs place a i no_creation no_finish (omega arith) (sym same) s)
+    ];
+  })
+]
+
+pub hint_more : (rs : List Record) (r : Record) (placed : List Bool) (heads : List ℕ) (place thread next : ℕ) (found : Option ℕ) → place < length placed → place < length rs → r ≡ get_or rs place r → ((i : ℕ) → i < place → MayFollow rs placed i → ⊥) → thread < length heads → HintsAt place next r.body found → IfSome found (IsHint rs (set placed place true) (set heads thread next))
+hint_more rs r placed heads place thread next None inside within read before low hints = tt
+hint_more rs r placed heads place thread next (Some hint) inside within read before low hints =
+    let h = hints hint refl in
+    record {
+      thread = thread;
+      low = rw (length-set heads thread next) low;
+      head = get_or-set_same heads thread next 0 low ∙ sym h.1;
+      none = λ i below. none_before rs placed place inside before (at_read created rs place r within read ∙ h.2) (at_read finish rs place r within read ∙ h.3) i (omega (arith, below, h.0));
+    }

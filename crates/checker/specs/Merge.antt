@@ -1,10 +1,10 @@
 -- The records while they are put into an order.
-use Rattle.std.specs.Prelude.{ℕ, ◌≡◌, ◌<◌, ◌≤◌, List, length, Bool, true, Option, Some, slice_get, slice_index, Contains}
+use Rattle.std.specs.Prelude.{ℕ, ◌≡◌, ◌<◌, ◌≤◌, ◌+◌, List, length, Bool, true, Option, Some, None, slice_get, slice_index, Contains}
 use Rattle.std.specs.Option.{option_or}
 use Rattle.std.specs.List.Sorted.{IsNonDecreasingBy}
 use Rattle.ompt_events.specs.declared.records.Record.{Record}
 use Rattle.ompt_events.specs.declared.records.Body.{Body}
-use Rattle.ompt_events.specs.Records.{created, started, discarded, fulfilled}
+use Rattle.ompt_events.specs.Records.{created, started, discarded, fulfilled, finish}
 use Rattle.ompt_events.specs.Places.{at, thread_at, seen_at}
 use Rattle.ompt_events.specs.HappensBefore.{IsFinishing, IsStep, HappensBefore}
 
@@ -62,6 +62,20 @@ pub record IsReadyHead (rs : List Record) (creations : List (Option ℕ)) (place
   pub within : i < length rs
   pub is_created : (c : ℕ) → slice_get creations i ≡ Some (Some c) → Stands placed c
   pub is_entered : (entry : ℕ) → least ≡ Some entry → seen_at rs i ≤ entry
+
+-- the head of a thread before which no record may stand next
+pub record IsHint (rs : List Record) (placed : List Bool) (heads : List ℕ) (hint : ℕ) : Type 0 where
+  pub thread : ℕ
+  pub low : thread < length heads
+  pub head : slice_index heads thread ≡ hint
+  pub none : (i : ℕ) → i < hint → MayFollow rs placed i → ⊥
+
+-- the hint after a record that stands: the next in the file, of its thread too, where the record releases no
+-- other one
+abbrev pub HintsAt : ℕ → ℕ → Body → Option ℕ → Type 0
+HintsAt place next body found =
+    (hint : ℕ) → found ≡ Some hint
+    → (hint ≡ place + 1) × (hint ≡ next) × (created body ≡ None) × (finish body ≡ None)
 
 -- the first record of each thread
 pub record AreFirstHeads (rs : List Record) (heads : List ℕ) : Type 0 where

@@ -5,7 +5,7 @@ ghost use Rattle.ompt_events.specs.Places.{thread_at};
 ghost use Rattle.ompt_events.specs.Linearization.{IsLinearization, IsGreedy};
 ghost use Rattle.ompt_events.specs.Causes.{IsFreeOf};
 ghost use Rattle.checker.specs.Search.{IsFound};
-ghost use Rattle.checker.specs.Merge.{HaveCreations, AreClosed, StartsOrFulfils, Stands, MayFollow, AreHeads, IsLeastEntry, IsReadyHead, AreFirstHeads, AreEntries};
+ghost use Rattle.checker.specs.Merge.{HaveCreations, AreClosed, StartsOrFulfils, Stands, MayFollow, AreHeads, IsLeastEntry, IsReadyHead, IsHint, HintsAt, AreFirstHeads, AreEntries};
 
 use crate::search::SearchFault;
 use ompt_events::{Cause, Record, finish};
@@ -30,22 +30,23 @@ pub(crate) fn find_order(
     let mut heads = first_heads(alloc, records)?;
     let entries = entries_of(alloc, records)?;
     let mut low = 0;
+    let mut hint = None;
     let mut order = Vec::with_capacity(alloc, records.len())?;
-    'merge: while let Some(place) = first_ready(
+    'merge: while let Some(place) = next_ready(
         records,
         creations,
         &placed,
         &heads,
         entry_at(&entries, low),
+        hint,
     ) {
+        let event = &records[place];
         order.push(place)?;
         placed[place] = true;
-        heads[records[place].thread as usize] = next_of_thread(
-            records,
-            records[place].thread,
-            place + 1,
-        );
+        let next = next_of_thread(records, event.thread, place + 1);
+        heads[event.thread as usize] = next;
         low = first_missing(&placed, &entries, low);
+        hint = hint_after(event, place, next);
     }
     match first_unplaced(&placed) {
         Some(at) => Err(SearchFault::Malformed {
@@ -142,6 +143,47 @@ fn entry_at(entries: &[(u32, usize)], low: usize) -> Option<u32>
     } else {
         None
     }
+}
+
+/// Where no record before the next one in the file may stand next, and that one is the head of its thread, it.
+fn hint_after(event: &Record, place: usize, next: usize) -> Option<usize>
+    requires { place < usize.MAX }
+    ensures { HintsAt place next event.now.body result }
+{
+    let releases = event.body.created().is_some() || finish(event).is_some();
+    if next == place + 1 && !releases {
+        Some(next)
+    } else {
+        None
+    }
+}
+
+/// Of the heads of the threads the first in file order that may stand next; no head before the hint may.
+fn next_ready(
+    records: &[Record],
+    creations: &[Option<usize>],
+    placed: &[bool],
+    heads: &[usize],
+    least: Option<u32>,
+    hint: Option<usize>,
+) -> Option<usize>
+    requires creations { HaveCreations records.now (length records.now) creations.now }
+    requires apart { StartsOrFulfils records.now }
+    requires at_home { IsFreeOf records.now Moved }
+    requires closed { AreClosed records.now placed.now }
+    requires heads { AreHeads records.now placed.now heads.now }
+    requires least { IsLeastEntry records.now placed.now least }
+    requires hint { IfSome hint (IsHint records.now placed.now heads.now) }
+    ensures none { MatchOption result ((i : ℕ) → MayFollow records.now placed.now i → ⊥) (λ place. (i : ℕ)
+        → i < place → MayFollow records.now placed.now i → ⊥) }
+    ensures found { IfSome result (MayFollow records.now placed.now) }
+{
+    if let Some(head) = hint {
+        if is_ready(records, creations, placed, least, head) {
+            return Some(head);
+        }
+    }
+    first_ready(records, creations, placed, heads, least)
 }
 
 /// Of the heads of the threads the first in file order that may stand next.

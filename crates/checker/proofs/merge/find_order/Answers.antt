@@ -1,11 +1,10 @@
 use Rattle.std.proofs.Common.{true, ◌≡◌, ◌∙◌, ◌<◌, ◌≤◌, ℕ, Some, length, get_or, refl, sym, arith, rules}
 use Rattle.std.proofs.Math.ListN.{set}
-use Rattle.std.proofs.lemmas.Option.{same_Some}
 use Rattle.ompt_events.specs.Places.{thread_at}
 use Rattle.checker.specs.Merge.{Stands, MayFollow}
-use Rattle.ompt_events.proofs.PlaceLemmas.{thread_index}
+use Rattle.ompt_events.proofs.PlaceLemmas.{thread_read}
 use Rattle.checker.proofs.EntryLemmas.{least_entry}
-use Rattle.checker.proofs.MergingLemmas.{merging_start, merging_closed, merging_more, none_stands, missing_less, passed_more, first_unordered, all_ordered, stands_ordered, unordered_within}
+use Rattle.checker.proofs.MergingLemmas.{merging_start, merging_closed, merging_more, none_stands, missing_less, passed_more, hint_more, first_unordered, all_ordered, stands_ordered, unordered_within}
 use Rattle.checker.proofs.merge.find_order.Goals as goal
 
 pub merge-init : goal.merge-init
@@ -14,17 +13,18 @@ merge-init c = record {
   within = omega arith;
   passed = λ j d below. absurd (omega arith);
   missing = λ d below stands. none_stands (length c.args.records.now) (get_or c.in_ok-entries.entries.items 0 d).1 (rw c.in_ok-placed.ensures at stands);
+  hint = tt;
 }
 
-pub first_ready-requires-clause-least : goal.first_ready-requires-clause-least
-first_ready-requires-clause-least c =
+pub next_ready-requires-clause-least : goal.next_ready-requires-clause-least
+next_ready-requires-clause-least c =
     rw (c.deref.ensures.value, c.entry_at.ensures, c.deref-in-merge-2.ensures.value) (least_entry c.args.records.now c.merge.placed.items c.in_ok-entries.entries.items c.merge.low c.in_ok-entries.ensures c.merge.invariant.passed c.merge.invariant.missing)
 
 pub index_mut-requires-in-Some : goal.index_mut-requires-in-Some
 index_mut-requires-in-Some c =
     let within : c.in-Some.place < length c.args.records.now = c.in-Some.ensures.found.within in
-    let runs = thread_index c.args.records.now c.in-Some.place c.index-records-place-in-Some.result within in
-    let low = c.merge.invariant.merging.are_heads.all c.in-Some.place (get_or c.args.records.now c.in-Some.place c.index-records-place-in-Some.result).thread runs in
+    let runs = thread_read c.args.records.now c.in-Some.place c.index-records-place.result within c.index-records-place.is in
+    let low = c.merge.invariant.merging.are_heads.all c.in-Some.place c.index-records-place.result.thread runs in
     search rules
 
 pub merge-smaller : goal.merge-smaller
@@ -43,19 +43,20 @@ merge-preserved c =
     let merging = c.merge.invariant.merging in
     let may : MayFollow rs placed place = rw c.deref.ensures.value at c.in-Some.ensures.found in
     let first : (i : ℕ) → i < place → MayFollow rs placed i → ⊥ = rw c.deref.ensures.value at c.in-Some.ensures.none in
-    let thread = (get_or rs place c.index-records-place.result).thread in
-    let runs : thread_at rs place ≡ Some thread = thread_index rs place c.index-records-place.result may.within in
-    let same : (get_or rs place c.index-records-place-in-Some.result).thread ≡ thread = same_Some (get_or rs place c.index-records-place-in-Some.result).thread thread (sym (thread_index rs place c.index-records-place-in-Some.result may.within) ∙ runs) in
-    let next = c.next_of_thread.ensures in
+    let r = c.index-records-place.result in
+    let runs : thread_at rs place ≡ Some r.thread = thread_read rs place r may.within c.index-records-place.is in
+    let inside : place < length placed = rw merging.all may.within in
+    let next = c.next_of_thread-next.ensures in
     let lists : c.deref-in-Some-2.result.now ≡ entries = c.deref-in-Some-2.ensures.value in
     let stood : c.deref-in-Some.result.now ≡ set placed place true = c.deref-in-Some.ensures.value in
     let passed : (j : ℕ) (d : ℕ × ℕ) → c.merge.low ≤ j → j < c.first_missing-low.result → Stands (set placed place true) (get_or entries j d).1 = rw (lists, stood) at c.first_missing-low.ensures.passed in
     let missing : (d : ℕ × ℕ) → c.first_missing-low.result < length entries → Stands (set placed place true) (get_or entries c.first_missing-low.result d).1 → ⊥ = rw (lists, stood) at c.first_missing-low.ensures.missing in
     record {
-      merging = rw (c.in_ok-push.ensures.items, same) (merging_more rs placed heads c.merge.order.items place thread c.next_of_thread.result merging may first runs next.from next.within next.none next.found);
+      merging = rw c.in_ok-push.ensures.items (merging_more rs placed heads c.merge.order.items place r.thread c.next_of_thread-next.result merging may first runs next.from next.within next.none next.found);
       within = rw lists at c.first_missing-low.ensures.within;
       passed = passed_more placed entries c.merge.low c.first_missing-low.result place c.merge.invariant.passed passed;
       missing = missing;
+      hint = hint_more rs r placed heads place r.thread c.next_of_thread-next.result c.hint_after-hint.result inside may.within c.index-records-place.is first (merging.are_heads.all place r.thread runs) c.hint_after-hint.ensures;
     }
 
 pub returns-in-Some-first_unplaced-clause-found : goal.returns-in-Some-first_unplaced-clause-found
@@ -82,5 +83,5 @@ returns-clause-free c = λ i has.
     let every : (j : ℕ) → j < length c.merge.placed.items → Stands c.merge.placed.items j = rw c.deref-2.ensures.value at c.in-None.ensures.every in
     stands_ordered c.args.records.now c.merge.placed.items c.merge.heads.items c.merge.order.items i merging (every i (rw merging.all (unordered_within c.args.records.now i has))) has
 
-pub first_ready-requires-clause-closed : goal.first_ready-requires-clause-closed
-first_ready-requires-clause-closed c = rw c.deref.ensures.value (merging_closed c.args.records.now c.merge.placed.items c.merge.heads.items c.merge.order.items c.merge.invariant.merging)
+pub next_ready-requires-clause-closed : goal.next_ready-requires-clause-closed
+next_ready-requires-clause-closed c = rw c.deref.ensures.value (merging_closed c.args.records.now c.merge.placed.items c.merge.heads.items c.merge.order.items c.merge.invariant.merging)
