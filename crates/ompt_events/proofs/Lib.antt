@@ -2,6 +2,7 @@ mod TraceLemmas
 pub mod PlaceLemmas
 pub mod RecordLemmas
 pub mod TreeLemmas
+pub mod ThreadLemmas
 pub mod RegionLemmas
 pub mod HappensBeforeLemmas
 pub mod LinearizationLemmas

@@ -1,2 +1,4 @@
 mod NumberingLemmas
 mod TargetLemmas
+mod NestingLemmas
+mod CurrentLemmas

@@ -1,2 +1,5 @@
--- What makes a task a target task. The states and causes themselves are defined in `ompt_events`.
+-- What the searches test at each record. The states, the walk along a thread and the causes themselves are
+-- defined in `ompt_events`.
 pub mod Targets
+pub mod Nesting
+pub mod Fault

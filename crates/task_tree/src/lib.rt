@@ -20,4 +20,5 @@ mod tree;
 pub use family::Family;
 pub use fault::TreeFault;
 pub use numbering::Numbering;
+pub use slot::Slot;
 pub use tree::Tree;
