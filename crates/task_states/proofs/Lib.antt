@@ -2,3 +2,5 @@ mod NumberingLemmas
 mod TargetLemmas
 mod NestingLemmas
 mod CurrentLemmas
+mod HomeLemmas
+mod RegionLemmas

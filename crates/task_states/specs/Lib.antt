@@ -2,4 +2,6 @@
 -- defined in `ompt_events`.
 pub mod Targets
 pub mod Nesting
+pub mod Homes
+pub mod Regions
 pub mod Fault

@@ -1,13 +1,15 @@
 //! The states that a task goes through, where each thread stands, and four causes of malformed records.
 //!
 //! Read `table` first, the states and what changes them, and `walk`, the tasks that a thread runs; then
-//! `numbering`, `targets`, `current` and `nesting`, one cause each.
+//! `numbering`, `targets`, `current`, `homes`, `regions` and `nesting`, one cause each.
 #![tactic(auto)]
 
 mod current;
 mod fault;
+mod homes;
 mod nesting;
 mod numbering;
+mod regions;
 mod table;
 mod targets;
 mod walk;
