@@ -7,6 +7,7 @@ ghost use Rattle.task_tree.specs.Makers.{AreNoted};
 ghost use Rattle.task_tree.specs.Children.{AreChildren, AreLinks, AreEmpty, IsShort, Adds, IsLinked};
 
 use crate::numbering::Numbering;
+use crate::subjects::Subjects;
 use ompt_events::Record;
 use std::alloc::{AllocError, Global};
 
@@ -29,6 +30,7 @@ pub(crate) fn find_children(
     alloc: Global,
     records: &[Record],
     tasks: &Numbering,
+    named: &Subjects,
 ) -> Result<Children, AllocError>
     requires noted { AreNoted made records.now (length records.now) tasks.now }
     requires once { IsFreeOf records.now CreatedTwice }
@@ -40,17 +42,19 @@ pub(crate) fn find_children(
 {
     let mut lists = no_children(alloc, tasks.as_slice().len())?;
     let mut links = no_links(alloc, tasks.as_slice().len())?;
-    for event in records {
+    for (at, event) in records.iter().enumerate() {
         if let Some((parent, child)) = event.body.creation() {
-            link_child(tasks, &mut lists, &mut links, parent, child)?;
+            let near = (named.near_subject(at), named.near_object(at));
+            link_child(tasks, near, &mut lists, &mut links, parent, child)?;
         }
     }
     Ok(Children { lists, links })
 }
 
-/// Adds the child to its parent's list, and notes its link.
+/// Adds the child to its parent's list, and notes its link. The two are looked for first near those indices.
 fn link_child(
     tasks: &Numbering,
+    near: (usize, usize),
     lists: &mut Vec<Vec<u64>>,
     links: &mut Vec<Option<Link>>,
     parent: u64,
@@ -63,11 +67,11 @@ fn link_child(
         (IsLinked tasks.now lists.old.items lists.new.items links.old.items links.new.items parent child) }
 {
     // A parent that no record makes is found later, as a cause of malformed records.
-    let Some(up) = tasks.index_of(parent) else {
+    let Some(up) = tasks.index_near(parent, near.0) else {
         return Ok(());
     };
     let number = add_child(lists, up, child)?;
-    let Some(own) = tasks.index_of(child) else {
+    let Some(own) = tasks.index_near(child, near.1) else {
         return Ok(());
     };
     links[own] = Some(Link { number, parent });

@@ -66,10 +66,10 @@ impl Family {
             places,
             regions,
         } = find_made(alloc, records)?;
-        let Subjects { subjects, objects } = find_subjects(alloc, records, &tasks)?;
-        let Children { lists, links } = find_children(alloc, records, &tasks)?;
+        let named = find_subjects(alloc, records, &tasks)?;
+        let Children { lists, links } = find_children(alloc, records, &tasks, &named)?;
         let roots = find_roots(alloc, records, &tasks, lists.as_slice())?;
-        match find_rootless(records, &tasks, &regions, roots.as_slice()) {
+        match find_rootless(records, &tasks, &named, &regions, roots.as_slice()) {
             Some(at) => Err(TreeFault::Malformed {
                 at,
                 cause: Cause::Rootless,
@@ -77,8 +77,8 @@ impl Family {
             None => Ok(Family {
                 tasks,
                 places,
-                subjects,
-                objects,
+                subjects: named.subjects,
+                objects: named.objects,
                 lists,
                 links,
                 roots,

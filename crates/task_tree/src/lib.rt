@@ -8,6 +8,7 @@
 mod children;
 mod family;
 mod fault;
+mod hints;
 mod makers;
 mod numbering;
 mod paths;
@@ -20,4 +21,5 @@ mod tree;
 pub use family::Family;
 pub use fault::TreeFault;
 pub use numbering::Numbering;
+pub use slot::Slot;
 pub use tree::Tree;

@@ -27,7 +27,7 @@ impl Model for Numbering {
 
 impl Numbering {
     /// No id.
-    pub fn new(alloc: Global) -> Numbering
+    pub(crate) fn new(alloc: Global) -> Numbering
         ensures { result ≡ [] }
     {
         Numbering {
@@ -62,6 +62,20 @@ impl Numbering {
         self.index_of(id)
     }
 
+    /// Whether this is the id's index.
+    pub(crate) fn stands_at(&self, id: u64, index: usize) -> bool
+        ensures { IsTrue result ↔ (slice_get self.now index ≡ Some id) }
+    {
+        index < self.ids.len() && self.ids[index] == id
+    }
+
+    /// Whether the id was noted, looked for here first.
+    pub(crate) fn contains_near(&self, id: u64, near: usize) -> bool
+        ensures { IsTrue result ↔ Contains self.now id }
+    {
+        self.index_near(id, near).is_some()
+    }
+
     /// Whether the id was noted.
     pub fn contains(&self, id: u64) -> bool
         ensures { IsTrue result ↔ Contains self.now id }
@@ -70,7 +84,7 @@ impl Numbering {
     }
 
     /// Notes the id, if there is one, and answers whether it was noted before.
-    pub fn note(&mut self, found: Option<u64>) -> Result<bool, AllocError>
+    pub(crate) fn note(&mut self, found: Option<u64>) -> Result<bool, AllocError>
         ensures { IfOk result (IsNoted self.old self.new found) }
     {
         let Some(id) = found else {

@@ -3,9 +3,9 @@ ghost use Rattle.std.specs.Prelude.{◌≡◌, ◌<◌, Some, None};
 
 use std::marker::Model;
 
-/// The index of a task, or none.
+/// An index or a place below 2^32 - 1, or none.
 #[derive(Clone, Copy, Debug, PartialEq, Eq)]
-pub(crate) struct Slot {
+pub struct Slot {
     code: u32,
 }
 
@@ -26,15 +26,15 @@ impl Model for Slot {
 const NONE: u32 = u32::MAX;
 
 impl Slot {
-    /// No index.
-    pub(crate) fn none() -> Slot
+    /// None.
+    pub fn none() -> Slot
         ensures { result ≡ None }
     {
         Slot { code: NONE }
     }
 
     /// This index.
-    pub(crate) fn some(index: usize) -> Slot
+    pub fn some(index: usize) -> Slot
         requires { index < 4294967295 }
         ensures { result ≡ Some index }
     {
@@ -42,7 +42,7 @@ impl Slot {
     }
 
     /// The index.
-    pub(crate) fn get(self) -> Option<usize>
+    pub fn get(self) -> Option<usize>
         ensures { result ≡ self }
     {
         if self.code == NONE {

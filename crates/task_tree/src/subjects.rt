@@ -2,6 +2,7 @@
 ghost use Rattle.std.specs.Prelude.{◌≡◌, ◌≤◌, ◌^◌, IfOk, length};
 ghost use Rattle.task_tree.specs.Subjects.{subject, object, Finds, AreFound};
 
+use crate::hints::Hints;
 use crate::numbering::Numbering;
 use crate::slot::Slot;
 use ompt_events::{Body, Record};
@@ -12,6 +13,27 @@ use std::alloc::{AllocError, Global};
 pub(crate) struct Subjects {
     pub(crate) subjects: Vec<Slot>,
     pub(crate) objects: Vec<Slot>,
+}
+
+impl Subjects {
+    /// Where the task that the record is of stands, as a hint.
+    pub(crate) fn near_subject(&self, at: usize) -> usize {
+        near(self.subjects.as_slice(), at)
+    }
+
+    /// Where the second task that it names stands, as a hint.
+    pub(crate) fn near_object(&self, at: usize) -> usize {
+        near(self.objects.as_slice(), at)
+    }
+}
+
+/// The index that stands there, or any other.
+fn near(slots: &[Slot], at: usize) -> usize {
+    if at < slots.len() {
+        slots[at].get().unwrap_or(0)
+    } else {
+        0
+    }
 }
 
 /// Looks up the tasks that the records name.
@@ -28,13 +50,11 @@ pub(crate) fn find_subjects(
 {
     let mut subjects = Vec::with_capacity(alloc, records.len())?;
     let mut objects = Vec::with_capacity(alloc, records.len())?;
-    // Where the task that the thread runs was found last.
-    let mut running = [0usize; 256];
+    let mut hints = Hints::new(alloc, tasks.as_slice().len())?;
     for event in records {
-        let thread = event.thread as usize;
-        let first = slot_of(tasks, subject(&event.body), running[thread]);
-        let second = slot_of(tasks, object(&event.body), running[thread]);
-        running[thread] = first.get().unwrap_or(0);
+        let first = slot_of(tasks, subject(&event.body), hints.subject(event));
+        let second = slot_of(tasks, object(&event.body), hints.object(event, first));
+        hints.note(event, first, second);
         subjects.push(first)?;
         objects.push(second)?;
     }

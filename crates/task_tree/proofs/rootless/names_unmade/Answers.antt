@@ -9,7 +9,7 @@ pub loop-task-preserved : goal.loop-task-preserved
 loop-task-preserved c =
     let same = c.as_slice-task-items.ensures ∙ c.named-named.ensures in
     let P : List ℕ → Type 0 = λ l. Contains c.args.tasks.now (slice_index l c.loop-task.task-index) in
-    below_more _ _ c.loop-task.invariant (subst P same (c.contains.ensures.0 c.if-not-contains.false))
+    below_more _ _ c.loop-task.invariant (subst P same (c.is_made.ensures.0 c.if-not-is_made.false))
 
 pub returns : goal.returns
 returns c = (

@@ -1,0 +1,166 @@
+-- How the open regions change from record to record.
+use Rattle.std.proofs.Common.{◌≡◌, ◌≢◌, ◌∙◌, ℕ, ◌<◌, ◌≤◌, ◌+◌, List, [], ◌∷◌, ◌++◌, length, get_or, Option, Some, None, true, refl, sym, ap, subst, arith, inl, inr, set}
+use Rattle.std.proofs.lemmas.Bool.{cases_eq, cases_lt}
+use Rattle.std.proofs.lemmas.Option.{none-some, same_Some, slice_get-get_or, slice_get_within}
+use Rattle.std.proofs.lemmas.List.{get_or_append_left, get_or_push, length_push, length-set, get_or-set_same, get_or-set_other, length-replicate, get_or-replicate}
+use Rattle.std.specs.Prelude.{slice_get, slice_index_or, replicate}
+use Rattle.ompt_events.specs.declared.records.Record.{Record}
+use Rattle.ompt_events.specs.declared.names.Endpoint.{Endpoint}
+use Rattle.ompt_events.specs.declared.names.Endpoint.TheVariants.{Begin, End, BeginEnd}
+use Rattle.ompt_events.specs.declared.names.SyncKind.{SyncKind}
+use Rattle.ompt_events.specs.declared.cause.Cause.TheVariants.{RegionOrder}
+use Rattle.ompt_events.specs.Records.{region}
+use Rattle.ompt_events.specs.Places.{at}
+use Rattle.ompt_events.specs.Tree.{IsExplicit}
+use Rattle.ompt_events.specs.Regions.{after_region, open_regions, kind_at, is_called_barrier, EndsRegion}
+use Rattle.ompt_events.specs.Causes.{HasNoBegin, HasBarrier, HasCause, region_order, barrier_order, IsFirstWith, IsFreeOf}
+use Rattle.ompt_events.proofs.RegionLemmas.{open_none, open_other, open_own}
+use Rattle.ompt_events.proofs.PlaceLemmas.{at_within}
+use Rattle.task_tree.specs.Numbering.{AreApart}
+use Rattle.task_states.specs.Regions.{below_of, top_after, IsStack, AreLinked, IsRegionOf}
+
+-- a stack stays when a link is added
+stack_more : (links : List (Option ℕ)) (link top : Option ℕ) (stack : List ℕ) → IsStack links top stack → IsStack (links ++ link ∷ []) top stack
+stack_more links link top [] is = is
+stack_more links link top (begin ∷ below) (is, within, rest) =
+    let same : below_of (links ++ link ∷ []) top ≡ below_of links top = ap (below_of (links ++ link ∷ [])) is ∙ get_or_append_left links (link ∷ []) None begin within ∙ ap (below_of links) (sym is) in
+    (is, rw (length_push links link) (omega arith), rw same (stack_more links link (below_of links top) below rest))
+
+-- the innermost open region of the task with this index
+abbrev pub top_of : List (Option ℕ) → ℕ → Option ℕ
+top_of innermost index = slice_index_or innermost index None
+
+-- what is known of the open regions after n records
+pub record AreOpen (rs : List Record) (n : ℕ) (tasks : List ℕ) (innermost links : List (Option ℕ)) : Type 0 where
+  pub all : length links ≡ n
+  pub tops : length innermost ≡ length tasks
+  pub stacks : (index task : ℕ) → slice_get tasks index ≡ Some task → IsStack links (top_of innermost index) (open_regions rs task n)
+  pub linked : AreLinked rs n links
+
+pub open_start : (rs : List Record) (tasks : List ℕ) (innermost links : List (Option ℕ)) → innermost ≡ replicate (length tasks) None → links ≡ [] → AreOpen rs 0 tasks innermost links
+open_start rs tasks innermost links none empty = record {
+  all = ap length empty;
+  tops = ap length none ∙ length-replicate (length tasks) None;
+  stacks = λ index task is. ap (λ l. slice_index_or l index None) none ∙ get_or-replicate (length tasks) index None None (slice_get_within tasks index task is);
+  linked = λ i task kind below. absurd (omega arith);
+}
+
+linked_more : (rs : List Record) (n : ℕ) (links : List (Option ℕ)) (link : Option ℕ) → length links ≡ n → AreLinked rs n links → ((task : ℕ) (kind : SyncKind) → at region rs n ≡ Some (task, kind, End) → (begin : ℕ) × (link ≡ Some begin) × EndsRegion rs n task kind begin) → AreLinked rs (n + 1) (links ++ link ∷ [])
+linked_more rs n links link all linked here i task kind below ends = elim (cases_eq i n) [
+  | inl same ↦
+      let h = here task kind (ap (at region rs) (sym same) ∙ ends) in
+      (h.0, last i same ∙ ap Some h.1, let P : ℕ → Type 0 = λ j. EndsRegion rs j task kind h.0 in subst P (sym same) h.2)
+  | inr apart ↦
+      let old = linked i task kind (omega arith) ends in
+      let inside = slice_get_within links i (Some old.0) old.1 in
+      (old.0, slice_get-get_or (links ++ link ∷ []) i None (rw (length_push links link) (omega arith)) ∙ ap Some (get_or_append_left links (link ∷ []) None i inside) ∙ sym (slice_get-get_or links i None inside) ∙ old.1, old.2)
+]
+  where
+    last : (j : ℕ) → j ≡ n → slice_get (links ++ link ∷ []) j ≡ Some link
+    last j same = slice_get-get_or (links ++ link ∷ []) j None (rw (length_push links link) (omega arith)) ∙ ap Some (get_or_push links link None j (all ∙ sym same))
+
+-- a record of no region
+pub open_more_none : (rs : List Record) (n : ℕ) (tasks : List ℕ) (innermost links : List (Option ℕ)) → AreOpen rs n tasks innermost links → at region rs n ≡ None → AreOpen rs (n + 1) tasks innermost (links ++ None ∷ [])
+open_more_none rs n tasks innermost links are none = record {
+  all = length_push links None ∙ ap (λ k. k + 1) are.all;
+  tops = are.tops;
+  stacks = λ index task is. rw (open_none rs task n none) (stack_more links None (top_of innermost index) (open_regions rs task n) (are.stacks index task is));
+  linked = linked_more rs n links None are.all are.linked (λ task kind ends. absurd (none-some (task, kind, End) (sym none ∙ ends)));
+}
+
+-- the stack of a task after its own record
+own_stack : (links : List (Option ℕ)) (n own : ℕ) (kind : SyncKind) (endpoint : Endpoint) (link : Option ℕ) (stack : List ℕ) → length links ≡ n → (endpoint ≡ End → (begin : ℕ) × (link ≡ Some begin)) → IsStack links link stack → IsStack (links ++ link ∷ []) (top_after links link n endpoint) (after_region stack n (Some (own, kind, endpoint)))
+own_stack links n own kind Begin link stack all found is =
+    let here : below_of (links ++ link ∷ []) (Some n) ≡ link = get_or_push links link None n all in
+    (refl, rw (length_push links link) (omega arith), rw here (stack_more links link link stack is))
+own_stack links n own kind BeginEnd link stack all found is = stack_more links link link stack is
+own_stack links n own kind End link [] all found is = let h = found refl in absurd (none-some h.0 (sym is ∙ h.1))
+own_stack links n own kind End link (begin ∷ below) all found (is, within, rest) = stack_more links link (below_of links link) below rest
+
+-- a record that begins or ends a region
+pub open_more_own : (rs : List Record) (n index : ℕ) (kind : SyncKind) (endpoint : Endpoint) (tasks : List ℕ) (innermost links : List (Option ℕ)) (link : Option ℕ) → AreApart tasks → AreOpen rs n tasks innermost links → IsRegionOf rs tasks n index kind endpoint → link ≡ top_of innermost index → (endpoint ≡ End → (begin : ℕ) × (link ≡ Some begin) × (kind_at rs begin ≡ Some kind)) → AreOpen rs (n + 1) tasks (set innermost index (top_after links link n endpoint)) (links ++ link ∷ [])
+open_more_own rs n index kind endpoint tasks innermost links link apart_all are own is_top found = record {
+  all = length_push links link ∙ ap (λ k. k + 1) are.all;
+  tops = length-set innermost index (top_after links link n endpoint) ∙ are.tops;
+  stacks = λ other task is. elim (cases_eq other index) [
+    | inl same ↦
+        let is_task : task ≡ own.task = same_Some task own.task (sym is ∙ ap (slice_get tasks) same ∙ own.indexed) in
+        rw (same, get_or-set_same innermost index (top_after links link n endpoint) None within, is_task, open_own rs own.task n kind endpoint own.says) (own_stack links n own.task kind endpoint link (open_regions rs own.task n) are.all (λ e. let h = found e in (h.0, h.1)) own_one)
+    | inr apart ↦ rw (get_or-set_other innermost index other (top_after links link n endpoint) None apart, open_other rs task own.task n kind endpoint own.says (λ e. apart (apart_all other index own.task (is ∙ ap Some e) own.indexed))) (stack_more links link (top_of innermost other) (open_regions rs task n) (are.stacks other task is))
+  ];
+  linked = linked_more rs n links link are.all are.linked ends_here;
+}
+  where
+    within : index < length innermost
+    within = let inside = slice_get_within tasks index own.task own.indexed in let tops = are.tops in omega (arith, inside, tops)
+
+    own_one : IsStack links link (open_regions rs own.task n)
+    own_one = let P : Option ℕ → Type 0 = λ t. IsStack links t (open_regions rs own.task n) in subst P (sym is_top) (are.stacks index own.task own.indexed)
+
+    head_of : (top : Option ℕ) (stack : List ℕ) (begin : ℕ) → IsStack links top stack → top ≡ Some begin → slice_get stack 0 ≡ Some begin
+    head_of top [] begin is e = absurd (none-some begin (sym is ∙ e))
+    head_of top (b ∷ below) begin (is, inside, rest) e = sym is ∙ e
+
+    ends_here : (task : ℕ) (kind' : SyncKind) → at region rs n ≡ Some (task, kind', End) → (begin : ℕ) × (link ≡ Some begin) × EndsRegion rs n task kind' begin
+    ends_here task kind' ends =
+        let same = same_Some (own.task, kind, endpoint) (task, kind', End) (sym own.says ∙ ends) in
+        let is_end : endpoint ≡ End = ap (λ (p : ℕ × SyncKind × Endpoint). p.2) same in
+        let is_task : own.task ≡ task = ap (λ (p : ℕ × SyncKind × Endpoint). p.0) same in
+        let is_kind : kind ≡ kind' = ap (λ (p : ℕ × SyncKind × Endpoint). p.1) same in
+        let h = found is_end in (
+          h.0,
+          h.1,
+          record {
+            ends = ends;
+            innermost = ap (λ t. slice_get (open_regions rs t n) 0) (sym is_task) ∙ head_of link (open_regions rs own.task n) h.0 own_one h.1;
+            same_kind = h.2 ∙ ap Some is_kind;
+          },
+        )
+
+-- ---- the cause
+
+pub order_within : (rs : List Record) (i : ℕ) → HasCause rs i RegionOrder → i < length rs
+order_within rs i (region_order (task, kind, h)) = at_within region rs i (task, kind, End) h.ends
+order_within rs i (barrier_order (task, kind, endpoint, says, called, explicit)) = at_within region rs i (task, kind, endpoint) says
+
+pub first_order : (rs : List Record) (i : ℕ) → ((k : ℕ) → k < i → HasCause rs k RegionOrder → ⊥) → HasCause rs i RegionOrder → IsFirstWith rs RegionOrder i
+first_order rs i free has = record { within = order_within rs i has; has = has; first = free }
+
+-- an end that misses its begin
+pub misses_here : (rs : List Record) (i index : ℕ) (kind : SyncKind) (endpoint : Endpoint) (tasks : List ℕ) (innermost links : List (Option ℕ)) (link : Option ℕ) → AreOpen rs i tasks innermost links → IsRegionOf rs tasks i index kind endpoint → link ≡ top_of innermost index → (endpoint ≡ End) × ((begin : ℕ) → link ≡ Some begin → kind_at rs begin ≢ Some kind) → HasCause rs i RegionOrder
+misses_here rs i index kind endpoint tasks innermost links link are own is_top (is_end, none) = region_order (
+  own.task,
+  kind,
+  record {
+    ends = own.says ∙ ap (λ e. Some (own.task, kind, e)) is_end;
+    none = λ begin top. none begin (is_top ∙ top_is (top_of innermost index) (open_regions rs own.task i) begin (are.stacks index own.task own.indexed) top);
+  },
+)
+  where
+    top_is : (top : Option ℕ) (stack : List ℕ) (begin : ℕ) → IsStack links top stack → slice_get stack 0 ≡ Some begin → top ≡ Some begin
+    top_is top [] begin is e = absurd (none-some begin e)
+    top_is top (b ∷ below) begin (is, within, rest) e = is ∙ e
+
+-- a barrier of an explicit task
+pub barred_here : (rs : List Record) (i index : ℕ) (kind : SyncKind) (endpoint : Endpoint) (tasks : List ℕ) (own : IsRegionOf rs tasks i index kind endpoint) → (is_called_barrier kind ≡ true) × IsExplicit rs own.task → HasCause rs i RegionOrder
+barred_here rs i index kind endpoint tasks own (called, explicit) = barrier_order (own.task, kind, endpoint, own.says, called, explicit)
+
+-- a record that has its begin, or needs none, and is no such barrier
+pub placed_here : (rs : List Record) (n index : ℕ) (kind : SyncKind) (endpoint : Endpoint) (tasks : List ℕ) (links : List (Option ℕ)) (own : IsRegionOf rs tasks n index kind endpoint) → ((is_called_barrier kind ≡ true) × IsExplicit rs own.task → ⊥) → AreLinked rs (n + 1) links → HasCause rs n RegionOrder → ⊥
+placed_here rs n index kind endpoint tasks links own free linked (region_order (task, kind', h)) =
+    let found = linked n task kind' (omega arith) h.ends in
+    h.none found.0 found.2.innermost found.2.same_kind
+placed_here rs n index kind endpoint tasks links own free linked (barrier_order (task, kind', endpoint', says, called, explicit)) =
+    let same = same_Some (own.task, kind, endpoint) (task, kind', endpoint') (sym own.says ∙ says) in
+    let is_task : task ≡ own.task = sym (ap (λ (p : ℕ × SyncKind × Endpoint). p.0) same) in
+    let is_kind : kind ≡ kind' = ap (λ (p : ℕ × SyncKind × Endpoint). p.1) same in
+    let P : ℕ → Type 0 = IsExplicit rs in
+    free (ap is_called_barrier is_kind ∙ called, subst P is_task explicit)
+
+-- a record of no region
+pub no_region_here : (rs : List Record) (n : ℕ) → at region rs n ≡ None → HasCause rs n RegionOrder → ⊥
+no_region_here rs n none (region_order (task, kind, h)) = none-some (task, kind, End) (sym none ∙ h.ends)
+no_region_here rs n none (barrier_order (task, kind, endpoint, says, called, explicit)) = none-some (task, kind, endpoint) (sym none ∙ says)
+
+pub free_of_order : (rs : List Record) (n : ℕ) → ((k : ℕ) → k < n → HasCause rs k RegionOrder → ⊥) → length rs ≤ n → IsFreeOf rs RegionOrder
+free_of_order rs n free all i has = free i (let inside = order_within rs i has in omega arith) has

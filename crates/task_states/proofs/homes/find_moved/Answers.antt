@@ -1,0 +1,72 @@
+use Rattle.std.proofs.Common.{◌≡◌, ◌≢◌, ◌∙◌, ◌<◌, ℕ, Some, length, refl, sym, ap, arith, rules, below_more}
+use Rattle.std.proofs.lemmas.Bool.{false≢true}
+use Rattle.std.specs.Prelude.{IsSomeAnd, slice_get}
+use Rattle.std.proofs.lemmas.Option.{none-some, slice_get_within, slice_get_read}
+use Rattle.ompt_events.specs.Records.{started}
+use Rattle.ompt_events.specs.Places.{at, thread_at}
+use Rattle.ompt_events.specs.Tree.{IsExplicit}
+use Rattle.ompt_events.proofs.PlaceLemmas.{at_read, thread_read}
+use Rattle.task_states.proofs.HomeLemmas.{explicit_index, homes_start, free_of_moved, moves_here, moves_not, homes_more, homes_other, stays_put}
+use Rattle.task_states.proofs.homes.find_moved.Goals as goal
+use Rattle.task_states.proofs.homes.find_moved.Goals.{in-Some+else-is_other, in_default}
+
+pub index-requires : goal.index-requires
+index-requires c =
+    let start = (c.explicit_start.ensures c.in-Some.index).0 c.in-Some.is in
+    let inside = slice_get_within c.args.family.now.tasks c.in-Some.index start.task start.indexed in
+    let all = c.loop-at.invariant.homes.all in
+    let within : c.in-Some.index < length c.loop-at.homes.items = omega (arith, inside, all) in
+    search rules
+
+pub index_mut-requires : goal.index_mut-requires
+index_mut-requires c =
+    let start = (c.explicit_start.ensures c.in-Some.index).0 c.in-Some.is in
+    let inside = slice_get_within c.args.family.now.tasks c.in-Some.index start.task start.indexed in
+    let all = c.loop-at.invariant.homes.all in
+    let within : c.in-Some.index < length c.loop-at.homes.items = omega (arith, inside, all) in
+    search rules
+
+pub returns-then-is_other-clause-found : goal.returns-then-is_other-clause-found
+returns-then-is_other-clause-found c =
+    let rs = c.args.records.now in
+    let i = c.loop-at.at in
+    let homes = c.loop-at.homes.items in
+    let index = c.in-Some.index in
+    let start = (c.explicit_start.ensures index).0 c.in-Some.is in
+    let inside = slice_get_within c.args.family.now.tasks index start.task start.indexed in
+    let all = c.loop-at.invariant.homes.all in
+    let runs : thread_at rs i ≡ Some c.index-records-at.result.thread = thread_read rs i c.index-records-at.result c.loop-at-test.true c.index-records-at.is in
+    let old : slice_get homes index ≡ Some c.index.result.now = slice_get_read homes (length homes) index c.index.result.now refl (omega (arith, inside, all)) c.index.ensures in
+    (refl, moves_here rs i index c.index-records-at.result.thread c.index.result.now c.args.family.now.tasks homes c.loop-at.invariant.free c.loop-at.invariant.homes start runs old (c.is_other.ensures.0 c.if-is_other.true))
+
+pub loop-at-preserved : goal.loop-at-preserved
+loop-at-preserved c =
+    let rs = c.args.records.now in
+    let i = c.loop-at.at in
+    let tasks = c.args.family.now.tasks in
+    let homes = c.loop-at.homes.items in
+    let runs : thread_at rs i ≡ Some c.index-records-at.result.thread = thread_read rs i c.index-records-at.result c.loop-at-test.true c.index-records-at.is in
+    elim c.match-explicit_start.branch [
+      | in-Some+else-is_other w ↦
+          let index = w.in-Some.index in
+          let start = (c.explicit_start.ensures index).0 w.in-Some.is in
+          let inside = slice_get_within tasks index start.task start.indexed in
+          let all = c.loop-at.invariant.homes.all in
+          let old : slice_get homes index ≡ Some w.index.result.now = slice_get_read homes (length homes) index w.index.result.now refl (omega (arith, inside, all)) w.index.ensures in
+          let at_home = λ (other : IsSomeAnd w.index.result.now (λ b. b ≢ c.index-records-at.result.thread)). false≢true (sym w.if-is_other.false ∙ w.is_other.ensures.1 other) in
+          record {
+            homes = rw w.homes-is (homes_more rs i index c.index-records-at.result.thread w.index.result.now tasks homes c.requires.makers.apart c.loop-at.invariant.homes start runs old at_home);
+            free = below_more _ _ c.loop-at.invariant.free (moves_not rs i index c.index-records-at.result.thread w.index.result.now tasks homes c.loop-at.invariant.homes start runs old at_home);
+          }
+      | in_default w ↦
+          let none = λ (task : ℕ) (starts : at started rs i ≡ Some task) (explicit : IsExplicit rs task).
+          let stands = explicit_index rs c.args.family.now task c.requires explicit in
+          none-some stands.0 (sym w.in_default.is ∙ (c.explicit_start.ensures stands.0).1 (record { task = task; starts = starts; explicit = explicit; indexed = stands.1 })) in
+          record {
+            homes = rw w.homes-is (homes_other rs i tasks homes c.loop-at.invariant.homes none);
+            free = below_more _ _ c.loop-at.invariant.free (stays_put rs i none);
+          }
+    ]
+
+pub returns-clause-free : goal.returns-clause-free
+returns-clause-free c = free_of_moved c.args.records.now c.loop-at.at c.loop-at.invariant.free c.loop-at-test.false
