@@ -7,13 +7,12 @@ use Rattle.std.proofs.lemmas.List.Elements.{All-more}
 use Rattle.std.proofs.lemmas.Option.{none-some, same_Some, slice_get-get_or, slice_get_within}
 use Rattle.ompt_events.specs.declared.records.Record.{Record}
 use Rattle.ompt_events.specs.declared.records.Body.{Body}
-use Rattle.ompt_events.specs.declared.records.Body.TheVariants.{Dependences, TaskSchedule, SyncRegion}
-use Rattle.ompt_events.specs.declared.names.Status.TheVariants as status
+use Rattle.ompt_events.specs.declared.records.Body.TheVariants.{Dependences, SyncRegion}
 use Rattle.ompt_events.specs.declared.names.Endpoint.{Endpoint}
 use Rattle.ompt_events.specs.declared.names.SyncKind.{SyncKind}
 use Rattle.ompt_events.specs.declared.names.SyncKind.TheVariants.{Taskwait}
 use Rattle.ompt_events.specs.declared.deps.Dep.{Dep}
-use Rattle.ompt_events.specs.Records.{wait_completed, dependences, region}
+use Rattle.ompt_events.specs.Records.{dependences, region}
 use Rattle.ompt_events.specs.Places.{at}
 use Rattle.checker.specs.Audited.{is_audited, AreAudited}
 use Rattle.checker.specs.Waits.{AreTaskwaits, HaveNoDependences}
@@ -41,10 +40,6 @@ never {X} f none rs are i x says = there (slice_get rs i) refl says
     there : (o : Option Record) → slice_get rs i ≡ o → option_and_then (λ (r : Record). f r.body) o ≡ Some x → ⊥
     there None e says' = none-some x says'
     there (Some r) e says' = none r.body x (audited_at rs are i r e) says'
-
-pub completes_no_wait : (b : Body) (x : ℕ) → is_audited b ≡ true → wait_completed b ≡ Some x → ⊥
-completes_no_wait (TaskSchedule status.TaskwaitComplete prior next share) x ok says = false≢true ok
-completes_no_wait _ x ok says = none-some x says
 
 lists_none : (b : Body) (x : ℕ × List Dep) → is_audited b ≡ true → dependences b ≡ Some x → ⊥
 lists_none (Dependences task list) x ok says = false≢true ok

@@ -1,7 +1,4 @@
 mod AuditedLemmas
-mod HomeLemmas
-mod CurrentLemmas
-mod RegionLemmas
 mod MergeLemmas
 mod EntryLemmas
 mod MergingLemmas

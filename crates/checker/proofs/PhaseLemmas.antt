@@ -13,11 +13,14 @@ use Rattle.ompt_events.specs.Causes.{IsFreeOf, IsFirstWith, IsMalformed, IsWellF
 use Rattle.checker.specs.declared.search.SearchFault.{SearchFault}
 use Rattle.checker.specs.declared.search.SearchFault.TheVariants.{Memory, Malformed}
 use Rattle.checker.specs.Verdicts.{sought}
-use Rattle.checker.specs.Search.{IsClear, IsFound, IsLeastOf, IsLeastFound, fault_of_tree}
-use Rattle.ompt_events.specs.declared.cause.Cause.TheVariants.{CreatedTwice, Rootless}
+use Rattle.checker.specs.Search.{IsClear, IsFound, IsLeastOf, IsLeastFound, fault_of_tree, fault_of_states}
+use Rattle.ompt_events.specs.declared.cause.Cause.TheVariants.{CreatedTwice, Rootless, NotCurrent, Moved, StatusOrder, RegionOrder}
 use Rattle.task_tree.specs.declared.fault.TreeFault.{TreeFault}
 use Rattle.task_tree.specs.declared.fault.TreeFault.TheVariants as tree
 use Rattle.task_tree.specs.Fault.{IsTreeFault}
+use Rattle.task_states.specs.declared.fault.StateFault.{StateFault}
+use Rattle.task_states.specs.declared.fault.StateFault.TheVariants as state
+use Rattle.task_states.specs.Fault.{IsStateFault}
 
 -- each cause has a greater number than the one before it, and the first one than this number
 abbrev rises : ℕ → List Cause → Bool
@@ -113,3 +116,7 @@ only_least rs cause (Malformed i told) (same, first) =
 pub tree_least : (rs : List Record) (told : TreeFault) → IsTreeFault rs told → IsLeastOf rs (CreatedTwice ∷ Rootless ∷ []) (fault_of_tree told)
 tree_least rs tree.Memory found = tt
 tree_least rs (tree.Malformed i cause) found = found
+
+pub states_least : (rs : List Record) (told : StateFault) → IsStateFault rs told → IsLeastOf rs (NotCurrent ∷ Moved ∷ StatusOrder ∷ RegionOrder ∷ []) (fault_of_states told)
+states_least rs state.Memory found = tt
+states_least rs (state.Malformed i cause) found = found

@@ -32,7 +32,6 @@ use Rattle.task_tree.proofs.ChildrenLemmas.{get_set_same, get_set_other}
 use Rattle.task_tree.proofs.NamedLemmas.{region_subject, creation_subject, creation_object, subject_index, object_index}
 use Rattle.task_tree.proofs.SubjectLemmas.{call_task, call_index, call_none}
 use Rattle.checker.specs.declared.waits.Lengths.{Lengths}
-use Rattle.checker.specs.Regions.{AreLinked}
 use Rattle.checker.specs.Waits.{AreTaskwaits, HaveNoDependences, IsFinishedBelow, never, no_lengths, length_of, with_length, done_length, AreLeast, AreLengths, IsLimit, AreLatest, AreLimits, AreComplete, IsLateAt, IsInTime, IsFirstLate, IsFirstCreated}
 
 -- ---- the lengths of one task
@@ -349,26 +348,6 @@ no_end rs i no_later no_once task begin (at_once says) = no_once task says
 -- the record begins one
 pub other_end : (rs : List Record) (i own task : ℕ) {endpoint : Endpoint} → at region rs i ≡ Some (own, Taskwait, Begin) → at region rs i ≡ Some (task, Taskwait, endpoint) → endpoint ≢ Begin → ⊥
 other_end rs i own task {endpoint = endpoint} begins ends not_begin = not_begin (sym (same_task rs i own task Taskwait Taskwait Begin endpoint begins ends).1)
-
--- an end is linked to its begin
-pub link_within : (rs : List Record) (links : List (Option ℕ)) (i task : ℕ) → AreLinked rs (length rs) links → at region rs i ≡ Some (task, Taskwait, End) → i < length links
-link_within rs links i task linked ends =
-    let found = linked i task Taskwait (at_within region rs i (task, Taskwait, End) ends) ends in
-    slice_get_within links i (Some found.0) found.1
-
-pub link_of : (rs : List Record) (links : List (Option ℕ)) (i task begin : ℕ) → AreLinked rs (length rs) links → at region rs i ≡ Some (task, Taskwait, End) → get_or links i None ≡ Some begin → IsRegion rs i task Taskwait begin
-link_of rs links i task begin linked ends is =
-    let found = linked i task Taskwait (at_within region rs i (task, Taskwait, End) ends) ends in
-    let within = slice_get_within links i (Some found.0) found.1 in
-    let same : found.0 ≡ begin = same_Some found.0 begin (sym (same_Some (get_or links i None) (Some found.0) (sym (slice_get-get_or links i None within) ∙ found.1)) ∙ is) in
-    let P : ℕ → Type 0 = λ b. EndsRegion rs i task Taskwait b in
-    ended (subst P same found.2)
-
-pub link_never : (rs : List Record) (links : List (Option ℕ)) (i task : ℕ) → AreLinked rs (length rs) links → at region rs i ≡ Some (task, Taskwait, End) → get_or links i None ≡ None → ⊥
-link_never rs links i task linked ends none =
-    let found = linked i task Taskwait (at_within region rs i (task, Taskwait, End) ends) ends in
-    let within = slice_get_within links i (Some found.0) found.1 in
-    none-some found.0 (sym none ∙ same_Some (get_or links i None) (Some found.0) (sym (slice_get-get_or links i None within) ∙ found.1))
 
 -- ---- complete there
 

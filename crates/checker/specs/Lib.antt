@@ -3,6 +3,5 @@
 pub mod Verdicts
 pub mod Audited
 pub mod Search
-pub mod Regions
 pub mod Merge
 pub mod Waits

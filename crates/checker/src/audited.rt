@@ -1,12 +1,13 @@
 //! Which records a check takes so far.
 ghost use Rattle.std.specs.Prelude.{◌≡◌, MatchOption};
-ghost use Rattle.checker.specs.Audited.{is_host_task, is_audited, AreAudited, IsFirstUnaudited};
+ghost use Rattle.checker.specs.Audited.{is_audited, AreAudited, IsFirstUnaudited};
 
 use bitflags::Flags;
-use ompt_events::{Body, Endpoint, Record, Status, SyncKind, TaskFlags, Trace};
+use ompt_events::{Body, Record, SyncKind, TaskFlags, Trace};
 
-/// The first record of a form that `check` does not take yet; it takes initial tasks that begin, creations
-/// without dependences of tasks for this device, completions and switches, and taskwaits. Takes no memory.
+/// The first record of a form that `check` does not take yet: a parallel region, a member of a team,
+/// dependences or a creation that they follow, or a synchronisation region other than a taskwait. Takes no
+/// memory.
 pub fn unaudited(trace: &Trace) -> Option<usize>
     ensures { MatchOption result (AreAudited trace.now.records) (IsFirstUnaudited trace.now.records) }
 {
@@ -30,28 +31,17 @@ fn is_audited(body: &Body) -> bool
     ensures { result ≡ is_audited body.now }
 {
     match body {
-        Body::ImplicitTask {
-            endpoint: Endpoint::Begin,
-            flags,
-            ..
-        } => flags.contains(TaskFlags::INITIAL) && is_host_task(*flags),
-        Body::TaskCreate { deps, flags, .. } => !*deps && is_host_task(*flags),
-        Body::TaskSchedule {
-            status: Status::Complete | Status::Switch,
-            ..
-        } => true,
+        Body::ParallelBegin { .. } | Body::ParallelEnd { .. } | Body::Dependences { .. } => false,
+        Body::ImplicitTask { flags, .. } => flags.contains(TaskFlags::INITIAL),
+        Body::TaskCreate { deps, .. } => !*deps,
         Body::SyncRegion {
             kind: SyncKind::Taskwait,
-            endpoint: Endpoint::Begin | Endpoint::End,
             ..
         } => true,
-        _ => false,
+        Body::SyncRegion { .. } => false,
+        Body::ThreadBegin { .. }
+        | Body::ThreadEnd
+        | Body::TaskSchedule { .. }
+        | Body::Cancel { .. } => true,
     }
-}
-
-/// Whether the task is neither a target task nor a taskwait with dependences.
-fn is_host_task(flags: TaskFlags) -> bool
-    ensures { result ≡ is_host_task flags.0 }
-{
-    !flags.contains(TaskFlags::TARGET) && !flags.contains(TaskFlags::TASKWAIT)
 }

@@ -1,26 +1,23 @@
 //! The check as a whole.
-ghost use Rattle.std.specs.Prelude.{◌≡◌, IfOk, IfErr, OnOk, length};
+ghost use Rattle.std.specs.Prelude.{◌≡◌, IfOk, IfErr, OnOk};
 ghost use Rattle.ompt_events.specs.declared.cause.Cause.TheVariants.{Moved};
 ghost use Rattle.ompt_events.specs.Places.{places};
 ghost use Rattle.ompt_events.specs.Linearization.{IsLinearization, IsGreedy};
 ghost use Rattle.ompt_events.specs.Causes.{IsFreeOf};
 ghost use Rattle.task_tree.specs.Family.{IsFamilyOf};
+ghost use Rattle.task_states.specs.States.{AreStatesOf};
 ghost use Rattle.checker.specs.Audited.{AreAudited};
 ghost use Rattle.checker.specs.Search.{IsClear, IsLeastFound};
-ghost use Rattle.checker.specs.Regions.{AreLinked};
 ghost use Rattle.checker.specs.Verdicts.{IsVerdict};
 
-use crate::current::find_misfit;
-use crate::homes::find_moved;
 use crate::merge::find_order;
-use crate::regions::find_links;
 use crate::schedule::{creations_awaited, is_in_order};
 use crate::search::SearchFault;
 use crate::verdict::{CheckFault, Order, Verdict, Why};
 use crate::waits::find_unfinished;
 use ompt_events::{Cause, Record, Trace};
 use std::alloc::{AllocError, Global};
-use task_states::{gap, nested, target};
+use task_states::{States, gap, nested, run, target};
 use task_tree::Family;
 
 /// The verdict on the records: malformed with the lowest-numbered cause that occurs, at the first record that
@@ -47,13 +44,11 @@ fn verdict_of(alloc: Global, trace: &Trace) -> Result<Verdict, SearchFault>
 {
     numbers_have_no_gap(trace)?;
     let family = family_of(alloc, trace)?;
-    tasks_are_current(alloc, trace, &family)?;
-    tasks_stay(alloc, trace, &family)?;
-    let links = links_of(alloc, trace)?;
-    regions_are_not_nested(alloc, trace)?;
+    let states = states_of(alloc, trace, &family)?;
+    regions_are_not_nested(alloc, trace, &family)?;
     let order = order_of(alloc, trace, &family)?;
     no_task_is_for_a_device(trace)?;
-    match find_unfinished(alloc, trace.records(), &family, &links)? {
+    match find_unfinished(alloc, trace.records(), &family, &states)? {
         Some((at, task)) => Ok(Verdict::No {
             at,
             why: Why::Unfinished(task),
@@ -88,45 +83,29 @@ fn family_of(alloc: Global, trace: &Trace) -> Result<Family, SearchFault>
     Ok(Family::build(alloc, trace)?)
 }
 
-/// Excludes NotCurrent.
-fn tasks_are_current(alloc: Global, trace: &Trace, family: &Family) -> Result<(), SearchFault>
+/// The state of each task. Excludes NotCurrent, Moved, StatusOrder and RegionOrder.
+fn states_of<'a>(
+    alloc: Global,
+    trace: &Trace,
+    family: &'a Family,
+) -> Result<States<'a>, SearchFault>
     requires clear { IsClear trace.now.records 3 }
     requires family { IsFamilyOf trace.now.records family.now }
-    requires audited { AreAudited trace.now.records }
-    ensures clear { OnOk result (IsClear trace.now.records 4) }
-    ensures least { IfErr result (IsLeastFound trace.now.records) }
-{
-    find_misfit(alloc, trace.records(), family)
-}
-
-/// Excludes Moved.
-fn tasks_stay(alloc: Global, trace: &Trace, family: &Family) -> Result<(), SearchFault>
-    requires clear { IsClear trace.now.records 4 }
-    requires family { IsFamilyOf trace.now.records family.now }
-    ensures clear { OnOk result (IsClear trace.now.records 5) }
-    ensures least { IfErr result (IsLeastFound trace.now.records) }
-{
-    find_moved(alloc, trace.records(), family)
-}
-
-/// The begin of each end of a region. Excludes RegionOrder.
-fn links_of(alloc: Global, trace: &Trace) -> Result<Vec<Option<usize>>, SearchFault>
-    requires clear { IsClear trace.now.records 5 }
-    requires audited { AreAudited trace.now.records }
-    ensures linked { IfOk result (λ links. AreLinked trace.now.records (length trace.now.records) links.items) }
-    ensures clear { OnOk result (IsClear trace.now.records 6) }
-    ensures least { IfErr result (IsLeastFound trace.now.records) }
-{
-    find_links(alloc, trace.records())
-}
-
-/// Excludes NestedParallel.
-fn regions_are_not_nested(alloc: Global, trace: &Trace) -> Result<(), SearchFault>
-    requires { IsClear trace.now.records 6 }
+    ensures states { IfOk result (AreStatesOf trace.now.records) }
     ensures clear { OnOk result (IsClear trace.now.records 7) }
     ensures least { IfErr result (IsLeastFound trace.now.records) }
 {
-    match nested(alloc, trace) {
+    Ok(run(alloc, trace, family)?)
+}
+
+/// Excludes NestedParallel.
+fn regions_are_not_nested(alloc: Global, trace: &Trace, family: &Family) -> Result<(), SearchFault>
+    requires clear { IsClear trace.now.records 7 }
+    requires family { IsFamilyOf trace.now.records family.now }
+    ensures clear { OnOk result (IsClear trace.now.records 8) }
+    ensures least { IfErr result (IsLeastFound trace.now.records) }
+{
+    match nested(alloc, trace, family) {
         Ok(Some(at)) => Err(SearchFault::Malformed {
             at,
             cause: Cause::NestedParallel,
@@ -138,12 +117,12 @@ fn regions_are_not_nested(alloc: Global, trace: &Trace) -> Result<(), SearchFaul
 
 /// The greedy order of all records. Excludes NoOrder.
 fn order_of(alloc: Global, trace: &Trace, family: &Family) -> Result<Vec<usize>, SearchFault>
-    requires clear { IsClear trace.now.records 7 }
+    requires clear { IsClear trace.now.records 8 }
     requires family { IsFamilyOf trace.now.records family.now }
     requires at_home { IsFreeOf trace.now.records Moved }
     ensures linearization { IfOk result (λ order. IsLinearization trace.now.records order.items) }
     ensures greedy { IfOk result (λ order. IsGreedy trace.now.records order.items) }
-    ensures clear { OnOk result (IsClear trace.now.records 8) }
+    ensures clear { OnOk result (IsClear trace.now.records 9) }
     ensures least { IfErr result (IsLeastFound trace.now.records) }
 {
     let records = trace.records();
@@ -168,8 +147,8 @@ fn file_order(alloc: Global, records: &[Record]) -> Result<Vec<usize>, AllocErro
 
 /// Excludes TargetTask.
 fn no_task_is_for_a_device(trace: &Trace) -> Result<(), SearchFault>
-    requires { IsClear trace.now.records 8 }
-    ensures clear { OnOk result (IsClear trace.now.records 9) }
+    requires { IsClear trace.now.records 9 }
+    ensures clear { OnOk result (IsClear trace.now.records 10) }
     ensures least { IfErr result (IsLeastFound trace.now.records) }
 {
     match target(trace) {

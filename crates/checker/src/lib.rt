@@ -6,10 +6,7 @@
 
 mod audited;
 mod checking;
-mod current;
-mod homes;
 mod merge;
-mod regions;
 mod schedule;
 mod search;
 mod verdict;

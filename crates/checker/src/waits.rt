@@ -6,11 +6,12 @@ ghost use Rattle.ompt_events.specs.Regions.{IsRegion};
 ghost use Rattle.ompt_events.specs.Violations.{IsFirstUnfinished};
 ghost use Rattle.task_tree.specs.Family.{IsFamilyOf};
 ghost use Rattle.task_tree.specs.Subjects.{subject};
-ghost use Rattle.checker.specs.Regions.{AreLinked};
+ghost use Rattle.task_states.specs.States.{AreStatesOf};
 ghost use Rattle.checker.specs.Waits.{no_lengths, with_length, done_length, AreTaskwaits, HaveNoDependences, IsFinishedBelow, AreLengths, IsLimit, AreLatest, AreLimits, AreComplete, IsLateAt, IsInTime, IsFirstLate, IsFirstCreated};
 
 use ompt_events::{Body, Endpoint, Part, Record, SyncKind, finish};
 use std::alloc::{AllocError, Global};
+use task_states::States;
 use task_tree::Family;
 
 /// Above all ledger lengths.
@@ -73,10 +74,10 @@ pub(crate) fn find_unfinished(
     alloc: Global,
     records: &[Record],
     family: &Family,
-    links: &[Option<usize>],
+    states: &States,
 ) -> Result<Option<(usize, u64)>, AllocError>
     requires family { IsFamilyOf records.now family.now }
-    requires linked { AreLinked records.now (length records.now) links.now }
+    requires states { AreStatesOf records.now states.now }
     requires only_waits { AreTaskwaits records.now }
     requires no_dependences { HaveNoDependences records.now }
     ensures { IfOk result (λ found. MatchOption found ((i : ℕ) → AreComplete records.now i)
@@ -88,7 +89,7 @@ pub(crate) fn find_unfinished(
         let found = unfinished_at(
             records,
             family,
-            links,
+            states,
             lengths.as_slice(),
             limits.as_slice(),
             at,
@@ -207,14 +208,14 @@ fn note_child(
 fn unfinished_at(
     records: &[Record],
     family: &Family,
-    links: &[Option<usize>],
+    states: &States,
     lengths: &[Lengths],
     limits: &[u64],
     at: usize,
 ) -> Option<u64>
     requires within { at < length records.now }
     requires family { IsFamilyOf records.now family.now }
-    requires linked { AreLinked records.now (length records.now) links.now }
+    requires states { AreStatesOf records.now states.now }
     requires only_waits { AreTaskwaits records.now }
     requires no_dependences { HaveNoDependences records.now }
     requires lengths { AreLengths records.now (length records.now) family.now.tasks lengths.now }
@@ -223,7 +224,7 @@ fn unfinished_at(
     ensures { MatchOption result (AreComplete records.now at) (IsFirstCreated records.now at) }
 {
     let seen = records[at].seen;
-    let (task, begin) = ended_wait(records, links, at)?;
+    let (task, begin) = ended_wait(records, states, at)?;
     // Most waits end in time: only where this one did not is a late child looked for.
     if limits[begin] <= u64::from(seen) {
         return None;
@@ -232,9 +233,9 @@ fn unfinished_at(
 }
 
 /// The task whose taskwait ends at the place, and the place where it began.
-fn ended_wait(records: &[Record], links: &[Option<usize>], at: usize) -> Option<(u64, usize)>
+fn ended_wait(records: &[Record], states: &States, at: usize) -> Option<(u64, usize)>
     requires within { at < length records.now }
-    requires linked { AreLinked records.now (length records.now) links.now }
+    requires states { AreStatesOf records.now states.now }
     ensures { MatchOption result ((task begin : ℕ) → IsRegion records.now at task SyncKind.Taskwait begin
         → ⊥) (λ wait. IsRegion records.now at wait.0 SyncKind.Taskwait wait.1) }
 {
@@ -242,7 +243,7 @@ fn ended_wait(records: &[Record], links: &[Option<usize>], at: usize) -> Option<
     match endpoint {
         Endpoint::Begin => None,
         Endpoint::BeginEnd => Some((task, at)),
-        Endpoint::End => match links[at] {
+        Endpoint::End => match states.begin(at) {
             Some(begin) => Some((task, begin)),
             None => None,
         },

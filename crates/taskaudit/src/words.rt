@@ -31,14 +31,18 @@ and each other one an event of OpenMP's tool interface (OMPT), with the members
   cb, thread, seq (0, 1, .. in each thread), seen, and with cb
   implicit_task  endpoint, parallel, task, actual, index, flags
   task_create    task, child, flags, deps
-  task_schedule  prior, status, next; with status complete also root, path, kept
+  task_schedule  prior, status, next; where it finishes a task also root, path, kept
   sync_region    kind, endpoint, parallel, task
+  cancel         task, flags; with discarded_task also root, path, kept
+  thread_begin   kind
+  thread_end     no others
 seen is how many finished tasks the thread knew of; for an event that finishes a
 task, how many were finished before it. docs/FORMAT.md has the whole format.
 
-Supported so far: initial tasks that begin, tasks without dependences, the
-statuses complete and switch, and taskwaits. A file with another event is
-answered 'unreadable: line L: 6 Field', where L is the first such line."#;
+Supported so far: all of these events, but no parallel regions and members of
+their teams, no dependences, and no synchronisation regions but taskwaits. A
+file with another event is answered 'unreadable: line L: 6 Field', where L is
+the first such line."#;
 
 /// What the command line asks for; its first word is the program's name.
 pub fn job<'a, S: AsStr>(alloc: Global, words: &'a [S]) -> Result<Job, Error>

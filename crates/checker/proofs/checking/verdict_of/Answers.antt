@@ -6,7 +6,7 @@ use Rattle.checker.proofs.VerdictLemmas.{approved}
 use Rattle.checker.proofs.checking.verdict_of.Goals as goal
 
 pub order_of-requires-clause-at_home : goal.order_of-requires-clause-at_home
-order_of-requires-clause-at_home c = c.in_ok-tasks_stay.ensures.clear Moved (4, omega arith, refl)
+order_of-requires-clause-at_home c = c.in_ok-states.ensures.clear Moved (4, omega arith, refl)
 
 pub find_unfinished-requires-clause-only_waits : goal.find_unfinished-requires-clause-only_waits
 find_unfinished-requires-clause-only_waits c = rw c.records.ensures.value (only_waits c.args.trace.now.records c.requires)

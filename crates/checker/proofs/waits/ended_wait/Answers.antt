@@ -1,13 +1,13 @@
-use Rattle.std.proofs.Common.{ℕ, ◌≡◌, ◌∙◌, Some, None, sym, ap}
-use Rattle.std.proofs.lemmas.Option.{none-some}
+use Rattle.std.proofs.Common.{ℕ, ◌≡◌, ◌∙◌, Some, sym, ap, subst}
+use Rattle.std.proofs.lemmas.Option.{none-some, same_Some}
 use Rattle.ompt_events.specs.declared.names.Endpoint.{Endpoint}
 use Rattle.ompt_events.specs.declared.names.Endpoint.TheVariants.{Begin, End, BeginEnd}
 use Rattle.ompt_events.specs.declared.names.SyncKind.TheVariants.{Taskwait}
 use Rattle.ompt_events.specs.Records.{region}
 use Rattle.ompt_events.specs.Places.{at}
-use Rattle.ompt_events.specs.Regions.{ended, at_once}
+use Rattle.ompt_events.specs.Regions.{EndsRegion, ended, at_once}
 use Rattle.ompt_events.proofs.PlaceLemmas.{at_index}
-use Rattle.checker.proofs.WaitLemmas.{no_end, other_end, link_within, link_of, link_never}
+use Rattle.checker.proofs.WaitLemmas.{no_end, other_end}
 use Rattle.checker.proofs.waits.ended_wait.Goals as goal
 
 pub returns-in_err-task : goal.returns-in_err-task
@@ -26,20 +26,19 @@ returns-in-Begin c =
 pub returns-in-BeginEnd : goal.returns-in-BeginEnd
 returns-in-BeginEnd c = at_once (at_index region c.args.records.now c.args.at c.index-records-at.result c.requires.within ∙ (c.taskwait_of.ensures c.in_ok-task.task BeginEnd).0 (c.in_ok-task.was ∙ ap (λ e. Some (c.in_ok-task.task, e)) c.in-BeginEnd.is))
 
-pub bounds : goal.bounds
-bounds c =
-    let rs = c.args.records.now in
-    let says : at region rs c.args.at ≡ Some (c.in_ok-task.task, Taskwait, End) = at_index region rs c.args.at c.index-records-at.result c.requires.within ∙ (c.taskwait_of.ensures c.in_ok-task.task End).0 (c.in_ok-task.was ∙ ap (λ e. Some (c.in_ok-task.task, e)) c.in-End.is) in
-    link_within rs c.args.links.now c.args.at c.in_ok-task.task c.requires.linked says
-
 pub returns-in-Some : goal.returns-in-Some
 returns-in-Some c =
     let rs = c.args.records.now in
-    let says : at region rs c.args.at ≡ Some (c.in_ok-task.task, Taskwait, End) = at_index region rs c.args.at c.index-records-at.result c.requires.within ∙ (c.taskwait_of.ensures c.in_ok-task.task End).0 (c.in_ok-task.was ∙ ap (λ e. Some (c.in_ok-task.task, e)) c.in-End.is) in
-    link_of rs c.args.links.now c.args.at c.in_ok-task.task c.in-Some.begin c.requires.linked says c.in-Some.is
+    let task = c.in_ok-task.task in
+    let says : at region rs c.args.at ≡ Some (task, Taskwait, End) = at_index region rs c.args.at c.index-records-at.result c.requires.within ∙ (c.taskwait_of.ensures task End).0 (c.in_ok-task.was ∙ ap (λ e. Some (task, e)) c.in-End.is) in
+    let found = c.begin.ensures rs c.requires.states task Taskwait says in
+    let P : ℕ → Type 0 = λ b. EndsRegion rs c.args.at task Taskwait b in
+    ended (subst P (same_Some found.0 c.in-Some.begin (sym found.1 ∙ c.in-Some.is)) found.2)
 
 pub returns-in-None : goal.returns-in-None
 returns-in-None c =
     let rs = c.args.records.now in
-    let says : at region rs c.args.at ≡ Some (c.in_ok-task.task, Taskwait, End) = at_index region rs c.args.at c.index-records-at.result c.requires.within ∙ (c.taskwait_of.ensures c.in_ok-task.task End).0 (c.in_ok-task.was ∙ ap (λ e. Some (c.in_ok-task.task, e)) c.in-End.is) in
-    absurd (link_never rs c.args.links.now c.args.at c.in_ok-task.task c.requires.linked says c.in-None.is)
+    let task = c.in_ok-task.task in
+    let says : at region rs c.args.at ≡ Some (task, Taskwait, End) = at_index region rs c.args.at c.index-records-at.result c.requires.within ∙ (c.taskwait_of.ensures task End).0 (c.in_ok-task.was ∙ ap (λ e. Some (task, e)) c.in-End.is) in
+    let found = c.begin.ensures rs c.requires.states task Taskwait says in
+    absurd (none-some found.0 (sym c.in-None.is ∙ found.1))
