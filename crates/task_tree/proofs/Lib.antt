@@ -3,6 +3,7 @@ pub mod SubjectLemmas
 pub mod MakerLemmas
 pub mod ChildrenLemmas
 pub mod RootLemmas
+pub mod ForwardLemmas
 pub mod RootlessLemmas
 pub mod FamilyLemmas
 pub mod PathLemmas

@@ -9,4 +9,5 @@ pub mod Makers
 pub mod Subjects
 pub mod Children
 pub mod Roots
+pub mod Forward
 pub mod Rootless

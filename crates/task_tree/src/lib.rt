@@ -8,6 +8,7 @@
 mod children;
 mod family;
 mod fault;
+mod forward;
 mod hints;
 mod makers;
 mod numbering;
