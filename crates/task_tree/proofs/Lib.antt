@@ -1,3 +1,4 @@
+pub mod RankingLemmas
 pub mod NumberingLemmas
 pub mod SubjectLemmas
 pub mod MakerLemmas

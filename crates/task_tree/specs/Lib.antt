@@ -3,6 +3,7 @@
 pub mod Family
 pub mod Paths
 pub mod Fault
+pub mod Ranking
 pub mod Numbering
 pub mod Slots
 pub mod Makers

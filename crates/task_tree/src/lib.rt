@@ -13,6 +13,7 @@ mod hints;
 mod makers;
 mod numbering;
 mod paths;
+mod ranking;
 mod rootless;
 mod roots;
 mod slot;
