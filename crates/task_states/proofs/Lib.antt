@@ -2,5 +2,9 @@ mod NumberingLemmas
 mod TargetLemmas
 mod NestingLemmas
 mod CurrentLemmas
+mod ProgressLemmas
+mod OriginLemmas
+mod PassLemmas
 mod HomeLemmas
 mod RegionLemmas
+mod StateLemmas

@@ -1,19 +1,24 @@
 -- Which records put a parallel region inside another.
-use Rattle.std.proofs.Common.{◌≡◌, ◌≢◌, ◌∙◌, ℕ, ◌<◌, ◌≤◌, List, [], ◌∷◌, length, take, get_or, Option, Some, None, true, refl, sym, ap, subst, arith, inl, inr}
+use Rattle.std.proofs.Common.{◌≡◌, ◌≢◌, ◌∙◌, ℕ, ◌<◌, ◌≤◌, List, [], ◌∷◌, length, take, get_or, Option, Some, None, Bool, true, false, cond, refl, sym, ap, subst, arith, inl, inr}
 use Rattle.std.proofs.lemmas.Bool.{false≢true}
 use Rattle.std.proofs.lemmas.Option.{none-some, same_Some}
-use Rattle.std.specs.Prelude.{is_some, slice_get, option_map, option_and_then, Contains, IsSomeAnd}
+use Rattle.std.specs.Prelude.{◌↔◌, is_some, slice_get, option_map, option_and_then, Contains, IsSomeAnd}
 use Rattle.ompt_events.specs.declared.records.Record.{Record}
 use Rattle.ompt_events.specs.declared.records.Membership.{Membership}
 use Rattle.ompt_events.specs.declared.cause.Cause.TheVariants.{NestedParallel}
-use Rattle.ompt_events.specs.Records.{forked, joined, begun_initial}
+use Rattle.ompt_events.specs.Records.{made, forked, joined, begun_initial}
+use Rattle.ompt_events.specs.declared.records.Body.{Body}
+use Rattle.ompt_events.specs.declared.records.Body.TheVariants.{ImplicitTask}
+use Rattle.ompt_events.specs.declared.names.Endpoint.TheVariants.{Begin}
+use Rattle.ompt_events.specs.Flags as flag
+use Rattle.ompt_events.specs.Flags.{has_flag}
+use Rattle.ompt_events.proofs.RecordLemmas.{at_through}
 use Rattle.ompt_events.specs.Places.{at}
 use Rattle.ompt_events.specs.Teams.{IsInitial, IsMember}
 use Rattle.ompt_events.specs.Threads.{Walk, walk_of}
 use Rattle.ompt_events.specs.Causes.{IsWalkAt, IsNested, forked_inside, joined_inside, initial_inside, HasCause, nested_parallel, IsFirstWith, IsFreeOf}
 use Rattle.ompt_events.proofs.PlaceLemmas.{read_get, at_read, at_within}
-use Rattle.task_tree.specs.Makers.{AreNoted}
-use Rattle.task_states.specs.Nesting.{joined_member, IsInside}
+use Rattle.task_states.specs.Nesting.{IsUnmade, IsMaker, IsInside}
 
 some_and : {X : Type 0} (o : Option X) (P : X → Type 0) → IsSomeAnd o P → (x : X) × (o ≡ Some x) × P x
 some_and None P h = absurd h
@@ -27,42 +32,54 @@ some_of : {X : Type 0} (o : Option X) → is_some o ≡ true → (x : X) × (o �
 some_of None e = absurd (false≢true e)
 some_of (Some x) e = (x, refl)
 
--- ---- what is noted
+-- ---- what the record that makes a task says of it
 
-initial_noted : (rs : List Record) (initial : List ℕ) (task : ℕ) → AreNoted begun_initial rs (length rs) initial → IsInitial rs task → Contains initial task
-initial_noted rs initial task are (i, begins) = are.each i task (at_within begun_initial rs i task begins) begins
-
-noted_initial : (rs : List Record) (initial : List ℕ) (task : ℕ) → AreNoted begun_initial rs (length rs) initial → Contains initial task → IsInitial rs task
-noted_initial rs initial task are has = let from = are.only task has in (from.0, from.2)
-
-member_at : (rs : List Record) (i : ℕ) (m : Membership) → at joined rs i ≡ Some m → at joined_member rs i ≡ Some m.member
-member_at rs i m says = there (slice_get rs i) says
+member_made : (m : Membership) (b : Body) → joined b ≡ Some m → made b ≡ Some m.member
+member_made m (ImplicitTask Begin actual index flags parallel task) says = begins (has_flag flags.0 flag.initial) says
   where
-    there : (o : Option Record) → option_and_then (λ (r : Record). joined r.body) o ≡ Some m → option_and_then (λ (r : Record). joined_member r.body) o ≡ Some m.member
-    there None is = absurd (none-some m is)
-    there (Some r) is = ap (option_map (λ (x : Membership). x.member)) is
+    begins : (b : Bool) → cond b None (Some (record { parallel = parallel; actual = actual; index = index; member = task })) ≡ Some m → Some task ≡ Some m.member
+    begins true is = absurd (none-some m is)
+    begins false is = ap Some (ap (λ (x : Membership). x.member) (same_Some (record { parallel = parallel; actual = actual; index = index; member = task }) m is))
+member_made m _ says = absurd (none-some m says)
 
-joined_at : (rs : List Record) (i task : ℕ) → at joined_member rs i ≡ Some task → (m : Membership) × (at joined rs i ≡ Some m) × (m.member ≡ task)
-joined_at rs i task says = there (slice_get rs i) says
+initial_made : (task : ℕ) (b : Body) → begun_initial b ≡ Some task → made b ≡ Some task
+initial_made task (ImplicitTask Begin actual index flags parallel root) says = begins (has_flag flags.0 flag.initial) says
   where
-    of : (o : Option Membership) → option_map (λ (x : Membership). x.member) o ≡ Some task → (m : Membership) × (o ≡ Some m) × (m.member ≡ task)
-    of None is = absurd (none-some task is)
-    of (Some m) is = (m, refl, same_Some m.member task is)
+    begins : (b : Bool) → cond b (Some root) None ≡ Some task → Some root ≡ Some task
+    begins true is = is
+    begins false is = absurd (none-some task is)
+initial_made task _ says = absurd (none-some task says)
 
-    there : (o : Option Record) → option_and_then (λ (r : Record). joined_member r.body) o ≡ Some task → (m : Membership) × (option_and_then (λ (r : Record). joined r.body) o ≡ Some m) × (m.member ≡ task)
-    there None is = absurd (none-some task is)
-    there (Some r) is = of (joined r.body) is
+pub initial_by : (rs : List Record) (task : ℕ) (r : Record) → IsMaker rs task r → (is_some (begun_initial r.body) ≡ true) ↔ IsInitial rs task
+initial_by rs task r (makes, only, (place, stands)) = (
+  λ begins.
+      let root = some_of (begun_initial r.body) begins in
+      let same : root.0 ≡ task = same_Some root.0 task (sym (initial_made root.0 r.body root.1) ∙ makes) in
+      (place, ap (option_and_then (λ (q : Record). begun_initial q.body)) stands ∙ root.1 ∙ ap Some same),
+  λ (i, begins). ap is_some (sym (ap (option_and_then (λ (q : Record). begun_initial q.body)) (only i (at_through begun_initial made task task rs i (initial_made task) begins))) ∙ begins),
+)
 
-member_noted : (rs : List Record) (members : List ℕ) (task : ℕ) → AreNoted joined_member rs (length rs) members → IsMember rs task → Contains members task
-member_noted rs members task are (i, m, joins, is) =
-    let says = member_at rs i m joins ∙ ap Some is in
-    are.each i task (at_within joined_member rs i task says) says
+pub initial_none : (rs : List Record) (task : ℕ) → IsUnmade rs task → IsInitial rs task → ⊥
+initial_none rs task none (i, begins) = none i (at_through begun_initial made task task rs i (initial_made task) begins)
 
-noted_member : (rs : List Record) (members : List ℕ) (task : ℕ) → AreNoted joined_member rs (length rs) members → Contains members task → IsMember rs task
-noted_member rs members task are has =
-    let from = are.only task has in
-    let joins = joined_at rs from.0 task from.2 in
-    (from.0, joins.0, joins.1, joins.2)
+pub member_by : (rs : List Record) (task : ℕ) (r : Record) → IsMaker rs task r → (is_some (joined r.body) ≡ true) ↔ IsMember rs task
+member_by rs task r (makes, only, (place, stands)) = (
+  λ joins.
+      let m = some_of (joined r.body) joins in
+      (place, m.0, ap (option_and_then (λ (q : Record). joined q.body)) stands ∙ m.1, same_Some m.0.member task (sym (member_made m.0 r.body m.1) ∙ makes)),
+  λ (i, m, joins, is). ap is_some (sym (ap (option_and_then (λ (q : Record). joined q.body)) (only i (at_through joined made m task rs i (λ b says. member_made m b says ∙ ap Some is) joins))) ∙ joins),
+)
+
+pub member_none : (rs : List Record) (task : ℕ) → IsUnmade rs task → IsMember rs task → ⊥
+member_none rs task none (i, m, joins, is) = none i (at_through joined made m task rs i (λ b says. member_made m b says ∙ ap Some is) joins)
+
+-- the record at the place that a family knows
+pub maker_here : (rs : List Record) (task : ℕ) (found : Option ℕ) (place : ℕ) (r : Record) → ((k : ℕ) → (found ≡ Some k) ↔ (at made rs k ≡ Some task)) → found ≡ Some place → slice_get rs place ≡ Some r → IsMaker rs task r
+maker_here rs task found place r is known stands = (
+  sym (ap (option_and_then (λ (q : Record). made q.body)) stands) ∙ (is place).0 known,
+  λ i makes. ap (slice_get rs) (same_Some i place (sym ((is i).1 makes) ∙ known)) ∙ stands,
+  (place, stands),
+)
 
 -- ---- a record where its thread stands
 
@@ -73,32 +90,32 @@ has_first : (roots : List ℕ) → roots ≢ [] → is_some (slice_get roots 0) 
 has_first [] full = absurd (full refl)
 has_first (x ∷ xs) full = refl
 
-pub nested_here : (rs : List Record) (initial members : List ℕ) (i : ℕ) (r : Record) → AreNoted begun_initial rs (length rs) initial → AreNoted joined_member rs (length rs) members → i < length rs → r ≡ get_or rs i r → IsInside initial members (walk_of r.thread (take i rs)) r.body → IsNested rs i
-nested_here rs initial members i r initials joins within read (inl h) =
-    let found = some_and (forked r.body) (λ (p : ℕ × ℕ). Contains initial p.0 → ⊥) h in
-    forked_inside found.0.0 found.0.1 (at_read forked rs i r within read ∙ found.1) (λ is_initial. found.2 (initial_noted rs initial found.0.0 initials is_initial))
-nested_here rs initial members i r initials joins within read (inr (inl h)) =
+pub nested_here : (rs : List Record) (i : ℕ) (r : Record) → i < length rs → r ≡ get_or rs i r → IsInside rs (walk_of r.thread (take i rs)) r.body → IsNested rs i
+nested_here rs i r within read (inl h) =
+    let found = some_and (forked r.body) (λ (p : ℕ × ℕ). IsInitial rs p.0 → ⊥) h in
+    forked_inside found.0.0 found.0.1 (at_read forked rs i r within read ∙ found.1) found.2
+nested_here rs i r within read (inr (inl h)) =
     let walk = walk_of r.thread (take i rs) in
-    let found = some_and (joined r.body) (λ (m : Membership). IsSomeAnd (slice_get walk.roots 0) (λ outer. Contains members outer)) h in
-    let outer = some_and (slice_get walk.roots 0) (λ task. Contains members task) found.2 in
-    joined_inside found.0 walk outer.0 (at_read joined rs i r within read ∙ found.1) (r, read_get rs i r within read, refl) outer.1 (noted_member rs members outer.0 joins outer.2)
-nested_here rs initial members i r initials joins within read (inr (inr (begins, opened))) =
+    let found = some_and (joined r.body) (λ (m : Membership). IsSomeAnd (slice_get walk.roots 0) (IsMember rs)) h in
+    let outer = some_and (slice_get walk.roots 0) (IsMember rs) found.2 in
+    joined_inside found.0 walk outer.0 (at_read joined rs i r within read ∙ found.1) (r, read_get rs i r within read, refl) outer.1 outer.2
+nested_here rs i r within read (inr (inr (begins, opened))) =
     let walk = walk_of r.thread (take i rs) in
     let task = some_of (begun_initial r.body) begins in
     initial_inside task.0 walk (at_read begun_initial rs i r within read ∙ task.1) (r, read_get rs i r within read, refl) (not_empty walk.roots opened)
 
 -- and back
-pub here_nested : (rs : List Record) (initial members : List ℕ) (i : ℕ) (r : Record) → AreNoted begun_initial rs (length rs) initial → AreNoted joined_member rs (length rs) members → i < length rs → r ≡ get_or rs i r → IsNested rs i → IsInside initial members (walk_of r.thread (take i rs)) r.body
-here_nested rs initial members i r initials joins within read nested = cases nested
+pub here_nested : (rs : List Record) (i : ℕ) (r : Record) → i < length rs → r ≡ get_or rs i r → IsNested rs i → IsInside rs (walk_of r.thread (take i rs)) r.body
+here_nested rs i r within read nested = cases nested
   where
     walk_here : (walk : Walk) → IsWalkAt rs i walk → walk ≡ walk_of r.thread (take i rs)
     walk_here walk (q, stands, is) = is ∙ ap (λ (p : Record). walk_of p.thread (take i rs)) (same_Some q r (sym stands ∙ read_get rs i r within read))
 
-    cases : IsNested rs i → IsInside initial members (walk_of r.thread (take i rs)) r.body
-    cases (forked_inside task parallel says other) = inl (and_some (forked r.body) (λ (p : ℕ × ℕ). Contains initial p.0 → ⊥) (task, parallel) (sym (at_read forked rs i r within read) ∙ says) (λ has. other (noted_initial rs initial task initials has)))
+    cases : IsNested rs i → IsInside rs (walk_of r.thread (take i rs)) r.body
+    cases (forked_inside task parallel says other) = inl (and_some (forked r.body) (λ (p : ℕ × ℕ). IsInitial rs p.0 → ⊥) (task, parallel) (sym (at_read forked rs i r within read) ∙ says) other)
     cases (joined_inside m walk outer says stands is member) =
         let top = ap (λ (w : Walk). slice_get w.roots 0) (sym (walk_here walk stands)) ∙ is in
-        inr (inl (and_some (joined r.body) (λ (x : Membership). IsSomeAnd (slice_get (walk_of r.thread (take i rs)).roots 0) (λ task. Contains members task)) m (sym (at_read joined rs i r within read) ∙ says) (and_some (slice_get (walk_of r.thread (take i rs)).roots 0) (λ task. Contains members task) outer top (member_noted rs members outer joins member))))
+        inr (inl (and_some (joined r.body) (λ (x : Membership). IsSomeAnd (slice_get (walk_of r.thread (take i rs)).roots 0) (IsMember rs)) m (sym (at_read joined rs i r within read) ∙ says) (and_some (slice_get (walk_of r.thread (take i rs)).roots 0) (IsMember rs) outer top member)))
     cases (initial_inside task walk says stands full) =
         let P : Walk → Type 0 = λ w. is_some (slice_get w.roots 0) ≡ true in
         inr (inr (ap is_some (sym (at_read begun_initial rs i r within read) ∙ says), subst P (walk_here walk stands) (has_first walk.roots full)))

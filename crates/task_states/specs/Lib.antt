@@ -5,3 +5,5 @@ pub mod Nesting
 pub mod Homes
 pub mod Regions
 pub mod Fault
+pub mod Progress
+pub mod States

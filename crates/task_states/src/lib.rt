@@ -1,15 +1,20 @@
-//! The states that a task goes through, where each thread stands, and four causes of malformed records.
+//! The states that a task goes through, where each thread stands, and seven causes of malformed records.
 //!
 //! Read `table` first, the states and what changes them, and `walk`, the tasks that a thread runs; then
-//! `numbering`, `targets`, `current`, `homes`, `regions` and `nesting`, one cause each.
+//! `states`, which runs all tasks through their states: `current`, `homes`, `progress` (with `moves` and
+//! `origins`) and `regions` find one cause each. `numbering`, `targets` and `nesting` are calls of their own.
 #![tactic(auto)]
 
 mod current;
 mod fault;
 mod homes;
+mod moves;
 mod nesting;
 mod numbering;
+mod origins;
+mod progress;
 mod regions;
+mod states;
 mod table;
 mod targets;
 mod walk;
@@ -18,6 +23,7 @@ pub use fault::StateFault;
 pub use nesting::nested;
 pub use numbering::gap;
 pub use ompt_events::State;
+pub use states::{States, run};
 pub use table::{discard_state, next_state, start_state};
 pub use targets::target;
 pub use walk::ThreadWalk;

@@ -1,46 +1,43 @@
 //! Whether a parallel region lies inside another.
-ghost use Rattle.std.specs.Prelude.{◌≡◌, ◌↔◌, IsTrue, IsSomeAnd, IfOk, MatchOption, Contains, length};
+ghost use Rattle.std.specs.Prelude.{◌≡◌, ◌↔◌, IsTrue, IsSomeAnd, IfOk, MatchOption};
 ghost use Rattle.ompt_events.specs.declared.cause.Cause.TheVariants.{NestedParallel};
-ghost use Rattle.ompt_events.specs.Records.{begun_initial};
+ghost use Rattle.ompt_events.specs.Teams.{IsInitial, IsMember};
 ghost use Rattle.ompt_events.specs.Causes.{IsFreeOf, IsFirstWith};
-ghost use Rattle.task_tree.specs.Makers.{AreNoted};
-ghost use Rattle.task_states.specs.Nesting.{joined_member, ForksInside, JoinsInside, InitialInside, IsInside};
+ghost use Rattle.task_tree.specs.Family.{IsFamilyOf};
+ghost use Rattle.task_states.specs.Nesting.{IsUnmade, IsMaker, ForksInside, JoinsInside, InitialInside, IsInside};
 
 use crate::fault::StateFault;
 use crate::walk::{ThreadWalk, new_walks};
 use ompt_events::{Body, Record, Trace};
 use std::alloc::{AllocError, Global};
-use task_tree::Numbering;
+use task_tree::Family;
 
 /// The first record at which a parallel region lies inside another (OpenMP 5.2, 10.1): a task that is not
 /// initial begins one, a member of a team begins inside another member, or an initial task inside any root.
-/// One step for each record, beside look-ups of tasks.
-pub fn nested(alloc: Global, trace: &Trace) -> Result<Option<usize>, StateFault>
+/// The family must be that of the trace's tasks. One step for each record, beside look-ups of tasks where
+/// regions and members begin.
+pub fn nested(alloc: Global, trace: &Trace, family: &Family) -> Result<Option<usize>, StateFault>
+    requires { IsFamilyOf trace.now.records family.now }
     ensures { IfOk result (λ found. MatchOption found
         (IsFreeOf trace.now.records NestedParallel) (IsFirstWith trace.now.records NestedParallel)) }
 {
-    let records = trace.records();
-    let initial = initial_tasks(alloc, records)?;
-    let members = team_members(alloc, records)?;
-    Ok(find_nested(alloc, records, &initial, &members)?)
+    Ok(find_nested(alloc, trace.records(), family)?)
 }
 
 /// The first record at which a parallel region lies inside another.
 fn find_nested(
     alloc: Global,
     records: &[Record],
-    initial: &Numbering,
-    members: &Numbering,
+    family: &Family,
 ) -> Result<Option<usize>, AllocError>
-    requires initial { AreNoted begun_initial records.now (length records.now) initial.now }
-    requires members { AreNoted joined_member records.now (length records.now) members.now }
+    requires { IsFamilyOf records.now family.now }
     ensures { IfOk result (λ found. MatchOption found
         (IsFreeOf records.now NestedParallel) (IsFirstWith records.now NestedParallel)) }
 {
     let mut walks = new_walks(alloc)?;
     for (at, event) in records.iter().enumerate() {
         let walk = &mut walks[event.thread as usize];
-        if is_inside(&event.body, walk, initial, members) {
+        if is_inside(&event.body, walk, records, family) {
             return Ok(Some(at));
         }
         walk.advance(&event.body)?;
@@ -48,68 +45,45 @@ fn find_nested(
     Ok(None)
 }
 
-/// The initial tasks.
-fn initial_tasks(alloc: Global, records: &[Record]) -> Result<Numbering, AllocError>
-    ensures { IfOk result (AreNoted begun_initial records.now (length records.now)) }
-{
-    let mut tasks = Numbering::new(alloc);
-    for event in records {
-        tasks.note(event.body.begun_initial())?;
-    }
-    Ok(tasks)
-}
-
-/// The members of teams.
-fn team_members(alloc: Global, records: &[Record]) -> Result<Numbering, AllocError>
-    ensures { IfOk result (AreNoted joined_member records.now (length records.now)) }
-{
-    let mut members = Numbering::new(alloc);
-    for event in records {
-        members.note(joined_member(&event.body))?;
-    }
-    Ok(members)
-}
-
-/// The member of a team that begins.
-fn joined_member(body: &Body) -> Option<u64>
-    ensures { result ≡ joined_member body.now }
-{
-    body.joined().map(|joined| joined.member)
-}
-
 /// Whether the record, made where its thread stands, puts a parallel region inside another.
-fn is_inside(body: &Body, walk: &ThreadWalk, initial: &Numbering, members: &Numbering) -> bool
-    ensures { IsTrue result ↔ IsInside initial.now members.now walk.now body.now }
+fn is_inside(body: &Body, walk: &ThreadWalk, records: &[Record], family: &Family) -> bool
+    requires { IsFamilyOf records.now family.now }
+    ensures { IsTrue result ↔ IsInside records.now walk.now body.now }
 {
-    forks_inside(body, initial) || joins_inside(body, walk, members) || initial_inside(body, walk)
+    forks_inside(body, records, family)
+        || joins_inside(body, walk, records, family)
+        || initial_inside(body, walk)
 }
 
 /// Whether a task that is not initial begins a parallel region.
-fn forks_inside(body: &Body, initial: &Numbering) -> bool
-    ensures { IsTrue result ↔ ForksInside initial.now body.now }
+fn forks_inside(body: &Body, records: &[Record], family: &Family) -> bool
+    requires { IsFamilyOf records.now family.now }
+    ensures { IsTrue result ↔ ForksInside records.now body.now }
 {
     match body.forked() {
-        Some((task, _)) => !initial.contains(task),
+        Some((task, _)) => !is_initial(task, records, family),
         None => false,
     }
 }
 
 /// Whether a member of a team begins while another is the innermost open root.
-fn joins_inside(body: &Body, walk: &ThreadWalk, members: &Numbering) -> bool
-    ensures { IsTrue result ↔ JoinsInside members.now walk.now body.now }
+fn joins_inside(body: &Body, walk: &ThreadWalk, records: &[Record], family: &Family) -> bool
+    requires { IsFamilyOf records.now family.now }
+    ensures { IsTrue result ↔ JoinsInside records.now walk.now body.now }
 {
     match body.joined() {
-        Some(_) => is_member(walk.innermost(), members),
+        Some(_) => has_member(walk.innermost(), records, family),
         None => false,
     }
 }
 
 /// Whether there is a task, and it is a member of a team.
-fn is_member(task: Option<u64>, members: &Numbering) -> bool
-    ensures { IsTrue result ↔ IsSomeAnd task (Contains members.now) }
+fn has_member(task: Option<u64>, records: &[Record], family: &Family) -> bool
+    requires { IsFamilyOf records.now family.now }
+    ensures { IsTrue result ↔ IsSomeAnd task (IsMember records.now) }
 {
     match task {
-        Some(id) => members.contains(id),
+        Some(id) => is_member(id, records, family),
         None => false,
     }
 }
@@ -119,4 +93,34 @@ fn initial_inside(body: &Body, walk: &ThreadWalk) -> bool
     ensures { IsTrue result ↔ InitialInside walk.now body.now }
 {
     body.begun_initial().is_some() && walk.innermost().is_some()
+}
+
+/// Whether the task is an initial one.
+fn is_initial(task: u64, records: &[Record], family: &Family) -> bool
+    requires { IsFamilyOf records.now family.now }
+    ensures { IsTrue result ↔ IsInitial records.now task }
+{
+    match maker_of(task, records, family) {
+        Some(event) => event.body.begun_initial().is_some(),
+        None => false,
+    }
+}
+
+/// Whether the task is a member of a team.
+fn is_member(task: u64, records: &[Record], family: &Family) -> bool
+    requires { IsFamilyOf records.now family.now }
+    ensures { IsTrue result ↔ IsMember records.now task }
+{
+    match maker_of(task, records, family) {
+        Some(event) => event.body.joined().is_some(),
+        None => false,
+    }
+}
+
+/// The record that makes the task.
+fn maker_of<'a>(task: u64, records: &'a [Record], family: &Family) -> Option<&'a Record>
+    requires { IsFamilyOf records.now family.now }
+    ensures { MatchOption result (IsUnmade records.now task) (λ event. IsMaker records.now task event.now) }
+{
+    records.get(family.maker(task)?)
 }

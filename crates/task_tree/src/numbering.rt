@@ -31,7 +31,7 @@ impl Model for Numbering {
 
 impl Numbering {
     /// No id.
-    pub fn new(alloc: Global) -> Numbering
+    pub(crate) fn new(alloc: Global) -> Numbering
         ensures { result ≡ [] }
     {
         Numbering {
@@ -108,7 +108,7 @@ impl Numbering {
     }
 
     /// Notes the id, if there is one, and answers whether it was noted before.
-    pub fn note(&mut self, found: Option<u64>) -> Result<bool, AllocError>
+    pub(crate) fn note(&mut self, found: Option<u64>) -> Result<bool, AllocError>
         ensures { IfOk result (IsNoted self.old self.new found) }
     {
         let Some(id) = found else {

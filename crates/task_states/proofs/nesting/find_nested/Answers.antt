@@ -21,8 +21,8 @@ returns-then-is_inside c =
     let walk = c.index_mut-walk.result.now in
     let low : r.thread < 256 = search rules in
     let stands : walk ≡ walk_of r.thread (take c.loop-at.at rs) = walk_read rs c.loop-at.at r.thread c.loop-at.walks.items walk low c.loop-at.invariant.walks c.index_mut-walk.ensures.value in
-    let inside : IsInside c.args.initial.now c.args.members.now (walk_of r.thread (take c.loop-at.at rs)) r.body = rw stands at (c.is_inside.ensures.0 c.if-is_inside.true) in
-    first_nested rs c.loop-at.at c.loop-at.invariant.free (nested_here rs c.args.initial.now c.args.members.now c.loop-at.at r c.requires.initial c.requires.members c.loop-at-test.true c.index-records-at.is inside)
+    let inside : IsInside rs (walk_of r.thread (take c.loop-at.at rs)) r.body = rw stands at (c.is_inside.ensures.0 c.if-is_inside.true) in
+    first_nested rs c.loop-at.at c.loop-at.invariant.free (nested_here rs c.loop-at.at r c.loop-at-test.true c.index-records-at.is inside)
 
 pub loop-at-preserved : goal.loop-at-preserved
 loop-at-preserved c =
@@ -31,7 +31,7 @@ loop-at-preserved c =
     let walk = c.index_mut-walk.result.now in
     let low : r.thread < 256 = search rules in
     let stands : walk ≡ walk_of r.thread (take c.loop-at.at rs) = walk_read rs c.loop-at.at r.thread c.loop-at.walks.items walk low c.loop-at.invariant.walks c.index_mut-walk.ensures.value in
-    let none = λ (h : IsNested rs c.loop-at.at). false≢true (sym c.if-is_inside.false ∙ c.is_inside.ensures.1 (rw stands (here_nested rs c.args.initial.now c.args.members.now c.loop-at.at r c.requires.initial c.requires.members c.loop-at-test.true c.index-records-at.is h))) in
+    let none = λ (h : IsNested rs c.loop-at.at). false≢true (sym c.if-is_inside.false ∙ c.is_inside.ensures.1 (rw stands (here_nested rs c.loop-at.at r c.loop-at-test.true c.index-records-at.is h))) in
     record {
       walks = walks_more rs c.loop-at.at r c.loop-at.walks.items (set c.loop-at.walks.items r.thread c.advance.new.self) c.loop-at-test.true c.index-records-at.is low c.loop-at.invariant.walks (ap (set c.loop-at.walks.items r.thread) (c.in_ok-advance.ensures ∙ ap (λ w. after_body w r.body) (walk_is c.loop-at.walks.items r.thread walk (rw c.loop-at.invariant.walks.all low) c.index_mut-walk.ensures.value)));
       free = below_more _ _ c.loop-at.invariant.free none;

@@ -1,0 +1,303 @@
+-- What each task is, and where it is at home.
+use Rattle.std.proofs.Common.{◌≡◌, ◌≢◌, ◌∙◌, ℕ, zero, suc, ◌<◌, ◌≤◌, ◌+◌, List, [], ◌∷◌, ◌++◌, length, get_or, Option, Some, None, Bool, true, false, cond, refl, sym, ap, subst, arith, inl, inr, ◌⊎◌}
+use Rattle.std.proofs.lemmas.Bool.{cases_Bool, cases_eq, cases_lt, eq-eqb, ne_eqb, eqb-true, false≢true, true≢false}
+use Rattle.std.proofs.lemmas.Option.{none-some, same_Some, slice_get_within, slice_get-get_or, get_or_from_slice_get}
+use Rattle.std.proofs.lemmas.List.{length_push, length-set, length-replicate, get_or-replicate}
+use Rattle.std.proofs.lemmas.List.Folds.{find-append}
+use Rattle.std.proofs.Math.ListN.{set}
+use Rattle.std.specs.Prelude.{replicate, ◌==◌, ◌↔◌, ◌&&◌, if◌then◌else◌, is_some, find, slice_get, Contains, unwrap_or, option_and_then}
+use Rattle.std.specs.List.{range_with_len}
+use Rattle.std.specs.Option.{option_or, option_map_or}
+use Rattle.ompt_events.specs.declared.records.Record.{Record}
+use Rattle.ompt_events.specs.declared.records.Body.{Body}
+use Rattle.ompt_events.specs.declared.records.Body.TheVariants.{ImplicitTask, TaskCreate, TaskSchedule}
+use Rattle.ompt_events.specs.declared.names.Endpoint.TheVariants.{Begin}
+use Rattle.ompt_events.specs.declared.cause.Cause.TheVariants.{CreatedTwice}
+use Rattle.ompt_events.specs.Causes.{IsFreeOf}
+use Rattle.ompt_events.specs.Flags as flag
+use Rattle.ompt_events.specs.Flags.{has_flag}
+use Rattle.ompt_events.specs.Records.{begun_root, created, made, started}
+use Rattle.ompt_events.specs.Places.{at, thread_at, places}
+use Rattle.ompt_events.specs.Tree.{IsRoot, IsExplicit}
+use Rattle.ompt_events.specs.States.{Nature, Root, Wait, Plain, is_task, creates_wait, is_made_so, nature_of, begun_on, run_on, home_of}
+use Rattle.ompt_events.proofs.PlaceLemmas.{thread_none, range_more, contains_place, at_within}
+use Rattle.ompt_events.proofs.RecordLemmas.{begun_made, made_cases, begun_at_made, created_at_made, root_or_created}
+use Rattle.ompt_events.proofs.ListLemmas.{get_pushed, get_last, pushed_cases, contains_get}
+use Rattle.task_tree.proofs.FamilyLemmas.{made_once}
+use Rattle.task_tree.proofs.LookupLemmas.{root_or_explicit}
+use Rattle.task_tree.proofs.ChildrenLemmas.{get_set_same, get_set_other}
+use Rattle.task_tree.specs.Numbering.{AreApart}
+use Rattle.task_tree.specs.Subjects.{object, Calls}
+use Rattle.task_states.specs.declared.moves.Nature as code
+use Rattle.task_states.specs.declared.moves.Nature.TheVariants as variants
+use Rattle.task_states.specs.Progress.{nature_made, first_start, start_noted, the_nature, AreStarts, AreNatures, AreHomes}
+
+-- ---- the first that passes a test
+
+pub found_some : {X : Type 0} (p : X → Bool) (xs : List X) (x : X) → Contains xs x → p x ≡ true → is_some (find p xs) ≡ true
+found_some p [] x (i, low, is) passes = absurd (omega arith)
+found_some p (y ∷ ys) x (zero, low, is) passes = ap (λ b. is_some (cond b (Some y) (find p ys))) (ap p is ∙ passes)
+found_some p (y ∷ ys) x (suc i, low, is) passes = by (p y) (found_some p ys x (i, omega arith, is) passes)
+  where
+    by : (b : Bool) → is_some (find p ys) ≡ true → is_some (cond b (Some y) (find p ys)) ≡ true
+    by true rest = refl
+    by false rest = rest
+
+pub found_passes : {X : Type 0} (p : X → Bool) (xs : List X) (x : X) → find p xs ≡ Some x → (p x ≡ true) × Contains xs x
+found_passes p [] x is = absurd (none-some x is)
+found_passes p (y ∷ ys) x is = by (p y) refl (found_passes p ys x) is
+  where
+    by : (b : Bool) → p y ≡ b → (find p ys ≡ Some x → (p x ≡ true) × Contains ys x) → cond b (Some y) (find p ys) ≡ Some x → (p x ≡ true) × Contains (y ∷ ys) x
+    by true passes more same = let e = same_Some y x same in (ap p (sym e) ∙ passes, (0, omega arith, e))
+    by false fails more rest = let (passes, (i, low, at_i)) = more rest in (passes, (suc i, omega (arith, low), at_i))
+
+-- nothing is found where nothing passes
+pub found_none : {X : Type 0} (p : X → Bool) (xs : List X) → ((x : X) → p x ≡ true → ⊥) → find p xs ≡ None
+found_none p xs none = of (find p xs) refl
+  where
+    of : (o : Option _) → find p xs ≡ o → o ≡ None
+    of None e = refl
+    of (Some x) e = absurd (none x (found_passes p xs x e).0)
+
+-- ---- what a task is
+
+read_made : {X : Type 0} (f : Body → Option X) (rs : List Record) (i : ℕ) (r : Record) → slice_get rs i ≡ Some r → at f rs i ≡ f r.body
+read_made f rs i r stands = ap (option_and_then (λ (q : Record). f q.body)) stands
+
+is_the_task : (task : ℕ) (found : Option ℕ) → is_task task found ≡ true → found ≡ Some task
+is_the_task task None is = absurd (false≢true is)
+is_the_task task (Some other) is = ap Some (eqb-true other task is)
+
+the_task : (task : ℕ) (found : Option ℕ) → found ≡ Some task → is_task task found ≡ true
+the_task task found is = ap (is_task task) is ∙ eq-eqb task task refl
+
+-- only the record that makes a task begins or creates it
+same_record : (rs : List Record) (task place i : ℕ) (r q : Record) → IsFreeOf rs CreatedTwice → slice_get rs place ≡ Some r → slice_get rs i ≡ Some q → made r.body ≡ Some task → made q.body ≡ Some task → r ≡ q
+same_record rs task place i r q once stands stands' makes makes' =
+    let same : place ≡ i = made_once rs task place i once (read_made made rs place r stands ∙ makes) (read_made made rs i q stands' ∙ makes') in
+    same_Some r q (sym stands ∙ ap (slice_get rs) same ∙ stands')
+
+contains_record : (rs : List Record) (i : ℕ) (r : Record) → slice_get rs i ≡ Some r → Contains rs r
+contains_record rs i r stands = let within = slice_get_within rs i r stands in (i, within, get_or_from_slice_get rs i r r stands)
+
+creates_made : (task : ℕ) (b : Body) → creates_wait task b ≡ true → made b ≡ Some task
+creates_made task (TaskCreate deps flags parent child) is = ap Some (eqb-true child task (first (child == task) (has_flag flags.0 flag.taskwait) is))
+  where
+    first : (a b : Bool) → a && b ≡ true → a ≡ true
+    first true b is = refl
+    first false b is = absurd (false≢true is)
+creates_made task _ is = absurd (false≢true is)
+
+-- the task's nature is what its maker says
+pub nature_is : (rs : List Record) (task place : ℕ) (r : Record) → IsFreeOf rs CreatedTwice → slice_get rs place ≡ Some r → made r.body ≡ Some task → nature_of rs task ≡ nature_made r.body
+nature_is rs task place r once stands makes = of r.body refl makes
+  where
+    begins : Record → Bool
+    begins q = is_task task (begun_root q.body)
+
+    waits : Record → Bool
+    waits q = creates_wait task q.body
+
+    no_root : (b : Body) → r.body ≡ b → begun_root b ≡ None → find begins rs ≡ None
+    no_root b e none = none_found (find begins rs) refl
+      where
+        none_found : (o : Option Record) → find begins rs ≡ o → o ≡ None
+        none_found None e' = refl
+        none_found (Some q) e' =
+            let (passes, has) = found_passes begins rs q e' in
+            let root : begun_root q.body ≡ Some task = is_the_task task (begun_root q.body) passes in
+            let (i, stands') = contains_get rs q has in
+            let same = same_record rs task place i r q once stands stands' makes (begun_made task q.body root) in
+            absurd (none-some task (sym none ∙ ap begun_root (sym e) ∙ ap (λ (p : Record). begun_root p.body) same ∙ root))
+
+    of : (b : Body) → r.body ≡ b → made b ≡ Some task → nature_of rs task ≡ nature_made b
+    of (ImplicitTask Begin actual index flags parallel root) e is =
+        ap (λ c. if c then Root else if is_made_so (creates_wait task) rs then Wait else Plain) (found_some begins rs r (contains_record rs place r stands) (the_task task (begun_root r.body) (ap begun_root e ∙ is)))
+    of (TaskCreate deps flags parent child) e is =
+        ap (λ (o : Option Record). if is_some o then Root else if is_made_so (creates_wait task) rs then Wait else Plain) (no_root (TaskCreate deps flags parent child) e refl)
+        ∙ ap (λ c. if c then Wait else Plain) (wait (has_flag flags.0 flag.taskwait) refl)
+      where
+        here : waits r ≡ has_flag flags.0 flag.taskwait
+        here = ap (creates_wait task) e ∙ ap (λ c. c && has_flag flags.0 flag.taskwait) (eq-eqb child task (same_Some child task is))
+
+        wait : (c : Bool) → has_flag flags.0 flag.taskwait ≡ c → is_some (find waits rs) ≡ c
+        wait true set = found_some waits rs r (contains_record rs place r stands) (here ∙ set)
+        wait false clear = ap is_some (none_found (find waits rs) refl)
+          where
+            none_found : (o : Option Record) → find waits rs ≡ o → o ≡ None
+            none_found None e' = refl
+            none_found (Some q) e' =
+                let (passes, has) = found_passes waits rs q e' in
+                let (i, stands') = contains_get rs q has in
+                let same = same_record rs task place i r q once stands stands' makes (creates_made task q.body passes) in
+                absurd (false≢true (sym clear ∙ sym here ∙ ap waits same ∙ passes))
+    of _ e is = absurd (none-some task is)
+
+-- ---- where a task is at home
+
+-- a root is at home where it begins
+pub root_home : (rs : List Record) (task place : ℕ) → IsFreeOf rs CreatedTwice → at begun_root rs place ≡ Some task → (thread : ℕ) → thread_at rs place ≡ Some thread → home_of rs task ≡ Some thread
+root_home rs task place once begins thread is = of (find p (places rs)) refl
+  where
+    p : ℕ → Bool
+    p i = is_task task (at begun_root rs i)
+
+    of : (o : Option ℕ) → find p (places rs) ≡ o → home_of rs task ≡ Some thread
+    of None e = absurd (false≢true (ap is_some (sym e) ∙ found_some p (places rs) place (contains_place rs place (at_within begun_root rs place task begins)) (the_task task (at begun_root rs place) begins)))
+    of (Some i) e =
+        let begins' : at begun_root rs i ≡ Some task = is_the_task task (at begun_root rs i) (found_passes p (places rs) i e).0 in
+        let same : i ≡ place = made_once rs task i place once (begun_at_made task rs i begins') (begun_at_made task rs place begins) in
+        let there : begun_on rs task ≡ Some thread = ap (option_and_then (thread_at rs)) e ∙ ap (thread_at rs) same ∙ is in
+        ap (λ o. if is_some o then o else run_on rs task) there
+
+-- an explicit task where it first runs
+pub explicit_home : (rs : List Record) (task : ℕ) → (IsRoot rs task → ⊥) → home_of rs task ≡ option_and_then (thread_at rs) (first_start rs (length rs) task)
+explicit_home rs task no_root =
+    ap (λ (o : Option ℕ). let begun = option_and_then (thread_at rs) o in if is_some begun then begun else run_on rs task)
+    (found_none (λ i. is_task task (at begun_root rs i)) (places rs) (λ i passes. no_root (i, is_the_task task (at begun_root rs i) passes)))
+
+-- one more record
+pub start_more : (rs : List Record) (n task : ℕ) → first_start rs (n + 1) task ≡ option_or (first_start rs n task) (cond (is_task task (at started rs n)) (Some n) None)
+start_more rs n task =
+    ap (find (λ i. is_task task (at started rs i))) (range_more n)
+    ∙ find-append (λ i. is_task task (at started rs i)) (range_with_len 0 n) (n ∷ [])
+
+-- the task that runs next has this start, where it had none
+pub noted_own : (rs : List Record) (n task : ℕ) → at started rs n ≡ Some task → first_start rs (n + 1) task ≡ Some (unwrap_or (first_start rs n task) n)
+noted_own rs n task starts = start_more rs n task ∙ ap (λ b. option_or (first_start rs n task) (cond b (Some n) None)) (the_task task (at started rs n) starts) ∙ of (first_start rs n task)
+  where
+    of : (o : Option ℕ) → option_or o (Some n) ≡ Some (unwrap_or o n)
+    of None = refl
+    of (Some k) = refl
+
+-- all others have what they had
+pub noted_other : (rs : List Record) (n task : ℕ) → at started rs n ≢ Some task → first_start rs (n + 1) task ≡ first_start rs n task
+noted_other rs n task not = start_more rs n task ∙ ap (λ b. option_or (first_start rs n task) (cond b (Some n) None)) (fails (is_task task (at started rs n)) refl) ∙ of (first_start rs n task)
+  where
+    fails : (b : Bool) → is_task task (at started rs n) ≡ b → is_task task (at started rs n) ≡ false
+    fails true e = absurd (not (is_the_task task (at started rs n) e))
+    fails false e = e
+
+    of : (o : Option ℕ) → option_or o None ≡ o
+    of None = refl
+    of (Some k) = refl
+
+-- no record read, no start
+pub starts_none : (rs : List Record) (tasks : List ℕ) (starts : List (Option ℕ)) → starts ≡ replicate (length tasks) None → AreStarts rs 0 tasks starts
+starts_none rs tasks starts is index task stands =
+    let within = slice_get_within tasks index task stands in
+    let long = ap length is ∙ length-replicate (length tasks) None in
+    slice_get-get_or starts index None (omega (arith, within, long)) ∙ ap Some (ap (λ l. get_or l index None) is ∙ get_or-replicate (length tasks) index None None within)
+
+-- a record that starts no task changes nothing
+pub starts_same : (rs : List Record) (n : ℕ) (tasks : List ℕ) (starts : List (Option ℕ)) → at started rs n ≡ None → AreStarts rs n tasks starts → AreStarts rs (n + 1) tasks starts
+starts_same rs n tasks starts none are index task stands =
+    are index task stands ∙ ap Some (sym (noted_other rs n task (λ some. none-some task (sym none ∙ some))))
+
+-- a record that starts one notes it
+pub starts_more : (rs : List Record) (n : ℕ) (tasks : List ℕ) (starts : List (Option ℕ)) (slot : Option ℕ) (task : ℕ) → AreApart tasks → length starts ≡ length tasks → at started rs n ≡ Some task → Calls tasks (Some task) slot → AreStarts rs n tasks starts → AreStarts rs (n + 1) tasks (start_noted starts slot n)
+starts_more rs n tasks starts slot task apart all begins (index, is_slot, stands) are k other stands' = elim (cases_eq k index) [
+  | inl same ↦
+      let own : task ≡ other = same_Some task other (sym stands ∙ ap (slice_get tasks) (sym same) ∙ stands') in
+      let within = slice_get_within tasks index task stands in
+      ap (λ s. slice_get (start_noted starts s n) k) is_slot ∙ ap (slice_get (set starts index (Some (unwrap_or (get_or starts index None) n)))) same
+      ∙ get_set_same starts index (Some (unwrap_or (get_or starts index None) n)) (omega (arith, within, all))
+      ∙ ap (λ o. Some (Some (unwrap_or o n))) (get_or_from_slice_get starts index (first_start rs n task) None (are index task stands))
+      ∙ ap Some (sym (noted_own rs n task begins)) ∙ ap (λ t. Some (first_start rs (n + 1) t)) own
+  | inr differs ↦
+      ap (λ s. slice_get (start_noted starts s n) k) is_slot ∙ get_set_other starts index k (Some (unwrap_or (get_or starts index None) n)) differs
+      ∙ are k other stands' ∙ ap Some (sym (noted_other rs n other (λ some. differs (apart k index other stands' (stands ∙ ap Some (same_Some task other (sym begins ∙ some)))))))
+]
+
+pub noted_length : (starts : List (Option ℕ)) (slot : Option ℕ) (n : ℕ) → length (start_noted starts slot n) ≡ length starts
+noted_length starts None n = refl
+noted_length starts (Some k) n = length-set starts k (Some (unwrap_or (get_or starts k None) n))
+
+-- ---- tables that are filled in the order of the indices
+
+pub record IsFilled {X : Type 0} (says : ℕ → X → Type 0) (n : ℕ) (table : List X) : Type 0 where
+  pub all : length table ≡ n
+  pub each : (i : ℕ) (x : X) → slice_get table i ≡ Some x → says i x
+
+pub filled_none : {X : Type 0} (says : ℕ → X → Type 0) (table : List X) → table ≡ [] → IsFilled says 0 table
+filled_none says table empty = record {
+  all = ap length empty;
+  each = λ i x stands. absurd (none-some x (ap (λ l. slice_get l i) (sym empty) ∙ stands));
+}
+
+pub filled_more : {X : Type 0} (says : ℕ → X → Type 0) (n : ℕ) (table : List X) (x : X) → IsFilled says n table → says n x → IsFilled says (n + 1) (table ++ x ∷ [])
+filled_more says n table x filled here = record {
+  all = length_push table x ∙ ap (λ m. m + 1) filled.all;
+  each = λ i y stands. elim (pushed_cases table x y i stands) [
+    | inl old ↦ filled.each i y old
+    | inr (last, same) ↦ subst (λ j. says j y) (sym (last ∙ filled.all)) (subst (says n) same here)
+  ];
+}
+
+-- the tables of natures and homes, once all indices were gone over
+pub natures_are : (rs : List Record) (tasks : List ℕ) (n : ℕ) (natures : List code.Nature) → IsFilled (λ (i : ℕ) (nature : code.Nature). (task : ℕ) → slice_get tasks i ≡ Some task → the_nature nature ≡ nature_of rs task) n natures → length tasks ≤ n → AreNatures rs tasks natures
+natures_are rs tasks n natures filled all index task stands =
+    let within = slice_get_within tasks index task stands in
+    let here = slice_get-get_or natures index variants.Plain (omega (arith, within, all, filled.all)) in
+    (get_or natures index variants.Plain, here, filled.each index (get_or natures index variants.Plain) here task stands)
+
+pub homes_are : (rs : List Record) (tasks : List ℕ) (n : ℕ) (homes : List (Option ℕ)) → IsFilled (λ (i : ℕ) (home : Option ℕ). (task : ℕ) → slice_get tasks i ≡ Some task → home ≡ home_of rs task) n homes → length tasks ≤ n → AreHomes rs tasks homes
+homes_are rs tasks n homes filled all index task stands =
+    let within = slice_get_within tasks index task stands in
+    let here = slice_get-get_or homes index None (omega (arith, within, all, filled.all)) in
+    here ∙ ap Some (filled.each index (get_or homes index None) here task stands)
+
+-- ---- the steps of the loops
+
+-- the index of the task that runs next
+start_index : (tasks : List ℕ) (slot : Option ℕ) (b : Body) → Calls tasks (object b) slot → Calls tasks (started b) (if is_some (started b) then slot else None)
+start_index tasks slot (TaskSchedule status prior (Some next) share) calls = calls
+start_index tasks slot (TaskSchedule status prior None share) calls = refl
+start_index tasks slot _ calls = refl
+
+pub starts_next : (rs : List Record) (n : ℕ) (tasks : List ℕ) (starts : List (Option ℕ)) (r : Record) (slot : Option ℕ) → AreApart tasks → length starts ≡ length tasks → slice_get rs n ≡ Some r → Calls tasks (at object rs n) slot → AreStarts rs n tasks starts → AreStarts rs (n + 1) tasks (start_noted starts (if is_some (started r.body) then slot else None) n)
+starts_next rs n tasks starts r slot apart all stands calls are = of (started r.body) refl
+  where
+    here : at started rs n ≡ started r.body
+    here = read_made started rs n r stands
+
+    index : Calls tasks (started r.body) (if is_some (started r.body) then slot else None)
+    index = start_index tasks slot r.body (subst (λ o. Calls tasks o slot) (read_made object rs n r stands) calls)
+
+    of : (o : Option ℕ) → started r.body ≡ o → AreStarts rs (n + 1) tasks (start_noted starts (if is_some (started r.body) then slot else None) n)
+    of None e = subst (λ o. AreStarts rs (n + 1) tasks (start_noted starts (if is_some o then slot else None) n)) (sym e) (starts_same rs n tasks starts (here ∙ e) are)
+    of (Some task) e = starts_more rs n tasks starts (if is_some (started r.body) then slot else None) task apart all (here ∙ e) (subst (λ o. Calls tasks o (if is_some (started r.body) then slot else None)) e index) are
+
+-- what the record at a task's place says of it
+pub nature_there : (rs : List Record) (tasks : List ℕ) (index task place : ℕ) (r : Record) → IsFreeOf rs CreatedTwice → at made rs place ≡ slice_get tasks index → slice_get rs place ≡ Some r → slice_get tasks index ≡ Some task → nature_of rs task ≡ nature_made r.body
+nature_there rs tasks index task place r once is stands is_task = nature_is rs task place r once stands (sym (read_made made rs place r stands) ∙ is ∙ is_task)
+
+pub made_within : (rs : List Record) (tasks : List ℕ) (index place : ℕ) → index < length tasks → at made rs place ≡ slice_get tasks index → place < length rs
+made_within rs tasks index place within is = at_within made rs place (get_or tasks index 0) (is ∙ slice_get-get_or tasks index 0 within)
+
+-- a task is explicit, or its maker begins it
+pub explicit_not_root : (rs : List Record) (task : ℕ) → IsFreeOf rs CreatedTwice → IsExplicit rs task → IsRoot rs task → ⊥
+explicit_not_root rs task once explicit root = root_or_explicit rs task once root explicit
+
+root_made : (rs : List Record) (task place : ℕ) → at made rs place ≡ Some task → (at created rs place ≡ Some task → ⊥) → at begun_root rs place ≡ Some task
+root_made rs task place makes not = there (slice_get rs place) refl
+  where
+    there : (o : Option Record) → slice_get rs place ≡ o → at begun_root rs place ≡ Some task
+    there None e = absurd (none-some task (sym (ap (option_and_then (λ (r : Record). made r.body)) e) ∙ makes))
+    there (Some r) e = elim (made_cases task r.body (sym (read_made made rs place r e) ∙ makes)) [
+      | inl begins ↦ read_made begun_root rs place r e ∙ begins
+      | inr creates ↦ absurd (not (read_made created rs place r e ∙ creates))
+    ]
+
+pub home_there : (rs : List Record) (tasks : List ℕ) (index task place : ℕ) → IsFreeOf rs CreatedTwice → at made rs place ≡ slice_get tasks index → slice_get tasks index ≡ Some task → (IsExplicit rs task → ⊥) → thread_at rs place ≡ home_of rs task
+home_there rs tasks index task place once is is_task not_explicit = of (thread_at rs place) refl
+  where
+    makes : at made rs place ≡ Some task
+    makes = is ∙ is_task
+
+    begins : at begun_root rs place ≡ Some task
+    begins = root_made rs task place makes (λ creates. not_explicit (place, creates))
+
+    of : (o : Option ℕ) → thread_at rs place ≡ o → o ≡ home_of rs task
+    of None e = absurd (none-some task (sym (thread_none made rs place e) ∙ makes))
+    of (Some thread) e = sym (root_home rs task place once begins thread e)

@@ -1,0 +1,12 @@
+use Rattle.std.proofs.Common.{ℕ, ◌≡◌, length, Option, Some}
+use Rattle.std.specs.Prelude.{slice_get}
+use Rattle.ompt_events.specs.States.{home_of}
+use Rattle.task_states.proofs.OriginLemmas.{IsFilled}
+use Rattle.task_states.proofs.origins.find_homes.Given as goal
+
+-- the home is known of each task that was gone over
+abbrev pub invariant-loop-index : goal.invariant-loop-index
+invariant-loop-index l = record {
+  count : l.count ≡ length l.family.tasks;
+  filled : IsFilled (λ (i : ℕ) (home : Option ℕ). (task : ℕ) → slice_get l.family.tasks i ≡ Some task → home ≡ home_of l.records task) l.index l.homes.items;
+}

@@ -1,0 +1,135 @@
+-- How far each task has come while the records are gone over in three passes.
+use Rattle.std.specs.Prelude.{ℕ, ◌≡◌, ◌≤◌, ◌<◌, ◌+◌, ◌++◌, ◌∷◌, ◌&&◌, ◌==◌, ltb, not, Bool, true, false, List, [], length, Option, Some, None, Contains, IsSomeAnd, is_some, if◌then◌else◌, filter, find, take, set, get_or, slice_get, unwrap_or}
+use Rattle.std.specs.List.{flat_map, range_with_len}
+use Rattle.ompt_events.specs.declared.records.Record.{Record}
+use Rattle.ompt_events.specs.declared.state.State.{State}
+use Rattle.ompt_events.specs.declared.records.Body.{Body}
+use Rattle.ompt_events.specs.declared.records.Body.TheVariants.{ImplicitTask, TaskCreate, TaskSchedule}
+use Rattle.ompt_events.specs.declared.names.Status.TheVariants.{EarlyFulfill}
+use Rattle.std.specs.Option.{option_map_or}
+use Rattle.ompt_events.specs.Flags as flag
+use Rattle.ompt_events.specs.Flags.{has_flag}
+use Rattle.ompt_events.specs.Records.{started}
+use Rattle.ompt_events.specs.Places.{at, places}
+use Rattle.ompt_events.specs.States as states
+use Rattle.ompt_events.specs.States.{is_task, is_on, is_early, home_of, moves_at, nature_of, state_of}
+use Rattle.task_states.specs.declared.moves.Nature.{Nature}
+use Rattle.task_states.specs.declared.moves.Nature.TheVariants.{Root, Wait, Plain}
+use Rattle.task_states.specs.declared.moves.Move.{Move}
+use Rattle.task_states.specs.declared.moves.Move.TheVariants.{Stopped, Started, Discarded}
+use Rattle.task_states.specs.declared.progress.Pass.{Pass}
+use Rattle.task_states.specs.declared.progress.Pass.TheVariants.{Early, Home, Rest}
+
+-- the words of the definitions for those of the code
+abbrev pub the_nature : Nature → states.Nature
+the_nature Root = states.Root
+the_nature Wait = states.Wait
+the_nature Plain = states.Plain
+
+abbrev pub the_move : Move → states.Move
+the_move (Stopped status) = states.Stopped status
+the_move Started = states.Started
+the_move Discarded = states.Discarded
+
+-- whether a pass reads what the record at i does to the task
+abbrev pub is_read : Pass → List Record → ℕ → ℕ → Bool
+is_read Early rs task i = is_early rs task i && not (is_on rs (home_of rs task) i)
+is_read Home rs task i = is_on rs (home_of rs task) i
+is_read Rest rs task i = not (is_early rs task i) && not (is_on rs (home_of rs task) i)
+
+-- the places that the passes before have read for a task
+abbrev pub read_before : Pass → List Record → ℕ → List ℕ
+read_before Early rs task = []
+read_before Home rs task = filter (is_read Early rs task) (places rs)
+read_before Rest rs task = filter (is_read Early rs task) (places rs) ++ filter (is_read Home rs task) (places rs)
+
+-- the moves of a task that are read before the pass comes to the place n
+abbrev pub moves_before : Pass → List Record → ℕ → ℕ → List (ℕ × states.Move)
+moves_before pass rs n task =
+    flat_map (moves_at rs task) (read_before pass rs task ++ filter (is_read pass rs task) (range_with_len 0 n))
+
+-- of these moves the one at i is the first that the task's state does not allow
+pub record IsRefused (nature : states.Nature) (moves : List (ℕ × states.Move)) (i : ℕ) : Type 0 where
+  pub number : ℕ
+  pub move : states.Move
+  pub made_there : slice_get moves number ≡ Some (i, move)
+  pub allowed : is_some (state_of nature (take number moves)) ≡ true
+  pub not_allowed : state_of nature (take (number + 1) moves) ≡ None
+
+-- what is known by index of each task: its state, if its moves were allowed, and the first place at which
+-- a move was not
+pub record ProgressView : Type 0 where
+  pub states : List (Option State)
+  pub refused : Option ℕ
+
+-- the earlier of the two, where there are two
+abbrev pub earlier : Option ℕ → ℕ → ℕ
+earlier None at = at
+earlier (Some first) at = if ltb first at then first else at
+
+-- the first place at which a move was not allowed, after a move at this place from the one state to the other
+abbrev pub refused_after : Option ℕ → Option State → Option State → ℕ → Option ℕ
+refused_after refused (Some state) None at = Some (earlier refused at)
+refused_after refused _ _ at = refused
+
+-- each task has come as far as these moves take it
+pub record HasCome (rs : List Record) (tasks : List ℕ) (moves : ℕ → List (ℕ × states.Move))
+    (progress : ProgressView) : Type 0 where
+  pub all : length progress.states ≡ length tasks
+  pub each : (n task : ℕ) → slice_get tasks n ≡ Some task
+      → slice_get progress.states n ≡ Some (state_of (nature_of rs task) (moves task))
+  pub found : (i : ℕ) → progress.refused ≡ Some i
+      → (task : ℕ) × IsRefused (nature_of rs task) (moves task) i
+  pub least : (task i : ℕ) → Contains tasks task → IsRefused (nature_of rs task) (moves task) i
+      → IsSomeAnd progress.refused (λ first. first ≤ i)
+
+-- the moves of a task and, where the pass reads it for the task that was found, one more at n
+abbrev pub and_move : Pass → List Record → ℕ → Option ℕ → Move → (ℕ → List (ℕ × states.Move)) → ℕ
+    → List (ℕ × states.Move)
+and_move pass rs n found step moves task =
+    moves task ++ (if is_read pass rs task n && is_task task found then (n, the_move step) ∷ [] else [])
+
+-- the moves of a task and, where the pass reads it for the task, all that the record at n makes
+abbrev pub and_record : Pass → List Record → ℕ → (ℕ → List (ℕ × states.Move)) → ℕ → List (ℕ × states.Move)
+and_record pass rs n moves task =
+    moves task ++ (if is_read pass rs task n then moves_at rs task n else [])
+
+-- each task's nature, by its index
+abbrev pub AreNatures : List Record → List ℕ → List Nature → Type 0
+AreNatures rs tasks natures =
+    (n task : ℕ) → slice_get tasks n ≡ Some task
+    → (nature : Nature) × (slice_get natures n ≡ Some nature) × (the_nature nature ≡ nature_of rs task)
+
+-- each task's home, by its index
+abbrev pub AreHomes : List Record → List ℕ → List (Option ℕ) → Type 0
+AreHomes rs tasks homes =
+    (n task : ℕ) → slice_get tasks n ≡ Some task → slice_get homes n ≡ Some (home_of rs task)
+
+-- the nature of the task that a record makes
+abbrev pub nature_made : Body → states.Nature
+nature_made (ImplicitTask endpoint actual index flags parallel task) = states.Root
+nature_made (TaskCreate deps flags task child) = if has_flag flags.0 flag.taskwait then states.Wait else states.Plain
+nature_made _ = states.Plain
+
+-- the first place below n at which the task runs next
+abbrev pub first_start : List Record → ℕ → ℕ → Option ℕ
+first_start rs n task = find (λ i. is_task task (at started rs i)) (range_with_len 0 n)
+
+-- by index of the task the first place below n at which it runs next
+abbrev pub AreStarts : List Record → ℕ → List ℕ → List (Option ℕ) → Type 0
+AreStarts rs n tasks starts =
+    (index task : ℕ) → slice_get tasks index ≡ Some task → slice_get starts index ≡ Some (first_start rs n task)
+
+-- the starts with this one, where the task at this index had none
+abbrev pub start_noted : List (Option ℕ) → Option ℕ → ℕ → List (Option ℕ)
+start_noted starts None place = starts
+start_noted starts (Some n) place = set starts n (Some (unwrap_or (get_or starts n None) place))
+
+-- whether the body fulfils the task's event early
+abbrev pub early_for : ℕ → Body → Bool
+early_for task (TaskSchedule EarlyFulfill prior next share) = prior == task
+early_for task _ = false
+
+-- whether a record of this thread is at a home
+abbrev pub is_at : Option ℕ → ℕ → Bool
+is_at home thread = option_map_or (λ h. thread == h) home false

@@ -1,0 +1,181 @@
+//! What each task is, and the thread that is its home.
+ghost use Rattle.std.specs.Prelude.{ℕ, ◌≡◌, ◌<◌, IfOk, length, replicate, slice_get, is_some, if◌then◌else◌, option_and_then, Some, None};
+ghost use Rattle.ompt_events.specs.Records.{started};
+ghost use Rattle.ompt_events.specs.Places.{thread_at};
+ghost use Rattle.ompt_events.specs.States.{nature_of, home_of};
+ghost use Rattle.task_tree.specs.Family.{IsFamilyOf};
+ghost use Rattle.task_states.specs.Progress.{nature_made, the_nature, start_noted, AreStarts, AreNatures, AreHomes};
+
+use crate::moves::Nature;
+use bitflags::Flags;
+use ompt_events::{Body, Record, TaskFlags};
+use std::alloc::{AllocError, Global};
+use task_tree::Family;
+
+/// By index of the task what it is, and its home: the thread on which it begins as a root, or first runs.
+#[derive(Debug, Drop)]
+pub(crate) struct Origins {
+    pub(crate) natures: Vec<Nature>,
+    pub(crate) homes: Vec<Option<u8>>,
+}
+
+/// What each task is, and its home.
+pub(crate) fn find_origins(
+    alloc: Global,
+    records: &[Record],
+    family: &Family,
+) -> Result<Origins, AllocError>
+    requires { IsFamilyOf records.now family.now }
+    ensures natures { IfOk result (λ found. AreNatures records.now family.now.tasks found.natures.items) }
+    ensures homes { IfOk result (λ found. AreHomes records.now family.now.tasks found.homes.items) }
+    ensures all { IfOk result (λ found. length found.natures.items ≡ length family.now.tasks) }
+{
+    let natures = find_natures(alloc, records, family)?;
+    let starts = first_starts(alloc, records, family)?;
+    let homes = find_homes(alloc, records, family, starts.as_slice())?;
+    Ok(Origins { natures, homes })
+}
+
+/// What each task is.
+fn find_natures(
+    alloc: Global,
+    records: &[Record],
+    family: &Family,
+) -> Result<Vec<Nature>, AllocError>
+    requires { IsFamilyOf records.now family.now }
+    ensures natures { IfOk result (λ natures. AreNatures records.now family.now.tasks natures.items) }
+    ensures all { IfOk result (λ natures. length natures.items ≡ length family.now.tasks) }
+{
+    let count = family.tasks().as_slice().len();
+    let mut natures = Vec::with_capacity(alloc, count)?;
+    for index in 0..count {
+        natures.push(nature_at(records, family, index))?;
+    }
+    Ok(natures)
+}
+
+/// What the task at this index is.
+fn nature_at(records: &[Record], family: &Family, index: usize) -> Nature
+    requires family { IsFamilyOf records.now family.now }
+    requires within { index < length family.now.tasks }
+    ensures { (task : ℕ) → slice_get family.now.tasks index ≡ Some task
+        → the_nature result ≡ nature_of records.now task }
+{
+    let place = family.made_at(index);
+    nature_made(&records[place].body)
+}
+
+/// What the task is that a record makes.
+fn nature_made(body: &Body) -> Nature
+    ensures { the_nature result ≡ nature_made body.now }
+{
+    match body {
+        Body::ImplicitTask { .. } => Nature::Root,
+        Body::TaskCreate { flags, .. } => {
+            if flags.contains(TaskFlags::TASKWAIT) {
+                Nature::Wait
+            } else {
+                Nature::Plain
+            }
+        }
+        _ => Nature::Plain,
+    }
+}
+
+/// For each task the first place at which it runs next.
+fn first_starts(
+    alloc: Global,
+    records: &[Record],
+    family: &Family,
+) -> Result<Vec<Option<usize>>, AllocError>
+    requires { IsFamilyOf records.now family.now }
+    ensures starts { IfOk result (λ starts. AreStarts records.now
+        (length records.now) family.now.tasks starts.items) }
+    ensures all { IfOk result (λ starts. length starts.items ≡ length family.now.tasks) }
+{
+    let mut starts = no_starts(alloc, family.tasks().as_slice().len())?;
+    for (at, event) in records.iter().enumerate() {
+        note_start(&mut starts, start_of(&event.body, family.object(at)), at);
+    }
+    Ok(starts)
+}
+
+/// No start for each of so many tasks.
+fn no_starts(alloc: Global, count: usize) -> Result<Vec<Option<usize>>, AllocError>
+    ensures { IfOk result (λ starts. starts.items ≡ replicate count None) }
+{
+    let mut starts = Vec::with_capacity(alloc, count)?;
+    for _index in 0..count {
+        starts.push(None)?;
+    }
+    Ok(starts)
+}
+
+/// The index of the task that runs next, where this is that of the second task that the record names.
+fn start_of(body: &Body, object: Option<usize>) -> Option<usize>
+    ensures { result ≡ if is_some (started body.now) then object else None }
+{
+    if body.started().is_some() {
+        object
+    } else {
+        None
+    }
+}
+
+/// Notes that the task at this index runs next at this place, where it did not before.
+fn note_start(starts: &mut Vec<Option<usize>>, index: Option<usize>, at: usize)
+    requires { (n : ℕ) → index ≡ Some n → n < length starts.old.items }
+    ensures { starts.new.items ≡ start_noted starts.old.items index at }
+{
+    if let Some(n) = index {
+        starts[n] = Some(starts[n].unwrap_or(at));
+    }
+}
+
+/// For each task its home: the thread of the record that makes it, where it is a root, else the one on which
+/// it first runs.
+fn find_homes(
+    alloc: Global,
+    records: &[Record],
+    family: &Family,
+    starts: &[Option<usize>],
+) -> Result<Vec<Option<u8>>, AllocError>
+    requires family { IsFamilyOf records.now family.now }
+    requires starts { AreStarts records.now (length records.now) family.now.tasks starts.now }
+    requires all { length starts.now ≡ length family.now.tasks }
+    ensures { IfOk result (λ homes. AreHomes records.now family.now.tasks homes.items) }
+{
+    let count = family.tasks().as_slice().len();
+    let mut homes = Vec::with_capacity(alloc, count)?;
+    for index in 0..count {
+        homes.push(home_at(records, family, starts, index))?;
+    }
+    Ok(homes)
+}
+
+/// The home of the task at this index.
+fn home_at(
+    records: &[Record],
+    family: &Family,
+    starts: &[Option<usize>],
+    index: usize,
+) -> Option<u8>
+    requires family { IsFamilyOf records.now family.now }
+    requires starts { AreStarts records.now (length records.now) family.now.tasks starts.now }
+    requires all { length starts.now ≡ length family.now.tasks }
+    requires within { index < length family.now.tasks }
+    ensures { (task : ℕ) → slice_get family.now.tasks index ≡ Some task → result ≡ home_of records.now task }
+{
+    if family.is_explicit_at(index) {
+        return thread_of(records, starts[index]);
+    }
+    thread_of(records, Some(family.made_at(index)))
+}
+
+/// The thread of the record at the place, if there is one.
+fn thread_of(records: &[Record], place: Option<usize>) -> Option<u8>
+    ensures { result ≡ option_and_then (thread_at records.now) place }
+{
+    let event = records.get(place?)?;
+    Some(event.thread)
+}
