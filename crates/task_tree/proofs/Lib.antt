@@ -1,8 +1,10 @@
+pub mod RankingLemmas
 pub mod NumberingLemmas
 pub mod SubjectLemmas
 pub mod MakerLemmas
 pub mod ChildrenLemmas
 pub mod RootLemmas
+pub mod ForwardLemmas
 pub mod RootlessLemmas
 pub mod FamilyLemmas
 pub mod PathLemmas

@@ -1,7 +1,7 @@
 -- How what is noted of the records grows, and when a record makes something again.
-use Rattle.std.proofs.Common.{◌≡◌, ◌∙◌, ℕ, ◌<◌, ◌≤◌, ◌+◌, List, [], ◌∷◌, length, Option, Some, None, Bool, true, false, refl, sym, ap, subst, arith, inl, inr, ◌⊎◌}
+use Rattle.std.proofs.Common.{get_or, ◌≡◌, ◌∙◌, ℕ, ◌<◌, ◌≤◌, ◌+◌, List, [], ◌∷◌, length, Option, Some, None, Bool, true, false, refl, sym, ap, subst, arith, inl, inr, ◌⊎◌}
 use Rattle.std.proofs.lemmas.Bool.{cases_eq, false≢true, true≢false}
-use Rattle.std.proofs.lemmas.Option.{none-some, same_Some}
+use Rattle.std.proofs.lemmas.Option.{none-some, same_Some, slice_get_within, slice_get-get_or}
 use Rattle.std.proofs.lemmas.List.Elements.{Contains-push, Contains-push_cases, Contains-append_left}
 use Rattle.std.proofs.lemmas.List.{length_push}
 use Rattle.std.specs.Prelude.{◌++◌, is_some, slice_get, option_and_then, option_map, Contains}
@@ -12,9 +12,9 @@ use Rattle.ompt_events.specs.Records.{made, forked}
 use Rattle.ompt_events.specs.Places.{at}
 use Rattle.ompt_events.specs.Causes.{HasCause, created_twice, forked_twice, IsFirstWith, IsFreeOf}
 use Rattle.ompt_events.proofs.PlaceLemmas.{at_within}
-use Rattle.ompt_events.proofs.ListLemmas.{get_pushed, get_last, get_contains, pushed_cases}
-use Rattle.task_tree.specs.Numbering.{IsNoted}
-use Rattle.task_tree.specs.Makers.{AreNoted, AreMade, forked_region}
+use Rattle.ompt_events.proofs.ListLemmas.{get_pushed, get_last, get_contains, contains_get, pushed_cases}
+use Rattle.task_tree.specs.Numbering.{IsNoted, AreApart}
+use Rattle.task_tree.specs.Makers.{AreNoted, AreMade, AreGathered, AreForkedOnce, AreMadeOnce, forked_region}
 
 -- nothing is noted of no records
 pub noted_none : (says : Body → Option ℕ) (rs : List Record) (ids : List ℕ) → ids ≡ [] → AreNoted says rs 0 ids
@@ -156,3 +156,79 @@ made_more rs i (Some task) old new places are makes some (same, fresh) = rw same
     | inr last ↦ (i, get_last places i index (last.0 ∙ sym are.all), omega arith, makes ∙ ap Some last.1)
   ];
 })
+
+-- ---- tasks that are gathered before it is known whether one is made again
+
+pub gathered_none : (rs : List Record) (tasks places : List ℕ) → tasks ≡ [] → places ≡ [] → AreGathered rs 0 tasks places
+gathered_none rs tasks places empty none = record {
+  all = ap length none ∙ sym (ap length empty);
+  few = let zero_long = ap length empty in omega (arith, zero_long);
+  each = λ i task below. absurd (omega arith);
+  only = λ index task place is. absurd (none-some task (sym (ap (λ l. slice_get l index) empty) ∙ is));
+}
+
+pub gathered_other : (rs : List Record) (n : ℕ) (tasks places : List ℕ) → AreGathered rs n tasks places → at made rs n ≡ None → AreGathered rs (n + 1) tasks places
+gathered_other rs n tasks places are none = record {
+  all = are.all;
+  few = let few = are.few in omega (arith, few);
+  each = λ i task below makes. elim (cases_eq i n) [
+    | inl same ↦ absurd (none-some task (sym none ∙ ap (at made rs) (sym same) ∙ makes))
+    | inr apart ↦ are.each i task (omega arith) makes
+  ];
+  only = λ index task place is stands. let old = are.only index task place is stands in (omega (arith, old.0), old.1);
+}
+
+pub gathered_more : (rs : List Record) (n task : ℕ) (tasks places : List ℕ) → AreGathered rs n tasks places → at made rs n ≡ Some task → AreGathered rs (n + 1) (tasks ++ task ∷ []) (places ++ n ∷ [])
+gathered_more rs n task tasks places are makes = record {
+  all = length_push places n ∙ ap (λ k. k + 1) are.all ∙ sym (length_push tasks task);
+  few = let few = are.few in let longer = length_push tasks task in omega (arith, few, longer);
+  each = λ i other below makes_it. elim (cases_eq i n) [
+    | inl same ↦
+        let is_task : task ≡ other = same_Some task other (sym makes ∙ ap (at made rs) (sym same) ∙ makes_it) in
+        (length tasks, get_last tasks task (length tasks) refl ∙ ap Some is_task, get_last places n (length tasks) (sym are.all) ∙ ap Some (sym same))
+    | inr apart ↦ let old = are.each i other (omega arith) makes_it in (old.0, get_pushed tasks task other old.0 old.1, get_pushed places n i old.0 old.2)
+  ];
+  only = λ index other place is stands. elim (pushed_cases tasks task other index is) [
+    | inl before ↦ elim (pushed_cases places n place index stands) [
+      | inl there ↦ let old = are.only index other place before there in (omega (arith, old.0), old.1)
+      | inr last ↦ absurd (let inside = slice_get_within tasks index other before in let long = last.0 in let all = are.all in omega (arith, inside, long, all))
+    ]
+    | inr last ↦ elim (pushed_cases places n place index stands) [
+      | inl there ↦ absurd (let inside = slice_get_within places index place there in let long = last.0 in let all = are.all in omega (arith, inside, long, all))
+      | inr too ↦ (omega (arith, too.1), ap (at made rs) (sym too.1) ∙ makes ∙ ap Some last.1)
+    ]
+  ];
+}
+
+pub forked_more : (rs : List Record) (n : ℕ) → AreForkedOnce rs n → (Repeats forked_region rs n → ⊥) → AreForkedOnce rs (n + 1)
+forked_more rs n once never i k region below within there here = elim (cases_eq i n) [
+  | inr apart ↦ once i k region below (omega arith) there here
+  | inl same ↦ never (region, k, omega (arith, below, same), there, ap (at forked_region rs) (sym same) ∙ here)
+]
+
+-- where no task stands twice among them, none is made again
+pub made_once_each : (rs : List Record) (tasks places regions : List ℕ) → AreGathered rs (length rs) tasks places → AreApart tasks → AreNoted forked_region rs (length rs) regions → AreForkedOnce rs (length rs) → AreMadeOnce rs tasks places regions
+made_once_each rs tasks places regions are apart begun forked_once = record {
+  noted = record {
+    each = λ i task below makes. let there = are.each i task below makes in get_contains tasks task there.0 there.1;
+    only = λ task has. let index = contains_get tasks task has in let place = place_of index.0 task index.1 in (place.0, place.2, place.3);
+  };
+  made_there = record { all = are.all; few = are.few; apart = apart; each = place_of };
+  begun = begun;
+  once = λ i has. elim (twice_cases rs i has) [
+    | inl (task, k, below, there, here) ↦
+        let first = are.each k task (at_within made rs k task there) there in
+        let second = are.each i task (at_within made rs i task here) here in
+        let same : k ≡ i = same_Some k i (sym first.2 ∙ ap (slice_get places) (apart first.0 second.0 task first.1 second.1) ∙ second.2) in
+        omega (arith, below, same)
+    | inr (region, k, below, there, here) ↦ forked_once i k region below (at_within forked_region rs i region here) there here
+  ];
+}
+  where
+    place_of : (index task : ℕ) → slice_get tasks index ≡ Some task → (place : ℕ) × (slice_get places index ≡ Some place) × (place < length rs) × (at made rs place ≡ Some task)
+    place_of index task is =
+        let inside = slice_get_within tasks index task is in
+        let all = are.all in
+        let stands : slice_get places index ≡ Some (get_or places index 0) = slice_get-get_or places index 0 (omega (arith, inside, all)) in
+        let found = are.only index task (get_or places index 0) is stands in
+        (get_or places index 0, stands, found.0, found.1)

@@ -1,38 +1,80 @@
 -- How a numbering grows.
 use Rattle.std.proofs.Common.{◌≡◌, ◌∙◌, ℕ, List, [], ◌∷◌, ◌++◌, length, Option, Some, None, true, refl, sym, ap, subst, inl, inr, ◌⊎◌, zero, suc, arith}
 use Rattle.std.proofs.lemmas.Bool.{cases_eq, false≢true}
-use Rattle.std.proofs.lemmas.Option.{same_Some}
+use Rattle.std.proofs.lemmas.Option.{none-some, same_Some, slice_get_within}
 use Rattle.std.specs.Prelude.{slice_get, is_some, Contains, ◌↔◌}
 use Rattle.std.proofs.lemmas.List.Elements.{Contains-append_right, Contains-append_cases}
 use Rattle.std.specs.Ordering.{nat_cmp}
 use Rattle.std.specs.BTreeMap.{BTreeMap, get, Updates}
 use Rattle.ompt_events.proofs.ListLemmas.{get_pushed, get_last, pushed_cases, get_contains, contains_get}
 use Rattle.ompt_events.proofs.NumberMaps.{updated_here, updated_there}
+use Rattle.task_tree.specs.declared.ranking.Entry.{Entry}
+use Rattle.task_tree.specs.Ranking.{IsRanked, HasNoEntry}
 use Rattle.task_tree.specs.Numbering.{AreIndices, AreApart}
+use Rattle.task_tree.proofs.RankingLemmas.{ranked_apart}
+
+-- before the first id
+pub indices_none : (ids : List ℕ) (ranked : List Entry) (indices : BTreeMap ℕ ℕ) → ids ≡ [] → ranked ≡ [] → ((id : ℕ) → get nat_cmp indices id ≡ None) → AreIndices ids ranked indices
+indices_none ids ranked indices empty unranked none = record {
+  apart = λ a b id is. absurd (none-some id (sym (ap (λ l. slice_get l a) empty) ∙ is));
+  rising = λ a b first second less within is. absurd (none-some first (sym (ap (λ l. slice_get l a) unranked) ∙ is));
+  ranked_right = λ entry has. absurd (let P : List Entry → Type 0 = λ l. Contains l entry in let nothing = subst P unranked has in let low = nothing.1 in omega arith);
+  noted_right = λ id index found. absurd (none-some index (sym (none id) ∙ found));
+  all = λ index id is. absurd (none-some id (sym (ap (λ l. slice_get l index) empty) ∙ is));
+}
+
+-- ids that were ranked at once
+pub indices_ranked : (ids : List ℕ) (ranked : List Entry) (indices : BTreeMap ℕ ℕ) → IsRanked ids ranked → ((id : ℕ) → get nat_cmp indices id ≡ None) → AreIndices ids ranked indices
+indices_ranked ids ranked indices are none = record {
+  apart = ranked_apart ids ranked are;
+  rising = are.rising;
+  ranked_right = are.entries.only;
+  noted_right = λ id index found. absurd (none-some index (sym (none id) ∙ found));
+  all = λ index id is. inr (are.entries.all index id (slice_get_within ids index id is) is);
+}
 
 -- one more id stands under the next index
-pub indices_more : (ids : List ℕ) (old new : BTreeMap ℕ ℕ) (id : ℕ) → AreIndices ids old → (Contains ids id → ⊥) → Updates nat_cmp old new id (Some (length ids)) → AreIndices (ids ++ id ∷ []) new
-indices_more ids old new id are fresh updates other index = elim (cases_eq other id) [
-  | inl same ↦ (
-    λ found.
+pub indices_more : (ids : List ℕ) (ranked : List Entry) (old new : BTreeMap ℕ ℕ) (id : ℕ) → AreIndices ids ranked old → (Contains ids id → ⊥) → Updates nat_cmp old new id (Some (length ids)) → AreIndices (ids ++ id ∷ []) ranked new
+indices_more ids ranked old new id are fresh updates = record {
+  apart = λ a b other at_a at_b. elim (pushed_cases ids id other a at_a) [
+    | inl before_a ↦ elim (pushed_cases ids id other b at_b) [
+      | inl before_b ↦ are.apart a b other before_a before_b
+      | inr last_b ↦ absurd (fresh (let P : ℕ → Type 0 = Contains ids in subst P (sym last_b.1) (get_contains ids other a before_a)))
+    ]
+    | inr last_a ↦ elim (pushed_cases ids id other b at_b) [
+      | inl before_b ↦ absurd (fresh (let P : ℕ → Type 0 = Contains ids in subst P (sym last_a.1) (get_contains ids other b before_b)))
+      | inr last_b ↦ last_a.0 ∙ sym last_b.0
+    ]
+  ];
+  rising = are.rising;
+  ranked_right = λ entry has. get_pushed ids id entry.id entry.index (are.ranked_right entry has);
+  noted_right = λ other index found. elim (cases_eq other id) [
+    | inl same ↦
         let last : length ids ≡ index = same_Some (length ids) index (sym here ∙ ap (get nat_cmp new) (sym same) ∙ found) in
-        get_last ids id index (sym last) ∙ ap Some (sym same),
-    λ stands. elim (pushed_cases ids id other index stands) [
-      | inl before ↦ absurd (fresh (let P : ℕ → Type 0 = Contains ids in subst P same (get_contains ids other index before)))
-      | inr last ↦ ap (get nat_cmp new) same ∙ here ∙ ap Some (sym last.0)
-    ],
-  )
-  | inr apart ↦ (
-    λ found. get_pushed ids id other index ((are other index).0 (sym (updated_there old new id (Some (length ids)) updates other apart) ∙ found)),
-    λ stands. elim (pushed_cases ids id other index stands) [
-      | inl before ↦ updated_there old new id (Some (length ids)) updates other apart ∙ (are other index).1 before
-      | inr last ↦ absurd (apart (sym last.1))
-    ],
-  )
-]
+        get_last ids id index (sym last) ∙ ap Some (sym same)
+    | inr apart ↦ get_pushed ids id other index (are.noted_right other index (sym (updated_there old new id (Some (length ids)) updates other apart) ∙ found))
+  ];
+  all = λ index other stands. elim (pushed_cases ids id other index stands) [
+    | inr last ↦ inl (ap (get nat_cmp new) (sym last.1) ∙ here ∙ ap Some (sym last.0))
+    | inl before ↦ elim (are.all index other before) [
+      | inr has ↦ inr has
+      | inl found ↦ inl (updated_there old new id (Some (length ids)) updates other (λ same. fresh (let P : ℕ → Type 0 = Contains ids in subst P same (get_contains ids other index before))) ∙ found)
+    ]
+  ];
+}
   where
     here : get nat_cmp new id ≡ Some (length ids)
     here = updated_here old new id (Some (length ids)) updates
+
+-- a search that fails among the ranked ids goes on among the others
+pub search_on : (ids : List ℕ) (ranked : List Entry) (indices : BTreeMap ℕ ℕ) (id : ℕ) (found : Option ℕ) → AreIndices ids ranked indices → HasNoEntry ranked id → found ≡ get nat_cmp indices id → (index : ℕ) → (found ≡ Some index) ↔ (slice_get ids index ≡ Some id)
+search_on ids ranked indices id found are none is index = (
+  λ says. are.noted_right id index (sym is ∙ says),
+  λ stands. elim (are.all index id stands) [
+    | inl noted ↦ is ∙ noted
+    | inr has ↦ let there = contains_get ranked (record { index = index; id = id }) has in absurd (none there.0 (record { index = index; id = id }) there.1 refl)
+  ],
+)
 
 -- an id that has an index was noted, and one that was noted has an index
 pub index_noted : (ids : List ℕ) (id : ℕ) (index : Option ℕ) → ((k : ℕ) → (index ≡ Some k) ↔ (slice_get ids k ≡ Some id)) → is_some index ≡ true → Contains ids id
@@ -61,8 +103,5 @@ contains_or_not (x ∷ xs) id = elim (cases_eq x id) [
     only (suc k, below, is) = absurd (omega arith)
 
 -- an id stands at one index
-pub apart_of : (ids : List ℕ) (indices : BTreeMap ℕ ℕ) → AreIndices ids indices → AreApart ids
-apart_of ids indices are a b id at_a at_b = same_Some a b (sym ((are id a).1 at_a) ∙ (are id b).1 at_b)
-
 pub index_is : (ids : List ℕ) (id near : ℕ) → AreApart ids → slice_get ids near ≡ Some id → (index : ℕ) → (Some near ≡ Some index) ↔ (slice_get ids index ≡ Some id)
 index_is ids id near apart is index = (λ same. ap (slice_get ids) (sym (same_Some near index same)) ∙ is, λ is_too. ap Some (apart near index id is is_too))

@@ -3,10 +3,12 @@
 pub mod Family
 pub mod Paths
 pub mod Fault
+pub mod Ranking
 pub mod Numbering
 pub mod Slots
 pub mod Makers
 pub mod Subjects
 pub mod Children
 pub mod Roots
+pub mod Forward
 pub mod Rootless

@@ -68,7 +68,7 @@ impl Family {
         } = find_made(alloc, records)?;
         let named = find_subjects(alloc, records, &tasks)?;
         let Children { lists, links } = find_children(alloc, records, &tasks, &named)?;
-        let roots = find_roots(alloc, records, &tasks, lists.as_slice())?;
+        let roots = find_roots(alloc, records, &tasks, &named, lists.as_slice())?;
         match find_rootless(records, &tasks, &named, &regions, roots.as_slice()) {
             Some(at) => Err(TreeFault::Malformed {
                 at,

@@ -8,10 +8,12 @@
 mod children;
 mod family;
 mod fault;
+mod forward;
 mod hints;
 mod makers;
 mod numbering;
 mod paths;
+mod ranking;
 mod rootless;
 mod roots;
 mod slot;

@@ -1,9 +1,9 @@
 //! Which tasks and parallel regions the records make.
-ghost use Rattle.std.specs.Prelude.{◌≡◌, ◌<◌, ◌≤◌, ◌^◌, ◌++◌, ◌∷◌, [], IfOk, OnOk, IfErr, length};
+ghost use Rattle.std.specs.Prelude.{◌≡◌, ◌<◌, ◌≤◌, ◌^◌, ◌++◌, ◌∷◌, [], IfOk, IfSome, OnOk, IfErr, length};
 ghost use Rattle.ompt_events.specs.declared.cause.Cause.TheVariants.{CreatedTwice};
 ghost use Rattle.ompt_events.specs.Records.{made};
 ghost use Rattle.ompt_events.specs.Causes.{IsFreeOf};
-ghost use Rattle.task_tree.specs.Makers.{AreNoted, AreMade, forked_region};
+ghost use Rattle.task_tree.specs.Makers.{AreNoted, AreMade, AreMadeOnce, AreGathered, AreForkedOnce, forked_region};
 ghost use Rattle.task_tree.specs.Fault.{IsFound};
 
 use crate::fault::TreeFault;
@@ -19,8 +19,100 @@ pub(crate) struct Made {
     pub(crate) regions: Numbering,
 }
 
+/// The same while it is not known whether a task is made again.
+struct Gathered {
+    ids: Vec<u64>,
+    places: Vec<u32>,
+    regions: Numbering,
+}
+
 /// Notes what the records make, or finds the first record that makes a task or a region again.
 pub(crate) fn find_made(alloc: Global, records: &[Record]) -> Result<Made, TreeFault>
+    requires few { length records.now ≤ 2 ^ 22 }
+    ensures tasks { IfOk result (λ found. AreNoted made records.now (length records.now) found.tasks) }
+    ensures places { IfOk result (λ found. AreMade records.now
+        (length records.now) found.tasks found.places.items) }
+    ensures regions { IfOk result (λ found. AreNoted forked_region records.now
+        (length records.now) found.regions) }
+    ensures free { IfOk result (λ _. IsFreeOf records.now CreatedTwice) }
+    ensures found { IfErr result (IsFound records.now CreatedTwice) }
+{
+    match made_at_once(alloc, records)? {
+        Some(made) => Ok(made),
+        None => made_in_turn(alloc, records),
+    }
+}
+
+/// Notes what the records make; none where one makes a task or a region again.
+fn made_at_once(alloc: Global, records: &[Record]) -> Result<Option<Made>, AllocError>
+    requires few { length records.now ≤ 2 ^ 22 }
+    ensures { IfOk result (λ found. IfSome found (λ made.
+        AreMadeOnce records.now made.tasks made.places.items made.regions)) }
+{
+    let Some(gathered) = gather(alloc, records)? else {
+        return Ok(None);
+    };
+    let Gathered {
+        ids,
+        places,
+        regions,
+    } = gathered;
+    match Numbering::of(alloc, ids)? {
+        Some(tasks) => Ok(Some(Made {
+            tasks,
+            places,
+            regions,
+        })),
+        None => Ok(None),
+    }
+}
+
+/// Notes each task that is made, however often it is; none where a region begins again.
+fn gather(alloc: Global, records: &[Record]) -> Result<Option<Gathered>, AllocError>
+    requires few { length records.now ≤ 2 ^ 22 }
+    ensures tasks { IfOk result (λ found. IfSome found (λ gathered. AreGathered records.now
+        (length records.now) gathered.ids.items gathered.places.items)) }
+    ensures regions { IfOk result (λ found. IfSome found (λ gathered. AreNoted forked_region records.now
+        (length records.now) gathered.regions)) }
+    ensures once { IfOk result (λ found. IfSome found (λ _. AreForkedOnce records.now
+        (length records.now))) }
+{
+    let mut ids: Vec<u64> = Vec::new(alloc);
+    let mut places: Vec<u32> = Vec::new(alloc);
+    let mut regions = Numbering::new(alloc);
+    for (at, event) in records.iter().enumerate() {
+        if let Some(task) = event.body.made() {
+            add_task(&mut ids, &mut places, task, at)?;
+        }
+        let region_again = regions.note(forked_region(&event.body))?;
+        if region_again {
+            return Ok(None);
+        }
+    }
+    Ok(Some(Gathered {
+        ids,
+        places,
+        regions,
+    }))
+}
+
+/// Adds a task and the place of the record that makes it.
+fn add_task(
+    ids: &mut Vec<u64>,
+    places: &mut Vec<u32>,
+    task: u64,
+    at: usize,
+) -> Result<(), AllocError>
+    requires { at < 2 ^ 32 }
+    ensures ids { OnOk result (ids.new.items ≡ ids.old.items ++ task ∷ []) }
+    ensures places { OnOk result (places.new.items ≡ places.old.items ++ at ∷ []) }
+{
+    ids.push(task)?;
+    add_place(places, at)
+}
+
+/// The same one record after another, up to the first that makes a task or a region again.
+fn made_in_turn(alloc: Global, records: &[Record]) -> Result<Made, TreeFault>
     requires few { length records.now ≤ 2 ^ 22 }
     ensures tasks { IfOk result (λ found. AreNoted made records.now (length records.now) found.tasks) }
     ensures places { IfOk result (λ found. AreMade records.now

@@ -1,7 +1,8 @@
 //! A list of ids, each once, in which the place of an id is found without a walk.
-ghost use Rattle.std.specs.Prelude.{◌≡◌, ◌↔◌, ◌++◌, ◌∷◌, Some, [], ℕ, slice_get, Contains, IsTrue, IfOk, OnOk};
-ghost use Rattle.task_tree.specs.Numbering.{IsNoted};
+ghost use Rattle.std.specs.Prelude.{◌≡◌, ◌↔◌, ◌++◌, ◌∷◌, Some, [], ℕ, slice_get, Contains, IsTrue, IfOk, IfSome, OnOk, ◌≤◌, ◌^◌, length};
+ghost use Rattle.task_tree.specs.Numbering.{AreApart, IsNoted};
 
+use crate::ranking::{Entry, rank, search};
 use std::alloc::{AllocError, Global};
 use std::collections::BTreeMap;
 use std::marker::Model;
@@ -11,6 +12,9 @@ use std::marker::Model;
 #[derive(Debug, Drop)]
 pub struct Numbering {
     ids: Vec<u64>,
+    /// The ids that were there from the start, in the order of their values.
+    ranked: Vec<Entry>,
+    /// The index of each id that was noted since.
     indices: BTreeMap<u64, usize>,
 }
 
@@ -22,7 +26,7 @@ impl Model for Numbering {
 
     ghost view = { λ numbering. numbering.ids.items };
 
-    ghost invariant = { λ numbering. AreIndices numbering.ids.items numbering.indices };
+    ghost invariant = { λ numbering. AreIndices numbering.ids.items numbering.ranked.items numbering.indices };
 }
 
 impl Numbering {
@@ -32,7 +36,24 @@ impl Numbering {
     {
         Numbering {
             ids: Vec::new(alloc),
+            ranked: Vec::new(alloc),
             indices: BTreeMap::new(alloc),
+        }
+    }
+
+    /// These ids; none where one of them stands there twice.
+    pub(crate) fn of(alloc: Global, ids: Vec<u64>) -> Result<Option<Numbering>, AllocError>
+        requires few { length ids.items ≤ 2 ^ 22 }
+        ensures same { IfOk result (λ found. IfSome found (λ numbering. numbering ≡ ids.items)) }
+        ensures apart { IfOk result (λ found. IfSome found (λ _. AreApart ids.items)) }
+    {
+        match rank(alloc, ids.as_slice())? {
+            Some(ranked) => Ok(Some(Numbering {
+                ids,
+                ranked,
+                indices: BTreeMap::new(alloc),
+            })),
+            None => Ok(None),
         }
     }
 
@@ -47,7 +68,10 @@ impl Numbering {
     pub fn index_of(&self, id: u64) -> Option<usize>
         ensures { (index : ℕ) → (result ≡ Some index) ↔ (slice_get self.now index ≡ Some id) }
     {
-        self.indices.get(&id).copied()
+        match search(&self.ranked, id) {
+            Some(index) => Some(index),
+            None => self.indices.get(&id).copied(),
+        }
     }
 
     /// The id's index, looked for here first.

@@ -1,11 +1,13 @@
 //! The root below which each task stands.
-ghost use Rattle.std.specs.Prelude.{◌≡◌, ◌<◌, ◌≤◌, [], Some, None, IfOk, OnOk, length, replicate};
+ghost use Rattle.std.specs.Prelude.{◌≡◌, ◌<◌, ◌≤◌, ◌^◌, [], Some, None, IfOk, OnOk, length, replicate};
 ghost use Rattle.ompt_events.specs.Records.{made};
 ghost use Rattle.task_tree.specs.Makers.{AreNoted};
 ghost use Rattle.task_tree.specs.Children.{AreChildren};
 ghost use Rattle.task_tree.specs.Roots.{AreRoots, Reaches, Spreads, IsSeeded};
 
+use crate::forward::{all_stand, find_forward};
 use crate::numbering::Numbering;
+use crate::subjects::Subjects;
 use ompt_events::Record;
 use std::alloc::{AllocError, Global};
 
@@ -23,8 +25,29 @@ pub(crate) struct Reached {
     pub(crate) standing: Standing,
 }
 
-/// By index of the task where it stands, if its chain of parents reaches a root.
+/// By index of the task where it stands, if its chain of parents reaches a root. One pass does where each task is
+/// created later in the file than its parent.
 pub(crate) fn find_roots(
+    alloc: Global,
+    records: &[Record],
+    tasks: &Numbering,
+    named: &Subjects,
+    lists: &[Vec<u64>],
+) -> Result<Vec<Option<Standing>>, AllocError>
+    requires noted { AreNoted made records.now (length records.now) tasks.now }
+    requires lists { AreChildren records.now (length records.now) tasks.now lists.now }
+    requires few { length records.now ≤ 2 ^ 22 }
+    ensures { IfOk result (λ roots. AreRoots records.now tasks.now roots.items) }
+{
+    let roots = find_forward(alloc, records, tasks, named)?;
+    if all_stand(&roots) {
+        return Ok(roots);
+    }
+    find_downward(alloc, records, tasks, lists)
+}
+
+/// The same down from the roots.
+fn find_downward(
     alloc: Global,
     records: &[Record],
     tasks: &Numbering,
@@ -52,7 +75,7 @@ pub(crate) fn find_roots(
 }
 
 /// No root for any task.
-fn no_roots(alloc: Global, tasks: usize) -> Result<Vec<Option<Standing>>, AllocError>
+pub(crate) fn no_roots(alloc: Global, tasks: usize) -> Result<Vec<Option<Standing>>, AllocError>
     ensures { IfOk result (λ roots. roots.items ≡ replicate tasks None) }
 {
     vec![in alloc; None; tasks]

@@ -2,7 +2,7 @@ use Rattle.std.proofs.Common.{◌≡◌, ◌<◌, ◌≤◌, ◌∙◌, Some, le
 use Rattle.std.specs.Prelude.{slice_get}
 use Rattle.std.proofs.lemmas.Option.{slice_get_within, slice_get_read}
 use Rattle.task_tree.proofs.RootLemmas.{below_it, below_it, task_reached, list_read, turned, spreads_keeps, roots_found}
-use Rattle.task_tree.proofs.roots.find_roots.Goals as goal
+use Rattle.task_tree.proofs.roots.find_downward.Goals as goal
 
 pub offset_bounds-lists-task : goal.offset_bounds-lists-task
 offset_bounds-lists-task c =

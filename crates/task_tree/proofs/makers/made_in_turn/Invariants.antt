@@ -3,7 +3,7 @@ use Rattle.ompt_events.specs.declared.cause.Cause.TheVariants.{CreatedTwice}
 use Rattle.ompt_events.specs.Records.{made}
 use Rattle.ompt_events.specs.Causes.{HasCause}
 use Rattle.task_tree.specs.Makers.{AreNoted, AreMade, forked_region}
-use Rattle.task_tree.proofs.makers.find_made.Given as goal
+use Rattle.task_tree.proofs.makers.made_in_turn.Given as goal
 
 -- what the records so far make is noted, and none makes it again
 abbrev pub invariant-loop-at : goal.invariant-loop-at

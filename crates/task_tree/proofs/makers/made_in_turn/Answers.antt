@@ -6,8 +6,8 @@ use Rattle.ompt_events.specs.Causes.{HasCause}
 use Rattle.ompt_events.proofs.PlaceLemmas.{at_read}
 use Rattle.task_tree.specs.Makers.{forked_region}
 use Rattle.task_tree.proofs.MakerLemmas.{noted_more, noted_again, noted_new, made_more, made_other, twice_cases, twice_task, twice_region, first_here, free_of_twice}
-use Rattle.task_tree.proofs.makers.find_made.Goals as goal
-use Rattle.task_tree.proofs.makers.find_made.Goals.{then-task_again-via-then-task_again, then-task_again-via-else-task_again+then-region_again, then-is_some+in_ok-add_place, else-is_some}
+use Rattle.task_tree.proofs.makers.made_in_turn.Goals as goal
+use Rattle.task_tree.proofs.makers.made_in_turn.Goals.{then-task_again-via-then-task_again, then-task_again-via-else-task_again+then-region_again, then-is_some+in_ok-add_place, else-is_some}
 
 pub returns-then-task_again-clause-found : goal.returns-then-task_again-clause-found
 returns-then-task_again-clause-found c =

@@ -4,7 +4,7 @@ use Rattle.ompt_events.specs.Tree.{children}
 use Rattle.task_tree.specs.Roots.{missing, IsSeeded}
 use Rattle.task_tree.specs.declared.roots.Reached.{Reached}
 use Rattle.task_tree.specs.declared.roots.Standing.{Standing}
-use Rattle.task_tree.proofs.roots.find_roots.Given as goal
+use Rattle.task_tree.proofs.roots.find_downward.Given as goal
 
 -- what was reached so far, and the children of the first `next` of it
 abbrev pub invariant-reached : goal.invariant-reached
