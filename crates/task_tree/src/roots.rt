@@ -25,8 +25,8 @@ pub(crate) struct Reached {
     pub(crate) standing: Standing,
 }
 
-/// By index of the task where it stands, if its chain of parents reaches a root. One pass does where each task is
-/// created later in the file than its parent.
+/// By index of the task where it stands, if its chain of parents reaches a root. One pass does where each
+/// task is created later in the file than its parent.
 pub(crate) fn find_roots(
     alloc: Global,
     records: &[Record],
@@ -122,8 +122,8 @@ fn reach_children(
     Ok(())
 }
 
-/// Reaches a task that stands there, unless it was reached before. It is looked for here first; where the next one
-/// may be is the answer.
+/// Reaches a task that stands there, unless it was reached before. It is looked for here first; the answer
+/// is where the next one may be.
 fn reach(
     tasks: &Numbering,
     task: u64,
