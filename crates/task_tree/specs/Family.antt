@@ -12,9 +12,9 @@ use Rattle.task_tree.specs.Makers.{AreNoted, AreMade}
 use Rattle.task_tree.specs.Children.{AreChildren, AreLinks}
 use Rattle.task_tree.specs.Roots.{AreRoots}
 
--- what clauses see of a family: the tasks in the order in which they are made; by index of the task the place of
--- the record that makes it, its children, its link to its parent and its root; and by place of the record the
--- indices of the tasks that it names
+-- what clauses see of a family: the tasks in the order in which they are made; by index of the task the
+-- place of the record that makes it, its children, its link to its parent and its root; and by place of the
+-- record the indices of the tasks that it names
 pub record FamilyView : Type 0 where
   pub tasks : List ℕ
   pub places : List ℕ

@@ -49,7 +49,8 @@ impl Model for Family {
     } };
 
     ghost invariant = { λ family.
-        AreAligned family.tasks family.places.items family.lists.items family.links.items family.roots.items };
+        AreAligned family.tasks family.places.items family.lists.items family.links.items
+        family.roots.items };
 }
 
 impl Family {

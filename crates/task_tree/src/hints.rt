@@ -2,7 +2,7 @@
 //! Nothing depends on a hint but the time.
 
 use crate::slot::Slot;
-use ompt_events::{Body, Endpoint, Record};
+use ompt_events::{Body, Endpoint, Record, Status};
 use std::alloc::{AllocError, Global};
 
 /// What was seen of the threads so far.
@@ -14,6 +14,10 @@ pub(crate) struct Hints {
     running: [usize; 256],
     /// By index of the task that of the task whose thread it took.
     below: Vec<u32>,
+    /// By index of the task that of the last child that it created and did not yet make way for.
+    youngest: Vec<u32>,
+    /// By index of the task that of the child that its parent created before it.
+    elder: Vec<u32>,
 }
 
 impl Hints {
@@ -23,6 +27,8 @@ impl Hints {
             made: 0,
             running: [0; 256],
             below: vec![in alloc; 0; tasks]?,
+            youngest: vec![in alloc; 0; tasks]?,
+            elder: vec![in alloc; 0; tasks]?,
         })
     }
 
@@ -41,15 +47,11 @@ impl Hints {
     pub(crate) fn object(&self, event: &Record, subject: Slot) -> usize {
         match &event.body {
             Body::TaskCreate { .. } => self.made,
-            _ => self.task_below(subject),
-        }
-    }
-
-    /// Where the task may stand whose thread this one took.
-    fn task_below(&self, task: Slot) -> usize {
-        match task.get() {
-            Some(index) if index < self.below.len() => self.below[index] as usize,
-            _ => 0,
+            Body::TaskSchedule {
+                status: Status::Switch | Status::Yield,
+                ..
+            } => entry(&self.youngest, subject),
+            _ => entry(&self.below, subject),
         }
     }
 
@@ -58,17 +60,52 @@ impl Hints {
         if event.body.made().is_some() {
             self.made = self.made.wrapping_add(1);
         }
+        match &event.body {
+            Body::TaskCreate { .. } => self.note_child(subject, object),
+            Body::TaskSchedule { .. } => self.note_next(subject, object),
+            _ => {}
+        }
         let runs = match &event.body {
             Body::TaskSchedule { .. } => object,
             _ => subject,
         };
-        if let (Some(before), Some(index)) = (subject.get(), runs.get()) {
-            if index < self.below.len() && index > before {
-                self.below[index] = before as u32;
-            }
-        }
         if let Some(index) = runs.get() {
             self.running[usize::from(event.thread)] = index;
+        }
+    }
+
+    /// The task creates the child.
+    fn note_child(&mut self, task: Slot, child: Slot) {
+        let elder = entry(&self.youngest, task);
+        set_entry(&mut self.elder, child, elder);
+        set_entry(&mut self.youngest, task, child.get().unwrap_or(0));
+    }
+
+    /// The task makes way for the next one, where that is created later.
+    fn note_next(&mut self, task: Slot, next: Slot) {
+        if let (Some(before), Some(index)) = (task.get(), next.get()) {
+            if index > before {
+                set_entry(&mut self.below, next, before);
+                let elder = entry(&self.elder, next);
+                set_entry(&mut self.youngest, task, elder);
+            }
+        }
+    }
+}
+
+/// What stands at the task's index, or nothing of use.
+fn entry(table: &[u32], task: Slot) -> usize {
+    match task.get() {
+        Some(index) if index < table.len() => table[index] as usize,
+        _ => 0,
+    }
+}
+
+/// Writes it there, if the task has an index.
+fn set_entry(table: &mut Vec<u32>, task: Slot, index: usize) {
+    if let Some(at) = task.get() {
+        if at < table.len() && index < 4294967296 {
+            table[at] = index as u32;
         }
     }
 }

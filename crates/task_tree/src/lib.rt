@@ -1,8 +1,10 @@
 //! The tree of tasks: which task created which, in which order, and the root below which each one stands.
 //!
-//! `Family` has parents, numbers, roots and children, and the index of each task that a record names, so that
-//! no later phase searches for a task again; `Tree` has the paths too. Read `family` and `tree` for what a
-//! caller sees, then `numbering`, `makers`, `subjects`, `children`, `roots` and `rootless`, the steps of a build.
+//! `Family` has parents, numbers, roots and children, and the index of each task that a record names, so
+//! that no later phase searches for a task again; `Tree` has the paths too. Read `family` and `tree` for
+//! what a caller sees, then `makers`, `subjects`, `children`, `roots` (after `forward`) and `rootless`, the
+//! steps of a build. `numbering` is the list of ids that they share (`ranking` searches it), `slot` an index
+//! or none in 32 bits, and `hints` says where a task is looked for first.
 #![tactic(auto)]
 
 mod children;

@@ -26,7 +26,8 @@ impl Model for Numbering {
 
     ghost view = { λ numbering. numbering.ids.items };
 
-    ghost invariant = { λ numbering. AreIndices numbering.ids.items numbering.ranked.items numbering.indices };
+    ghost invariant = { λ numbering.
+        AreIndices numbering.ids.items numbering.ranked.items numbering.indices };
 }
 
 impl Numbering {

@@ -25,8 +25,8 @@ pub(crate) struct Reached {
     pub(crate) standing: Standing,
 }
 
-/// By index of the task where it stands, if its chain of parents reaches a root. One pass does where each task is
-/// created later in the file than its parent.
+/// By index of the task where it stands, if its chain of parents reaches a root. One pass does where each
+/// task is created later in the file than its parent.
 pub(crate) fn find_roots(
     alloc: Global,
     records: &[Record],
@@ -95,7 +95,8 @@ fn reach_roots(
 {
     for event in records {
         if let Some(root) = event.body.begun_root() {
-            reach(tasks, root, Standing { depth: 0, root }, roots, order)?;
+            let near = order.len();
+            reach(tasks, root, near, Standing { depth: 0, root }, roots, order)?;
         }
     }
     Ok(())
@@ -113,31 +114,36 @@ fn reach_children(
     ensures { OnOk result
         (Spreads tasks.now standing roots.old.items order.old.items children.now roots.new.items order.new.items) }
 {
+    // Children that are created one after another stand so in the list of tasks too.
+    let mut near = 0;
     for child in children {
-        reach(tasks, *child, standing, roots, order)?;
+        near = reach(tasks, *child, near, standing, roots, order)?;
     }
     Ok(())
 }
 
-/// Reaches a task that stands there, unless it was reached before.
+/// Reaches a task that stands there, unless it was reached before. It is looked for here first; the answer
+/// is where the next one may be.
 fn reach(
     tasks: &Numbering,
     task: u64,
+    near: usize,
     standing: Standing,
     roots: &mut Vec<Option<Standing>>,
     order: &mut Vec<Reached>,
-) -> Result<(), AllocError>
+) -> Result<usize, AllocError>
     requires { length roots.old.items ≡ length tasks.now }
     ensures { OnOk result
         (Reaches tasks.now task standing roots.old.items order.old.items roots.new.items order.new.items) }
 {
-    let Some(index) = tasks.index_of(task) else {
-        return Ok(());
+    let Some(index) = tasks.index_near(task, near) else {
+        return Ok(near);
     };
+    let next = index.wrapping_add(1);
     if roots[index].is_some() {
-        return Ok(());
+        return Ok(next);
     }
     order.push(Reached { index, standing })?;
     roots[index] = Some(standing);
-    Ok(())
+    Ok(next)
 }
