@@ -1,5 +1,6 @@
 //! Lines as they are written, read part by part. Any other line is left to the general way.
-ghost use Rattle.std.specs.Prelude.{◌≡◌, ◌++◌, ◌+◌, ◌*◌, ◌^◌, ◌<◌, ◌≤◌, true, [], IfSome, codes, decimal, length, map, slice_index};
+ghost use Rattle.std.specs.Prelude.{◌≡◌, ◌++◌, ◌+◌, ◌*◌, ◌^◌, ◌<◌, ◌≤◌, true, [], IfSome, codes, decimal, drop, length, map, slice_index, take};
+ghost use Rattle.std.specs.Int.{from_le_bytes, w64};
 ghost use Rattle.std.specs.List.{AllByRecursion};
 ghost use Rattle.json.specs.Print.{quoted};
 ghost use Rattle.serde_json.specs.Data.{array, boolean};
@@ -196,11 +197,41 @@ fn discarding(alloc: Global, line: &[u8]) -> Option<Record>
 
 // Each part is a text, and a value behind it.
 
-/// What is behind the text.
+/// What is behind the text. Eight bytes are compared at a time.
+#[inline(always)]
 fn after<'l>(rest: &'l [u8], text: &str) -> Option<&'l [u8]>
     ensures { IfSome result (λ behind. Takes rest.now text.now behind.now) }
 {
-    rest.strip_prefix(text.as_bytes())
+    let text = text.as_bytes();
+    if rest.len() < text.len() {
+        return None;
+    }
+    let mut at = 0;
+    'words: while text.len() - at >= 8 {
+        if word(rest, at) != word(text, at) {
+            return None;
+        }
+        at += 8;
+    }
+    'bytes: while at < text.len() {
+        if rest[at] != text[at] {
+            return None;
+        }
+        at += 1;
+    }
+    Some(&rest[at..])
+}
+
+/// The eight bytes from this place on, as a number.
+#[inline(always)]
+fn word(bytes: &[u8], at: usize) -> u64
+    requires { at + 8 ≤ length bytes.now }
+    ensures { result ≡ from_le_bytes w64 (take 8 (drop at bytes.now)) }
+{
+    match bytes[at..].first_chunk::<8>() {
+        Some(chunk) => u64::from_le_bytes(*chunk),
+        None => unreachable!(),
+    }
 }
 
 /// The line ends here.
