@@ -2,6 +2,7 @@
 use Rattle.std.proofs.Common.{◌≡◌, ℕ, ◌+◌, ◌-◌, ◌*◌, ◌/◌, ◌%◌, ◌^◌, ◌<◌, ◌≤◌, Bool, true, false, cond, List, [], ◌∷◌, ◌++◌, length, map, take, drop, get_or, decimal, arith, sym, ap, ◌∙◌, append_assoc, append-nil, zero, suc, length-take, length-drop, refl}
 use Rattle.std.specs.Int.{from_le_bytes, w64}
 use Rattle.std.proofs.lemmas.Nat.{le_bytes_8}
+use Rattle.std.proofs.Math.Nat.{pow-succ', pow-le-pow_right}
 use Rattle.std.proofs.Math.Seq.{take-add}
 use Rattle.std.proofs.lemmas.Fmt.{decimal_step, decimal_digit}
 use Rattle.std.proofs.lemmas.List.{take_more, take-append-drop, take_rest, take_all}
@@ -72,6 +73,14 @@ digits-more rest len n d within here some few low taken =
 pub digits-first : (rest : List ℕ) (d : ℕ) → 0 < length rest → get_or rest 0 0 ≡ 48 + d → d ≤ 9 → take 1 rest ≡ decimal d
 digits-first [] d within here low = absurd (omega arith)
 digits-first (b ∷ rest) d within here low = ap (λ x. x ∷ []) here ∙ sym (decimal_digit d (omega arith))
+
+-- a number of at most nineteen digits, with one digit more, has few digits too
+pub digits-few : (n d len : ℕ) → n < 10 ^ len → len < 19 → d ≤ 9 → (10 * n + d < 10 ^ (len + 1)) × (10 * n + d < 2 ^ 64)
+digits-few n d len few short low =
+    let tens : 10 ^ (len + 1) ≡ 10 * 10 ^ len = ap (λ k. 10 ^ k) (omega arith) ∙ pow-succ' 10 len in
+    let more : 10 * n + d < 10 * 10 ^ len = omega arith in
+    let most : 10 ^ len ≤ 10 ^ 18 = pow-le-pow_right {n = 10} (omega arith) {i = len} {j = 18} (omega arith) in
+    (rw tens more, omega (arith, more, most))
 
 pub Takes-digits : (rest : List ℕ) (len n : ℕ) → take len rest ≡ decimal n → Takes rest (decimal n) (take (length rest - len) (drop len rest))
 Takes-digits rest len n taken = rw take_rest (record { is = sym (take-append-drop len rest) ∙ ap (λ front. front ++ drop len rest) taken })
