@@ -1,12 +1,11 @@
 -- The parts of a line, taken one after another.
-use Rattle.std.proofs.Common.{◌≡◌, ℕ, ◌+◌, ◌-◌, ◌*◌, ◌/◌, ◌%◌, ◌^◌, ◌<◌, ◌≤◌, Bool, true, false, cond, Option, None, Some, List, [], ◌∷◌, ◌++◌, length, map, take, drop, get_or, decimal, ◌==◌, arith, sym, ap, ◌∙◌, append_assoc, append-nil}
-use Rattle.std.specs.Prelude.{IfSome, MatchOption}
-use Rattle.std.specs.Borrow.{Bor}
-use Rattle.std.proofs.lemmas.Bool.Decides.{Decides-eqb}
-use Rattle.std.specs.Cmp.Lexicographic.{pointwise}
+use Rattle.std.proofs.Common.{◌≡◌, ℕ, ◌+◌, ◌-◌, ◌*◌, ◌/◌, ◌%◌, ◌^◌, ◌<◌, ◌≤◌, Bool, true, false, cond, List, [], ◌∷◌, ◌++◌, length, map, take, drop, get_or, decimal, arith, sym, ap, ◌∙◌, append_assoc, append-nil, zero, suc, length-take, length-drop, refl}
+use Rattle.std.specs.Int.{from_le_bytes, w64}
+use Rattle.std.proofs.lemmas.Nat.{le_bytes_8}
+use Rattle.std.proofs.Math.Nat.{pow-succ', pow-le-pow_right}
+use Rattle.std.proofs.Math.Seq.{take-add}
 use Rattle.std.proofs.lemmas.Fmt.{decimal_step, decimal_digit}
-use Rattle.std.proofs.lemmas.Slice.Eq.{strip_prefix_is}
-use Rattle.std.proofs.lemmas.List.{take_more, take-append-drop, take_rest}
+use Rattle.std.proofs.lemmas.List.{take_more, take-append-drop, take_rest, take_all}
 use Rattle.bitflags.proofs.Tables.{row-at}
 use Rattle.bitflags.specs.Sets.{Row}
 use Rattle.json.specs.Print.{quoted}
@@ -28,11 +27,35 @@ Takes-same rest behind a b same takes = record { is = takes.is ∙ ap (λ bytes.
 pub Takes-whole : (line a b : List ℕ) → b ≡ a → Takes line a [] → line ≡ b
 Takes-whole line a b same takes = takes.is ∙ append-nil a ∙ sym same
 
-pub Takes-prefix : (rest text : List ℕ) (r : Option (Bor (List ℕ)))
-    → MatchOption r (pointwise (λ x y. x == y) (take (length text) rest) text ≡ false) (λ x. (pointwise (λ x y. x == y) (take (length text) rest) text ≡ true) × (x.now ≡ drop (length text) rest) × (length x.now + length text ≡ length rest))
-    → IfSome r (λ behind. Takes rest text behind.now)
-Takes-prefix rest text None cases = tt
-Takes-prefix rest text (Some behind) cases = record { is = strip_prefix_is Decides-eqb rest text (Some behind) cases }
+-- ---- a text in front, compared eight bytes at a time
+
+low-take : (n : ℕ) (xs : List ℕ) → ((i : ℕ) → get_or xs i 0 < 256) → (i : ℕ) → get_or (take n xs) i 0 < 256
+low-take zero xs low i = omega arith
+low-take (suc n) [] low i = omega arith
+low-take (suc n) (x ∷ xs) low zero = low 0
+low-take (suc n) (x ∷ xs) low (suc i) = low-take n xs (λ k. low (suc k)) i
+
+low-drop : (n : ℕ) (xs : List ℕ) → ((i : ℕ) → get_or xs i 0 < 256) → (i : ℕ) → get_or (drop n xs) i 0 < 256
+low-drop zero xs low i = low i
+low-drop (suc n) [] low i = low i
+low-drop (suc n) (x ∷ xs) low i = low-drop n xs (λ k. low (suc k)) i
+
+same_word : (xs ys : List ℕ) → length xs ≡ 8 → length ys ≡ 8 → ((i : ℕ) → get_or xs i 0 < 256) → ((i : ℕ) → get_or ys i 0 < 256) → from_le_bytes w64 xs ≡ from_le_bytes w64 ys → xs ≡ ys
+same_word xs ys eight_x eight_y low_x low_y same = sym (le_bytes_8 xs (from_le_bytes w64 xs) eight_x low_x refl) ∙ le_bytes_8 ys (from_le_bytes w64 xs) eight_y low_y same
+
+pub same-word : (rest text : List ℕ) (at : ℕ) → at + 8 ≤ length rest → at + 8 ≤ length text → ((i : ℕ) → get_or rest i 0 < 256) → ((i : ℕ) → get_or text i 0 < 256)
+    → from_le_bytes w64 (take 8 (drop at rest)) ≡ from_le_bytes w64 (take 8 (drop at text)) → take at rest ≡ take at text → take (at + 8) rest ≡ take (at + 8) text
+same-word rest text at within_rest within_text low_rest low_text word same =
+    let bytes : take 8 (drop at rest) ≡ take 8 (drop at text) =
+    same_word (take 8 (drop at rest)) (take 8 (drop at text)) (omega (arith, length-take 8 (drop at rest), length-drop at rest)) (omega (arith, length-take 8 (drop at text), length-drop at text)) (low-take 8 (drop at rest) (low-drop at rest low_rest)) (low-take 8 (drop at text) (low-drop at text low_text)) word in
+    take-add at 8 rest ∙ ap (λ front. front ++ take 8 (drop at rest)) same ∙ ap (λ bytes. take at text ++ bytes) bytes ∙ sym (take-add at 8 text)
+
+pub same-byte : (rest text : List ℕ) (at : ℕ) → at < length rest → at < length text → get_or rest at 0 ≡ get_or text at 0 → take at rest ≡ take at text → take (at + 1) rest ≡ take (at + 1) text
+same-byte rest text at within_rest within_text byte same =
+    take_more rest at 0 within_rest ∙ ap (λ b. take at rest ++ (b ∷ [])) byte ∙ ap (λ front. front ++ (get_or text at 0 ∷ [])) same ∙ sym (take_more text at 0 within_text)
+
+pub Takes-front : (rest text : List ℕ) (at : ℕ) → length text ≤ at → take at rest ≡ take at text → Takes rest text (take (length rest - at) (drop at rest))
+Takes-front rest text at past same = rw take_rest (record { is = sym (take-append-drop at rest) ∙ ap (λ front. front ++ drop at rest) (same ∙ take_all at text past) })
 
 -- ---- digits
 
@@ -50,6 +73,14 @@ digits-more rest len n d within here some few low taken =
 pub digits-first : (rest : List ℕ) (d : ℕ) → 0 < length rest → get_or rest 0 0 ≡ 48 + d → d ≤ 9 → take 1 rest ≡ decimal d
 digits-first [] d within here low = absurd (omega arith)
 digits-first (b ∷ rest) d within here low = ap (λ x. x ∷ []) here ∙ sym (decimal_digit d (omega arith))
+
+-- a number of at most nineteen digits, with one digit more, has few digits too
+pub digits-few : (n d len : ℕ) → n < 10 ^ len → len < 19 → d ≤ 9 → (10 * n + d < 10 ^ (len + 1)) × (10 * n + d < 2 ^ 64)
+digits-few n d len few short low =
+    let tens : 10 ^ (len + 1) ≡ 10 * 10 ^ len = ap (λ k. 10 ^ k) (omega arith) ∙ pow-succ' 10 len in
+    let more : 10 * n + d < 10 * 10 ^ len = omega arith in
+    let most : 10 ^ len ≤ 10 ^ 18 = pow-le-pow_right {n = 10} (omega arith) {i = len} {j = 18} (omega arith) in
+    (rw tens more, omega (arith, more, most))
 
 pub Takes-digits : (rest : List ℕ) (len n : ℕ) → take len rest ≡ decimal n → Takes rest (decimal n) (take (length rest - len) (drop len rest))
 Takes-digits rest len n taken = rw take_rest (record { is = sym (take-append-drop len rest) ∙ ap (λ front. front ++ drop len rest) taken })

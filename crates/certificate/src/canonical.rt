@@ -1,5 +1,6 @@
 //! Lines as they are written, read part by part. Any other line is left to the general way.
-ghost use Rattle.std.specs.Prelude.{◌≡◌, ◌++◌, ◌+◌, ◌*◌, ◌^◌, ◌<◌, ◌≤◌, true, [], IfSome, codes, decimal, length, map, slice_index};
+ghost use Rattle.std.specs.Prelude.{◌≡◌, ◌++◌, ◌+◌, ◌*◌, ◌^◌, ◌<◌, ◌≤◌, true, [], IfSome, codes, decimal, drop, length, map, slice_index, take};
+ghost use Rattle.std.specs.Int.{from_le_bytes, w64};
 ghost use Rattle.std.specs.List.{AllByRecursion};
 ghost use Rattle.json.specs.Print.{quoted};
 ghost use Rattle.serde_json.specs.Data.{array, boolean};
@@ -10,8 +11,8 @@ ghost use Rattle.ompt_events.specs.Names.{status_name, endpoint_name, sync_kind_
 ghost use Rattle.certificate.specs.Texts.{Takes, is_plain_text, line_of, dep_data, number_or_null, whole_number, names, flag_names};
 
 use crate::callbacks::lines;
-use crate::texts::comma;
 use bitflags::Flags;
+use memchr::memchr;
 use ompt_events::{
     Body, CancelFlags, Claim, Dep, DepKind, Deps, Endpoint, MAX_DEPENDENCES, MAX_DEPTH, Path,
     Record, Status, SyncKind, TaskFlags, ThreadKind,
@@ -42,6 +43,16 @@ macro_rules! take_parts {
         $(let ($value, $rest) = take_part!($kind $alloc $rest $text);)*
         end($rest)?;
         Some($made)
+    }};
+}
+
+// The first of these values whose name stands in front, and what is behind it.
+macro_rules! one_of {
+    ($rest:ident $kind:ident: $($value:ident),*) => {{
+        $(if let Some(behind) = name($rest, $kind::$value.name()) {
+            return Some(($kind::$value, behind));
+        })*
+        None
     }};
 }
 
@@ -196,11 +207,41 @@ fn discarding(alloc: Global, line: &[u8]) -> Option<Record>
 
 // Each part is a text, and a value behind it.
 
-/// What is behind the text.
+/// What is behind the text. Eight bytes are compared at a time.
+#[inline(always)]
 fn after<'l>(rest: &'l [u8], text: &str) -> Option<&'l [u8]>
     ensures { IfSome result (λ behind. Takes rest.now text.now behind.now) }
 {
-    rest.strip_prefix(text.as_bytes())
+    let text = text.as_bytes();
+    if rest.len() < text.len() {
+        return None;
+    }
+    let mut at = 0;
+    'words: while text.len() - at >= 8 {
+        if word(rest, at) != word(text, at) {
+            return None;
+        }
+        at += 8;
+    }
+    'bytes: while at < text.len() {
+        if rest[at] != text[at] {
+            return None;
+        }
+        at += 1;
+    }
+    Some(&rest[at..])
+}
+
+/// The eight bytes from this place on, as a number.
+#[inline(always)]
+fn word(bytes: &[u8], at: usize) -> u64
+    requires { at + 8 ≤ length bytes.now }
+    ensures { result ≡ from_le_bytes w64 (take 8 (drop at bytes.now)) }
+{
+    match bytes[at..].first_chunk::<8>() {
+        Some(chunk) => u64::from_le_bytes(*chunk),
+        None => unreachable!(),
+    }
 }
 
 /// The line ends here.
@@ -212,6 +253,7 @@ fn end(rest: &[u8]) -> Option<()>
 }
 
 /// A whole number.
+#[inline(always)]
 fn id<'l>(rest: &'l [u8], text: &str) -> Option<(u64, &'l [u8])>
     ensures { IfSome result (λ taken. Takes rest.now (text.now ++ decimal taken.0) taken.1.now) }
 {
@@ -219,10 +261,19 @@ fn id<'l>(rest: &'l [u8], text: &str) -> Option<(u64, &'l [u8])>
 }
 
 /// A whole number of 32 bits.
+#[inline(always)]
 fn short<'l>(rest: &'l [u8], text: &str) -> Option<(u32, &'l [u8])>
     ensures { IfSome result (λ taken. Takes rest.now (text.now ++ decimal taken.0) taken.1.now) }
 {
-    let (number, behind) = id(rest, text)?;
+    short_number(after(rest, text)?)
+}
+
+/// A whole number of 32 bits alone.
+#[inline(always)]
+fn short_number(rest: &[u8]) -> Option<(u32, &[u8])>
+    ensures { IfSome result (λ taken. Takes rest.now (decimal taken.0) taken.1.now) }
+{
+    let (number, behind) = number(rest)?;
     match u32::try_from(number) {
         Ok(number) => Some((number, behind)),
         Err(_) => None,
@@ -230,6 +281,7 @@ fn short<'l>(rest: &'l [u8], text: &str) -> Option<(u32, &'l [u8])>
 }
 
 /// A whole number of 8 bits.
+#[inline(always)]
 fn byte<'l>(rest: &'l [u8], text: &str) -> Option<(u8, &'l [u8])>
     ensures { IfSome result (λ taken. Takes rest.now (text.now ++ decimal taken.0) taken.1.now) }
 {
@@ -240,7 +292,11 @@ fn byte<'l>(rest: &'l [u8], text: &str) -> Option<(u8, &'l [u8])>
     }
 }
 
+/// So many digits are always a number of 64 bits.
+const SAFE_DIGITS: usize = 19;
+
 /// The digits in front as a number of 64 bits. It begins with 0 only where it is 0.
+#[inline(always)]
 fn number(rest: &[u8]) -> Option<(u64, &[u8])>
     ensures { IfSome result (λ taken. Takes rest.now (decimal taken.0) taken.1.now) }
 {
@@ -252,6 +308,7 @@ fn number(rest: &[u8]) -> Option<(u64, &[u8])>
 }
 
 /// The same where the first digit is known, and is not 0.
+#[inline(always)]
 fn digits(rest: &[u8], first: u64) -> Option<(u64, &[u8])>
     requires some { 0 < first }
     requires digit { first ≤ 9 }
@@ -259,16 +316,34 @@ fn digits(rest: &[u8], first: u64) -> Option<(u64, &[u8])>
     requires front { slice_index rest.now 0 ≡ 48 + first }
     ensures { IfSome result (λ taken. Takes rest.now (decimal taken.0) taken.1.now) }
 {
+    let front = &rest[..rest.len().min(SAFE_DIGITS)];
     let mut number = first;
     let mut len = 1;
-    'digits: while let Some(next) = digit(rest, len) {
-        number = one_more(number, next)?;
+    'digits: while let Some(next) = digit(front, len) {
+        number = 10 * number + next;
         len += 1;
     }
-    Some((number, &rest[len..]))
+    if len < SAFE_DIGITS {
+        return Some((number, &rest[len..]));
+    }
+    with_last_digit(rest, number, len)
+}
+
+/// The number of the first digits, with one digit more where there is one.
+fn with_last_digit(rest: &[u8], number: u64, len: usize) -> Option<(u64, &[u8])>
+    requires some { 0 < number }
+    requires within { len ≤ length rest.now }
+    requires taken { take len rest.now ≡ decimal number }
+    ensures { IfSome result (λ taken. Takes rest.now (decimal taken.0) taken.1.now) }
+{
+    match digit(rest, len) {
+        Some(next) => Some((one_more(number, next)?, &rest[len + 1..])),
+        None => Some((number, &rest[len..])),
+    }
 }
 
 /// The number with one digit more.
+#[inline(always)]
 fn one_more(number: u64, digit: u64) -> Option<u64>
     ensures { IfSome result (λ more. (more ≡ 10 * number + digit) × (more < 2 ^ 64)) }
 {
@@ -276,19 +351,21 @@ fn one_more(number: u64, digit: u64) -> Option<u64>
 }
 
 /// The digit at this place.
+#[inline(always)]
 fn digit(rest: &[u8], at: usize) -> Option<u64>
     ensures { IfSome result (λ digit. (digit ≤ 9) × (at < length rest.now) ×
         (slice_index rest.now at ≡ 48 + digit)) }
 {
-    let byte = *rest.get(at)?;
-    if byte.is_ascii_digit() {
-        Some(u64::from(byte - b'0'))
+    let digit = rest.get(at)?.wrapping_sub(b'0');
+    if digit <= 9 {
+        Some(u64::from(digit))
     } else {
         None
     }
 }
 
 /// A whole number, or `null`.
+#[inline(always)]
 fn id_or_null<'l>(rest: &'l [u8], text: &str) -> Option<(Option<u64>, &'l [u8])>
     ensures { IfSome result (λ taken. Takes rest.now (text.now ++ compact_text
         (number_or_null taken.0)) taken.1.now) }
@@ -302,6 +379,7 @@ fn id_or_null<'l>(rest: &'l [u8], text: &str) -> Option<(Option<u64>, &'l [u8])>
 }
 
 /// A truth value.
+#[inline(always)]
 fn truth<'l>(rest: &'l [u8], text: &str) -> Option<(bool, &'l [u8])>
     ensures { IfSome result (λ taken. Takes rest.now (text.now ++ compact_text
         (boolean taken.0)) taken.1.now) }
@@ -315,6 +393,7 @@ fn truth<'l>(rest: &'l [u8], text: &str) -> Option<(bool, &'l [u8])>
 }
 
 /// What is behind the name in quotation marks.
+#[inline(always)]
 fn name<'l>(rest: &'l [u8], name: &str) -> Option<&'l [u8]>
     requires { is_plain_text name.now ≡ true }
     ensures { IfSome result (λ behind. Takes rest.now (quoted name.now) behind.now) }
@@ -330,21 +409,7 @@ fn status<'l>(rest: &'l [u8], text: &str) -> Option<(Status, &'l [u8])>
     ensures { IfSome result (λ taken. Takes rest.now (text.now ++ quoted (status_name taken.0)) taken.1.now) }
 {
     let rest = after(rest, text)?;
-    'named: for kind in [
-        Status::Complete,
-        Status::Switch,
-        Status::Yield,
-        Status::Detach,
-        Status::TaskwaitComplete,
-        Status::Cancel,
-        Status::EarlyFulfill,
-        Status::LateFulfill,
-    ] {
-        if let Some(behind) = name(rest, kind.name()) {
-            return Some((kind, behind));
-        }
-    }
-    None
+    one_of!(rest Status: Complete, Switch, Yield, Detach, TaskwaitComplete, Cancel, EarlyFulfill, LateFulfill)
 }
 
 /// Whether a region begins or ends.
@@ -353,12 +418,7 @@ fn endpoint<'l>(rest: &'l [u8], text: &str) -> Option<(Endpoint, &'l [u8])>
         (endpoint_name taken.0)) taken.1.now) }
 {
     let rest = after(rest, text)?;
-    'named: for kind in [Endpoint::Begin, Endpoint::End, Endpoint::BeginEnd] {
-        if let Some(behind) = name(rest, kind.name()) {
-            return Some((kind, behind));
-        }
-    }
-    None
+    one_of!(rest Endpoint: Begin, End, BeginEnd)
 }
 
 /// Which construct a region belongs to.
@@ -367,23 +427,7 @@ fn sync_kind<'l>(rest: &'l [u8], text: &str) -> Option<(SyncKind, &'l [u8])>
         (sync_kind_name taken.0)) taken.1.now) }
 {
     let rest = after(rest, text)?;
-    'named: for kind in [
-        SyncKind::Taskwait,
-        SyncKind::Taskgroup,
-        SyncKind::Barrier,
-        SyncKind::BarrierImplicit,
-        SyncKind::BarrierExplicit,
-        SyncKind::BarrierImplementation,
-        SyncKind::Reduction,
-        SyncKind::BarrierImplicitWorkshare,
-        SyncKind::BarrierImplicitParallel,
-        SyncKind::BarrierTeams,
-    ] {
-        if let Some(behind) = name(rest, kind.name()) {
-            return Some((kind, behind));
-        }
-    }
-    None
+    one_of!(rest SyncKind: Taskwait, Taskgroup, Barrier, BarrierImplicit, BarrierExplicit, BarrierImplementation, Reduction, BarrierImplicitWorkshare, BarrierImplicitParallel, BarrierTeams)
 }
 
 /// How a location is used.
@@ -392,18 +436,7 @@ fn dep_kind<'l>(rest: &'l [u8], text: &str) -> Option<(DepKind, &'l [u8])>
         (dep_kind_name taken.0)) taken.1.now) }
 {
     let rest = after(rest, text)?;
-    'named: for kind in [
-        DepKind::In,
-        DepKind::Out,
-        DepKind::Inout,
-        DepKind::Mutexinoutset,
-        DepKind::Inoutset,
-    ] {
-        if let Some(behind) = name(rest, kind.name()) {
-            return Some((kind, behind));
-        }
-    }
-    None
+    one_of!(rest DepKind: In, Out, Inout, Mutexinoutset, Inoutset)
 }
 
 /// What a thread is there for.
@@ -412,17 +445,7 @@ fn thread_kind<'l>(rest: &'l [u8], text: &str) -> Option<(ThreadKind, &'l [u8])>
         (thread_kind_name taken.0)) taken.1.now) }
 {
     let rest = after(rest, text)?;
-    'named: for kind in [
-        ThreadKind::Initial,
-        ThreadKind::Worker,
-        ThreadKind::Other,
-        ThreadKind::Unknown,
-    ] {
-        if let Some(behind) = name(rest, kind.name()) {
-            return Some((kind, behind));
-        }
-    }
-    None
+    one_of!(rest ThreadKind: Initial, Worker, Other, Unknown)
 }
 
 /// The names of a task's flags.
@@ -430,7 +453,7 @@ fn task_flags<'l>(rest: &'l [u8], text: &str) -> Option<(TaskFlags, &'l [u8])>
     ensures { IfSome result (λ taken. Takes rest.now
         (text.now ++ compact_text (names (flag_names flag.task_flags taken.0.0))) taken.1.now) }
 {
-    let flags: TaskFlags = named_flags(rest, text)?;
+    let flags = guess_task_flags(rest, text)?;
     let behind = flags_in_order(rest, text, flags)?;
     Some((flags, behind))
 }
@@ -440,25 +463,49 @@ fn cancel_flags<'l>(rest: &'l [u8], text: &str) -> Option<(CancelFlags, &'l [u8]
     ensures { IfSome result (λ taken. Takes rest.now
         (text.now ++ compact_text (names (flag_names flag.cancel_flags taken.0.0))) taken.1.now) }
 {
-    let flags: CancelFlags = named_flags(rest, text)?;
+    let flags = guess_cancel_flags(rest, text)?;
     let behind = flags_in_order(rest, text, flags)?;
     Some((flags, behind))
 }
 
-/// A guess at the flags that are named, which `flags_in_order` then makes sure of.
-fn named_flags<F: Flags + Copy>(rest: &[u8], text: &str) -> Option<F>
-    requires exact { F.exact }
-    requires plain { AllByRecursion (λ row. is_plain_text row.0 ≡ true) F.table }
-{
-    let mut rest = after(after(rest, text)?, "[")?;
-    let mut flags = F::empty();
-    'named: for flag in F::flags() {
-        if let Some(behind) = name(rest, flag.name) {
-            flags.insert(flag.value);
+// A guess at the flags that a list names, which `flags_in_order` makes sure of.
+macro_rules! guess {
+    ($rest:ident $text:ident $kind:ident: $($name:literal $flag:ident),*) => {{
+        let mut rest = after(after($rest, $text)?, "[")?;
+        let mut flags = $kind::empty();
+        $(if let Some(behind) = after(rest, $name) {
+            flags.insert($kind::$flag);
             rest = after(behind, ",").unwrap_or(behind);
-        }
-    }
-    Some(flags)
+        })*
+        Some(flags)
+    }};
+}
+
+/// A guess at the flags of a task that are named.
+fn guess_task_flags(rest: &[u8], text: &str) -> Option<TaskFlags> {
+    guess!(rest text TaskFlags:
+        "\"initial\"" INITIAL,
+        "\"implicit\"" IMPLICIT,
+        "\"explicit\"" EXPLICIT,
+        "\"target\"" TARGET,
+        "\"taskwait\"" TASKWAIT,
+        "\"undeferred\"" UNDEFERRED,
+        "\"untied\"" UNTIED,
+        "\"final\"" FINAL,
+        "\"mergeable\"" MERGEABLE,
+        "\"merged\"" MERGED)
+}
+
+/// A guess at the flags of a cancellation that are named.
+fn guess_cancel_flags(rest: &[u8], text: &str) -> Option<CancelFlags> {
+    guess!(rest text CancelFlags:
+        "\"parallel\"" PARALLEL,
+        "\"sections\"" SECTIONS,
+        "\"loop\"" LOOP,
+        "\"taskgroup\"" TASKGROUP,
+        "\"activated\"" ACTIVATED,
+        "\"detected\"" DETECTED,
+        "\"discarded_task\"" DISCARDED_TASK)
 }
 
 /// What is behind the names of these flags, which stand in the order of their table.
@@ -472,7 +519,7 @@ fn flags_in_order<'l, F: Flags + Copy>(rest: &'l [u8], text: &str, flags: F) -> 
     let mut later = false;
     'named: for flag in F::flags() {
         if flags.contains(flag.value) {
-            rest = name(after(rest, comma(later))?, flag.name)?;
+            rest = name(next_item(rest, later)?, flag.name)?;
             later = true;
         }
     }
@@ -480,14 +527,44 @@ fn flags_in_order<'l, F: Flags + Copy>(rest: &'l [u8], text: &str, flags: F) -> 
     Some(behind)
 }
 
-/// How often the byte stands before the end of a list.
-fn room(rest: &[u8], byte: u8) -> usize
-    ensures { result ≤ length rest.now }
+/// Where the next item of a list begins.
+#[inline(always)]
+fn next_item(rest: &[u8], later: bool) -> Option<&[u8]>
+    ensures { IfSome result (λ behind. Takes rest.now (comma_if later) behind.now) }
 {
+    if later { after(rest, ",") } else { Some(rest) }
+}
+
+/// How many numbers a path has at most: each but the first has a comma before it.
+fn room_for_numbers(rest: &[u8]) -> usize {
     rest.iter()
         .take_while(|b| **b != b']')
-        .filter(|b| **b == byte)
+        .filter(|b| **b == b',')
         .count()
+        .saturating_add(1)
+}
+
+/// How many dependences a list has at most: each but the last has a brace and a comma behind it.
+fn room_for_dependences(rest: &[u8]) -> usize {
+    let len = memchr(b']', rest).unwrap_or(0);
+    let mut list = &rest[..len];
+    'items: for count in 0..MAX_DEPENDENCES {
+        match past_brace(list) {
+            Some(behind) => list = behind,
+            None => return count,
+        }
+    }
+    MAX_DEPENDENCES
+}
+
+/// What is behind the first closing brace.
+fn past_brace(list: &[u8]) -> Option<&[u8]> {
+    let at = memchr(b'}', list)?;
+    if at < list.len() {
+        Some(&list[at + 1..])
+    } else {
+        None
+    }
 }
 
 /// The numbers of a path.
@@ -496,10 +573,10 @@ fn path<'l>(alloc: Global, rest: &'l [u8], text: &str) -> Option<(Path, &'l [u8]
         (text.now ++ compact_text (array (items_of (map whole_number taken.0)))) taken.1.now) }
 {
     let mut rest = after(after(rest, text)?, "[")?;
-    let mut numbers = Vec::with_capacity(alloc, room(rest, b',') + 1).ok()?;
+    let mut numbers = Vec::with_capacity(alloc, room_for_numbers(rest)).ok()?;
     let mut later = false;
     'numbers: for _ in 0..MAX_DEPTH {
-        let Some((number, behind)) = short(rest, comma(later)) else {
+        let Some((number, behind)) = next_number(rest, later) else {
             break;
         };
         if numbers.push(number).is_err() {
@@ -512,16 +589,24 @@ fn path<'l>(alloc: Global, rest: &'l [u8], text: &str) -> Option<(Path, &'l [u8]
     Some((Path::from_vec(numbers), behind))
 }
 
+/// One number of a path.
+#[inline(always)]
+fn next_number(rest: &[u8], later: bool) -> Option<(u32, &[u8])>
+    ensures { IfSome result (λ taken. Takes rest.now (comma_if later ++ decimal taken.0) taken.1.now) }
+{
+    short_number(next_item(rest, later)?)
+}
+
 /// What a task depends on.
 fn deps<'l>(alloc: Global, rest: &'l [u8], text: &str) -> Option<(Deps, &'l [u8])>
     ensures { IfSome result (λ taken. Takes rest.now
         (text.now ++ compact_text (array (items_of (map dep_data taken.0)))) taken.1.now) }
 {
     let mut rest = after(after(rest, text)?, "[")?;
-    let mut items = Vec::with_capacity(alloc, room(rest, b'{')).ok()?;
+    let mut items = Vec::with_capacity(alloc, room_for_dependences(rest)).ok()?;
     let mut later = false;
     'items: for _ in 0..MAX_DEPENDENCES {
-        let Some((item, behind)) = next_dep(rest, comma(later)) else {
+        let Some((item, behind)) = next_dep(rest, later) else {
             break;
         };
         if items.push(item).is_err() {
@@ -535,11 +620,12 @@ fn deps<'l>(alloc: Global, rest: &'l [u8], text: &str) -> Option<(Deps, &'l [u8]
 }
 
 /// One dependence.
-fn next_dep<'l>(rest: &'l [u8], text: &str) -> Option<(Dep, &'l [u8])>
-    ensures { IfSome result (λ taken. Takes rest.now (text.now ++ compact_text
-        (dep_data taken.0)) taken.1.now) }
+#[inline(always)]
+fn next_dep(rest: &[u8], later: bool) -> Option<(Dep, &[u8])>
+    ensures { IfSome result (λ taken. Takes rest.now
+        (comma_if later ++ compact_text (dep_data taken.0)) taken.1.now) }
 {
-    dep(after(rest, text)?)
+    dep(next_item(rest, later)?)
 }
 
 /// One dependence alone.

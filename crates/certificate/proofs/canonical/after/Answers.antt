@@ -1,5 +1,15 @@
-use Rattle.certificate.proofs.TakeLemmas.{Takes-prefix}
+use Rattle.std.proofs.Common.{◌+◌, ◌≤◌, length, arith, sym, ◌∙◌}
+use Rattle.certificate.proofs.TakeLemmas.{same-word, Takes-front}
 use Rattle.certificate.proofs.canonical.after.Goals as goal
 
+pub words-preserved : goal.words-preserved
+words-preserved c =
+    let now = c.words.invariant in
+    let fits : c.words.at + 8 ≤ length c.as_bytes-text.result.now = omega (arith, c.words-test.true, now.within) in
+    record {
+      within = fits;
+      same = same-word c.args.rest.now c.as_bytes-text.result.now c.words.at (omega (arith, c.if-rest-text.false)) fits (λ i. omega (arith, c.type_inv.rest i)) (λ i. omega (arith, c.type_inv.text i)) (sym c.word.ensures ∙ c.if-word.false ∙ c.word-in-words.ensures) now.same;
+    }
+
 pub returns : goal.returns
-returns c = Takes-prefix c.args.rest.now c.args.text.now c.strip_prefix.result (rw c.as_bytes.ensures.value at c.strip_prefix.ensures.cases)
+returns c = Takes-front c.args.rest.now c.args.text.now c.bytes.at (omega (arith, c.bytes-test.false, c.as_bytes-text.ensures.len)) (rw (← c.as_bytes-text.ensures.value) c.bytes.invariant.same)

@@ -6,7 +6,7 @@ use Rattle.certificate.specs.Texts.{Takes, flag_names}
 use Rattle.certificate.proofs.ItemLemmas.{row-plain, no_flag_left}
 use Rattle.certificate.proofs.TakeLemmas.{Takes-both, Takes-names, IsRead-none, IsRead-with, IsRead-without}
 use Rattle.certificate.proofs.canonical.flags_in_order.Goals as goal
-use Rattle.certificate.proofs.canonical.flags_in_order.Goals.{then-contains+in_ok-after-2+in_ok-rest-2, else-contains}
+use Rattle.certificate.proofs.canonical.flags_in_order.Goals.{then-contains+in_ok-next_item+in_ok-rest-2, else-contains}
 
 pub name-requires : goal.name-requires
 name-requires g c =
@@ -18,8 +18,8 @@ named-init g c = IsRead-none (flag_names g.F.Flags.table (g.F.Flags.set_of c.arg
 pub named-preserved : goal.named-preserved
 named-preserved g c =
     elim c.if-contains.branch [
-      | then-contains+in_ok-after-2+in_ok-rest-2 w ↦
-          let takes : Takes c.named.rest.now (comma_if c.named.later ++ quoted c.flag-item.result.name.now) w.in_ok-rest-2.rest.now = Takes-both _ _ _ _ _ (rw w.comma.ensures at w.in_ok-after-2.ensures) w.in_ok-rest-2.ensures in
+      | then-contains+in_ok-next_item+in_ok-rest-2 w ↦
+          let takes : Takes c.named.rest.now (comma_if c.named.later ++ quoted c.flag-item.result.name.now) w.in_ok-rest-2.rest.now = Takes-both _ _ _ _ _ w.in_ok-next_item.ensures w.in_ok-rest-2.ensures in
           rw (w.rest-is, w.later-is)
           (IsRead-with (λ f. (f.name.now, g.F.Flags.set_of f.value)) c.flags-flag-items.result.now g.F.Flags.table (g.F.Flags.set_of c.args.flags) c.named.flag-index c.flag-item.result c.named.later c.args.rest.now c.named.rest.now w.in_ok-rest-2.rest.now _ (c.flags-flag-items.ensures c.requires.exact) c.named-test.true c.flag-item.is
           c.named.invariant (sym (c.contains.ensures c.requires.exact) ∙ w.if-contains.true) takes)
