@@ -84,7 +84,12 @@ macro_rules! members {
     };
     (TaskSchedule $shape:ident $given:tt) => {
         $shape! {
-            $given TaskSchedule { status: status "status", prior: id "prior", next: next "next", share: claim }
+            $given TaskSchedule {
+                status: status "status",
+                prior: id "prior",
+                next: next "next",
+                share: claim
+            }
         }
     };
     (SyncRegion $shape:ident $given:tt) => {
@@ -126,7 +131,9 @@ macro_rules! lines {
             ",\"thread\":" byte $thread
         }
     };
-    (parallel_begin $shape:ident $given:tt $parallel:tt $requested:tt $seen:tt $seq:tt $task:tt $thread:tt) => {
+    (parallel_begin $shape:ident $given:tt
+        $parallel:tt $requested:tt $seen:tt $seq:tt $task:tt $thread:tt
+    ) => {
         $shape! {
             $given
             "{\"cb\":\"parallel_begin\",\"parallel\":" id $parallel,
@@ -147,7 +154,9 @@ macro_rules! lines {
             ",\"thread\":" byte $thread
         }
     };
-    (implicit_task $shape:ident $given:tt $actual:tt $endpoint:tt $flags:tt $index:tt $parallel:tt $seen:tt $seq:tt $task:tt $thread:tt) => {
+    (implicit_task $shape:ident $given:tt
+        $actual:tt $endpoint:tt $flags:tt $index:tt $parallel:tt $seen:tt $seq:tt $task:tt $thread:tt
+    ) => {
         $shape! {
             $given
             "{\"actual\":" short $actual,
@@ -161,7 +170,9 @@ macro_rules! lines {
             ",\"thread\":" byte $thread
         }
     };
-    (task_create $shape:ident $given:tt $child:tt $deps:tt $flags:tt $seen:tt $seq:tt $task:tt $thread:tt) => {
+    (task_create $shape:ident $given:tt
+        $child:tt $deps:tt $flags:tt $seen:tt $seq:tt $task:tt $thread:tt
+    ) => {
         $shape! {
             $given
             "{\"cb\":\"task_create\",\"child\":" id $child,
@@ -194,7 +205,9 @@ macro_rules! lines {
             ",\"thread\":" byte $thread
         }
     };
-    (finishing $shape:ident $given:tt $kept:tt $next:tt $path:tt $prior:tt $root:tt $seen:tt $seq:tt $status:tt $thread:tt) => {
+    (finishing $shape:ident $given:tt
+        $kept:tt $next:tt $path:tt $prior:tt $root:tt $seen:tt $seq:tt $status:tt $thread:tt
+    ) => {
         $shape! {
             $given
             "{\"cb\":\"task_schedule\",\"kept\":" short $kept,
@@ -208,7 +221,9 @@ macro_rules! lines {
             ",\"thread\":" byte $thread
         }
     };
-    (sync_region $shape:ident $given:tt $endpoint:tt $kind:tt $parallel:tt $seen:tt $seq:tt $task:tt $thread:tt) => {
+    (sync_region $shape:ident $given:tt
+        $endpoint:tt $kind:tt $parallel:tt $seen:tt $seq:tt $task:tt $thread:tt
+    ) => {
         $shape! {
             $given
             "{\"cb\":\"sync_region\",\"endpoint\":" endpoint $endpoint,
@@ -230,7 +245,9 @@ macro_rules! lines {
             ",\"thread\":" byte $thread
         }
     };
-    (discarding $shape:ident $given:tt $flags:tt $kept:tt $path:tt $root:tt $seen:tt $seq:tt $task:tt $thread:tt) => {
+    (discarding $shape:ident $given:tt
+        $flags:tt $kept:tt $path:tt $root:tt $seen:tt $seq:tt $task:tt $thread:tt
+    ) => {
         $shape! {
             $given
             "{\"cb\":\"cancel\",\"flags\":" cancel_flags $flags,

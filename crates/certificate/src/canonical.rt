@@ -74,20 +74,14 @@ pub(crate) fn canonical(alloc: Global, line: &[u8]) -> Option<Record>
 fn parallel(line: &[u8]) -> Option<Record>
     ensures { IfSome result (λ event. line.now ≡ line_of event) }
 {
-    match parallel_begin(line) {
-        Some(event) => Some(event),
-        None => parallel_end(line),
-    }
+    parallel_begin(line).or_else(|| parallel_end(line))
 }
 
 /// A cancellation.
 fn cancel(alloc: Global, line: &[u8]) -> Option<Record>
     ensures { IfSome result (λ event. line.now ≡ line_of event) }
 {
-    match discarding(alloc, line) {
-        Some(event) => Some(event),
-        None => cancelling(line),
-    }
+    discarding(alloc, line).or_else(|| cancelling(line))
 }
 
 /// A record of a task that is created or scheduled, or of a thread.
@@ -105,104 +99,140 @@ fn task_or_thread(alloc: Global, line: &[u8]) -> Option<Record>
 fn task_schedule(alloc: Global, line: &[u8]) -> Option<Record>
     ensures { IfSome result (λ event. line.now ≡ line_of event) }
 {
-    match finishing(alloc, line) {
-        Some(event) => Some(event),
-        None => switching(line),
-    }
+    finishing(alloc, line).or_else(|| switching(line))
 }
 
 /// A thread begins or ends.
 fn thread(line: &[u8]) -> Option<Record>
     ensures { IfSome result (λ event. line.now ≡ line_of event) }
 {
-    match thread_begin(line) {
-        Some(event) => Some(event),
-        None => thread_end(line),
-    }
+    thread_begin(line).or_else(|| thread_end(line))
 }
 
 /// A thread begins.
 fn thread_begin(line: &[u8]) -> Option<Record>
     ensures { IfSome result (λ event. line.now ≡ line_of event) }
 {
-    lines!(thread_begin take_parts (_alloc line (Record { thread, seq, seen, body: Body::ThreadBegin { kind } })) kind seen seq thread)
+    lines!(thread_begin take_parts
+        (_alloc line (Record { thread, seq, seen, body: Body::ThreadBegin { kind } }))
+        kind seen seq thread)
 }
 
 /// A thread ends.
 fn thread_end(line: &[u8]) -> Option<Record>
     ensures { IfSome result (λ event. line.now ≡ line_of event) }
 {
-    lines!(thread_end take_parts (_alloc line (Record { thread, seq, seen, body: Body::ThreadEnd })) seen seq thread)
+    lines!(thread_end take_parts
+        (_alloc line (Record { thread, seq, seen, body: Body::ThreadEnd }))
+        seen seq thread)
 }
 
 /// A task begins a parallel region.
 fn parallel_begin(line: &[u8]) -> Option<Record>
     ensures { IfSome result (λ event. line.now ≡ line_of event) }
 {
-    lines!(parallel_begin take_parts (_alloc line (Record { thread, seq, seen, body: Body::ParallelBegin { requested, task, parallel } })) parallel requested seen seq task thread)
+    lines!(parallel_begin take_parts
+        (_alloc line (Record {
+            thread, seq, seen,
+            body: Body::ParallelBegin { requested, task, parallel },
+        }))
+        parallel requested seen seq task thread)
 }
 
 /// A task ends a parallel region.
 fn parallel_end(line: &[u8]) -> Option<Record>
     ensures { IfSome result (λ event. line.now ≡ line_of event) }
 {
-    lines!(parallel_end take_parts (_alloc line (Record { thread, seq, seen, body: Body::ParallelEnd { task, parallel } })) parallel seen seq task thread)
+    lines!(parallel_end take_parts
+        (_alloc line (Record { thread, seq, seen, body: Body::ParallelEnd { task, parallel } }))
+        parallel seen seq task thread)
 }
 
 /// An initial or implicit task begins or ends.
 fn implicit_task(line: &[u8]) -> Option<Record>
     ensures { IfSome result (λ event. line.now ≡ line_of event) }
 {
-    lines!(implicit_task take_parts (_alloc line (Record { thread, seq, seen, body: Body::ImplicitTask { endpoint, actual, index, flags, parallel, task } })) actual endpoint flags index parallel seen seq task thread)
+    lines!(implicit_task take_parts
+        (_alloc line (Record {
+            thread, seq, seen,
+            body: Body::ImplicitTask { endpoint, actual, index, flags, parallel, task },
+        }))
+        actual endpoint flags index parallel seen seq task thread)
 }
 
 /// A task is created.
 fn task_create(line: &[u8]) -> Option<Record>
     ensures { IfSome result (λ event. line.now ≡ line_of event) }
 {
-    lines!(task_create take_parts (_alloc line (Record { thread, seq, seen, body: Body::TaskCreate { deps, flags, task, child } })) child deps flags seen seq task thread)
+    lines!(task_create take_parts
+        (_alloc line (Record { thread, seq, seen, body: Body::TaskCreate { deps, flags, task, child } }))
+        child deps flags seen seq task thread)
 }
 
 /// What a task depends on.
 fn dependences(alloc: Global, line: &[u8]) -> Option<Record>
     ensures { IfSome result (λ event. line.now ≡ line_of event) }
 {
-    lines!(dependences take_parts (alloc line (Record { thread, seq, seen, body: Body::Dependences { task, list } })) list seen seq task thread)
+    lines!(dependences take_parts
+        (alloc line (Record { thread, seq, seen, body: Body::Dependences { task, list } }))
+        list seen seq task thread)
 }
 
 /// A task stops running and is not finished.
 fn switching(line: &[u8]) -> Option<Record>
     ensures { IfSome result (λ event. line.now ≡ line_of event) }
 {
-    lines!(switching take_parts (_alloc line (Record { thread, seq, seen, body: Body::TaskSchedule { status, prior, next, share: None } })) next prior seen seq status thread)
+    lines!(switching take_parts
+        (_alloc line (Record {
+            thread, seq, seen,
+            body: Body::TaskSchedule { status, prior, next, share: None },
+        }))
+        next prior seen seq status thread)
 }
 
 /// A task, its body or its event is finished.
 fn finishing(alloc: Global, line: &[u8]) -> Option<Record>
     ensures { IfSome result (λ event. line.now ≡ line_of event) }
 {
-    lines!(finishing take_parts (alloc line (Record { thread, seq, seen, body: Body::TaskSchedule { status, prior, next, share: Some(Claim { kept, root, path }) } })) kept next path prior root seen seq status thread)
+    lines!(finishing take_parts
+        (alloc line (Record {
+            thread, seq, seen,
+            body: Body::TaskSchedule { status, prior, next, share: Some(Claim { kept, root, path }) },
+        }))
+        kept next path prior root seen seq status thread)
 }
 
 /// A region of synchronisation begins or ends.
 fn sync_region(line: &[u8]) -> Option<Record>
     ensures { IfSome result (λ event. line.now ≡ line_of event) }
 {
-    lines!(sync_region take_parts (_alloc line (Record { thread, seq, seen, body: Body::SyncRegion { kind, endpoint, parallel, task } })) endpoint kind parallel seen seq task thread)
+    lines!(sync_region take_parts
+        (_alloc line (Record {
+            thread, seq, seen,
+            body: Body::SyncRegion { kind, endpoint, parallel, task },
+        }))
+        endpoint kind parallel seen seq task thread)
 }
 
 /// A task cancels a region or sees it cancelled.
 fn cancelling(line: &[u8]) -> Option<Record>
     ensures { IfSome result (λ event. line.now ≡ line_of event) }
 {
-    lines!(cancelling take_parts (_alloc line (Record { thread, seq, seen, body: Body::Cancel { flags, task, share: None } })) flags seen seq task thread)
+    lines!(cancelling take_parts
+        (_alloc line (Record { thread, seq, seen, body: Body::Cancel { flags, task, share: None } }))
+        flags seen seq task thread)
 }
 
 /// A task is discarded.
 fn discarding(alloc: Global, line: &[u8]) -> Option<Record>
     ensures { IfSome result (λ event. line.now ≡ line_of event) }
 {
-    lines!(discarding take_parts (alloc line (Record { thread, seq, seen, body: Body::Cancel { flags, task, share: Some(Claim { kept, root, path }) } })) flags kept path root seen seq task thread)
+    lines!(discarding take_parts
+        (alloc line (Record {
+            thread, seq, seen,
+            body: Body::Cancel { flags, task, share: Some(Claim { kept, root, path }) },
+        }))
+        flags kept path root seen seq task thread)
 }
 
 // Each part is a text, and a value behind it.
@@ -274,10 +304,7 @@ fn short_number(rest: &[u8]) -> Option<(u32, &[u8])>
     ensures { IfSome result (λ taken. Takes rest.now (decimal taken.0) taken.1.now) }
 {
     let (number, behind) = number(rest)?;
-    match u32::try_from(number) {
-        Ok(number) => Some((number, behind)),
-        Err(_) => None,
-    }
+    Some((u32::try_from(number).ok()?, behind))
 }
 
 /// A whole number of 8 bits.
@@ -286,10 +313,7 @@ fn byte<'l>(rest: &'l [u8], text: &str) -> Option<(u8, &'l [u8])>
     ensures { IfSome result (λ taken. Takes rest.now (text.now ++ decimal taken.0) taken.1.now) }
 {
     let (number, behind) = id(rest, text)?;
-    match u8::try_from(number) {
-        Ok(number) => Some((number, behind)),
-        Err(_) => None,
-    }
+    Some((u8::try_from(number).ok()?, behind))
 }
 
 /// So many digits are always a number of 64 bits.
@@ -409,7 +433,8 @@ fn status<'l>(rest: &'l [u8], text: &str) -> Option<(Status, &'l [u8])>
     ensures { IfSome result (λ taken. Takes rest.now (text.now ++ quoted (status_name taken.0)) taken.1.now) }
 {
     let rest = after(rest, text)?;
-    one_of!(rest Status: Complete, Switch, Yield, Detach, TaskwaitComplete, Cancel, EarlyFulfill, LateFulfill)
+    one_of!(rest Status:
+        Complete, Switch, Yield, Detach, TaskwaitComplete, Cancel, EarlyFulfill, LateFulfill)
 }
 
 /// Whether a region begins or ends.
@@ -427,7 +452,9 @@ fn sync_kind<'l>(rest: &'l [u8], text: &str) -> Option<(SyncKind, &'l [u8])>
         (sync_kind_name taken.0)) taken.1.now) }
 {
     let rest = after(rest, text)?;
-    one_of!(rest SyncKind: Taskwait, Taskgroup, Barrier, BarrierImplicit, BarrierExplicit, BarrierImplementation, Reduction, BarrierImplicitWorkshare, BarrierImplicitParallel, BarrierTeams)
+    one_of!(rest SyncKind:
+        Taskwait, Taskgroup, Barrier, BarrierImplicit, BarrierExplicit, BarrierImplementation,
+        Reduction, BarrierImplicitWorkshare, BarrierImplicitParallel, BarrierTeams)
 }
 
 /// How a location is used.

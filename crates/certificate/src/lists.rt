@@ -40,7 +40,7 @@ fn short_path(alloc: Global, numbers: &Vec<Value>) -> Result<Path, ReadCause>
     if numbers.len() > MAX_DEPTH {
         return Err(ReadCause::Limit);
     }
-    let mut path = Vec::new(alloc);
+    let mut path = Vec::with_capacity(alloc, numbers.len()).map_err(|_| ReadCause::Memory)?;
     'numbers: for number in numbers {
         let number = number.as_u64().ok_or(ReadCause::Field)?;
         path.push(short(number)?).map_err(|_| ReadCause::Memory)?;
@@ -53,7 +53,7 @@ pub(crate) fn deps(alloc: Global, value: &Value, name: &str) -> Result<Deps, Rea
     ensures { IsSaid result (bounded spec.deps_fit (members.deps name.now (view value.now))) }
 {
     let items = list(value, name)?;
-    let mut deps = Vec::new(alloc);
+    let mut deps = Vec::with_capacity(alloc, items.len()).map_err(|_| ReadCause::Memory)?;
     'items: for item in items {
         deps.push(dep(item)?).map_err(|_| ReadCause::Memory)?;
     }

@@ -1,4 +1,4 @@
-use Rattle.std.proofs.Common.{◌≡◌, ◌+◌, ◌<◌, ◌≤◌, length, get_or, take, arith, sym, ◌∙◌, length-take}
+use Rattle.std.proofs.Common.{◌≡◌, ◌+◌, ◌<◌, length, get_or, arith, sym, ◌∙◌, length-take}
 use Rattle.std.proofs.lemmas.List.{get_or-take}
 use Rattle.certificate.proofs.TakeLemmas.{digits-first, digits-more, digits-few}
 use Rattle.certificate.proofs.canonical.digits.Goals as goal
