@@ -6,7 +6,7 @@ use std::alloc::Global;
 use std::io::Read;
 
 /// The first line of a trace file.
-const HEADER: &str = "{\"format\":\"task-credit-audit\",\"version\":1}\n";
+pub const HEADER: &str = "{\"format\":\"task-credit-audit\",\"version\":1}\n";
 
 /// Standard input to its end.
 pub fn input(rt: &HostRuntime) -> Result<Vec<u8>> {

@@ -9,6 +9,7 @@ mod lines;
 mod names;
 mod refusals;
 mod shares;
+mod states;
 mod tables;
 mod tree;
 mod verdict;
@@ -17,7 +18,7 @@ use anyhow::{Result, bail};
 use std::env;
 
 const WORDS: &str =
-    "values, read, write, lines, names, tables, shares, ledger, devices, refusals, tree or verdict";
+    "values, read, write, lines, names, tables, shares, states, ledger, devices, refusals, tree or verdict";
 
 /// Does what the word asks for.
 fn run(rt: &HostRuntime, word: &str) -> Result<()> {
@@ -29,6 +30,7 @@ fn run(rt: &HostRuntime, word: &str) -> Result<()> {
         "names" => names::each(rt),
         "tables" => tables::all(rt),
         "shares" => shares::each(rt),
+        "states" => states::each(rt),
         "ledger" => ledger::each(rt),
         "devices" => devices::all(rt),
         "refusals" => refusals::all(rt),
