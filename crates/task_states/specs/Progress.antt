@@ -41,12 +41,14 @@ is_read Rest rs task i = not (is_early rs task i) && not (is_on rs (home_of rs t
 abbrev pub read_before : Pass → List Record → ℕ → List ℕ
 read_before Early rs task = []
 read_before Home rs task = filter (is_read Early rs task) (places rs)
-read_before Rest rs task = filter (is_read Early rs task) (places rs) ++ filter (is_read Home rs task) (places rs)
+read_before Rest rs task =
+    filter (is_read Early rs task) (places rs) ++ filter (is_read Home rs task) (places rs)
 
 -- the moves of a task that are read before the pass comes to the place n
 abbrev pub moves_before : Pass → List Record → ℕ → ℕ → List (ℕ × states.Move)
 moves_before pass rs n task =
-    flat_map (moves_at rs task) (read_before pass rs task ++ filter (is_read pass rs task) (range_with_len 0 n))
+    flat_map (moves_at rs task)
+    (read_before pass rs task ++ filter (is_read pass rs task) (range_with_len 0 n))
 
 -- of these moves the one at i is the first that the task's state does not allow
 pub record IsRefused (nature : states.Nature) (moves : List (ℕ × states.Move)) (i : ℕ) : Type 0 where
@@ -108,7 +110,8 @@ AreHomes rs tasks homes =
 -- the nature of the task that a record makes
 abbrev pub nature_made : Body → states.Nature
 nature_made (ImplicitTask endpoint actual index flags parallel task) = states.Root
-nature_made (TaskCreate deps flags task child) = if has_flag flags.0 flag.taskwait then states.Wait else states.Plain
+nature_made (TaskCreate deps flags task child) =
+    if has_flag flags.0 flag.taskwait then states.Wait else states.Plain
 nature_made _ = states.Plain
 
 -- the first place below n at which the task runs next
@@ -118,7 +121,8 @@ first_start rs n task = find (λ i. is_task task (at started rs i)) (range_with_
 -- by index of the task the first place below n at which it runs next
 abbrev pub AreStarts : List Record → ℕ → List ℕ → List (Option ℕ) → Type 0
 AreStarts rs n tasks starts =
-    (index task : ℕ) → slice_get tasks index ≡ Some task → slice_get starts index ≡ Some (first_start rs n task)
+    (index task : ℕ) → slice_get tasks index ≡ Some task
+    → slice_get starts index ≡ Some (first_start rs n task)
 
 -- the starts with this one, where the task at this index had none
 abbrev pub start_noted : List (Option ℕ) → Option ℕ → ℕ → List (Option ℕ)

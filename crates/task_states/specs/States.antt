@@ -39,4 +39,5 @@ IsLast rs task found =
 -- the begin of the region that the task ends there
 abbrev pub IsBegin : List Record → ℕ → ℕ → SyncKind → Option ℕ → Type 0
 IsBegin rs i task kind found =
-    at region rs i ≡ Some (task, kind, End) → (begin : ℕ) × (found ≡ Some begin) × EndsRegion rs i task kind begin
+    at region rs i ≡ Some (task, kind, End) → (begin : ℕ)
+    × (found ≡ Some begin) × EndsRegion rs i task kind begin

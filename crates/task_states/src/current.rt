@@ -79,7 +79,8 @@ fn root_start(family: &Family, body: &Body) -> Option<u64>
 /// The parent of the taskwait that is complete, if one is.
 fn wait_parent(family: &Family, body: &Body) -> Option<u64>
     ensures { (records : List Record) → IsFamilyOf records family.now → (parent : ℕ)
-        → (result ≡ Some parent) ↔ ((task : ℕ) × (wait_completed body.now ≡ Some task) × IsParent records parent task) }
+        → (result ≡ Some parent)
+        ↔ ((task : ℕ) × (wait_completed body.now ≡ Some task) × IsParent records parent task) }
 {
     match body.wait_completed() {
         Some(task) => family.parent(task),

@@ -1,4 +1,6 @@
 //! The states of a trace's tasks after all records, and whether its parallel regions are nested.
+ghost use Rattle.task_tree.specs.Family.{IsFamilyOf};
+
 use crate::lines::{HEADER, input, lines_of, told};
 use anyhow::{Result, bail};
 use certificate::{FromRead, read};
@@ -45,7 +47,9 @@ fn of_trace(rt: &HostRuntime, trace: &Trace) -> Result<()> {
 }
 
 /// Prints each task's state, or why there are none.
-fn of_family(rt: &HostRuntime, trace: &Trace, family: &Family) -> Result<()> {
+fn of_family(rt: &HostRuntime, trace: &Trace, family: &Family) -> Result<()>
+    requires { IsFamilyOf trace.now.records family.now }
+{
     match run(rt.alloc(), trace, family) {
         Ok(states) => {
             for task in family.tasks().as_slice() {
@@ -65,7 +69,9 @@ fn of_family(rt: &HostRuntime, trace: &Trace, family: &Family) -> Result<()> {
 }
 
 /// Prints where a parallel region lies inside another.
-fn of_regions(rt: &HostRuntime, trace: &Trace, family: &Family) -> Result<()> {
+fn of_regions(rt: &HostRuntime, trace: &Trace, family: &Family) -> Result<()>
+    requires { IsFamilyOf trace.now.records family.now }
+{
     match nested(rt.alloc(), trace, family) {
         Ok(found) => {
             println!(rt; "nested: {found:?}")?;
