@@ -1,9 +1,10 @@
 //! Whether a parallel region lies inside another.
-ghost use Rattle.std.specs.Prelude.{◌≡◌, ◌↔◌, IsTrue, IsSomeAnd, IfOk, MatchOption};
+ghost use Rattle.std.specs.Prelude.{◌≡◌, ◌↔◌, IsTrue, IsSomeAnd, IfOk, IfErr, MatchOption};
 ghost use Rattle.ompt_events.specs.declared.cause.Cause.TheVariants.{NestedParallel};
 ghost use Rattle.ompt_events.specs.Teams.{IsInitial, IsMember};
 ghost use Rattle.ompt_events.specs.Causes.{IsFreeOf, IsFirstWith};
 ghost use Rattle.task_tree.specs.Family.{IsFamilyOf};
+ghost use Rattle.task_states.specs.declared.fault.StateFault.TheVariants.{Memory};
 ghost use Rattle.task_states.specs.Nesting.{IsUnmade, IsMaker, ForksInside, JoinsInside, InitialInside, IsInside};
 
 use crate::fault::StateFault;
@@ -18,8 +19,9 @@ use task_tree::Family;
 /// regions and members begin.
 pub fn nested(alloc: Global, trace: &Trace, family: &Family) -> Result<Option<usize>, StateFault>
     requires { IsFamilyOf trace.now.records family.now }
-    ensures { IfOk result (λ found. MatchOption found
+    ensures found { IfOk result (λ found. MatchOption found
         (IsFreeOf trace.now.records NestedParallel) (IsFirstWith trace.now.records NestedParallel)) }
+    ensures memory_alone { IfErr result (λ fault. fault ≡ Memory) }
 {
     Ok(find_nested(alloc, trace.records(), family)?)
 }
