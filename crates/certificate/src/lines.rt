@@ -141,6 +141,14 @@ pub(crate) fn record_of(alloc: Global, line: &[u8]) -> Result<Record, ReadCause>
     if let Some(event) = sound(alloc, line) {
         return Ok(event);
     }
+    other(alloc, line)
+}
+
+/// The record of a line in any form.
+#[inline(never)]
+fn other(alloc: Global, line: &[u8]) -> Result<Record, ReadCause>
+    ensures { IsSaid result (spec.line_says line.now) }
+{
     let value = value_of(alloc, line)?;
     record(alloc, &value)
 }
