@@ -1,22 +1,28 @@
 -- Which records speak of a task without a root.
-use Rattle.std.proofs.Common.{◌≡◌, ◌∙◌, ℕ, ◌<◌, ◌≤◌, List, length, get_or, Option, Some, None, refl, sym, ap, subst, arith, inl, inr, Bool, true, false}
+use Rattle.std.proofs.Common.{◌≡◌, ◌∙◌, ℕ, ◌<◌, ◌≤◌, List, [], ◌∷◌, ◌++◌, length, get_or, Option, Some, None, refl, sym, ap, subst, arith, inl, inr}
 use Rattle.std.proofs.lemmas.Option.{none-some, same_Some, slice_get_within, slice_get-get_or}
 use Rattle.std.proofs.lemmas.Bool.{false≢true}
-use Rattle.std.specs.Prelude.{◌↔◌, is_some, not, slice_get, Contains, IsSomeAnd}
+use Rattle.std.specs.Prelude.{◌↔◌, ◌⊎◌, zero, suc, is_some, true, false, slice_get, Contains, IsSomeAnd, option_map, option_to_list}
 use Rattle.ompt_events.specs.declared.records.Record.{Record}
 use Rattle.ompt_events.specs.declared.cause.Cause.TheVariants.{Rootless}
-use Rattle.ompt_events.specs.Records.{made, named, created, region_named}
+use Rattle.ompt_events.specs.Records.{made, named, created, claim, region_named}
 use Rattle.ompt_events.specs.Places.{at}
-use Rattle.ompt_events.specs.Tree.{IsRooted, root as root_rooted, child as child_rooted, HasPath, top, below}
+use Rattle.ompt_events.specs.Tree.{IsRoot, IsRooted, root as root_rooted, child as child_rooted, HasPath, top, below}
 use Rattle.ompt_events.specs.Causes.{IsMade, IsForked, HasNoRoot, unmade, unrooted, no_region, HasCause, rootless, IsFirstWith, IsFreeOf}
 use Rattle.ompt_events.proofs.PlaceLemmas.{none_from_test, read_get, at_read, at_within}
-use Rattle.ompt_events.proofs.RecordLemmas.{created_at_made}
+use Rattle.ompt_events.proofs.RecordLemmas.{begun_at_made, created_at_made}
 use Rattle.ompt_events.proofs.TreeLemmas.{child_place}
-use Rattle.ompt_events.proofs.ListLemmas.{contains_get}
+use Rattle.ompt_events.proofs.ListLemmas.{contains_get, get_contains}
 use Rattle.task_tree.specs.Makers.{AreNoted, forked_region}
 use Rattle.task_tree.specs.declared.roots.Standing.{Standing}
 use Rattle.task_tree.specs.Roots.{AreRoots}
-use Rattle.task_tree.specs.Rootless.{IsRootless}
+use Rattle.std.specs.List.{Any}
+use Rattle.ompt_events.specs.declared.records.Body.{Body}
+use Rattle.ompt_events.specs.declared.records.Body.TheVariants.{ParallelBegin, ParallelEnd, ImplicitTask, TaskCreate, Dependences, TaskSchedule, SyncRegion, Cancel}
+use Rattle.ompt_events.specs.declared.records.Claim.{Claim}
+use Rattle.task_tree.specs.Numbering.{AreApart}
+use Rattle.task_tree.specs.Subjects.{subject, object, Finds, AreFound}
+use Rattle.task_tree.specs.Rootless.{AreRootsMade, CreatesUnrooted, NamesNoRegion, IsRootless}
 use Rattle.task_tree.proofs.MakerLemmas.{forked_at, region_at}
 
 -- a task that stands below a root is rooted
@@ -105,15 +111,189 @@ free_of_rootless rs n none all i has =
     let here = no_root_at rs i has in
     none i (let inside = rootless_within rs i here in omega arith) here
 
--- what the test of a task's root says
-pub root_missing : (tasks : List ℕ) (roots : List (Option Standing)) (task found : ℕ) (b : Bool) → ((k : ℕ) → (Some found ≡ Some k) ↔ (slice_get tasks k ≡ Some task)) → found < length roots → is_some (get_or roots found None) ≡ not b → (b ≡ true) ↔ ((index : ℕ) → slice_get tasks index ≡ Some task → slice_get roots index ≡ Some None)
-root_missing tasks roots task found true is within none = (
-  λ yes index is_task. ap (slice_get roots) (sym (same_Some found index ((is index).1 is_task))) ∙ slice_get-get_or roots found None within ∙ ap Some (none_from_test (get_or roots found None) none),
-  λ missing. refl,
-)
-root_missing tasks roots task found false is within some = (
-  λ yes. absurd (false≢true yes),
-  λ missing.
-      let none : get_or roots found None ≡ None = same_Some (get_or roots found None) None (sym (slice_get-get_or roots found None within) ∙ missing found ((is found).0 refl)) in
-      absurd (false≢true (sym (ap is_some none) ∙ some)),
-)
+-- ---- what decides of a record, by the slots of its subject and its object
+
+-- a task that is named, and its slot is empty
+abbrev pub IsMissing : Option ℕ → Option ℕ → Type 0
+IsMissing None slot = ⊥
+IsMissing (Some task) slot = slot ≡ None
+
+any_head : (P : ℕ → Type 0) (x : ℕ) (xs : List ℕ) → Any P (x ∷ xs) → P x ⊎ Any P xs
+any_head P x xs (zero, y, low, is, holds) = inl (subst P (sym is) holds)
+any_head P x xs (suc k, y, low, is, holds) = inr (k, y, omega (arith, low), is, holds)
+
+any_none : (P : ℕ → Type 0) → Any P [] → ⊥
+any_none P (k, y, low, is, holds) = omega (arith, low)
+
+head_any : (P : ℕ → Type 0) (x : ℕ) (xs : List ℕ) → P x → Any P (x ∷ xs)
+head_any P x xs holds = (0, x, omega arith, refl, holds)
+
+tail_any : (P : ℕ → Type 0) (x : ℕ) (xs : List ℕ) → Any P xs → Any P (x ∷ xs)
+tail_any P x xs (k, y, low, is, holds) = (suc k, y, omega (arith, low), is, holds)
+
+-- one task, and up to two more
+named_parts : (P : ℕ → Type 0) (x : ℕ) (second third : Option ℕ) → Any P (x ∷ option_to_list second ++ option_to_list third) → P x ⊎ (IsSomeAnd second P ⊎ IsSomeAnd third P)
+named_parts P x None None has = elim (any_head P x [] has) [ inl first ↦ inl first | inr rest ↦ absurd (any_none P rest) ]
+named_parts P x (Some y) None has = elim (any_head P x (y ∷ []) has) [
+  | inl first ↦ inl first
+  | inr rest ↦ elim (any_head P y [] rest) [ inl second ↦ inr (inl second) | inr none ↦ absurd (any_none P none) ]
+]
+named_parts P x None (Some z) has = elim (any_head P x (z ∷ []) has) [
+  | inl first ↦ inl first
+  | inr rest ↦ elim (any_head P z [] rest) [ inl third ↦ inr (inr third) | inr none ↦ absurd (any_none P none) ]
+]
+named_parts P x (Some y) (Some z) has = elim (any_head P x (y ∷ z ∷ []) has) [
+  | inl first ↦ inl first
+  | inr rest ↦ elim (any_head P y (z ∷ []) rest) [
+    | inl second ↦ inr (inl second)
+    | inr more ↦ elim (any_head P z [] more) [ inl third ↦ inr (inr third) | inr none ↦ absurd (any_none P none) ]
+  ]
+]
+
+parts_named : (P : ℕ → Type 0) (x : ℕ) (second third : Option ℕ) → P x ⊎ (IsSomeAnd second P ⊎ IsSomeAnd third P) → Any P (x ∷ option_to_list second ++ option_to_list third)
+parts_named P x second third (inl first) = head_any P x (option_to_list second ++ option_to_list third) first
+parts_named P x (Some y) third (inr (inl second)) = tail_any P x (y ∷ option_to_list third) (head_any P y (option_to_list third) second)
+parts_named P x None third (inr (inl second)) = absurd second
+parts_named P x second None (inr (inr third)) = absurd third
+parts_named P x None (Some z) (inr (inr third)) = tail_any P x (z ∷ []) (head_any P z [] third)
+parts_named P x (Some y) (Some z) (inr (inr third)) = tail_any P x (y ∷ z ∷ []) (tail_any P y (z ∷ []) (head_any P z [] third))
+
+-- an empty slot means that no record makes the task
+missing_fresh : (tasks : List ℕ) (found slot : Option ℕ) → Finds tasks found slot → IsMissing found slot → IsSomeAnd found (λ task. Contains tasks task → ⊥)
+missing_fresh tasks None slot finds missing = absurd missing
+missing_fresh tasks (Some task) None finds missing = finds task refl
+missing_fresh tasks (Some task) (Some index) finds missing = absurd (none-some index (sym missing))
+
+fresh_missing : (tasks : List ℕ) (found slot : Option ℕ) → Finds tasks found slot → IsSomeAnd found (λ task. Contains tasks task → ⊥) → IsMissing found slot
+fresh_missing tasks None slot finds fresh = absurd fresh
+fresh_missing tasks (Some task) None finds fresh = refl
+fresh_missing tasks (Some task) (Some index) (other, is, stands) fresh = absurd (fresh (get_contains tasks task index (stands ∙ sym is)))
+
+named_by : (P : ℕ → Type 0) (b : Body) → Any P (named b) ↔ (IsSomeAnd (subject b) P ⊎ (IsSomeAnd (object b) P ⊎ IsSomeAnd (option_map (λ (c : Claim). c.root) (claim b)) P))
+named_by P (ParallelBegin requested task parallel) = (named_parts P task None None, parts_named P task None None)
+named_by P (ParallelEnd task parallel) = (named_parts P task None None, parts_named P task None None)
+named_by P (ImplicitTask endpoint actual index given parallel task) = (named_parts P task None None, parts_named P task None None)
+named_by P (TaskCreate deps given task child) = (named_parts P task (Some child) None, parts_named P task (Some child) None)
+named_by P (Dependences task list) = (named_parts P task None None, parts_named P task None None)
+named_by P (TaskSchedule status prior next share) = (named_parts P prior next (option_map (λ (c : Claim). c.root) share), parts_named P prior next (option_map (λ (c : Claim). c.root) share))
+named_by P (SyncRegion kind endpoint parallel task) = (named_parts P task None None, parts_named P task None None)
+named_by P (Cancel given task share) = (named_parts P task None (option_map (λ (c : Claim). c.root) share), parts_named P task None (option_map (λ (c : Claim). c.root) share))
+named_by P _ = (λ has. absurd (any_none P has), λ parts. elim parts [ inl first ↦ absurd first | inr more ↦ elim more [ inl second ↦ absurd second | inr third ↦ absurd third ] ])
+
+claim_root : (P : ℕ → Type 0) (share : Option Claim) → IsSomeAnd share (λ c. P c.root) ↔ IsSomeAnd (option_map (λ (c : Claim). c.root) share) P
+claim_root P None = (λ h. h, λ h. h)
+claim_root P (Some c) = (λ h. h, λ h. h)
+
+pub full_missing : (o slot : Option ℕ) → (slot ≡ None → ⊥) → IsMissing o slot → ⊥
+full_missing None slot full missing = missing
+full_missing (Some task) slot full missing = full missing
+
+pub none_missing : (o slot : Option ℕ) → o ≡ None → IsMissing o slot → ⊥
+none_missing None slot none missing = missing
+none_missing (Some task) slot none missing = none-some task (sym none)
+
+no_and : {X : Type 0} (o : Option X) (P : X → Type 0) → o ≡ None → IsSomeAnd o P → ⊥
+no_and None P none h = h
+no_and (Some x) P none h = none-some x (sym none)
+
+-- an empty slot alone
+pub missing_subject : (tasks regions : List ℕ) (roots : List (Option Standing)) (b : Body) (task : ℕ) (first : Option ℕ) → Finds tasks (subject b) first → subject b ≡ Some task → first ≡ None → IsRootless tasks regions roots b
+missing_subject tasks regions roots b task first finds is none =
+    let P : Option ℕ → Type 0 = λ o. IsMissing o first in
+    inl ((named_by (λ t. Contains tasks t → ⊥) b).1 (inl (missing_fresh tasks (subject b) first finds (subst P (sym is) none))))
+
+missing_object : (tasks regions : List ℕ) (roots : List (Option Standing)) (b : Body) (task : ℕ) (second : Option ℕ) → Finds tasks (object b) second → object b ≡ Some task → second ≡ None → IsRootless tasks regions roots b
+missing_object tasks regions roots b task second finds is none =
+    let P : Option ℕ → Type 0 = λ o. IsMissing o second in
+    inl ((named_by (λ t. Contains tasks t → ⊥) b).1 (inr (inl (missing_fresh tasks (object b) second finds (subst P (sym is) none)))))
+
+pub missing_next : (tasks regions : List ℕ) (roots : List (Option Standing)) (b : Body) (next second : Option ℕ) → Finds tasks (object b) second → object b ≡ next → is_some next ≡ true → second ≡ None → IsRootless tasks regions roots b
+missing_next tasks regions roots b None second finds is some none = absurd (false≢true some)
+missing_next tasks regions roots b (Some task) second finds is some none = missing_object tasks regions roots b task second finds is none
+
+pub no_next : (next : Option ℕ) → is_some next ≡ false → next ≡ None
+no_next None none = refl
+no_next (Some task) none = absurd (false≢true (sym none))
+
+-- where no slot is empty, the rest decides
+rest_of : (tasks regions : List ℕ) (roots : List (Option Standing)) (b : Body) (first second : Option ℕ) → Finds tasks (subject b) first → Finds tasks (object b) second → (first ≡ None → ⊥) → (IsMissing (object b) second → ⊥) → IsRootless tasks regions roots b → IsSomeAnd (claim b) (λ c. Contains tasks c.root → ⊥) ⊎ (CreatesUnrooted tasks roots b ⊎ NamesNoRegion regions b)
+rest_of tasks regions roots b first second finds found full filled (inl has) = elim ((named_by (λ t. Contains tasks t → ⊥) b).0 has) [
+  | inl fresh ↦ absurd (full_missing (subject b) first full (fresh_missing tasks (subject b) first finds fresh))
+  | inr more ↦ elim more [
+    | inl fresh ↦ absurd (filled (fresh_missing tasks (object b) second found fresh))
+    | inr fresh ↦ inl ((claim_root (λ t. Contains tasks t → ⊥) (claim b)).1 fresh)
+  ]
+]
+rest_of tasks regions roots b first second finds found full filled (inr rest) = inr rest
+
+-- a record that names one task and no region
+pub subject_left : (tasks regions : List ℕ) (roots : List (Option Standing)) (b : Body) (task : ℕ) (first second : Option ℕ) → Finds tasks (subject b) first → Finds tasks (object b) second → subject b ≡ Some task → object b ≡ None → claim b ≡ None → created b ≡ None → region_named b ≡ None → IsRootless tasks regions roots b → first ≡ None
+subject_left tasks regions roots b task None second finds found is no_object no_claim no_child none has = refl
+subject_left tasks regions roots b task (Some index) second finds found is no_object no_claim no_child none has =
+    elim (rest_of tasks regions roots b (Some index) second finds found (λ e. none-some index (sym e)) (none_missing (object b) second no_object) has) [
+      | inl claimed ↦ absurd (no_and (claim b) _ no_claim claimed)
+      | inr more ↦ elim more [ inl child ↦ absurd (no_and (created b) _ no_child child) | inr region ↦ absurd (no_and (region_named b) _ none region) ]
+    ]
+
+-- a record that names a region too
+pub region_left : (tasks regions : List ℕ) (roots : List (Option Standing)) (b : Body) (first second : Option ℕ) → Finds tasks (subject b) first → Finds tasks (object b) second → (first ≡ None → ⊥) → object b ≡ None → claim b ≡ None → created b ≡ None → IsRootless tasks regions roots b → NamesNoRegion regions b
+region_left tasks regions roots b first second finds found full no_object no_claim no_child has =
+    elim (rest_of tasks regions roots b first second finds found full (none_missing (object b) second no_object) has) [
+      | inl claimed ↦ absurd (no_and (claim b) _ no_claim claimed)
+      | inr more ↦ elim more [ inl child ↦ absurd (no_and (created b) _ no_child child) | inr region ↦ region ]
+    ]
+
+-- a record that may have a claim
+pub claim_left : (tasks regions : List ℕ) (roots : List (Option Standing)) (b : Body) (first second : Option ℕ) (share : Option Claim) → Finds tasks (subject b) first → Finds tasks (object b) second → (first ≡ None → ⊥) → (IsMissing (object b) second → ⊥) → claim b ≡ share → created b ≡ None → region_named b ≡ None → IsRootless tasks regions roots b → IsSomeAnd share (λ c. Contains tasks c.root → ⊥)
+claim_left tasks regions roots b first second share finds found full filled is no_child none has =
+    elim (rest_of tasks regions roots b first second finds found full filled has) [
+      | inl claimed ↦ let P : Option Claim → Type 0 = λ o. IsSomeAnd o (λ c. Contains tasks c.root → ⊥) in subst P is claimed
+      | inr more ↦ elim more [ inl child ↦ absurd (no_and (created b) _ no_child child) | inr region ↦ absurd (no_and (region_named b) _ none region) ]
+    ]
+
+pub claim_rootless : (tasks regions : List ℕ) (roots : List (Option Standing)) (b : Body) (share : Option Claim) → claim b ≡ share → IsSomeAnd share (λ c. Contains tasks c.root → ⊥) → IsRootless tasks regions roots b
+claim_rootless tasks regions roots b share is has =
+    let P : Option Claim → Type 0 = λ o. IsSomeAnd o (λ c. Contains tasks c.root → ⊥) in
+    inl ((named_by (λ t. Contains tasks t → ⊥) b).1 (inr (inr ((claim_root (λ t. Contains tasks t → ⊥) (claim b)).0 (subst P (sym is) has)))))
+
+-- a record that creates a task
+pub child_left : (tasks regions : List ℕ) (roots : List (Option Standing)) (b : Body) (child : ℕ) (first second : Option ℕ) → Finds tasks (subject b) first → Finds tasks (object b) second → (first ≡ None → ⊥) → object b ≡ Some child → created b ≡ Some child → claim b ≡ None → region_named b ≡ None → IsRootless tasks regions roots b → (index : ℕ) → second ≡ Some index → slice_get roots index ≡ Some None
+child_left tasks regions roots b child first None finds found full names makes no_claim none has index is = absurd (none-some index is)
+child_left tasks regions roots b child first (Some at) finds found full names makes no_claim none has index is =
+    elim (rest_of tasks regions roots b first (Some at) finds found full (full_missing (object b) (Some at) (λ e. none-some at (sym e))) has) [
+      | inl claimed ↦ absurd (no_and (claim b) _ no_claim claimed)
+      | inr more ↦ elim more [
+        | inl unrooted_child ↦
+            let it = some_and (created b) _ unrooted_child in
+            it.2 index (ap (slice_get tasks) (sym (same_Some at index is)) ∙ found.2 ∙ sym found.1 ∙ names ∙ sym makes ∙ it.1)
+        | inr region ↦ absurd (no_and (region_named b) _ none region)
+      ]
+    ]
+
+pub child_rootless : (tasks regions : List ℕ) (roots : List (Option Standing)) (b : Body) (child : ℕ) (second : Option ℕ) → AreApart tasks → Finds tasks (object b) second → object b ≡ Some child → created b ≡ Some child → ((index : ℕ) → second ≡ Some index → slice_get roots index ≡ Some None) → IsRootless tasks regions roots b
+child_rootless tasks regions roots b child None apart finds names makes none = missing_object tasks regions roots b child None finds names refl
+child_rootless tasks regions roots b child (Some at) apart (other, says, stands) names makes none =
+    let same : other ≡ child = same_Some other child (sym says ∙ names) in
+    inr (inl (and_some (created b) (λ t. (index : ℕ) → slice_get tasks index ≡ Some t → slice_get roots index ≡ Some None) child makes (λ index is. none index (ap Some (apart at index child (stands ∙ ap Some same) is)))))
+
+-- a chain of parents ends at a root
+path_root : (rs : List Record) (root task : ℕ) (path : List ℕ) → HasPath rs root task path → IsRoot rs root
+path_root rs root task path (top is) = is
+path_root rs root task path (below number {parent = parent} {path = up} stands is) = path_root rs root parent up stands
+
+-- each root that is known is made
+pub roots_made : (rs : List Record) (tasks : List ℕ) (roots : List (Option Standing)) → AreNoted made rs (length rs) tasks → AreRoots rs tasks roots → AreRootsMade tasks roots
+roots_made rs tasks roots noted are index standing is =
+    let low = slice_get_within roots index (Some standing) is in
+    let stands = are.rooted index (get_or tasks index 0) standing (slice_get-get_or tasks index 0 (omega (arith, low, are.all))) is in
+    let top_is = path_root rs standing.root (get_or tasks index 0) stands.0 stands.1 in
+    made_noted rs tasks standing.root noted (top_is.0, begun_at_made standing.root rs top_is.0 top_is.1)
+
+-- what the slot of a place holds
+pub slot_finds : (says : Body → Option ℕ) (rs : List Record) (tasks : List ℕ) (slots : List (Option ℕ)) (i : ℕ) (r : Record) (slot : Option ℕ) → AreFound says rs (length rs) tasks slots → i < length rs → r ≡ get_or rs i r → slot ≡ get_or slots i slot → Finds tasks (says r.body) slot
+slot_finds says rs tasks slots i r slot are within read here =
+    let found = are.each i within in
+    let P : Option ℕ → Type 0 = λ o. Finds tasks (says r.body) o in
+    let Q : Option ℕ → Type 0 = λ o. Finds tasks o found.0 in
+    let same : found.0 ≡ slot = same_Some found.0 slot (sym found.1 ∙ slice_get-get_or slots i slot (omega (arith, within, are.all)) ∙ ap Some (sym here)) in
+    subst P same (subst Q (at_read says rs i r within read) found.2)

@@ -5,6 +5,12 @@ use Rattle.ompt_events.specs.declared.records.Body.{Body}
 use Rattle.ompt_events.specs.Records.{named, created, region_named}
 use Rattle.task_tree.specs.declared.roots.Standing.{Standing}
 
+-- each root below which a task is known to stand is in the list of tasks
+abbrev pub AreRootsMade : List ℕ → List (Option Standing) → Type 0
+AreRootsMade tasks roots =
+    (index : ℕ) (standing : Standing) → slice_get roots index ≡ Some (Some standing)
+    → Contains tasks standing.root
+
 -- a task is named that was not noted as made
 abbrev pub NamesUnmade : List ℕ → Body → Type 0
 NamesUnmade tasks body = Any (λ task. Contains tasks task → ⊥) (named body)

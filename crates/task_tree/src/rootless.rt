@@ -1,25 +1,19 @@
 //! Whether each record speaks only of tasks that have a root, and of parallel regions that began.
-ghost use Rattle.std.specs.Prelude.{ℕ, ◌≡◌, ◌⊎◌, ◌↔◌, Some, None, IsTrue, IsSomeAnd, MatchOption, Contains, length, slice_get};
-ghost use Rattle.std.specs.List.{Any};
+ghost use Rattle.std.specs.Prelude.{ℕ, ◌≡◌, ◌<◌, ◌↔◌, Some, None, IsTrue, IsSomeAnd, IfSome, MatchOption, Contains, length, slice_get};
 ghost use Rattle.ompt_events.specs.declared.cause.Cause.TheVariants.{Rootless};
-ghost use Rattle.ompt_events.specs.Records.{made, named, created, region_named};
+ghost use Rattle.ompt_events.specs.Records.{made};
 ghost use Rattle.ompt_events.specs.Causes.{IsFreeOf, IsFirstWith};
 ghost use Rattle.task_tree.specs.Makers.{AreNoted, forked_region};
+ghost use Rattle.task_tree.specs.Numbering.{AreApart};
 ghost use Rattle.task_tree.specs.Roots.{AreRoots};
-ghost use Rattle.task_tree.specs.Rootless.{NamesUnmade, CreatesUnrooted, NamesNoRegion, IsRootless};
+ghost use Rattle.task_tree.specs.Subjects.{subject, object, Finds, AreFound};
+ghost use Rattle.task_tree.specs.Rootless.{AreRootsMade, NamesNoRegion, IsRootless};
 
 use crate::numbering::Numbering;
 use crate::roots::Standing;
+use crate::slot::Slot;
 use crate::subjects::Subjects;
-use ompt_events::{Body, Record};
-
-/// Where the tasks that a record names are looked for first.
-#[derive(Clone, Copy)]
-struct Near {
-    subject: usize,
-    object: usize,
-    claimed: usize,
-}
+use ompt_events::{Body, Claim, Record};
 
 /// The first record that names a task which no record makes, creates one whose chain of parents reaches no
 /// root, or ends or joins a parallel region that no record begins.
@@ -30,94 +24,104 @@ pub(crate) fn find_rootless(
     regions: &Numbering,
     roots: &[Option<Standing>],
 ) -> Option<usize>
+    requires apart { AreApart tasks.now }
     requires tasks { AreNoted made records.now (length records.now) tasks.now }
     requires regions { AreNoted forked_region records.now (length records.now) regions.now }
     requires roots { AreRoots records.now tasks.now roots.now }
+    requires subjects { AreFound subject records.now (length records.now) tasks.now named.now.subjects.items }
+    requires objects { AreFound object records.now (length records.now) tasks.now named.now.objects.items }
     ensures { MatchOption result (IsFreeOf records.now Rootless) (IsFirstWith records.now Rootless) }
 {
-    // Where the root that a thread's record claims was found last.
-    let mut claimed = [0usize; 256];
+    let subjects = named.subjects.as_slice();
+    let objects = named.objects.as_slice();
     for (at, event) in records.iter().enumerate() {
-        let thread = usize::from(event.thread);
-        claimed[thread] = claimed_near(&event.body, tasks, claimed[thread]);
-        let near = Near {
-            subject: named.near_subject(at),
-            object: named.near_object(at),
-            claimed: claimed[thread],
-        };
-        if is_rootless(&event.body, tasks, near, regions, roots) {
+        if is_rootless(
+            &event.body,
+            subjects[at],
+            objects[at],
+            tasks,
+            regions,
+            roots,
+        ) {
             return Some(at);
         }
     }
     None
 }
 
-/// Where the root that the record claims stands, as a hint; else where the last one stood.
-fn claimed_near(body: &Body, tasks: &Numbering, last: usize) -> usize {
-    match body.claim() {
-        Some(claim) => tasks.index_near(claim.root, last).unwrap_or(last),
-        None => last,
-    }
-}
-
-/// Whether the record is one of these.
+/// Whether the record is one of these. The slots are those of its subject and its object.
 fn is_rootless(
     body: &Body,
+    first: Slot,
+    second: Slot,
     tasks: &Numbering,
-    near: Near,
     regions: &Numbering,
     roots: &[Option<Standing>],
 ) -> bool
-    requires { length roots.now ≡ length tasks.now }
+    requires apart { AreApart tasks.now }
+    requires all { length roots.now ≡ length tasks.now }
+    requires made { AreRootsMade tasks.now roots.now }
+    requires subject { Finds tasks.now (subject body.now) first }
+    requires object { Finds tasks.now (object body.now) second }
     ensures { IsTrue result ↔ IsRootless tasks.now regions.now roots.now body.now }
 {
-    names_unmade(body, tasks, near)
-        || creates_unrooted(body, tasks, near, roots)
-        || names_no_region(body, regions)
-}
-
-/// Whether the record names a task that no record makes.
-fn names_unmade(body: &Body, tasks: &Numbering, near: Near) -> bool
-    ensures { IsTrue result ↔ NamesUnmade tasks.now body.now }
-{
-    let named = body.named();
-    for task in named.as_slice() {
-        if !is_made(*task, tasks, near) {
-            return true;
+    match body {
+        Body::ThreadBegin { .. } | Body::ThreadEnd => false,
+        Body::ParallelBegin { .. } | Body::Dependences { .. } | Body::SyncRegion { .. } => {
+            first.is_none()
         }
-    }
-    false
-}
-
-/// Whether some record makes the task.
-fn is_made(task: u64, tasks: &Numbering, near: Near) -> bool
-    ensures { IsTrue result ↔ Contains tasks.now task }
-{
-    tasks.stands_at(task, near.subject)
-        || tasks.stands_at(task, near.object)
-        || tasks.contains_near(task, near.claimed)
-}
-
-/// Whether the record creates a task without a root.
-fn creates_unrooted(body: &Body, tasks: &Numbering, near: Near, roots: &[Option<Standing>]) -> bool
-    requires { length roots.now ≡ length tasks.now }
-    ensures { IsTrue result ↔ CreatesUnrooted tasks.now roots.now body.now }
-{
-    match body.created() {
-        Some(task) => has_no_root(task, tasks, near.object, roots),
-        None => false,
+        Body::ParallelEnd { .. } | Body::ImplicitTask { .. } => {
+            first.is_none() || names_no_region(body, regions)
+        }
+        Body::TaskCreate { .. } => first.is_none() || has_no_root(second, roots),
+        Body::TaskSchedule { next, share, .. } => {
+            first.is_none()
+                || (next.is_some() && second.is_none())
+                || claims_unmade(share, first, tasks, roots)
+        }
+        Body::Cancel { share, .. } => {
+            first.is_none() || claims_unmade(share, first, tasks, roots)
+        }
     }
 }
 
 /// Whether no root of the task is known.
-fn has_no_root(task: u64, tasks: &Numbering, near: usize, roots: &[Option<Standing>]) -> bool
-    requires { length roots.now ≡ length tasks.now }
-    ensures { IsTrue result ↔ ((index : ℕ) → slice_get tasks.now index ≡ Some task
-        → slice_get roots.now index ≡ Some None) }
+fn has_no_root(task: Slot, roots: &[Option<Standing>]) -> bool
+    requires { IfSome task (λ index. index < length roots.now) }
+    ensures { IsTrue result ↔ ((index : ℕ) → task ≡ Some index → slice_get roots.now index ≡ Some None) }
 {
-    match tasks.index_near(task, near) {
+    match task.get() {
         Some(index) => roots[index].is_none(),
         None => true,
+    }
+}
+
+/// Whether a root is claimed for the task that no record makes.
+fn claims_unmade(
+    share: &Option<Claim>,
+    task: Slot,
+    tasks: &Numbering,
+    roots: &[Option<Standing>],
+) -> bool
+    requires { AreRootsMade tasks.now roots.now }
+    ensures { IsTrue result ↔ IsSomeAnd share.now (λ claim. Contains tasks.now claim.root → ⊥) }
+{
+    match share {
+        Some(claim) => !is_root_of(claim.root, task, roots) && !tasks.contains(claim.root),
+        None => false,
+    }
+}
+
+/// Whether the task is known to stand below this root, as a right claim says.
+fn is_root_of(root: u64, task: Slot, roots: &[Option<Standing>]) -> bool
+    ensures { IsTrue result → (index : ℕ) × (standing : Standing)
+        × (slice_get roots.now index ≡ Some (Some standing)) × (standing.root ≡ root) }
+{
+    match task.get() {
+        Some(index) if index < roots.len() => {
+            roots[index].is_some_and(|standing| standing.root == root)
+        }
+        _ => false,
     }
 }
 

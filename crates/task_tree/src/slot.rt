@@ -1,5 +1,5 @@
 //! An index or none, in 32 bits.
-ghost use Rattle.std.specs.Prelude.{◌≡◌, ◌<◌, Some, None};
+ghost use Rattle.std.specs.Prelude.{◌≡◌, ◌<◌, ◌↔◌, Some, None, IsTrue};
 
 use std::marker::Model;
 
@@ -39,6 +39,13 @@ impl Slot {
         ensures { result ≡ Some index }
     {
         Slot { code: index as u32 }
+    }
+
+    /// Whether it is none.
+    pub fn is_none(self) -> bool
+        ensures { IsTrue result ↔ (self ≡ None) }
+    {
+        self.get().is_none()
     }
 
     /// The index.
