@@ -1,17 +1,21 @@
 -- The finishing records and the entries that they make.
-use Rattle.std.proofs.Common.{◌≡◌, ◌∙◌, ℕ, ◌<◌, ◌≤◌, ◌+◌, List, [], ◌∷◌, ◌++◌, length, get_or, Bool, true, false, sym, ap, subst, arith, inl, inr}
+use Rattle.std.proofs.Common.{◌≡◌, ◌∙◌, ℕ, ◌<◌, ◌≤◌, ◌+◌, List, [], ◌∷◌, ◌++◌, length, get_or, Result, Ok, Bool, true, false, sym, ap, subst, arith, inl, inr}
 use Rattle.std.proofs.lemmas.Bool.{cases_eq, cases_lt, false≢true}
 use Rattle.std.proofs.lemmas.Option.{slice_get-get_or, slice_get_past, none-some, same_Some}
 use Rattle.std.proofs.lemmas.List.Elements.{Contains-push, Contains-push_cases, Contains-append_left, Contains-get_or}
 use Rattle.std.proofs.lemmas.List.Sorted.{Contains-permutation, IsPermutation-sym}
 use Rattle.std.specs.List.Sorted.{IsPermutation, IsNonDecreasingBy}
-use Rattle.std.specs.Prelude.{is_some, slice_get, Contains, option_map}
+use Rattle.std.specs.Prelude.{OnOk, is_some, slice_get, Contains, option_map}
 use Rattle.ompt_events.specs.declared.records.Record.{Record}
 use Rattle.ompt_events.specs.Records.{finish}
 use Rattle.ompt_events.specs.Places.{at, seen_at}
 use Rattle.ompt_events.specs.HappensBefore.{IsFinishing}
 use Rattle.checker.specs.Merge.{Stands, IsLeastEntry, AreEntries}
 use Rattle.ompt_events.proofs.HappensBeforeLemmas.{finishing_within}
+
+-- what holds where a call succeeds, after one that did
+pub from_ok : {A E : Type 0} {P : Type 0} (r : Result A E) (v : A) → r ≡ Ok v → OnOk r P → P
+from_ok r v is holds = rw is at holds
 
 -- the entries of the first n records
 pub record AreEntriesBelow (rs : List Record) (n : ℕ) (entries : List (ℕ × ℕ)) : Type 0 where

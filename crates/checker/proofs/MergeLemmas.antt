@@ -7,7 +7,7 @@ use Rattle.ompt_events.specs.declared.records.Record.{Record}
 use Rattle.ompt_events.specs.Places.{thread_at, seen_at}
 use Rattle.ompt_events.specs.declared.cause.Cause.TheVariants.{Moved}
 use Rattle.ompt_events.specs.Causes.{IsFreeOf}
-use Rattle.ompt_events.specs.HappensBefore.{IsProgramStep, thread_order, creation, discard, fulfilment, IsStep, program, ledger, HappensBefore, step, chain}
+use Rattle.ompt_events.specs.HappensBefore.{thread_order, creation, discard, fulfilment, IsStep, program, ledger, HappensBefore, step, chain}
 use Rattle.checker.proofs.ScheduleLemmas.{step_awaits, awaits_before}
 use Rattle.checker.specs.Merge.{HaveCreations, AreClosed, StartsOrFulfils, Stands, MayFollow, AreHeads, IsLeastEntry, IsReadyHead}
 

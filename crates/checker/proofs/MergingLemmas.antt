@@ -14,11 +14,11 @@ use Rattle.std.proofs.lemmas.List.Sums.{sum_by-set}
 use Rattle.ompt_events.specs.declared.records.Record.{Record}
 use Rattle.ompt_events.specs.Places.{at, places, thread_at}
 use Rattle.ompt_events.specs.Records.{created, finish}
-use Rattle.ompt_events.specs.HappensBefore.{IsProgramStep, thread_order, creation, discard, fulfilment, IsStep, program, ledger, step}
+use Rattle.ompt_events.specs.HappensBefore.{thread_order, creation, discard, fulfilment, IsStep, program, ledger, step}
 use Rattle.ompt_events.specs.declared.cause.Cause.TheVariants.{NoOrder}
 use Rattle.ompt_events.specs.Causes.{HasCause, no_order, HasNoOrder, IsFirstWith}
 use Rattle.ompt_events.specs.Linearization.{IsDue, IsReady, IsFirstReady, IsGreedy, IsGrounded, IsLinearization}
-use Rattle.checker.specs.Merge.{IsHint, HintsAt, AreClosed, Stands, MayFollow, AreHeads, AreFirstHeads}
+use Rattle.checker.specs.Merge.{IsHint, HintsAt, AreClosed, Stands, MayFollow, AreHeads, IsNextOf, AreHeadsFrom, AreLinks}
 use Rattle.checker.proofs.MergeLemmas.{stands_or_not, is_head}
 use Rattle.ompt_events.proofs.LinearizationLemmas.{IsClosed, due_from_steps, closed_more, greedy_more, greedy_grounded, grounded_rising}
 use Rattle.ompt_events.proofs.HappensBeforeLemmas.{before_to, before_from}
@@ -73,15 +73,15 @@ merging_closed rs placed heads order merging a b before stands = merging.from_or
 contains_none : (i : ℕ) → Contains (let l : List ℕ = [] in l) i → ⊥
 contains_none i (k, below, is) = absurd (omega arith)
 
-pub merging_start : (rs : List Record) (heads : List ℕ) (placed : List Bool) → placed ≡ replicate (length rs) false → AreFirstHeads rs heads → IsMerging rs placed heads []
+pub merging_start : (rs : List Record) (heads : List ℕ) (placed : List Bool) → placed ≡ replicate (length rs) false → AreHeadsFrom rs 0 heads → IsMerging rs placed heads []
 merging_start rs heads placed is first = rw is (record {
   all = length-replicate (length rs) false;
   to_order = λ i stands. absurd (none_stands (length rs) i stands);
   from_order = λ i c. absurd (contains_none i c);
   are_heads = record {
     all = first.all;
-    below = λ thread i runs below. absurd (first.none thread i (first.all i thread runs) below runs);
-    head = first.head;
+    below = λ thread i runs below. absurd ((first.each thread (first.all i thread runs)).none i (omega arith) below runs);
+    head = λ thread low inside. (first.each thread low).found inside;
     missing = λ thread low stands. none_stands (length rs) (slice_index heads thread) stands;
   };
   above = λ thread i runs stands. absurd (none_stands (length rs) i stands);
@@ -91,16 +91,67 @@ merging_start rs heads placed is first = rw is (record {
   permutation = IsPermutation-refl (places rs);
 })
 
+-- ---- the first records of threads, one place before
+
+none_from : (rs : List Record) (heads : List ℕ) → ((i thread : ℕ) → thread_at rs i ≡ Some thread → thread < length heads) → ((thread : ℕ) → thread < length heads → slice_index heads thread ≡ length rs) → AreHeadsFrom rs (length rs) heads
+none_from rs heads all is = record {
+  all = all;
+  each = λ thread low. rw (is thread low) (record {
+    behind = omega arith;
+    within = omega arith;
+    none = λ i from below. absurd (omega arith);
+    found = λ inside. absurd (omega arith);
+  });
+}
+
+pub heads_last : (rs : List Record) (n : ℕ) → ((i thread : ℕ) → thread_at rs i ≡ Some thread → thread < n) → AreHeadsFrom rs (length rs) (replicate n (length rs))
+heads_last rs n all = none_from rs (replicate n (length rs)) (λ i thread runs. rw (length-replicate n (length rs)) (all i thread runs)) (λ thread low. get_or-replicate n thread (length rs) 0 (rw (length-replicate n (length rs)) at low))
+
+pub heads_back : (rs : List Record) (from thread : ℕ) (heads : List ℕ) → from < length rs → thread_at rs from ≡ Some thread → AreHeadsFrom rs (from + 1) heads → AreHeadsFrom rs from (set heads thread from)
+heads_back rs from thread heads within runs are = record {
+  all = λ i other there. rw (length-set heads thread from) (are.all i other there);
+  each = λ other low. elim (cases_eq other thread) [
+    | inl same ↦ rw (same, get_or-set_same heads thread from 0 (are.all from thread runs)) (record {
+      behind = omega arith;
+      within = omega arith;
+      none = λ i after below. absurd (omega arith);
+      found = λ inside. runs;
+    })
+    | inr apart ↦
+        let old = are.each other (rw (length-set heads thread from) at low) in
+        rw (get_or-set_other heads thread other from 0 apart) (record {
+          behind = let h = old.behind in omega (arith, h);
+          within = old.within;
+          none = λ i after below there. elim (cases_eq i from) [
+            | inl same ↦ apart (same_Some other thread (sym there ∙ ap (thread_at rs) same ∙ runs))
+            | inr beyond ↦ old.none i (omega arith) below there
+          ];
+          found = old.found;
+        })
+  ];
+}
+
+pub links_back : (rs : List Record) (from thread next : ℕ) (links : List ℕ) → from < length rs → thread_at rs from ≡ Some thread → IsNextOf rs thread (from + 1) next → AreLinks rs (from + 1) links → AreLinks rs from (set links from next)
+links_back rs from thread next links within runs is_next are = record {
+  all = length-set links from next ∙ are.all;
+  each = λ i other after there. elim (cases_eq i from) [
+    | inl same ↦
+        let other_is : other ≡ thread = same_Some other thread (sym there ∙ ap (thread_at rs) same ∙ runs) in
+        rw (same, other_is, get_or-set_same links from next 0 (rw are.all within)) is_next
+    | inr beyond ↦ rw (get_or-set_other links from i next 0 beyond) (are.each i other (omega arith) there)
+  ];
+}
+
 -- the heads after the head of a thread was placed
-heads_more : (rs : List Record) (placed : List Bool) (heads order : List ℕ) (place thread next : ℕ) → IsMerging rs placed heads order → MayFollow rs placed place → thread_at rs place ≡ Some thread → place + 1 ≤ next → next ≤ length rs → ((i : ℕ) → place + 1 ≤ i → i < next → thread_at rs i ≡ Some thread → ⊥) → (next < length rs → thread_at rs next ≡ Some thread) → AreHeads rs (set placed place true) (set heads thread next)
-heads_more rs placed heads order place thread next merging may runs after within none found = record {
+heads_more : (rs : List Record) (placed : List Bool) (heads order : List ℕ) (place thread next : ℕ) → IsMerging rs placed heads order → MayFollow rs placed place → thread_at rs place ≡ Some thread → IsNextOf rs thread (place + 1) next → AreHeads rs (set placed place true) (set heads thread next)
+heads_more rs placed heads order place thread next merging may runs is_next = record {
   all = λ i other runs_there. rw (length-set heads thread next) (merging.are_heads.all i other runs_there);
   below = λ other i runs_there below. elim (cases_eq other thread) [
     | inl same ↦ stands_below i (runs_there ∙ ap Some same) (rw (same, here) at below)
     | inr apart ↦ stands_still placed place i (merging.are_heads.below other i runs_there (rw (there other apart) at below))
   ];
   head = λ other low inside. elim (cases_eq other thread) [
-    | inl same ↦ rw (same, here) (found (rw (same, here) at inside))
+    | inl same ↦ rw (same, here) (is_next.found (rw (same, here) at inside))
     | inr apart ↦ rw (there other apart) (merging.are_heads.head other (rw (length-set heads thread next) at low) (rw (there other apart) at inside))
   ];
   missing = λ other low stands. elim (cases_eq other thread) [
@@ -129,22 +180,22 @@ heads_more rs placed heads order place thread next merging may runs after within
       | inl earlier ↦ stands_still placed place i (merging.are_heads.below thread i runs_there (rw head_is earlier))
       | inr later ↦ elim (cases_eq i place) [
         | inl same ↦ let P : ℕ → Type 0 = λ j. Stands (set placed place true) j in subst P (sym same) (stands_here placed place (rw merging.all may.within))
-        | inr apart ↦ absurd (none i (omega arith) below runs_there)
+        | inr apart ↦ absurd (is_next.none i (omega arith) below runs_there)
       ]
     ]
 
     next_missing : Stands (set placed place true) next → ⊥
     next_missing stands = elim (stands_cases placed place next stands) [
       | inl old ↦ elim (cases_lt next (length rs)) [
-        | inl inside ↦ absurd (let h = merging.above thread next (found inside) old in omega (arith, head_is, h))
+        | inl inside ↦ absurd (let h = merging.above thread next (is_next.found inside) old in omega (arith, head_is, h))
         | inr past ↦ let h = stands_within placed next old in absurd (omega (arith, h, merging.all))
       ]
-      | inr is ↦ absurd (omega arith)
+      | inr is ↦ absurd (let h = is_next.behind in omega (arith, h, is))
     ]
 
 -- one more record stands
-pub merging_more : (rs : List Record) (placed : List Bool) (heads order : List ℕ) (place thread next : ℕ) → IsMerging rs placed heads order → MayFollow rs placed place → ((i : ℕ) → i < place → MayFollow rs placed i → ⊥) → thread_at rs place ≡ Some thread → place + 1 ≤ next → next ≤ length rs → ((i : ℕ) → place + 1 ≤ i → i < next → thread_at rs i ≡ Some thread → ⊥) → (next < length rs → thread_at rs next ≡ Some thread) → IsMerging rs (set placed place true) (set heads thread next) (order ++ place ∷ [])
-merging_more rs placed heads order place thread next merging may first runs after within none found = record {
+pub merging_more : (rs : List Record) (placed : List Bool) (heads order : List ℕ) (place thread next : ℕ) → IsMerging rs placed heads order → MayFollow rs placed place → ((i : ℕ) → i < place → MayFollow rs placed i → ⊥) → thread_at rs place ≡ Some thread → IsNextOf rs thread (place + 1) next → IsMerging rs (set placed place true) (set heads thread next) (order ++ place ∷ [])
+merging_more rs placed heads order place thread next merging may first runs is_next = record {
   all = length-set placed place true ∙ merging.all;
   to_order = λ i stands. elim (stands_cases placed place i stands) [
     | inl old ↦ Contains-append_left order (place ∷ []) i (merging.to_order i old)
@@ -154,7 +205,7 @@ merging_more rs placed heads order place thread next merging may first runs afte
     | inl old ↦ stands_still placed place i (merging.from_order i old)
     | inr same ↦ let P : ℕ → Type 0 = λ j. Stands (set placed place true) j in subst P same (stands_here placed place (rw merging.all may.within))
   ];
-  are_heads = heads_more rs placed heads order place thread next merging may runs after within none found;
+  are_heads = heads_more rs placed heads order place thread next merging may runs is_next;
   above = λ other i runs_there stands. elim (cases_eq other thread) [
     | inl same ↦ rw (same, here) (elim (stands_cases placed place i stands) [
       | inl old ↦ let h = merging.above thread i (runs_there ∙ ap Some same) old in omega (arith, h, head_is)

@@ -1,5 +1,5 @@
 -- How each phase of a check hands on that no cause so far occurs.
-use Rattle.std.proofs.Common.{◌≡◌, ◌∙◌, ℕ, zero, suc, ◌<◌, ◌+◌, ◌&&◌, List, [], ◌∷◌, length, take, drop, Bool, true, false, refl, sym, ap, subst, arith, inl, inr, ◌⊎◌}
+use Rattle.std.proofs.Common.{◌≡◌, ℕ, zero, suc, ◌<◌, ◌+◌, ◌&&◌, List, [], ◌∷◌, take, drop, Bool, true, false, refl, sym, ap, subst, arith, inl, inr, ◌⊎◌}
 use Rattle.std.proofs.Math.Dec.{ltb}
 use Rattle.std.proofs.Math.Seq.{take-add}
 use Rattle.std.proofs.lemmas.Bool.{ltb-true}
@@ -9,7 +9,7 @@ use Rattle.std.specs.Prelude.{Contains}
 use Rattle.ompt_events.specs.declared.records.Record.{Record}
 use Rattle.ompt_events.specs.declared.cause.Cause.{Cause}
 use Rattle.ompt_events.specs.CauseNames.{cause_number}
-use Rattle.ompt_events.specs.Causes.{IsFreeOf, IsFirstWith, IsMalformed, IsWellFormed}
+use Rattle.ompt_events.specs.Causes.{IsFreeOf, IsMalformed, IsWellFormed}
 use Rattle.checker.specs.declared.search.SearchFault.{SearchFault}
 use Rattle.checker.specs.declared.search.SearchFault.TheVariants.{Memory, Malformed}
 use Rattle.checker.specs.Verdicts.{sought}

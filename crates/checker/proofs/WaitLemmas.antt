@@ -16,13 +16,13 @@ use Rattle.ompt_events.specs.declared.names.SyncKind.TheVariants.{Taskwait, Task
 use Rattle.ompt_events.specs.declared.cause.Cause.TheVariants.{CreatedTwice}
 use Rattle.ompt_events.specs.Records.{created, creation, finish, region}
 use Rattle.ompt_events.specs.Places.{at, seen_at}
-use Rattle.ompt_events.specs.Regions.{open_regions, is_barrier, EndsRegion, IsRegion, ended, at_once}
+use Rattle.ompt_events.specs.Regions.{open_regions, is_barrier, IsRegion, ended, at_once}
 use Rattle.ompt_events.specs.Completion.{IsPartFinished, IsFinished, CountsAt, IsCompleteAt}
 use Rattle.ompt_events.specs.Tree.{children_before}
 use Rattle.ompt_events.specs.Coverage.{waited, grouped, synchronised}
-use Rattle.ompt_events.specs.Violations.{IsRequired, covered, preceding, awaited, IsUnfinished, IsFirstUnfinished}
+use Rattle.ompt_events.specs.Violations.{IsRequired, covered, preceding, awaited, IsFirstUnfinished}
 use Rattle.ompt_events.specs.Causes.{created_twice, IsFreeOf}
-use Rattle.ompt_events.proofs.PlaceLemmas.{at_read, at_within}
+use Rattle.ompt_events.proofs.PlaceLemmas.{at_within}
 use Rattle.ompt_events.proofs.RecordLemmas.{creation_at_created, created_at_made, at_through}
 use Rattle.ompt_events.proofs.RegionLemmas.{region_starts_none, own_begin}
 use Rattle.ompt_events.proofs.TreeLemmas.{child_before, before_child}
@@ -32,7 +32,7 @@ use Rattle.task_tree.proofs.ChildrenLemmas.{get_set_same, get_set_other}
 use Rattle.task_tree.proofs.NamedLemmas.{region_subject, creation_subject, creation_object, subject_index, object_index}
 use Rattle.task_tree.proofs.SubjectLemmas.{call_task, call_index, call_none}
 use Rattle.checker.specs.declared.waits.Lengths.{Lengths}
-use Rattle.checker.specs.Waits.{AreTaskwaits, HaveNoDependences, IsFinishedBelow, never, no_lengths, length_of, with_length, done_length, AreLeast, AreLengths, IsLimit, AreLatest, AreLimits, AreComplete, IsLateAt, IsInTime, IsFirstLate, IsFirstCreated}
+use Rattle.checker.specs.Waits.{AreTaskwaits, HaveNoDependences, IsFinishedBelow, never, no_lengths, length_of, with_length, done_length, AreLeast, AreLengths, IsLimit, AreLatest, AreLimits, AreComplete, IsInTime, IsFirstLate, IsFirstCreated}
 
 -- ---- the lengths of one task
 

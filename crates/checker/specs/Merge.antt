@@ -77,13 +77,23 @@ HintsAt place next body found =
     (hint : ℕ) → found ≡ Some hint
     → (hint ≡ place + 1) × (hint ≡ next) × (created body ≡ None) × (finish body ≡ None)
 
--- the first record of each thread
-pub record AreFirstHeads (rs : List Record) (heads : List ℕ) : Type 0 where
+-- the first record of the thread from a place on; the number of records where there is none
+pub record IsNextOf (rs : List Record) (thread from next : ℕ) : Type 0 where
+  pub behind : from ≤ next
+  pub within : next ≤ length rs
+  pub none : (i : ℕ) → from ≤ i → i < next → thread_at rs i ≡ Some thread → ⊥
+  pub found : next < length rs → thread_at rs next ≡ Some thread
+
+-- of each thread the first record from a place on
+pub record AreHeadsFrom (rs : List Record) (from : ℕ) (heads : List ℕ) : Type 0 where
   pub all : (i thread : ℕ) → thread_at rs i ≡ Some thread → thread < length heads
-  pub none : (thread i : ℕ) → thread < length heads → i < slice_index heads thread
-      → thread_at rs i ≡ Some thread → ⊥
-  pub head : (thread : ℕ) → thread < length heads → slice_index heads thread < length rs
-      → thread_at rs (slice_index heads thread) ≡ Some thread
+  pub each : (thread : ℕ) → thread < length heads → IsNextOf rs thread from (slice_index heads thread)
+
+-- for each record from a place on the next one of its thread
+pub record AreLinks (rs : List Record) (from : ℕ) (links : List ℕ) : Type 0 where
+  pub all : length links ≡ length rs
+  pub each : (i thread : ℕ) → from ≤ i → thread_at rs i ≡ Some thread
+      → IsNextOf rs thread (i + 1) (slice_index links i)
 
 -- each finishing record with the entry that it makes, the least entry first
 pub record AreEntries (rs : List Record) (entries : List (ℕ × ℕ)) : Type 0 where

@@ -5,7 +5,7 @@ ghost use Rattle.ompt_events.specs.Places.{thread_at};
 ghost use Rattle.ompt_events.specs.Linearization.{IsLinearization, IsGreedy};
 ghost use Rattle.ompt_events.specs.Causes.{IsFreeOf};
 ghost use Rattle.checker.specs.Search.{IsFound};
-ghost use Rattle.checker.specs.Merge.{HaveCreations, AreClosed, StartsOrFulfils, Stands, MayFollow, AreHeads, IsLeastEntry, IsReadyHead, IsHint, HintsAt, AreFirstHeads, AreEntries};
+ghost use Rattle.checker.specs.Merge.{HaveCreations, AreClosed, StartsOrFulfils, Stands, MayFollow, AreHeads, IsLeastEntry, IsReadyHead, IsHint, HintsAt, AreHeadsFrom, AreLinks, AreEntries};
 
 use crate::search::SearchFault;
 use ompt_events::{Cause, Record, finish};
@@ -27,7 +27,7 @@ pub(crate) fn find_order(
     ensures found { IfErr result (IsFound records.now NoOrder) }
 {
     let mut placed = none_placed(alloc, records.len())?;
-    let mut heads = first_heads(alloc, records)?;
+    let (mut heads, links) = threads_of(alloc, records)?;
     let entries = entries_of(alloc, records)?;
     let mut low = 0;
     let mut hint = None;
@@ -43,7 +43,7 @@ pub(crate) fn find_order(
         let event = &records[place];
         order.push(place)?;
         placed[place] = true;
-        let next = next_of_thread(records, event.thread, place + 1);
+        let next = links[place];
         heads[event.thread as usize] = next;
         low = first_missing(&placed, &entries, low);
         hint = hint_after(event, place, next);
@@ -79,16 +79,27 @@ fn first_unplaced(placed: &[bool]) -> Option<usize>
     None
 }
 
-/// The first record of each thread.
-fn first_heads(alloc: Global, records: &[Record]) -> Result<Vec<usize>, AllocError>
-    ensures { IfOk result (λ heads. AreFirstHeads records.now heads.items) }
+/// The first record of each thread, and for each record the next one of its thread.
+fn threads_of(alloc: Global, records: &[Record]) -> Result<(Vec<usize>, Vec<usize>), AllocError>
+    ensures heads { IfOk result (λ threads. AreHeadsFrom records.now 0 threads.0.items) }
+    ensures links { IfOk result (λ threads. AreLinks records.now 0 threads.1.items) }
 {
-    let last = last_thread(records);
-    let mut heads = Vec::new(alloc);
-    for thread in 0..usize::from(last) + 1 {
-        heads.push(next_of_thread(records, thread as u8, 0))?;
+    let mut heads = all_at(alloc, records.len(), usize::from(last_thread(records)) + 1)?;
+    let mut links = all_at(alloc, records.len(), records.len())?;
+    for step in 0..records.len() {
+        let at = records.len() - 1 - step;
+        let thread = usize::from(records[at].thread);
+        links[at] = heads[thread];
+        heads[thread] = at;
     }
-    Ok(heads)
+    Ok((heads, links))
+}
+
+/// The place so many times.
+fn all_at(alloc: Global, place: usize, len: usize) -> Result<Vec<usize>, AllocError>
+    ensures { IfOk result (λ places. places.items ≡ replicate len place) }
+{
+    vec![in alloc; place; len]
 }
 
 /// The greatest thread number.
@@ -104,22 +115,6 @@ fn last_thread(records: &[Record]) -> u8
     last
 }
 
-/// The first record of the thread from a place on, or the number of records.
-fn next_of_thread(records: &[Record], thread: u8, from: usize) -> usize
-    requires { from ≤ length records.now }
-    ensures from { from ≤ result }
-    ensures within { result ≤ length records.now }
-    ensures none { (i : ℕ) → from ≤ i → i < result → thread_at records.now i ≡ Some thread → ⊥ }
-    ensures found { result < length records.now → thread_at records.now result ≡ Some thread }
-{
-    for at in from..records.len() {
-        if records[at].thread == thread {
-            return at;
-        }
-    }
-    records.len()
-}
-
 /// The finishing records with their entries, the least entry first.
 fn entries_of(alloc: Global, records: &[Record]) -> Result<Vec<(u32, usize)>, AllocError>
     ensures { IfOk result (λ entries. AreEntries records.now entries.items) }
@@ -130,7 +125,8 @@ fn entries_of(alloc: Global, records: &[Record]) -> Result<Vec<(u32, usize)>, Al
             entries.push((event.seen, at))?;
         }
     }
-    entries.sort_unstable_by_key(|entry| entry.0);
+    // Along a thread the entries rise, so there are few runs to merge.
+    entries.sort_by_key(|entry| entry.0)?;
     Ok(entries)
 }
 

@@ -1,4 +1,4 @@
-use Rattle.std.proofs.Common.{ℕ, ◌≡◌, ◌∙◌, ◌<◌}
+use Rattle.std.proofs.Common.{ℕ, ◌≡◌, ◌<◌}
 use Rattle.std.proofs.lemmas.Result.{IfErr-weaker, on_ok_weaker}
 use Rattle.ompt_events.specs.declared.cause.Cause.TheVariants.{NoOrder}
 use Rattle.ompt_events.specs.Places.{places}

@@ -6,7 +6,7 @@ use Rattle.ompt_events.specs.Records.{finish}
 use Rattle.ompt_events.specs.Places.{at}
 use Rattle.ompt_events.proofs.PlaceLemmas.{at_read}
 use Rattle.ompt_events.proofs.PlaceLemmas.{seen_read}
-use Rattle.checker.proofs.EntryLemmas.{entries_other, entries_more, entries_sorted}
+use Rattle.checker.proofs.EntryLemmas.{entries_other, entries_more, entries_sorted, from_ok}
 use Rattle.checker.proofs.merge.entries_of.Goals as goal
 use Rattle.checker.proofs.merge.entries_of.Goals.{then-is_some+in_ok-push, else-is_some}
 
@@ -23,7 +23,7 @@ loop-at-preserved c =
 
 pub returns : goal.returns
 returns c =
-    let sorted = c.sort_unstable_by_key.new.self.items in
+    let sorted = c.sort_by_key.new.self.items in
     let key : ℕ × ℕ → ℕ = λ e. e.0 in
-    let rises : IsNonDecreasingBy key sorted = IsNonDecreasingBy-from_sort key sorted (c.sort_unstable_by_key.ensures.sorted key (answers_always _ _ _ (λ f a r g h. search rules))) in
-    entries_sorted c.args.records.now c.loop-at.at c.loop-at.entries.items sorted c.loop-at-test.false c.loop-at.invariant c.sort_unstable_by_key.ensures.permutation rises
+    let rises : IsNonDecreasingBy key sorted = IsNonDecreasingBy-from_sort key sorted (from_ok c.sort_by_key.result _ c.in_ok-sort_by_key.was c.sort_by_key.ensures.sorted key (answers_always _ _ _ (λ f a r g h. search rules))) in
+    entries_sorted c.args.records.now c.loop-at.at c.loop-at.entries.items sorted c.loop-at-test.false c.loop-at.invariant c.sort_by_key.ensures.permutation rises

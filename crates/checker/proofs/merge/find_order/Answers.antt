@@ -1,7 +1,9 @@
-use Rattle.std.proofs.Common.{true, ◌≡◌, ◌∙◌, ◌<◌, ◌≤◌, ℕ, Some, length, get_or, refl, sym, arith, rules}
+use Rattle.std.proofs.Common.{true, ◌≡◌, ◌∙◌, ◌<◌, ◌≤◌, ◌+◌, ℕ, Some, length, get_or, refl, sym, arith, rules}
 use Rattle.std.proofs.Math.ListN.{set}
+use Rattle.std.proofs.lemmas.List.{get_or_default}
+use Rattle.std.specs.Prelude.{slice_index}
 use Rattle.ompt_events.specs.Places.{thread_at}
-use Rattle.checker.specs.Merge.{Stands, MayFollow}
+use Rattle.checker.specs.Merge.{Stands, MayFollow, IsNextOf}
 use Rattle.ompt_events.proofs.PlaceLemmas.{thread_read}
 use Rattle.checker.proofs.EntryLemmas.{least_entry}
 use Rattle.checker.proofs.MergingLemmas.{merging_start, merging_closed, merging_more, none_stands, missing_less, passed_more, hint_more, first_unordered, all_ordered, stands_ordered, unordered_within}
@@ -9,7 +11,7 @@ use Rattle.checker.proofs.merge.find_order.Goals as goal
 
 pub merge-init : goal.merge-init
 merge-init c = record {
-  merging = rw c.in_ok-order.ensures.items (merging_start c.args.records.now c.in_ok-heads.heads.items c.in_ok-placed.placed.items c.in_ok-placed.ensures c.in_ok-heads.ensures);
+  merging = rw c.in_ok-order.ensures.items (merging_start c.args.records.now c.in_ok-heads.heads.items c.in_ok-placed.placed.items c.in_ok-placed.ensures c.in_ok-heads.ensures.heads);
   within = omega arith;
   passed = λ j d below. absurd (omega arith);
   missing = λ d below stands. none_stands (length c.args.records.now) (get_or c.in_ok-entries.entries.items 0 d).1 (rw c.in_ok-placed.ensures at stands);
@@ -46,17 +48,19 @@ merge-preserved c =
     let r = c.index-records-place.result in
     let runs : thread_at rs place ≡ Some r.thread = thread_read rs place r may.within c.index-records-place.is in
     let inside : place < length placed = rw merging.all may.within in
-    let next = c.next_of_thread-next.ensures in
+    let links = c.in_ok-heads.ensures.links in
+    let read : slice_index c.in_ok-heads.links.items place ≡ c.index-next.result.now = get_or_default c.in_ok-heads.links.items place 0 c.index-next.result.now (rw links.all may.within) ∙ sym c.index-next.ensures in
+    let next : IsNextOf rs r.thread (place + 1) c.index-next.result.now = rw (← read) (links.each place r.thread (omega arith) runs) in
     let lists : c.deref-in-Some-2.result.now ≡ entries = c.deref-in-Some-2.ensures.value in
     let stood : c.deref-in-Some.result.now ≡ set placed place true = c.deref-in-Some.ensures.value in
     let passed : (j : ℕ) (d : ℕ × ℕ) → c.merge.low ≤ j → j < c.first_missing-low.result → Stands (set placed place true) (get_or entries j d).1 = rw (lists, stood) at c.first_missing-low.ensures.passed in
     let missing : (d : ℕ × ℕ) → c.first_missing-low.result < length entries → Stands (set placed place true) (get_or entries c.first_missing-low.result d).1 → ⊥ = rw (lists, stood) at c.first_missing-low.ensures.missing in
     record {
-      merging = rw c.in_ok-push.ensures.items (merging_more rs placed heads c.merge.order.items place r.thread c.next_of_thread-next.result merging may first runs next.from next.within next.none next.found);
+      merging = rw c.in_ok-push.ensures.items (merging_more rs placed heads c.merge.order.items place r.thread c.index-next.result.now merging may first runs next);
       within = rw lists at c.first_missing-low.ensures.within;
       passed = passed_more placed entries c.merge.low c.first_missing-low.result place c.merge.invariant.passed passed;
       missing = missing;
-      hint = hint_more rs r placed heads place r.thread c.next_of_thread-next.result c.hint_after-hint.result inside may.within c.index-records-place.is first (merging.are_heads.all place r.thread runs) c.hint_after-hint.ensures;
+      hint = hint_more rs r placed heads place r.thread c.index-next.result.now c.hint_after-hint.result inside may.within c.index-records-place.is first (merging.are_heads.all place r.thread runs) c.hint_after-hint.ensures;
     }
 
 pub returns-in-Some-first_unplaced-clause-found : goal.returns-in-Some-first_unplaced-clause-found
@@ -85,3 +89,9 @@ returns-clause-free c = λ i has.
 
 pub next_ready-requires-clause-closed : goal.next_ready-requires-clause-closed
 next_ready-requires-clause-closed c = rw c.deref.ensures.value (merging_closed c.args.records.now c.merge.placed.items c.merge.heads.items c.merge.order.items c.merge.invariant.merging)
+
+pub index-next-requires : goal.index-next-requires
+index-next-requires c =
+    let within : c.in-Some.place < length c.args.records.now = c.in-Some.ensures.found.within in
+    let all = c.in_ok-heads.ensures.links.all in
+    search rules

@@ -1,4 +1,3 @@
-use Rattle.std.proofs.Common.{◌≡◌}
 use Rattle.checker.specs.Merge.{IsHint}
 use Rattle.checker.proofs.MergeLemmas.{may_follow}
 use Rattle.checker.proofs.merge.next_ready.Goals as goal

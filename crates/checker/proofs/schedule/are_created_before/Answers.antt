@@ -1,7 +1,7 @@
-use Rattle.std.proofs.Common.{ℕ, ◌≡◌, ◌∙◌, ◌<◌, ◌+◌, Some, None, sym, ap, subst, arith, below_more}
+use Rattle.std.proofs.Common.{◌∙◌, sym, arith}
 use Rattle.std.proofs.lemmas.Option.{none-some, same_Some}
 use Rattle.ompt_events.proofs.PlaceLemmas.{at_within}
-use Rattle.checker.specs.Merge.{awaited, Awaits}
+use Rattle.checker.specs.Merge.{awaited}
 use Rattle.checker.proofs.ScheduleLemmas.{awaits_more}
 use Rattle.checker.proofs.schedule.are_created_before.Goals as goal
 use Rattle.checker.proofs.schedule.are_created_before.Goals.{in-Some+else-place-at, in_default}

@@ -1,4 +1,4 @@
-use Rattle.std.proofs.Common.{sym, ◌∙◌, false, true}
+use Rattle.std.proofs.Common.{sym, ◌∙◌}
 use Rattle.std.proofs.lemmas.Bool.{false≢true}
 use Rattle.checker.proofs.ScheduleLemmas.{creation_found, creation_none}
 use Rattle.checker.proofs.schedule.creation_awaited.Goals as goal

@@ -1,5 +1,4 @@
-use Rattle.std.proofs.Common.{◌≡◌, ◌∙◌, length, ap, arith}
-use Rattle.checker.proofs.WaitLemmas.{lengths_start}
+use Rattle.std.proofs.Common.{◌≡◌, length, arith}
 use Rattle.checker.proofs.waits.done_lengths.Goals as goal
 
 pub returns : goal.returns

@@ -1,8 +1,7 @@
-use Rattle.std.proofs.Common.{◌≡◌, ◌∙◌, ◌<◌, length, Some, sym}
-use Rattle.std.proofs.lemmas.Option.{slice_get-get_or, same_Some}
+use Rattle.std.proofs.Common.{◌<◌, length}
+use Rattle.std.proofs.lemmas.Option.{slice_get-get_or}
 use Rattle.ompt_events.specs.Places.{at}
 use Rattle.task_tree.specs.Subjects.{subject}
-use Rattle.task_tree.proofs.SubjectLemmas.{call_index}
 use Rattle.checker.proofs.WaitLemmas.{index_within, call_same}
 use Rattle.checker.proofs.waits.limit_at.Goals as goal
 

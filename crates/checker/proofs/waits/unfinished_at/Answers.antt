@@ -1,4 +1,4 @@
-use Rattle.std.proofs.Common.{◌≡◌, ◌∙◌, ◌<◌, ◌≤◌, ◌^◌, length, get_or, sym, arith, rules}
+use Rattle.std.proofs.Common.{◌<◌, ◌^◌, length, get_or, arith, rules}
 use Rattle.ompt_events.specs.declared.names.SyncKind.TheVariants.{Taskwait}
 use Rattle.checker.proofs.WaitLemmas.{no_wait, limit_complete, late_or_none, begin_within, seen_index}
 use Rattle.checker.proofs.waits.unfinished_at.Goals as goal
