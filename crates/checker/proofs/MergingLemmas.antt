@@ -1,25 +1,25 @@
 -- The merge of the threads, one record on.
 use Rattle.std.proofs.Common.{zero, suc, ◌≡◌, ◌≢◌, ◌∙◌, ℕ, ◌<◌, ◌≤◌, ◌+◌, List, [], ◌∷◌, ◌++◌, length, get_or, Option, Some, None, Bool, true, false, refl, sym, ap, subst, arith, inl, inr, ◌⊎◌}
 use Rattle.std.proofs.lemmas.Bool.{cases_eq, cases_lt, false≢true}
-use Rattle.std.proofs.lemmas.Option.{none-some, same_Some, slice_get-get_or, slice_get_within}
+use Rattle.std.proofs.lemmas.Option.{same_Some, slice_get-get_or, slice_get_within}
 use Rattle.std.proofs.lemmas.List.{length-set, length-replicate, get_or-set_same, get_or-set_other, get_or-replicate, get_or_default, get_or-take, length-take, append-nil}
 use Rattle.std.proofs.lemmas.List.Elements.{Contains-push, Contains-push_cases, Contains-append_left, Contains-append_cases}
 use Rattle.std.proofs.lemmas.List.Sorted.{IsPermutation-refl, IsPermutation-more, Contains-permutation}
 use Rattle.std.specs.List.Sorted.{IsPermutation}
 use Rattle.std.specs.List.{remove}
-use Rattle.ompt_events.proofs.PlaceLemmas.{contains_place, nothing_left, at_read}
+use Rattle.ompt_events.proofs.PlaceLemmas.{contains_place, nothing_left}
 use Rattle.std.proofs.Math.ListN.{set}
-use Rattle.std.specs.Prelude.{is_some, IfSome, slice_get, slice_index, Contains, ⊤, replicate, sum_by}
+use Rattle.std.specs.Prelude.{IfSome, slice_get, slice_index, Contains, ⊤, replicate, sum_by}
 use Rattle.std.proofs.lemmas.List.Sums.{sum_by-set}
 use Rattle.ompt_events.specs.declared.records.Record.{Record}
-use Rattle.ompt_events.specs.Places.{at, places, thread_at}
-use Rattle.ompt_events.specs.Records.{created, finish}
+use Rattle.ompt_events.specs.Places.{places, thread_at}
 use Rattle.ompt_events.specs.HappensBefore.{thread_order, creation, discard, fulfilment, IsStep, program, ledger, step}
 use Rattle.ompt_events.specs.declared.cause.Cause.TheVariants.{NoOrder}
 use Rattle.ompt_events.specs.Causes.{HasCause, no_order, HasNoOrder, IsFirstWith}
 use Rattle.ompt_events.specs.Linearization.{IsDue, IsReady, IsFirstReady, IsGreedy, IsGrounded, IsLinearization}
-use Rattle.checker.specs.Merge.{IsHint, HintsAt, AreClosed, Stands, MayFollow, AreHeads, IsNextOf, AreHeadsFrom, AreLinks}
-use Rattle.checker.proofs.MergeLemmas.{stands_or_not, is_head}
+use Rattle.checker.specs.Merge.{HaveCreations, StartsOrFulfils, IsLeastEntry, Awaits, AreEarly, IsHint, HintsAt, AreClosed, Stands, MayFollow, AreHeads, IsNextOf, AreHeadsFrom, AreLinks}
+use Rattle.checker.proofs.ScheduleLemmas.{step_awaits}
+use Rattle.checker.proofs.MergeLemmas.{stands_same, stands_or_not, is_head}
 use Rattle.ompt_events.proofs.LinearizationLemmas.{IsClosed, due_from_steps, closed_more, greedy_more, greedy_grounded, grounded_rising}
 use Rattle.ompt_events.proofs.HappensBeforeLemmas.{before_to, before_from}
 
@@ -338,35 +338,65 @@ first_unordered rs placed heads order i merging none within missing before = rec
 pub unordered_within : (rs : List Record) (i : ℕ) → HasCause rs i NoOrder → i < length rs
 unordered_within rs i (no_order h) = h.within
 
--- a record that neither creates nor finishes is no step to one before it in the file
-no_step : (rs : List Record) (place a i : ℕ) → at created rs place ≡ None → at finish rs place ≡ None → i < place → place ≡ a → IsStep rs a i → ⊥
-no_step rs place a i no_creation no_finish before same (program (thread_order earlier within there)) = absurd (omega arith)
-no_step rs place a i no_creation no_finish before same (program (creation task creates start)) = none-some task (sym no_creation ∙ ap (at created rs) same ∙ creates)
-no_step rs place a i no_creation no_finish before same (program (discard task creates gone)) = none-some task (sym no_creation ∙ ap (at created rs) same ∙ creates)
-no_step rs place a i no_creation no_finish before same (program (fulfilment task creates done)) = none-some task (sym no_creation ∙ ap (at created rs) same ∙ creates)
-no_step rs place a i no_creation no_finish before same (ledger finishes less) = false≢true (ap is_some (sym no_finish ∙ ap (at finish rs) same) ∙ finishes)
+-- ---- the hint
 
--- so none before the next record may follow it
-none_before : (rs : List Record) (placed : List Bool) (place : ℕ) → place < length placed → ((i : ℕ) → i < place → MayFollow rs placed i → ⊥) → at created rs place ≡ None → at finish rs place ≡ None → (i : ℕ) → i < place + 1 → MayFollow rs (set placed place true) i → ⊥
-none_before rs placed place within before no_creation no_finish i below may = elim (cases_eq i place) [
-  | inl same ↦ may.missing (let P : ℕ → Type 0 = λ j. Stands (set placed place true) j in subst P (sym same) (stands_here placed place within))
-  | inr apart ↦ before i (omega arith) (record {
-    within = may.within;
-    missing = λ stands. may.missing (stands_still placed place i stands);
-    steps = λ a s. elim (stands_cases placed place a (may.steps a s)) [
-      | inl old ↦ old
-      | inr same ↦ absurd (no_step rs place a i no_creation no_finish (omega arith) (sym same) s)
-    ];
-  })
-]
+-- one more record that awaits a creation
+early_cases : (creations : List (Option ℕ)) (n : ℕ) (early after : List Bool) → AreEarly creations n early → length after ≡ length early → ((c : ℕ) → slice_get early c ≡ Some true → slice_get after c ≡ Some true) → ((c : ℕ) → n < c → c < length creations → slice_get creations n ≡ Some (Some c) → slice_get after c ≡ Some true) → AreEarly creations (n + 1) after
+early_cases creations n early after are len still here = record {
+  all = len ∙ are.all;
+  each = λ i c below before within awaits. elim (cases_eq i n) [
+    | inl same ↦ here c (rw (← same) before) within (ap (slice_get creations) (sym same) ∙ awaits)
+    | inr apart ↦ still c (are.each i c (omega arith) before within awaits)
+  ];
+}
 
-pub hint_more : (rs : List Record) (r : Record) (placed : List Bool) (heads : List ℕ) (place thread next : ℕ) (found : Option ℕ) → place < length placed → place < length rs → r ≡ get_or rs place r → ((i : ℕ) → i < place → MayFollow rs placed i → ⊥) → thread < length heads → HintsAt place next r.body found → IfSome found (IsHint rs (set placed place true) (set heads thread next))
-hint_more rs r placed heads place thread next None inside within read before low hints = tt
-hint_more rs r placed heads place thread next (Some hint) inside within read before low hints =
+pub early_marked : (creations : List (Option ℕ)) (n made : ℕ) (early : List Bool) → AreEarly creations n early → slice_get creations n ≡ Some (Some made) → made < length creations → AreEarly creations (n + 1) (set early made true)
+early_marked creations n made early are awaits within = early_cases creations n early (set early made true) are (length-set early made true) (λ c marked. stands_still early made c marked) (λ c before inside there. stands_same (set early made true) made c (same_Some made c (same_Some (Some made) (Some c) (sym awaits ∙ there))) (stands_here early made (rw are.all within)))
+
+pub early_other : (creations : List (Option ℕ)) (n : ℕ) (early : List Bool) → AreEarly creations n early → ((c : ℕ) → n < c → c < length creations → slice_get creations n ≡ Some (Some c) → ⊥) → AreEarly creations (n + 1) early
+early_other creations n early are none = early_cases creations n early early are refl (λ c marked. marked) (λ c before inside there. absurd (none c before inside there))
+
+-- a step from the record to one before it in the file, which may stand once the record does
+no_step : (rs : List Record) → StartsOrFulfils rs → (creations : List (Option ℕ)) (early placed after : List Bool) (least : Option ℕ) (place i : ℕ) → HaveCreations rs (length rs) creations → AreEarly creations (length creations) early → place < length rs → (Stands early place → ⊥) → (Stands placed place → ⊥) → IsLeastEntry rs placed least → IsLeastEntry rs after least → i < place → MayFollow rs after i → IsStep rs place i → ⊥
+no_step rs apart creations early placed after least place i awaits are_early within not_early missing is_least is_least' before may s = by s
+  where
+    awaited_behind : Awaits rs i place → ⊥
+    awaited_behind waits = not_early (are_early.each i place (rw awaits.all may.within) before (rw awaits.all within) (awaits.each i place may.within waits))
+
+    by : IsStep rs place i → ⊥
+    by (program (thread_order earlier inside there)) = absurd (omega (arith, earlier, before))
+    by (program (creation task creates start)) = awaited_behind (step_awaits rs apart place i (inr (inl (task, creates, start.starts))))
+    by (program (discard task creates gone)) = awaited_behind (step_awaits rs apart place i (inr (inr (task, creates, gone))))
+    by (program (fulfilment task creates done)) = awaited_behind (step_awaits rs apart place i (inl (task, creates, done)))
+    by (ledger finishes less) =
+        let entry = is_least.below place finishes missing in
+        let reached = is_least'.reached entry.0 entry.1 in
+        let bound = entry.2 in
+        let is = reached.3 in
+        reached.2 (may.steps reached.0 (ledger reached.1 (omega (arith, bound, is, less))))
+
+pub hint_more : (rs : List Record) → StartsOrFulfils rs → (creations : List (Option ℕ)) (early placed : List Bool) (heads : List ℕ) (low now_low place thread next : ℕ) (entry : ℕ → Option ℕ) (found : Option ℕ) → HaveCreations rs (length rs) creations → AreEarly creations (length creations) early → place < length placed → MayFollow rs placed place → ((i : ℕ) → i < place → MayFollow rs placed i → ⊥) → thread < length heads → IsLeastEntry rs placed (entry low) → IsLeastEntry rs (set placed place true) (entry now_low) → HintsAt early place next low now_low found → IfSome found (IsHint rs (set placed place true) (set heads thread next))
+hint_more rs apart creations early placed heads low now_low place thread next entry None awaits are_early inside here before in_heads is_least is_least' hints = tt
+hint_more rs apart creations early placed heads low now_low place thread next entry (Some hint) awaits are_early inside here before in_heads is_least is_least' hints =
     let h = hints hint refl in
     record {
       thread = thread;
-      low = rw (length-set heads thread next) low;
-      head = get_or-set_same heads thread next 0 low ∙ sym h.1;
-      none = λ i below. none_before rs placed place inside before (at_read created rs place r within read ∙ h.2) (at_read finish rs place r within read ∙ h.3) i (omega (arith, below, h.0));
+      low = rw (length-set heads thread next) in_heads;
+      head = get_or-set_same heads thread next 0 in_heads ∙ sym h.1;
+      none = λ i below. none_before (rw (← h.3) at is_least') h.2 i (omega (arith, below, h.0));
     }
+  where
+    none_before : IsLeastEntry rs (set placed place true) (entry low) → (Stands early place → ⊥) → (i : ℕ) → i < place + 1 → MayFollow rs (set placed place true) i → ⊥
+    none_before same_least not_early i below may = elim (cases_eq i place) [
+      | inl same ↦ may.missing (let P : ℕ → Type 0 = λ j. Stands (set placed place true) j in subst P (sym same) (stands_here placed place inside))
+      | inr apart' ↦ before i (omega arith) (record {
+        within = may.within;
+        missing = λ stands. may.missing (stands_still placed place i stands);
+        steps = λ a s. elim (stands_cases placed place a (may.steps a s)) [
+          | inl old ↦ old
+          | inr same ↦
+              let P : ℕ → Type 0 = λ j. IsStep rs j i in
+              absurd (no_step rs apart creations early placed (set placed place true) (entry low) place i awaits are_early here.within not_early here.missing is_least same_least (omega arith) may (subst P same s))
+        ];
+      })
+    ]

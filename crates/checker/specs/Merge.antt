@@ -1,10 +1,10 @@
 -- The records while they are put into an order.
-use Rattle.std.specs.Prelude.{ℕ, ◌≡◌, ◌<◌, ◌≤◌, ◌+◌, List, length, Bool, true, Option, Some, None, slice_get, slice_index, Contains}
+use Rattle.std.specs.Prelude.{ℕ, ◌≡◌, ◌<◌, ◌≤◌, ◌+◌, List, length, Bool, true, Option, Some, slice_get, slice_index, Contains}
 use Rattle.std.specs.Option.{option_or}
 use Rattle.std.specs.List.Sorted.{IsNonDecreasingBy}
 use Rattle.ompt_events.specs.declared.records.Record.{Record}
 use Rattle.ompt_events.specs.declared.records.Body.{Body}
-use Rattle.ompt_events.specs.Records.{created, started, discarded, fulfilled, finish}
+use Rattle.ompt_events.specs.Records.{created, started, discarded, fulfilled}
 use Rattle.ompt_events.specs.Places.{at, thread_at, seen_at}
 use Rattle.ompt_events.specs.HappensBefore.{IsFinishing, IsStep, HappensBefore}
 
@@ -70,12 +70,18 @@ pub record IsHint (rs : List Record) (placed : List Bool) (heads : List ℕ) (hi
   pub head : slice_index heads thread ≡ hint
   pub none : (i : ℕ) → i < hint → MayFollow rs placed i → ⊥
 
--- the hint after a record that stands: the next in the file, of its thread too, where the record releases no
--- other one
-abbrev pub HintsAt : ℕ → ℕ → Body → Option ℕ → Type 0
-HintsAt place next body found =
+-- of the first n records each that awaits a creation behind it has that one marked
+pub record AreEarly (creations : List (Option ℕ)) (n : ℕ) (early : List Bool) : Type 0 where
+  pub all : length early ≡ length creations
+  pub each : (i c : ℕ) → i < n → i < c → c < length creations → slice_get creations i ≡ Some (Some c)
+      → slice_get early c ≡ Some true
+
+-- the hint after a record that stands: the next in the file, of its thread too, where no record before it
+-- awaits what this one creates, and the first entry that is missing is the same
+abbrev pub HintsAt : List Bool → ℕ → ℕ → ℕ → ℕ → Option ℕ → Type 0
+HintsAt early place next low now_low found =
     (hint : ℕ) → found ≡ Some hint
-    → (hint ≡ place + 1) × (hint ≡ next) × (created body ≡ None) × (finish body ≡ None)
+    → (hint ≡ place + 1) × (hint ≡ next) × (slice_get early place ≡ Some true → ⊥) × (low ≡ now_low)
 
 -- the first record of the thread from a place on; the number of records where there is none
 pub record IsNextOf (rs : List Record) (thread from next : ℕ) : Type 0 where

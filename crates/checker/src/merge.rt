@@ -5,7 +5,7 @@ ghost use Rattle.ompt_events.specs.Places.{thread_at};
 ghost use Rattle.ompt_events.specs.Linearization.{IsLinearization, IsGreedy};
 ghost use Rattle.ompt_events.specs.Causes.{IsFreeOf};
 ghost use Rattle.checker.specs.Search.{IsFound};
-ghost use Rattle.checker.specs.Merge.{HaveCreations, AreClosed, StartsOrFulfils, Stands, MayFollow, AreHeads, IsLeastEntry, IsReadyHead, IsHint, HintsAt, AreHeadsFrom, AreLinks, AreEntries};
+ghost use Rattle.checker.specs.Merge.{HaveCreations, AreClosed, StartsOrFulfils, Stands, MayFollow, AreHeads, IsLeastEntry, IsReadyHead, IsHint, HintsAt, AreHeadsFrom, AreLinks, AreEarly, AreEntries};
 
 use crate::search::SearchFault;
 use ompt_events::{Cause, Record, finish};
@@ -29,6 +29,7 @@ pub(crate) fn find_order(
     let mut placed = none_placed(alloc, records.len())?;
     let (mut heads, links) = threads_of(alloc, records)?;
     let entries = entries_of(alloc, records)?;
+    let early = awaited_early(alloc, creations)?;
     let mut low = 0;
     let mut hint = None;
     let mut order = Vec::with_capacity(alloc, records.len())?;
@@ -45,8 +46,9 @@ pub(crate) fn find_order(
         placed[place] = true;
         let next = links[place];
         heads[event.thread as usize] = next;
-        low = first_missing(&placed, &entries, low);
-        hint = hint_after(event, place, next);
+        let now_low = first_missing(&placed, &entries, low);
+        hint = hint_after(&early, place, next, low, now_low);
+        low = now_low;
     }
     match first_unplaced(&placed) {
         Some(at) => Err(SearchFault::Malformed {
@@ -115,6 +117,21 @@ fn last_thread(records: &[Record]) -> u8
     last
 }
 
+/// Which creations a record awaits that stands before them in the file.
+fn awaited_early(alloc: Global, creations: &[Option<usize>]) -> Result<Vec<bool>, AllocError>
+    ensures { IfOk result (λ early. AreEarly creations.now (length creations.now) early.items) }
+{
+    let mut early = none_placed(alloc, creations.len())?;
+    for at in 0..creations.len() {
+        if let Some(creation) = creations[at] {
+            if at < creation && creation < creations.len() {
+                early[creation] = true;
+            }
+        }
+    }
+    Ok(early)
+}
+
 /// The finishing records with their entries, the least entry first.
 fn entries_of(alloc: Global, records: &[Record]) -> Result<Vec<(u32, usize)>, AllocError>
     ensures { IfOk result (λ entries. AreEntries records.now entries.items) }
@@ -141,13 +158,19 @@ fn entry_at(entries: &[(u32, usize)], low: usize) -> Option<u32>
     }
 }
 
-/// Where no record before the next one in the file may stand next, and that one is the head of its thread, it.
-fn hint_after(event: &Record, place: usize, next: usize) -> Option<usize>
+/// Where no record before the next one in the file may stand next, and that one is the head of its thread, it:
+/// no record before it awaits what this one creates, nor was an entry made that one could name.
+fn hint_after(
+    early: &[bool],
+    place: usize,
+    next: usize,
+    low: usize,
+    now_low: usize,
+) -> Option<usize>
     requires { place < usize.MAX }
-    ensures { HintsAt place next event.now.body result }
+    ensures { HintsAt early.now place next low now_low result }
 {
-    let releases = event.body.created().is_some() || finish(event).is_some();
-    if next == place + 1 && !releases {
+    if next == place + 1 && now_low == low && !stands(early, place) {
         Some(next)
     } else {
         None
@@ -232,7 +255,7 @@ fn is_ready(
     if head >= records.len() {
         return false;
     }
-    is_created(creations, placed, head) && is_entered(records[head].seen, least)
+    is_entered(records[head].seen, least) && is_created(creations, placed, head)
 }
 
 /// Whether the creation that the record awaits stands.

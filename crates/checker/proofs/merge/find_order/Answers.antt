@@ -1,9 +1,9 @@
 use Rattle.std.proofs.Common.{true, ◌≡◌, ◌∙◌, ◌<◌, ◌≤◌, ◌+◌, ℕ, Some, length, get_or, refl, sym, arith, rules}
 use Rattle.std.proofs.Math.ListN.{set}
 use Rattle.std.proofs.lemmas.List.{get_or_default}
-use Rattle.std.specs.Prelude.{slice_index}
+use Rattle.std.specs.Prelude.{slice_get, slice_index, option_map}
 use Rattle.ompt_events.specs.Places.{thread_at}
-use Rattle.checker.specs.Merge.{Stands, MayFollow, IsNextOf}
+use Rattle.checker.specs.Merge.{Stands, MayFollow, IsNextOf, HintsAt}
 use Rattle.ompt_events.proofs.PlaceLemmas.{thread_read}
 use Rattle.checker.proofs.EntryLemmas.{least_entry}
 use Rattle.checker.proofs.MergingLemmas.{merging_start, merging_closed, merging_more, none_stands, missing_less, passed_more, hint_more, first_unordered, all_ordered, stands_ordered, unordered_within}
@@ -53,14 +53,16 @@ merge-preserved c =
     let next : IsNextOf rs r.thread (place + 1) c.index-next.result.now = rw (← read) (links.each place r.thread (omega arith) runs) in
     let lists : c.deref-in-Some-2.result.now ≡ entries = c.deref-in-Some-2.ensures.value in
     let stood : c.deref-in-Some.result.now ≡ set placed place true = c.deref-in-Some.ensures.value in
-    let passed : (j : ℕ) (d : ℕ × ℕ) → c.merge.low ≤ j → j < c.first_missing-low.result → Stands (set placed place true) (get_or entries j d).1 = rw (lists, stood) at c.first_missing-low.ensures.passed in
-    let missing : (d : ℕ × ℕ) → c.first_missing-low.result < length entries → Stands (set placed place true) (get_or entries c.first_missing-low.result d).1 → ⊥ = rw (lists, stood) at c.first_missing-low.ensures.missing in
+    let passed : (j : ℕ) (d : ℕ × ℕ) → c.merge.low ≤ j → j < c.first_missing-now_low.result → Stands (set placed place true) (get_or entries j d).1 = rw (lists, stood) at c.first_missing-now_low.ensures.passed in
+    let missing : (d : ℕ × ℕ) → c.first_missing-now_low.result < length entries → Stands (set placed place true) (get_or entries c.first_missing-now_low.result d).1 → ⊥ = rw (lists, stood) at c.first_missing-now_low.ensures.missing in
+    let now_passed = passed_more placed entries c.merge.low c.first_missing-now_low.result place c.merge.invariant.passed passed in
+    let hints : HintsAt c.in_ok-early.early.items place c.index-next.result.now c.merge.low c.first_missing-now_low.result c.hint_after-hint.result = rw c.deref-in-Some-3.ensures.value at c.hint_after-hint.ensures in
     record {
       merging = rw c.in_ok-push.ensures.items (merging_more rs placed heads c.merge.order.items place r.thread c.index-next.result.now merging may first runs next);
-      within = rw lists at c.first_missing-low.ensures.within;
-      passed = passed_more placed entries c.merge.low c.first_missing-low.result place c.merge.invariant.passed passed;
+      within = rw lists at c.first_missing-now_low.ensures.within;
+      passed = now_passed;
       missing = missing;
-      hint = hint_more rs r placed heads place r.thread c.index-next.result.now c.hint_after-hint.result inside may.within c.index-records-place.is first (merging.are_heads.all place r.thread runs) c.hint_after-hint.ensures;
+      hint = hint_more rs c.requires.apart c.args.creations.now c.in_ok-early.early.items placed heads c.merge.low c.first_missing-now_low.result place r.thread c.index-next.result.now (λ low. option_map (λ (entry : ℕ × ℕ). entry.0) (slice_get entries low)) c.hint_after-hint.result c.requires.creations c.in_ok-early.ensures inside may first (merging.are_heads.all place r.thread runs) (least_entry rs placed entries c.merge.low c.in_ok-entries.ensures c.merge.invariant.passed c.merge.invariant.missing) (least_entry rs (set placed place true) entries c.first_missing-now_low.result c.in_ok-entries.ensures now_passed missing) hints;
     }
 
 pub returns-in-Some-first_unplaced-clause-found : goal.returns-in-Some-first_unplaced-clause-found
