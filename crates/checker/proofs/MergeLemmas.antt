@@ -2,7 +2,7 @@
 use Rattle.std.proofs.Common.{zero, suc, ◌≡◌, ◌∙◌, ℕ, ◌<◌, ◌≤◌, List, [], ◌∷◌, length, Option, Some, None, Bool, true, false, refl, sym, ap, arith, inl, inr, ◌⊎◌}
 use Rattle.std.proofs.lemmas.Bool.{cases_eq, cases_lt}
 use Rattle.std.proofs.lemmas.Option.{none-some, same_Some}
-use Rattle.std.specs.Prelude.{slice_get, slice_index, option_map, MatchOption, IfSome}
+use Rattle.std.specs.Prelude.{slice_get, slice_index, option_map}
 use Rattle.ompt_events.specs.declared.records.Record.{Record}
 use Rattle.ompt_events.specs.Places.{thread_at, seen_at}
 use Rattle.ompt_events.specs.declared.cause.Cause.TheVariants.{Moved}
@@ -92,17 +92,9 @@ thread_of rs i within = found (slice_get rs i) refl
     found None e = absurd (no_get rs i within e)
     found (Some r) e = (r.thread, ap (option_map (λ (q : Record). q.thread)) e)
 
--- where no head passes the test no record may stand next, and where one does, none before the first of them
-pub none_found : (rs : List Record) (awaited : List (Option ℕ)) (placed : List Bool) (heads : List ℕ) (least first : Option ℕ) (n : ℕ) → IsFreeOf rs Moved → AreClosed rs placed → HaveCreations rs (length rs) awaited → AreHeads rs placed heads → IsLeastEntry rs placed least → length heads ≤ n → MatchOption first ((t : ℕ) → t < n → IsReadyHead rs awaited placed least (slice_index heads t) → ⊥) (λ place. (t : ℕ) → t < n → slice_index heads t < place → IsReadyHead rs awaited placed least (slice_index heads t) → ⊥) → MatchOption first ((i : ℕ) → MayFollow rs placed i → ⊥) (λ place. (i : ℕ) → i < place → MayFollow rs placed i → ⊥)
-none_found rs awaited placed heads least None n at_home closed awaits are is_least all none = λ i may.
-    let thread = thread_of rs i may.within in
-    let same = is_head rs placed heads i thread.0 are thread.1 may in
-    none thread.0 (let low = are.all i thread.0 thread.1 in omega arith) (rw same (ready_head rs awaited placed least i at_home closed awaits is_least may))
-none_found rs awaited placed heads least (Some place) n at_home closed awaits are is_least all none = λ i before may.
+-- where no head before a place passes the test no record before it may stand next
+pub none_found : (rs : List Record) (awaited : List (Option ℕ)) (placed : List Bool) (heads : List ℕ) (least : Option ℕ) (first n : ℕ) → IsFreeOf rs Moved → AreClosed rs placed → HaveCreations rs (length rs) awaited → AreHeads rs placed heads → IsLeastEntry rs placed least → length heads ≤ n → ((t : ℕ) → t < n → slice_index heads t < first → IsReadyHead rs awaited placed least (slice_index heads t) → ⊥) → (i : ℕ) → i < first → MayFollow rs placed i → ⊥
+none_found rs awaited placed heads least first n at_home closed awaits are is_least all none i before may =
     let thread = thread_of rs i may.within in
     let same = is_head rs placed heads i thread.0 are thread.1 may in
     none thread.0 (let low = are.all i thread.0 thread.1 in omega arith) (rw same before) (rw same (ready_head rs awaited placed least i at_home closed awaits is_least may))
-
-pub first_found : (rs : List Record) → StartsOrFulfils rs → (awaited : List (Option ℕ)) (placed : List Bool) (heads : List ℕ) (least first : Option ℕ) (n : ℕ) → HaveCreations rs (length rs) awaited → AreHeads rs placed heads → IsLeastEntry rs placed least → n ≤ length heads → IfSome first (λ place. IsReadyHead rs awaited placed least place × ((t : ℕ) × (t < n) × (slice_index heads t ≡ place))) → IfSome first (MayFollow rs placed)
-first_found rs apart awaited placed heads least None n awaits are is_least low found = found
-first_found rs apart awaited placed heads least (Some place) n awaits are is_least low (ready, (t, below, is)) = may_follow rs apart awaited placed heads least t place awaits are is_least (omega arith) is ready

@@ -198,7 +198,7 @@ fn next_ready(
     ensures found { IfSome result (MayFollow records.now placed.now) }
 {
     if let Some(head) = hint {
-        if is_ready(records, creations, placed, least, head) {
+        if head < records.len() && is_ready(records, creations, placed, least, head) {
             return Some(head);
         }
     }
@@ -223,22 +223,16 @@ fn first_ready(
         → i < place → MayFollow records.now placed.now i → ⊥) }
     ensures found { IfSome result (MayFollow records.now placed.now) }
 {
-    let mut first = None;
+    let mut first = records.len();
     for head in heads {
-        if is_before(*head, first) && is_ready(records, creations, placed, least, *head) {
-            first = Some(*head);
+        if *head < first && is_ready(records, creations, placed, least, *head) {
+            first = *head;
         }
     }
-    first
-}
-
-/// Whether the place is before the one that was found, if one was.
-fn is_before(place: usize, found: Option<usize>) -> bool
-    ensures { IsTrue result ↔ MatchOption found ⊤ (λ other. place < other) }
-{
-    match found {
-        Some(other) => place < other,
-        None => true,
+    if first < records.len() {
+        Some(first)
+    } else {
+        None
     }
 }
 
@@ -250,16 +244,16 @@ fn is_ready(
     least: Option<u32>,
     head: usize,
 ) -> bool
+    requires within { head < length records.now }
+    requires each { length creations.now ≡ length records.now }
     ensures { IsTrue result ↔ IsReadyHead records.now creations.now placed.now least head }
 {
-    if head >= records.len() {
-        return false;
-    }
     is_entered(records[head].seen, least) && is_created(creations, placed, head)
 }
 
 /// Whether the creation that the record awaits stands.
 fn is_created(creations: &[Option<usize>], placed: &[bool], head: usize) -> bool
+    requires { head < length creations.now }
     ensures { IsTrue result ↔ ((c : ℕ) → slice_get creations.now head ≡ Some (Some c) → Stands placed.now c) }
 {
     match creation_at(creations, head) {
@@ -270,13 +264,10 @@ fn is_created(creations: &[Option<usize>], placed: &[bool], head: usize) -> bool
 
 /// The creation that the record awaits, if it awaits one.
 fn creation_at(creations: &[Option<usize>], place: usize) -> Option<usize>
+    requires { place < length creations.now }
     ensures { (c : ℕ) → (result ≡ Some c) ↔ (slice_get creations.now place ≡ Some (Some c)) }
 {
-    if place < creations.len() {
-        creations[place]
-    } else {
-        None
-    }
+    creations[place]
 }
 
 /// Whether a length is not above the least entry that is missing.
