@@ -158,8 +158,8 @@ fn entry_at(entries: &[(u32, usize)], low: usize) -> Option<u32>
     }
 }
 
-/// Where no record before the next one in the file may stand next, and that one is the head of its thread, it:
-/// no record before it awaits what this one creates, nor was an entry made that one could name.
+/// Where no record before the next one in the file may stand next, and that one is the head of its thread,
+/// it: no record before it awaits what this one creates, nor was an entry made that one could name.
 fn hint_after(
     early: &[bool],
     place: usize,
