@@ -1,0 +1,18 @@
+"""A chain of 100,000 tasks: each creates the next one and is suspended for it."""
+lines = ['{"actual":1,"cb":"implicit_task","endpoint":"begin","flags":["initial"],"index":0,"parallel":0,"task":0,']
+
+
+def create(task, child):
+    lines.append(f'{{"cb":"task_create","child":{child},"deps":false,"flags":["explicit"],"task":{task},')
+
+
+def switch(task, child):
+    lines.append(f'{{"cb":"task_schedule","next":{child},"prior":{task},"status":"switch",')
+
+
+for task in range(100000):
+    create(task, task + 1)
+    switch(task, task + 1)
+print('{"format":"task-credit-audit","version":1}')
+for seq, line in enumerate(lines):
+    print(f'{line}"seen":0,"seq":{seq},"thread":0}}')
