@@ -4,8 +4,9 @@
 Valgrind counts them, so the same files give the same figures on a busy machine too.
 
 The phases follow one another, so each is the difference between two runs that end one phase apart: `timing read`
-ends after reading; a file whose last record ends a region that never began is malformed once all causes but the order
-were looked for; a file whose first wait saw nothing is a no once the order was found; the file itself goes to the end.
+ends after reading; a file whose last record knows less than the one before it is malformed once all causes but the order
+were looked for; a file whose first wait is for a task that never runs is a no once the order was found; the file itself
+goes to the end.
 """
 
 import json
@@ -19,29 +20,35 @@ from bench import HERE, PROGRAM, TOP
 
 COUNTING = ["valgrind", "--tool=cachegrind", "--cache-sim=no", "--cachegrind-out-file=/dev/null"]
 TIMING = os.path.join(TOP, "crates", "timing", "out", "timing")
-NEW_THREAD, NEW_TASK = 255, 1_000_000_000
+NEW_TASK = 1_000_000_000
+
+
+def begun(lines):
+    """The begin of an initial task, the first record of a thread of its own."""
+    thread = 1 + max(json.loads(line)["thread"] for line in lines[1:])
+    return {"actual": 1, "cb": "implicit_task", "endpoint": "begin", "flags": ["initial"], "index": 0, "parallel": 0,
+            "seen": 0, "seq": 0, "task": NEW_TASK, "thread": thread}
 
 
 def with_a_cause(lines):
-    """The records, and then an end without a begin on a thread of its own."""
-    start = {"actual": 1, "cb": "implicit_task", "endpoint": "begin", "flags": ["initial"], "index": 0, "parallel": 0,
-             "seen": 0, "seq": 0, "task": NEW_TASK, "thread": NEW_THREAD}
-    end = {"cb": "sync_region", "endpoint": "end", "kind": "taskwait", "parallel": None, "seen": 0, "seq": 1,
-           "task": NEW_TASK, "thread": NEW_THREAD}
+    """The records, and then one that knows less than the record before it in a thread of its own."""
+    start = {**begun(lines), "seen": 1}
+    end = {"cb": "thread_end", "seen": 0, "seq": 1, "thread": start["thread"]}
     return lines + [json.dumps(start), json.dumps(end)]
 
 
 def with_an_early_end(lines):
-    """The records, of which the first end of a wait that covers a child names the ledger length 0."""
-    parents = set()
-    for at, line in enumerate(lines[1:], 1):
-        record = json.loads(line)
-        if record["cb"] == "task_create":
-            parents.add(record["task"])
-        elif record["cb"] == "sync_region" and record["endpoint"] == "end" and record["task"] in parents:
-            record["seen"] = 0
-            return lines[:at] + [json.dumps(record)] + lines[at + 1:]
-    raise ValueError("no wait covers a child")
+    """A wait for a task that never runs, and then the records."""
+    start = begun(lines)
+    record = {"seen": 0, "task": NEW_TASK, "thread": start["thread"]}
+    wait = {**record, "cb": "sync_region", "kind": "taskwait", "parallel": None}
+    first = [
+        start,
+        {**record, "cb": "task_create", "seq": 1, "child": NEW_TASK + 1, "deps": False, "flags": ["explicit"]},
+        {**wait, "seq": 2, "endpoint": "begin"},
+        {**wait, "seq": 3, "endpoint": "end"},
+    ]
+    return lines[:1] + [json.dumps(it) for it in first] + lines[1:]
 
 
 def instructions_of(command, path, lines, answer):
@@ -63,7 +70,7 @@ def phases(path, size, order):
     check = [PROGRAM, "check"]
     ends = [
         instructions_of([TIMING, "read"], path, lines, f"{size} records"),
-        instructions_of(check, path, with_a_cause(lines), "cause 7 RegionOrder"),
+        instructions_of(check, path, with_a_cause(lines), "cause 14 LengthBack"),
         instructions_of(check, path, with_an_early_end(lines), "no: "),
         instructions_of(check, path, lines, "yes: "),
     ]

@@ -1,6 +1,8 @@
 mod WindowLemmas
 mod MemoryLemmas
 mod MemberLemmas
+mod MeaningLemmas
+mod NumberLemmas
 mod RecordLemmas
 mod FileLemmas
 mod CountLemmas

@@ -1,15 +1,12 @@
 -- Members and the items of lists, as they are read.
-use Rattle.std.proofs.Common.{◌≡◌, ◌≢◌, ℕ, ◌+◌, ◌<◌, List, [], ◌∷◌, length, drop, get_or, Option, Some, None, Ok, Err, true, false, cond, refl, sym, ap, ◌∙◌, ◌↔◌}
+use Rattle.std.proofs.Common.{◌≡◌, ◌≢◌, ℕ, List, [], ◌∷◌, Option, Some, None, Ok, Err, true, false, cond, refl, ap, ◌↔◌}
 use Rattle.std.specs.Prelude.{ok_or, option_and_then, IsUtf8}
 use Rattle.std.specs.List.{AllByRecursion}
 use Rattle.std.specs.Str.{bytes_eq, is_utf8}
 use Rattle.std.proofs.lemmas.Str.{IsUtf8-from_is_utf8, is_utf8-from_IsUtf8}
 use Rattle.std.proofs.lemmas.Slice.Eq.{bytes_eq-Decides}
-use Rattle.std.proofs.lemmas.List.{drop_more}
-use Rattle.serde_json.specs.Data.{Data, item}
+use Rattle.serde_json.specs.Data.{Data}
 use Rattle.serde_json.specs.Read.{read}
-use Rattle.serde_json.specs.View.{view, items_view}
-use Rattle.serde_json.specs.declared.value.Value.{Value}
 use Rattle.certificate.specs.declared.faults.ReadCause.TheVariants.{NotJson, Field}
 use Rattle.certificate.specs.Members.{named}
 use Rattle.certificate.specs.RecordLines.{value_or_cause}
@@ -51,7 +48,3 @@ value_or_cause-none line none =
       | true ↦ λ h. rw (h refl)
       | false ↦ λ _. refl
     ] (λ is. none (IsUtf8-from_is_utf8 line is))
-
--- one item more of a list
-pub items_view-drop : (vs : List Value) (i : ℕ) (v : Value) → i < length vs → v ≡ get_or vs i v → items_view (drop i vs) ≡ item (view v) (items_view (drop (i + 1) vs))
-items_view-drop vs i v within is = ap items_view (drop_more vs i v within) ∙ ap (λ w. item (view w) (items_view (drop (i + 1) vs))) (sym is)

@@ -1,13 +1,9 @@
 -- What the members of a record add up to, and which cause is told.
-use Rattle.std.proofs.Common.{◌≡◌, ◌≢◌, ℕ, ◌<◌, ◌≤◌, ◌^◌, ◌&&◌, List, [], ◌∷◌, ◌++◌, length, drop, Option, Some, None, Result, Ok, Err, Bool, true, false, cond, arith, refl, sym, ap, ◌∙◌, append-nil}
-use Rattle.std.specs.Prelude.{ok_or, option_and_then, option_map, is_some, IsSome, nat_le, nat_lt}
-use Rattle.std.specs.List.{list_all}
+use Rattle.std.proofs.Common.{◌≡◌, ◌≢◌, ℕ, ◌^◌, ◌&&◌, List, Option, Some, None, Result, Ok, Err, Bool, true, false, cond, refl, sym, ap, ◌∙◌}
+use Rattle.std.specs.Prelude.{ok_or, option_and_then, is_some, nat_lt}
 use Rattle.std.specs.Str.{bytes_eq}
 use Rattle.std.proofs.lemmas.Slice.Eq.{bytes_eq-Decides}
-use Rattle.std.proofs.Math.ListN.{drop_of_length-le}
-use Rattle.serde_json.specs.Data.{Data, Items}
-use Rattle.serde_json.specs.View.{view, items_view}
-use Rattle.serde_json.specs.declared.value.Value.{Value}
+use Rattle.serde_json.specs.Data.{Data}
 use Rattle.ompt_events.specs.declared.records.Claim.{Claim}
 use Rattle.ompt_events.specs.declared.records.Body.{Body}
 use Rattle.ompt_events.specs.declared.records.Body.TheVariants.{TaskSchedule}
@@ -15,9 +11,8 @@ use Rattle.ompt_events.specs.declared.names.Status.{Status}
 use Rattle.ompt_events.specs.Names.{status_part}
 use Rattle.certificate.specs.declared.faults.ReadCause.{ReadCause}
 use Rattle.certificate.specs.declared.faults.ReadCause.TheVariants.{Field, Limit}
-use Rattle.certificate.specs.Members.{whole, whole_of, each, list, path, status, next}
-use Rattle.ompt_events.specs.Limits.{max_depth}
-use Rattle.certificate.specs.RecordLines.{bounded, body, body_named, body_fits, share, share_fits, task_schedule, unbounded, record_fits, path_fits, is_short}
+use Rattle.certificate.specs.Members.{whole, status, next}
+use Rattle.certificate.specs.RecordLines.{bounded, body, body_named, body_fits, share, share_fits, task_schedule, unbounded, record_fits}
 use Rattle.certificate.proofs.MemberLemmas.{ok_or-some}
 use Rattle.certificate.specs.MemberNames as member
 use Rattle.certificate.specs.CallbackNames as callback
@@ -64,54 +59,6 @@ within-ok n m bound e =
       | true ↦ λ is same. let equal : m ≡ n = cc in (equal, is)
       | false ↦ λ is same. absurd (ok_not_err m Limit same)
     ] refl e
-
--- ---- lists
-
-pub is_some-each : {X : Type 0} (says : Data → Option X) (vs : List Value) → is_some (each says (items_view vs)) ≡ list_all (λ v. is_some (says (view v))) vs
-is_some-each says [] = refl
-is_some-each {X} says (v ∷ vs) = by_head (says (view v)) (each says (items_view vs)) _ (is_some-each says vs)
-  where
-    by_head : (o : Option X) (rest : Option (List X)) (b : Bool) → is_some rest ≡ b → is_some (option_and_then (λ x. option_map (λ xs. x ∷ xs) rest) o) ≡ (is_some o && b)
-    by_head None rest b e = refl
-    by_head (Some x) None b e = e
-    by_head (Some x) (Some xs) b e = e
-
-pub length-each : {X : Type 0} (says : Data → Option X) (vs : List Value) (xs : List X) → each says (items_view vs) ≡ Some xs → length xs ≡ length vs
-length-each says [] xs e = let h : xs ≡ [] = cc in ap length h
-length-each {X} says (v ∷ vs) xs e = by_head (says (view v)) (each says (items_view vs)) e (length-each says vs)
-  where
-    by_head : (o : Option X) (rest : Option (List X)) → option_and_then (λ x. option_map (λ xs. x ∷ xs) rest) o ≡ Some xs → ((ys : List X) → rest ≡ Some ys → length ys ≡ length vs) → length xs ≡ length (v ∷ vs)
-    by_head None rest is later = absurd (let h : None ≡ Some xs = is in cc)
-    by_head (Some x) None is later = absurd (let h : None ≡ Some xs = is in cc)
-    by_head (Some x) (Some ys) is later = let h : xs ≡ x ∷ ys = cc in let same : length ys ≡ length vs = later ys refl in ap length h ∙ omega arith
-
--- what was read of all the items
-pub each-read : {X : Type 0} (says : Data → Option X) (vs : List Value) (i : ℕ) (xs : List X) → each says (items_view vs) ≡ option_map (λ ys. xs ++ ys) (each says (items_view (drop i vs))) → length vs ≤ i → each says (items_view vs) ≡ Some xs
-each-read says vs i xs is past = is ∙ ap (λ ws. option_map (λ ys. xs ++ ys) (each says (items_view ws))) (drop_of_length-le vs past) ∙ ap Some (append-nil xs)
-
-pub path-too_long : (vs : List Value) → IsSome (each whole_of (items_view vs)) → max_depth < length vs → Err Limit ≡ bounded path_fits (each whole_of (items_view vs))
-path-too_long vs some long = by_whole (each whole_of (items_view vs)) some (length-each whole_of vs)
-  where
-    by_whole : (o : Option (List ℕ)) → IsSome o → ((ns : List ℕ) → o ≡ Some ns → length ns ≡ length vs) → Err Limit ≡ bounded path_fits o
-    by_whole None is all = absurd (let h : false ≡ true = is in cc)
-    by_whole (Some ns) is all =
-        let same : length ns ≡ length vs = all ns refl in
-        let no : nat_le (length ns) max_depth ≡ false = grind arith in
-        rw no
-
-pub path-read : (vs : List Value) (i : ℕ) (ns : List ℕ) → each whole_of (items_view vs) ≡ option_map (λ ms. ns ++ ms) (each whole_of (items_view (drop i vs))) → list_all is_short ns ≡ true → length vs ≤ i → length vs ≤ max_depth → Ok ns ≡ bounded path_fits (each whole_of (items_view vs))
-path-read vs i ns is short past few =
-    let all : each whole_of (items_view vs) ≡ Some ns = each-read whole_of vs i ns is past in
-    let len : length ns ≡ length vs = length-each whole_of vs ns all in
-    let yes : nat_le (length ns) max_depth ≡ true = grind arith in
-    rw (all, yes, short)
-
-pub path-not_whole : (name : List ℕ) (d : Data) (items : Items) → Ok items ≡ ok_or (list name d) Field → is_some (each whole_of items) ≡ false → Err Field ≡ bounded path_fits (path name d)
-path-not_whole name d items found missing = rw (ok_or-some _ items found) (by_whole (each whole_of items) missing)
-  where
-    by_whole : (o : Option (List ℕ)) → is_some o ≡ false → Err Field ≡ bounded path_fits o
-    by_whole None h = refl
-    by_whole (Some ns) h = absurd (let f : true ≡ false = h in cc)
 
 -- ---- records
 

@@ -8,6 +8,7 @@ pub mod FaultNames
 pub mod MemberNames
 pub mod CallbackNames
 pub mod Members
+pub mod Meanings
 pub mod RecordLines
 pub mod Texts
 pub mod Files

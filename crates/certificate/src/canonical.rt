@@ -321,7 +321,7 @@ const SAFE_DIGITS: usize = 19;
 
 /// The digits in front as a number of 64 bits. It begins with 0 only where it is 0.
 #[inline(always)]
-fn number(rest: &[u8]) -> Option<(u64, &[u8])>
+pub(crate) fn number(rest: &[u8]) -> Option<(u64, &[u8])>
     ensures { IfSome result (λ taken. Takes rest.now (decimal taken.0) taken.1.now) }
 {
     let first = digit(rest, 0)?;

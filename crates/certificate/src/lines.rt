@@ -1,7 +1,7 @@
 //! What a single line stands for.
 ghost use Rattle.std.specs.Prelude.{◌≡◌, IfSome, Ok};
-ghost use Rattle.std.specs.Result.{result_map_both};
-ghost use Rattle.serde_json.specs.View.{view};
+ghost use Rattle.json.specs.Find.{HasValue};
+ghost use Rattle.certificate.specs.Meanings.{meant_at};
 ghost use Rattle.certificate.specs.RecordLines as spec;
 ghost use Rattle.certificate.specs.RecordLines.{IsSaid, bounded};
 
@@ -13,9 +13,10 @@ use crate::members::{
     begin_or_end, byte, endpoint, flags, id, id_or_null, next, short, status, sync_kind, text,
     thread_kind, truth,
 };
+use crate::values::tape_of;
 use bitflags::Flags;
+use json::{Element, Scratch};
 use ompt_events::{Body, CancelFlags, Claim, Record};
-use serde_json::Value;
 use std::alloc::Global;
 
 // The shapes into which the rows of a callback's members are put. Each member is looked up before any
@@ -116,41 +117,46 @@ macro_rules! read_claim {
     }};
 }
 
-/// Tells a header line from any other.
-pub(crate) fn header(alloc: Global, line: &[u8]) -> Result<(), ReadCause>
+/// Tells a header line from any other. `scratch` is room that is kept from line to line.
+pub(crate) fn header(alloc: Global, line: &[u8], scratch: &mut Scratch) -> Result<(), ReadCause>
     ensures { IsSaid result (spec.header_says line.now) }
 {
-    match value_of(alloc, line) {
-        Ok(value) if is_header(&value) => Ok(()),
+    match tape_of(alloc, line, scratch) {
+        Ok(tape) if is_header(&tape.root()) => Ok(()),
         Err(ReadCause::Memory) => Err(ReadCause::Memory),
         _ => Err(ReadCause::Header),
     }
 }
 
 /// Whether the format and the version are those of this crate.
-fn is_header(value: &Value) -> bool
-    ensures { result ≡ spec.names_format (view value.now) }
+fn is_header(value: &Element<'_, '_>) -> bool
+    requires { HasValue value.now }
+    ensures { result ≡ spec.names_format (meant_at value.now) }
 {
     header!(has_header(value))
 }
 
 /// The record that a line stands for. A line as it is written is read directly.
-pub(crate) fn record_of(alloc: Global, line: &[u8]) -> Result<Record, ReadCause>
+pub(crate) fn record_of(
+    alloc: Global,
+    line: &[u8],
+    scratch: &mut Scratch,
+) -> Result<Record, ReadCause>
     ensures { IsSaid result (spec.line_says line.now) }
 {
     if let Some(event) = sound(alloc, line) {
         return Ok(event);
     }
-    other(alloc, line)
+    other(alloc, line, scratch)
 }
 
 /// The record of a line in any form.
 #[inline(never)]
-fn other(alloc: Global, line: &[u8]) -> Result<Record, ReadCause>
+fn other(alloc: Global, line: &[u8], scratch: &mut Scratch) -> Result<Record, ReadCause>
     ensures { IsSaid result (spec.line_says line.now) }
 {
-    let value = value_of(alloc, line)?;
-    record(alloc, &value)
+    let tape = tape_of(alloc, line, scratch)?;
+    record(alloc, &tape.root())
 }
 
 /// The record of a line as it is written, if it can stand in a trace.
@@ -166,122 +172,119 @@ fn sound(alloc: Global, line: &[u8]) -> Option<Record>
     }
 }
 
-/// The JSON value of a line.
-fn value_of(alloc: Global, line: &[u8]) -> Result<Value, ReadCause>
-    ensures { IsSaid (result_map_both view (λ e. e) result) (spec.value_or_cause line.now) }
-{
-    match Value::from_slice(alloc, line) {
-        Ok(value) => Ok(value),
-        Err(error) => {
-            if error.is_memory() {
-                Err(ReadCause::Memory)
-            } else {
-                Err(ReadCause::NotJson)
-            }
-        }
-    }
-}
-
 /// The record of an object.
 #[tactic(auto, unfolding(crate::specs::RecordLines::unbounded))]
-fn record(alloc: Global, value: &Value) -> Result<Record, ReadCause>
-    ensures { IsSaid result (bounded spec.record_fits (spec.unbounded (view value.now))) }
+fn record(alloc: Global, value: &Element<'_, '_>) -> Result<Record, ReadCause>
+    requires { HasValue value.now }
+    ensures { IsSaid result (bounded spec.record_fits (spec.unbounded (meant_at value.now))) }
 {
     members!(Record read_record (value alloc))
 }
 
 /// What the record's callback says.
 #[tactic(auto, unfolding(crate::specs::RecordLines::body_named))]
-fn body(alloc: Global, value: &Value) -> Result<Body, ReadCause>
-    ensures { IsSaid result (bounded spec.body_fits (spec.body (view value.now))) }
+fn body(alloc: Global, value: &Element<'_, '_>) -> Result<Body, ReadCause>
+    requires { HasValue value.now }
+    ensures { IsSaid result (bounded spec.body_fits (spec.body (meant_at value.now))) }
 {
     callbacks!(read_callback (value alloc))
 }
 
 /// A thread begins.
 #[tactic(auto, unfolding(crate::specs::RecordLines::thread_begin))]
-fn thread_begin(_alloc: Global, value: &Value) -> Result<Body, ReadCause>
-    ensures { result ≡ bounded spec.body_fits (spec.thread_begin (view value.now)) }
+fn thread_begin(_alloc: Global, value: &Element<'_, '_>) -> Result<Body, ReadCause>
+    requires { HasValue value.now }
+    ensures { result ≡ bounded spec.body_fits (spec.thread_begin (meant_at value.now)) }
 {
     members!(ThreadBegin read_body (value))
 }
 
 /// A thread ends.
 #[tactic(auto, unfolding(crate::specs::RecordLines::thread_end))]
-fn thread_end(_alloc: Global, value: &Value) -> Result<Body, ReadCause>
-    ensures { result ≡ bounded spec.body_fits (spec.thread_end (view value.now)) }
+fn thread_end(_alloc: Global, value: &Element<'_, '_>) -> Result<Body, ReadCause>
+    requires { HasValue value.now }
+    ensures { result ≡ bounded spec.body_fits (spec.thread_end (meant_at value.now)) }
 {
     members!(ThreadEnd read_body (value))
 }
 
 /// A task begins a parallel region.
 #[tactic(auto, unfolding(crate::specs::RecordLines::parallel_begin))]
-fn parallel_begin(_alloc: Global, value: &Value) -> Result<Body, ReadCause>
-    ensures { result ≡ bounded spec.body_fits (spec.parallel_begin (view value.now)) }
+fn parallel_begin(_alloc: Global, value: &Element<'_, '_>) -> Result<Body, ReadCause>
+    requires { HasValue value.now }
+    ensures { result ≡ bounded spec.body_fits (spec.parallel_begin (meant_at value.now)) }
 {
     members!(ParallelBegin read_body (value))
 }
 
 /// A task ends a parallel region.
 #[tactic(auto, unfolding(crate::specs::RecordLines::parallel_end))]
-fn parallel_end(_alloc: Global, value: &Value) -> Result<Body, ReadCause>
-    ensures { result ≡ bounded spec.body_fits (spec.parallel_end (view value.now)) }
+fn parallel_end(_alloc: Global, value: &Element<'_, '_>) -> Result<Body, ReadCause>
+    requires { HasValue value.now }
+    ensures { result ≡ bounded spec.body_fits (spec.parallel_end (meant_at value.now)) }
 {
     members!(ParallelEnd read_body (value))
 }
 
 /// An initial or implicit task begins or ends.
 #[tactic(auto, unfolding(crate::specs::RecordLines::implicit_task))]
-fn implicit_task(_alloc: Global, value: &Value) -> Result<Body, ReadCause>
-    ensures { result ≡ bounded spec.body_fits (spec.implicit_task (view value.now)) }
+fn implicit_task(_alloc: Global, value: &Element<'_, '_>) -> Result<Body, ReadCause>
+    requires { HasValue value.now }
+    ensures { result ≡ bounded spec.body_fits (spec.implicit_task (meant_at value.now)) }
 {
     members!(ImplicitTask read_body (value))
 }
 
 /// A task is created.
 #[tactic(auto, unfolding(crate::specs::RecordLines::task_create))]
-fn task_create(_alloc: Global, value: &Value) -> Result<Body, ReadCause>
-    ensures { result ≡ bounded spec.body_fits (spec.task_create (view value.now)) }
+fn task_create(_alloc: Global, value: &Element<'_, '_>) -> Result<Body, ReadCause>
+    requires { HasValue value.now }
+    ensures { result ≡ bounded spec.body_fits (spec.task_create (meant_at value.now)) }
 {
     members!(TaskCreate read_body (value))
 }
 
 /// What a task depends on.
 #[tactic(auto, unfolding(crate::specs::RecordLines::dependences))]
-fn dependences(alloc: Global, value: &Value) -> Result<Body, ReadCause>
-    ensures { IsSaid result (bounded spec.body_fits (spec.dependences (view value.now))) }
+fn dependences(alloc: Global, value: &Element<'_, '_>) -> Result<Body, ReadCause>
+    requires { HasValue value.now }
+    ensures { IsSaid result (bounded spec.body_fits (spec.dependences (meant_at value.now))) }
 {
     members!(Dependences read_body (value alloc))
 }
 
 /// A task stops running or is fulfilled.
 #[tactic(auto, unfolding(crate::specs::RecordLines::task_schedule))]
-fn task_schedule(alloc: Global, value: &Value) -> Result<Body, ReadCause>
-    ensures { IsSaid result (bounded spec.body_fits (spec.task_schedule (view value.now))) }
+fn task_schedule(alloc: Global, value: &Element<'_, '_>) -> Result<Body, ReadCause>
+    requires { HasValue value.now }
+    ensures { IsSaid result (bounded spec.body_fits (spec.task_schedule (meant_at value.now))) }
 {
     members!(TaskSchedule read_schedule (value alloc))
 }
 
 /// A region of synchronisation begins or ends.
 #[tactic(auto, unfolding(crate::specs::RecordLines::sync_region))]
-fn sync_region(_alloc: Global, value: &Value) -> Result<Body, ReadCause>
-    ensures { result ≡ bounded spec.body_fits (spec.sync_region (view value.now)) }
+fn sync_region(_alloc: Global, value: &Element<'_, '_>) -> Result<Body, ReadCause>
+    requires { HasValue value.now }
+    ensures { result ≡ bounded spec.body_fits (spec.sync_region (meant_at value.now)) }
 {
     members!(SyncRegion read_body (value))
 }
 
 /// A task cancels a region or sees it cancelled, or is itself discarded.
 #[tactic(auto, unfolding(crate::specs::RecordLines::cancel))]
-fn cancel(alloc: Global, value: &Value) -> Result<Body, ReadCause>
-    ensures { IsSaid result (bounded spec.body_fits (spec.cancel (view value.now))) }
+fn cancel(alloc: Global, value: &Element<'_, '_>) -> Result<Body, ReadCause>
+    requires { HasValue value.now }
+    ensures { IsSaid result (bounded spec.body_fits (spec.cancel (meant_at value.now))) }
 {
     members!(Cancel read_cancel (value alloc))
 }
 
 /// What a record claims of the task that it finishes, if it finishes one.
 #[tactic(auto, unfolding(crate::specs::RecordLines::share))]
-fn share(alloc: Global, value: &Value, finishes: bool) -> Result<Option<Claim>, ReadCause>
-    ensures { IsSaid result (bounded spec.share_fits (spec.share finishes (view value.now))) }
+fn share(alloc: Global, value: &Element<'_, '_>, finishes: bool) -> Result<Option<Claim>, ReadCause>
+    requires { HasValue value.now }
+    ensures { IsSaid result (bounded spec.share_fits (spec.share finishes (meant_at value.now))) }
 {
     if finishes {
         Ok(Some(claim(alloc, value)?))
@@ -292,8 +295,9 @@ fn share(alloc: Global, value: &Value, finishes: bool) -> Result<Option<Claim>, 
 
 /// What a finishing record claims of its task's place.
 #[tactic(auto, unfolding(crate::specs::RecordLines::claim))]
-fn claim(alloc: Global, value: &Value) -> Result<Claim, ReadCause>
-    ensures { IsSaid result (bounded spec.claim_fits (spec.claim (view value.now))) }
+fn claim(alloc: Global, value: &Element<'_, '_>) -> Result<Claim, ReadCause>
+    requires { HasValue value.now }
+    ensures { IsSaid result (bounded spec.claim_fits (spec.claim (meant_at value.now))) }
 {
     members!(Claim read_claim (value alloc))
 }

@@ -1,62 +1,102 @@
 //! The lists of a line's JSON object whose items are kept. Each item is looked at before a limit is.
-ghost use Rattle.std.specs.Prelude.{◌≡◌, ok_or, is_some, IsSome};
-ghost use Rattle.std.specs.List.{list_all};
-ghost use Rattle.serde_json.specs.View.{view, items_view};
+ghost use Rattle.std.specs.Prelude.{◌≡◌, Some, ok_or, option_and_then};
+ghost use Rattle.std.specs.Result.{result_map_both};
+ghost use Rattle.json.specs.Find.{HasValue};
+ghost use Rattle.serde_json.specs.Find.{as_array};
+ghost use Rattle.certificate.specs.Meanings.{meant_at};
 ghost use Rattle.certificate.specs.Members as members;
 ghost use Rattle.certificate.specs.RecordLines as spec;
 ghost use Rattle.certificate.specs.RecordLines.{IsSaid, bounded};
 
 use crate::callbacks::members;
 use crate::faults::ReadCause;
-use crate::members::{dep_kind, id, list, short};
+use crate::members::{dep_kind, id, member, short, whole};
+use json::Element;
 use ompt_events::{Dep, Deps, MAX_DEPENDENCES, MAX_DEPTH, Path};
-use serde_json::Value;
 use std::alloc::Global;
 
 /// The numbers of a path.
-pub(crate) fn path(alloc: Global, value: &Value, name: &str) -> Result<Path, ReadCause>
-    ensures { IsSaid result (bounded spec.path_fits (members.path name.now (view value.now))) }
+pub(crate) fn path(alloc: Global, value: &Element<'_, '_>, name: &str) -> Result<Path, ReadCause>
+    requires { HasValue value.now }
+    ensures { IsSaid result (bounded spec.path_fits (members.path name.now (meant_at value.now))) }
 {
-    let numbers = list(value, name)?;
-    if !are_whole(numbers) {
-        return Err(ReadCause::Field);
+    match member(value, name) {
+        Some(item) => short_path(alloc, &numbers(alloc, &item)?),
+        None => Err(ReadCause::Field),
     }
-    short_path(alloc, numbers)
 }
 
-/// Whether each item is a whole number.
-fn are_whole(items: &Vec<Value>) -> bool
-    ensures { result ≡ list_all (λ v. is_some (members.whole_of (view v))) items.now.items }
+/// The whole numbers of a list.
+fn numbers(alloc: Global, item: &Element<'_, '_>) -> Result<Vec<u64>, ReadCause>
+    requires { HasValue item.now }
+    ensures { IsSaid (result_map_both (λ v. v.items) (λ e. e) result) (ok_or
+        (option_and_then (members.each members.whole_of) (as_array (meant_at item.now))) ReadCause.Field) }
 {
-    items.iter().all(|item| item.is_u64())
+    let Some(mut items) = item.items() else {
+        return Err(ReadCause::Field);
+    };
+    let mut numbers = Vec::new(alloc);
+    'found: while let Some(number) = items.next() {
+        let Some(number) = whole(&number) else {
+            return Err(ReadCause::Field);
+        };
+        let Ok(()) = numbers.push(number) else {
+            return Err(ReadCause::Memory);
+        };
+    }
+    Ok(numbers)
 }
 
-/// The path of these whole numbers.
-fn short_path(alloc: Global, numbers: &Vec<Value>) -> Result<Path, ReadCause>
-    requires { IsSome (members.each members.whole_of (items_view numbers.now.items)) }
-    ensures { IsSaid result (bounded spec.path_fits (members.each members.whole_of
-        (items_view numbers.now.items))) }
+/// The path of these numbers.
+fn short_path(alloc: Global, numbers: &Vec<u64>) -> Result<Path, ReadCause>
+    ensures { IsSaid result (bounded spec.path_fits (Some numbers.now.items)) }
 {
     if numbers.len() > MAX_DEPTH {
         return Err(ReadCause::Limit);
     }
     let mut path = Vec::with_capacity(alloc, numbers.len()).map_err(|_| ReadCause::Memory)?;
     'numbers: for number in numbers {
-        let number = number.as_u64().ok_or(ReadCause::Field)?;
-        path.push(short(number)?).map_err(|_| ReadCause::Memory)?;
+        path.push(short(*number)?).map_err(|_| ReadCause::Memory)?;
     }
     Ok(Path::from_vec(path))
 }
 
 /// What a task depends on.
-pub(crate) fn deps(alloc: Global, value: &Value, name: &str) -> Result<Deps, ReadCause>
-    ensures { IsSaid result (bounded spec.deps_fit (members.deps name.now (view value.now))) }
+pub(crate) fn deps(alloc: Global, value: &Element<'_, '_>, name: &str) -> Result<Deps, ReadCause>
+    requires { HasValue value.now }
+    ensures { IsSaid result (bounded spec.deps_fit (members.deps name.now (meant_at value.now))) }
 {
-    let items = list(value, name)?;
-    let mut deps = Vec::with_capacity(alloc, items.len()).map_err(|_| ReadCause::Memory)?;
-    'items: for item in items {
-        deps.push(dep(item)?).map_err(|_| ReadCause::Memory)?;
+    match member(value, name) {
+        Some(item) => few(dependences(alloc, &item)?),
+        None => Err(ReadCause::Field),
     }
+}
+
+/// The dependences of a list.
+fn dependences(alloc: Global, item: &Element<'_, '_>) -> Result<Vec<Dep>, ReadCause>
+    requires { HasValue item.now }
+    ensures { IsSaid (result_map_both (λ v. v.items) (λ e. e) result) (ok_or
+        (option_and_then (members.each members.dep_of) (as_array (meant_at item.now))) ReadCause.Field) }
+{
+    let Some(mut items) = item.items() else {
+        return Err(ReadCause::Field);
+    };
+    let mut deps = Vec::new(alloc);
+    'found: while let Some(item) = items.next() {
+        let Ok(dep) = dep(&item) else {
+            return Err(ReadCause::Field);
+        };
+        let Ok(()) = deps.push(dep) else {
+            return Err(ReadCause::Memory);
+        };
+    }
+    Ok(deps)
+}
+
+/// These dependences, if they are not too many.
+fn few(deps: Vec<Dep>) -> Result<Deps, ReadCause>
+    ensures { result ≡ bounded spec.deps_fit (Some deps.items) }
+{
     if deps.len() > MAX_DEPENDENCES {
         return Err(ReadCause::Limit);
     }
@@ -72,8 +112,9 @@ macro_rules! read_dep {
 }
 
 /// One dependence.
-fn dep(item: &Value) -> Result<Dep, ReadCause>
-    ensures { result ≡ ok_or (members.dep_of (view item.now)) ReadCause.Field }
+fn dep(item: &Element<'_, '_>) -> Result<Dep, ReadCause>
+    requires { HasValue item.now }
+    ensures { result ≡ ok_or (members.dep_of (meant_at item.now)) ReadCause.Field }
 {
     members!(Dep read_dep (item))
 }

@@ -13,6 +13,7 @@ use crate::faults::{ReadCause, ReadFault};
 use crate::kept::Kept;
 use crate::lines::{header, record_of};
 use crate::window::{MAX_LINE, Window};
+use json::Scratch;
 use ompt_events::{MAX_RECORDS, Trace};
 use std::alloc::Global;
 
@@ -42,9 +43,18 @@ pub fn read<S: Source>(alloc: Global, source: &mut S) -> Result<Trace, ReadFault
         });
     };
     let mut kept = Kept::new(alloc);
+    let mut scratch = Scratch::new(alloc);
     let mut turns = 0;
     'lines: for line in 1..=LAST_LINE {
-        match read_line(alloc, line, &mut window, source, &mut turns, &mut kept) {
+        match read_line(
+            alloc,
+            line,
+            &mut window,
+            source,
+            &mut turns,
+            &mut kept,
+            &mut scratch,
+        ) {
             Ok(true) => {}
             Ok(false) => return Ok(kept.into_trace()),
             Err(cause) => return Err(ReadFault { line, cause }),
@@ -61,6 +71,7 @@ fn read_line<S: Source>(
     source: &mut S,
     turns: &mut u32,
     kept: &mut Kept,
+    scratch: &mut Scratch,
 ) -> Result<bool, ReadCause>
     requires line { 1 ≤ line }
     requires turns { turns.old ≤ MAX_TURNS }
@@ -74,7 +85,7 @@ fn read_line<S: Source>(
 {
     match next_line(window, source, turns)? {
         Some(len) => {
-            take_text(alloc, line, window.front(len), kept)?;
+            take_text(alloc, line, window.front(len), kept, scratch)?;
             window.skip(len + 1);
             Ok(true)
         }
@@ -84,13 +95,19 @@ fn read_line<S: Source>(
 }
 
 /// Takes the text of the line of this number: the header, or a record that is kept.
-fn take_text(alloc: Global, line: u32, text: &[u8], kept: &mut Kept) -> Result<(), ReadCause>
+fn take_text(
+    alloc: Global,
+    line: u32,
+    text: &[u8],
+    kept: &mut Kept,
+    scratch: &mut Scratch,
+) -> Result<(), ReadCause>
     ensures { IsSaid (result_map_both (λ _. kept.new) (λ e. e) result) (text_adds line kept.old text.now) }
 {
     if line == 1 {
-        header(alloc, text)
+        header(alloc, text, scratch)
     } else {
-        kept.keep(record_of(alloc, text)?)
+        kept.keep(record_of(alloc, text, scratch)?)
     }
 }
 

@@ -24,7 +24,7 @@ use Rattle.ompt_events.proofs.RecordLemmas.{created_at_made}
 use Rattle.task_tree.specs.Subjects.{subject, object, Calls}
 use Rattle.task_tree.specs.Family.{FamilyView, IsFamilyOf}
 use Rattle.task_tree.proofs.SubjectLemmas.{call_task, call_none}
-use Rattle.task_tree.proofs.FamilyLemmas.{made_once}
+use Rattle.task_tree.proofs.OnceLemmas.{made_once}
 use Rattle.checker.specs.Merge.{awaited, Awaits, StartsOrFulfils, HaveCreations}
 
 -- ---- what a record awaits
@@ -52,7 +52,7 @@ awaited_of b task is = elim (option_cases (fulfilled b) (option_or (discarded b)
 ]
 
 -- the same at a place
-awaited_at : (rs : List Record) (i task : ℕ) → at awaited rs i ≡ Some task → (at fulfilled rs i ≡ Some task) ⊎ ((at discarded rs i ≡ Some task) ⊎ (at started rs i ≡ Some task))
+pub awaited_at : (rs : List Record) (i task : ℕ) → at awaited rs i ≡ Some task → (at fulfilled rs i ≡ Some task) ⊎ ((at discarded rs i ≡ Some task) ⊎ (at started rs i ≡ Some task))
 awaited_at rs i task is = there (slice_get rs i) is
   where
     there : (o : Option Record) → option_and_then (λ (r : Record). awaited r.body) o ≡ Some task → (option_and_then (λ (r : Record). fulfilled r.body) o ≡ Some task) ⊎ ((option_and_then (λ (r : Record). discarded r.body) o ≡ Some task) ⊎ (option_and_then (λ (r : Record). started r.body) o ≡ Some task))
@@ -83,7 +83,7 @@ step_awaits rs apart c i (inr (inr (task, creates, gone))) = (task, there (slice
 
 -- ---- what is awaited happens before
 
-starts_below : (rs : List Record) (task n : ℕ) → ((s : ℕ) × (s < n) × IsStart rs s task) ⊎ ((k : ℕ) → k < n → at started rs k ≢ Some task)
+pub starts_below : (rs : List Record) (task n : ℕ) → ((s : ℕ) × (s < n) × IsStart rs s task) ⊎ ((k : ℕ) → k < n → at started rs k ≢ Some task)
 starts_below rs task zero = inr (λ k below. absurd (omega arith))
 starts_below rs task (suc n) = elim (starts_below rs task n) [
   | inl found ↦ inl (found.0, omega (arith, found.1), found.2)
@@ -103,7 +103,7 @@ starts_below rs task (suc n) = elim (starts_below rs task n) [
       ])
     ]
 
-same_option : (a b : Option ℕ) → (a ≢ b → ⊥) → a ≡ b
+pub same_option : (a b : Option ℕ) → (a ≢ b → ⊥) → a ≡ b
 same_option None None both = refl
 same_option None (Some y) both = absurd (both (λ e. none-some y e))
 same_option (Some x) None both = absurd (both (λ e. none-some x (sym e)))

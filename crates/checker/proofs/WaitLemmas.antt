@@ -28,7 +28,7 @@ use Rattle.ompt_events.proofs.RegionLemmas.{region_starts_none, own_begin}
 use Rattle.ompt_events.proofs.TreeLemmas.{child_before, before_child}
 use Rattle.task_tree.specs.Numbering.{AreApart}
 use Rattle.task_tree.specs.Subjects.{subject, object, Calls}
-use Rattle.task_tree.proofs.ChildrenLemmas.{get_set_same, get_set_other}
+use Rattle.task_tree.proofs.LinkLemmas.{get_set_same, get_set_other}
 use Rattle.task_tree.proofs.NamedLemmas.{region_subject, creation_subject, creation_object, subject_index, object_index}
 use Rattle.task_tree.proofs.SubjectLemmas.{call_task, call_index, call_none}
 use Rattle.checker.specs.declared.waits.Lengths.{Lengths}

@@ -3,5 +3,8 @@
 pub mod Verdicts
 pub mod Audited
 pub mod Search
+pub mod Repeats
+pub mod Lengths
+pub mod Entries
 pub mod Merge
 pub mod Waits

@@ -3,14 +3,17 @@ ghost use Rattle.std.specs.Prelude.{◌≡◌, IfOk, IfErr, OnOk};
 ghost use Rattle.ompt_events.specs.declared.cause.Cause.TheVariants.{Moved};
 ghost use Rattle.ompt_events.specs.Places.{places};
 ghost use Rattle.ompt_events.specs.Linearization.{IsLinearization, IsGreedy};
-ghost use Rattle.ompt_events.specs.Causes.{IsFreeOf};
+ghost use Rattle.ompt_events.specs.Causes.{entries_in, IsFreeOf};
 ghost use Rattle.task_tree.specs.Family.{IsFamilyOf};
 ghost use Rattle.task_states.specs.States.{AreStatesOf};
 ghost use Rattle.checker.specs.Audited.{AreAudited};
 ghost use Rattle.checker.specs.Search.{IsClear, IsLeastFound};
 ghost use Rattle.checker.specs.Verdicts.{IsVerdict};
 
+use crate::claims::find_wrong_claim;
+use crate::lengths::find_back;
 use crate::merge::find_order;
+use crate::repeats::{entry_count, find_ahead, find_repeated_entry};
 use crate::schedule::{creations_awaited, is_in_order};
 use crate::search::SearchFault;
 use crate::verdict::{CheckFault, Order, Verdict, Why};
@@ -46,6 +49,11 @@ fn verdict_of(alloc: Global, trace: &Trace) -> Result<Verdict, SearchFault>
     let family = family_of(alloc, trace)?;
     let states = states_of(alloc, trace, &family)?;
     regions_are_not_nested(alloc, trace, &family)?;
+    claims_are_right(trace, &family)?;
+    let entries = entry_count(trace.records());
+    entries_are_apart(alloc, trace, entries)?;
+    lengths_are_reached(trace, entries)?;
+    lengths_rise(trace, &family)?;
     let order = order_of(alloc, trace, &family)?;
     no_task_is_for_a_device(trace)?;
     match find_unfinished(alloc, trace.records(), &family, &states)? {
@@ -115,14 +123,78 @@ fn regions_are_not_nested(alloc: Global, trace: &Trace, family: &Family) -> Resu
     }
 }
 
+/// Excludes ShareWrong.
+fn claims_are_right(trace: &Trace, family: &Family) -> Result<(), SearchFault>
+    requires clear { IsClear trace.now.records 8 }
+    requires family { IsFamilyOf trace.now.records family.now }
+    ensures clear { OnOk result (IsClear trace.now.records 9) }
+    ensures least { IfErr result (IsLeastFound trace.now.records) }
+{
+    match find_wrong_claim(trace.records(), family) {
+        Some(at) => Err(SearchFault::Malformed {
+            at,
+            cause: Cause::ShareWrong,
+        }),
+        None => Ok(()),
+    }
+}
+
+/// Excludes EntryTwice.
+fn entries_are_apart(alloc: Global, trace: &Trace, entries: usize) -> Result<(), SearchFault>
+    requires { IsClear trace.now.records 9 }
+    ensures clear { OnOk result (IsClear trace.now.records 10) }
+    ensures least { IfErr result (IsLeastFound trace.now.records) }
+{
+    match find_repeated_entry(alloc, trace.records(), entries)? {
+        Some(at) => Err(SearchFault::Malformed {
+            at,
+            cause: Cause::EntryTwice,
+        }),
+        None => Ok(()),
+    }
+}
+
+/// Excludes LengthAhead.
+fn lengths_are_reached(trace: &Trace, entries: usize) -> Result<(), SearchFault>
+    requires clear { IsClear trace.now.records 10 }
+    requires entries { entries ≡ entries_in trace.now.records }
+    ensures clear { OnOk result (IsClear trace.now.records 11) }
+    ensures least { IfErr result (IsLeastFound trace.now.records) }
+{
+    match find_ahead(trace.records(), entries) {
+        Some(at) => Err(SearchFault::Malformed {
+            at,
+            cause: Cause::LengthAhead,
+        }),
+        None => Ok(()),
+    }
+}
+
+/// Excludes LengthBack.
+fn lengths_rise(trace: &Trace, family: &Family) -> Result<(), SearchFault>
+    requires clear { IsClear trace.now.records 11 }
+    requires family { IsFamilyOf trace.now.records family.now }
+    requires at_home { IsFreeOf trace.now.records Moved }
+    ensures clear { OnOk result (IsClear trace.now.records 12) }
+    ensures least { IfErr result (IsLeastFound trace.now.records) }
+{
+    match find_back(trace.records(), family) {
+        Some(at) => Err(SearchFault::Malformed {
+            at,
+            cause: Cause::LengthBack,
+        }),
+        None => Ok(()),
+    }
+}
+
 /// The greedy order of all records. Excludes NoOrder.
 fn order_of(alloc: Global, trace: &Trace, family: &Family) -> Result<Vec<usize>, SearchFault>
-    requires clear { IsClear trace.now.records 8 }
+    requires clear { IsClear trace.now.records 12 }
     requires family { IsFamilyOf trace.now.records family.now }
     requires at_home { IsFreeOf trace.now.records Moved }
     ensures linearization { IfOk result (λ order. IsLinearization trace.now.records order.items) }
     ensures greedy { IfOk result (λ order. IsGreedy trace.now.records order.items) }
-    ensures clear { OnOk result (IsClear trace.now.records 9) }
+    ensures clear { OnOk result (IsClear trace.now.records 13) }
     ensures least { IfErr result (IsLeastFound trace.now.records) }
 {
     let records = trace.records();
@@ -147,8 +219,8 @@ fn file_order(alloc: Global, records: &[Record]) -> Result<Vec<usize>, AllocErro
 
 /// Excludes TargetTask.
 fn no_task_is_for_a_device(trace: &Trace) -> Result<(), SearchFault>
-    requires { IsClear trace.now.records 9 }
-    ensures clear { OnOk result (IsClear trace.now.records 10) }
+    requires { IsClear trace.now.records 13 }
+    ensures clear { OnOk result (IsClear trace.now.records 14) }
     ensures least { IfErr result (IsLeastFound trace.now.records) }
 {
     match target(trace) {

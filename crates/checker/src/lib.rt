@@ -6,7 +6,11 @@
 
 mod audited;
 mod checking;
+mod claims;
+mod entries;
+mod lengths;
 mod merge;
+mod repeats;
 mod schedule;
 mod search;
 mod verdict;

@@ -5,10 +5,11 @@ ghost use Rattle.ompt_events.specs.Places.{thread_at};
 ghost use Rattle.ompt_events.specs.Linearization.{IsLinearization, IsGreedy};
 ghost use Rattle.ompt_events.specs.Causes.{IsFreeOf};
 ghost use Rattle.checker.specs.Search.{IsFound};
-ghost use Rattle.checker.specs.Merge.{HaveCreations, AreClosed, StartsOrFulfils, Stands, MayFollow, AreHeads, IsLeastEntry, IsReadyHead, IsHint, HintsAt, AreHeadsFrom, AreLinks, AreEarly, AreEntries};
+ghost use Rattle.checker.specs.Merge.{HaveCreations, AreClosed, StartsOrFulfils, Stands, MayFollow, AreHeads, IsLeastEntry, IsReadyHead, IsHint, HintsAt, AreHeadsFrom, AreLinks, AreEarly};
 
+use crate::entries::find_entries;
 use crate::search::SearchFault;
-use ompt_events::{Cause, Record, finish};
+use ompt_events::{Cause, Record};
 use std::alloc::{AllocError, Global};
 
 /// The greedy order: again and again the first record in file order of which all that happens before it
@@ -28,7 +29,7 @@ pub(crate) fn find_order(
 {
     let mut placed = none_placed(alloc, records.len())?;
     let (mut heads, links) = threads_of(alloc, records)?;
-    let entries = entries_of(alloc, records)?;
+    let entries = find_entries(alloc, records)?;
     let early = awaited_early(alloc, creations)?;
     let mut low = 0;
     let mut hint = None;
@@ -130,21 +131,6 @@ fn awaited_early(alloc: Global, creations: &[Option<usize>]) -> Result<Vec<bool>
         }
     }
     Ok(early)
-}
-
-/// The finishing records with their entries, the least entry first.
-fn entries_of(alloc: Global, records: &[Record]) -> Result<Vec<(u32, usize)>, AllocError>
-    ensures { IfOk result (λ entries. AreEntries records.now entries.items) }
-{
-    let mut entries = Vec::new(alloc);
-    for (at, event) in records.iter().enumerate() {
-        if finish(event).is_some() {
-            entries.push((event.seen, at))?;
-        }
-    }
-    // Along a thread the entries rise, so there are few runs to merge.
-    entries.sort_by_key(|entry| entry.0)?;
-    Ok(entries)
 }
 
 /// The entry at a place of the list.

@@ -29,7 +29,7 @@ pub(crate) fn creations_awaited(
 }
 
 /// The creation of the task that the record at a place starts, discards or fulfils, if it is explicit.
-fn creation_awaited(records: &[Record], family: &Family, at: usize) -> Option<usize>
+pub(crate) fn creation_awaited(records: &[Record], family: &Family, at: usize) -> Option<usize>
     requires within { at < length records.now }
     requires family { IsFamilyOf records.now family.now }
     ensures { (c : ℕ) → (result ≡ Some c) ↔ Awaits records.now at c }

@@ -1,49 +1,74 @@
 -- What a tree keeps when a node is added.
-use Rattle.std.proofs.Common.{◌≡◌, ◌≢◌, ℕ, ◌+◌, ◌^◌, ◌<◌, ◌≤◌, true, false, List, [], ◌∷◌, ◌++◌, length, set, get_or, refl, sym, ◌∙◌, ap, subst, arith, eqb, length-append, ⊎_elim, inl, inr, ◌⊎◌}
-use Rattle.std.specs.Prelude.{Option, Some, None, ◌&&◌, max}
-use Rattle.std.specs.declared.cmp.Ordering.{Ordering}
-use Rattle.std.specs.declared.cmp.Ordering.TheVariants.{Less, Equal, Greater}
-use Rattle.std.specs.Ordering.{nat_cmp, ordering_then, is_eq}
-use Rattle.std.specs.BTreeMap.{Updates}
+use Rattle.std.proofs.Common.{◌≡◌, ◌≢◌, ℕ, zero, suc, ◌+◌, ◌^◌, ◌<◌, ◌≤◌, true, false, List, [], ◌∷◌, ◌++◌, length, set, get_or, refl, sym, ◌∙◌, ap, subst, arith, eqb, length-append, ⊎_elim, inl, inr, ◌⊎◌}
+use Rattle.std.specs.Prelude.{Option, Some, None, ◌==◌, max, unwrap_or, slice_get}
 use Rattle.std.specs.Option.{option_and_then}
 use Rattle.std.proofs.lemmas.Bool.{cases_Bool, cases_eq, cases_lt, and_parts, and_from, eqb-true, eq-eqb, cond-true, cond-false}
-use Rattle.std.proofs.lemmas.Bool.Decides.{nat_tests}
 use Rattle.std.proofs.lemmas.Option.{unwrap_or-slice_get}
 use Rattle.std.proofs.lemmas.List.{length-set, get_or-set_same, get_or-set_other, get_or_append_left, get_or_push, get_or_past}
+use Rattle.credit.specs.declared.links.Side.{Side}
+use Rattle.credit.specs.declared.links.Side.TheVariants.{First}
+use Rattle.credit.specs.declared.links.Spot.TheVariants.{Missing}
+use Rattle.credit.specs.declared.links.Link.{Link}
+use Rattle.credit.specs.Links.{leaf_link, link_at, behind, with_link, is_link_of, spot_within, spot_of, found, IsRising}
+use Rattle.credit.proofs.LinkLemmas.{step-missing, leaf_behind, link_at-get, link_at-past, IsLinkAdded, IsLinkAdded-set, IsRising-added, added-here, added-elsewhere, missing-at}
 use Rattle.credit.specs.declared.tree.Node.{Node}
 use Rattle.credit.specs.declared.tree.Tree.{Tree}
-use Rattle.credit.specs.Trees.{no_progress, empty_node, node_at, key_cmp, child, place, progress_at, with_reach, IsLinked, IsGrown}
+use Rattle.credit.specs.Trees.{no_progress, empty_node, node_at, child, place, progress_at, with_reach, IsLinked, IsGrown}
 use Rattle.credit.proofs.KnownLemmas.{none_some, same_some}
 use Rattle.credit.proofs.TreeLemmas.{place-child, progress_at-place, progress_at-none}
-
--- two keys are the same
-is_eq-then : (o p : Ordering) → is_eq (ordering_then o p) ≡ (is_eq o && is_eq p)
-is_eq-then Less p = refl
-is_eq-then Equal p = refl
-is_eq-then Greater p = refl
-
-is_eq-nat : (a b : ℕ) → is_eq (nat_cmp a b) ≡ eqb a b
-is_eq-nat a b = grind (arith, nat_tests)
-
-pub key_eq : (a b c d : ℕ) → is_eq (key_cmp (a, b) (c, d)) ≡ (eqb a c && eqb b d)
-key_eq a b c d = is_eq-then (nat_cmp a c) (nat_cmp b d) ∙ ap (λ x. x && is_eq (nat_cmp b d)) (is_eq-nat a c) ∙ ap (λ x. eqb a c && x) (is_eq-nat b d)
 
 -- one child more
 pub record IsChildAdded (old new : Tree) (index number k : ℕ) : Type 0 where
   pub here : child new index number ≡ Some k
   pub others : (i n : ℕ) → (child new i n ≡ child old i n) ⊎ ((i ≡ index) × (n ≡ number))
 
-pub IsChildAdded-from : (old new : Tree) (index number k : ℕ) → Updates key_cmp old.children new.children (index, number) (Some k) → IsChildAdded old new index number k
-IsChildAdded-from old new index number k updates = record {
-  here = updates.0 (index, number) ∙ cond-true _ _ _ (key_eq index number index number ∙ and_from _ _ (eq-eqb index index refl) (eq-eqb number number refl));
+-- a search that begins at no child
+search-none : (links : List Link) (steps i n : ℕ) → behind (link_at links i) First ≡ 0 → found (spot_within links steps i n n i First) ≡ None
+search-none links zero i n none = refl
+search-none links (suc steps) i n none = ap found (step-missing links steps i n n i First none)
+
+pub IsChildAdded-from : (old new : Tree) (index number j : ℕ) (s : Side) → IsLinked old → index < length old.nodes.items → spot_of old.links.items index number ≡ Missing j s
+    → IsLinkAdded old.links.items new.links.items index number j s → IsChildAdded old new index number (length old.nodes.items)
+IsChildAdded-from old new index number j s linked inside missing added = record {
+  here = ap (λ (steps : ℕ). found (spot_within new.links.items steps index number number index First)) longer
+      ∙ ap found (added-here old.links.items new.links.items index number j s linked.rising added (length old.links.items) number index First inside_links (omega arith) missing)
+      ∙ ap (λ k. Some k) linked.aligned;
   others = λ i n.
       ⊎_elim
-      (λ (same : is_eq (key_cmp (index, number) (i, n)) ≡ true).
-      let parts = and_parts (eqb index i) (eqb number n) (sym (key_eq index number i n) ∙ same) in
+      (λ (same : is_link_of i n (leaf_link index number) ≡ true).
+      let parts = and_parts (index == i) (number == n) same in
       inr (sym (eqb-true index i parts.0), sym (eqb-true number n parts.1)))
-      (λ (apart : is_eq (key_cmp (index, number) (i, n)) ≡ false). inl (updates.0 (i, n) ∙ cond-false _ _ _ apart))
-      (cases_Bool (is_eq (key_cmp (index, number) (i, n))));
+      (λ (apart : is_link_of i n (leaf_link index number) ≡ false).
+      inl
+      (⊎_elim
+      (λ (less : i < length old.links.items).
+      ap (λ (steps : ℕ). found (spot_within new.links.items steps i n n i First)) longer
+      ∙ added-elsewhere old.links.items new.links.items index number j s linked.rising added i n apart (length old.links.items) n i First less (omega arith))
+      (λ (far : length old.links.items ≤ i).
+      search-none new.links.items (length new.links.items) i n (far-new i far)
+      ∙ sym (search-none old.links.items (length old.links.items) i n (ap (λ l. behind l First) (link_at-past old.links.items i far))))
+      (cases_lt i (length old.links.items))))
+      (cases_Bool (is_link_of i n (leaf_link index number)));
 }
+  where
+    longer : length new.links.items ≡ suc (length old.links.items)
+    longer = omega (arith, added.longer)
+
+    inside_links : index < length old.links.items
+    inside_links = omega (arith, inside, linked.aligned)
+
+    far-new : (i : ℕ) → length old.links.items ≤ i → behind (link_at new.links.items i) First ≡ 0
+    far-new i far =
+        ⊎_elim
+        (λ (is : i ≡ length old.links.items). ap (λ k. behind (link_at new.links.items k) First) is ∙ ap (λ l. behind l First) added.last)
+        (λ (other : i ≢ length old.links.items). ap (λ l. behind l First) (link_at-past new.links.items i (omega (arith, far, added.longer))))
+        (cases_eq i (length old.links.items))
+
+pub node_at-get : (tree : Tree) (i : ℕ) → node_at tree i ≡ get_or tree.nodes.items i (empty_node 0)
+node_at-get tree i = unwrap_or-slice_get tree.nodes.items i (empty_node 0)
+
+node_at-past : (tree : Tree) (i : ℕ) → length tree.nodes.items ≤ i → node_at tree i ≡ empty_node 0
+node_at-past tree i far = node_at-get tree i ∙ get_or_past tree.nodes.items i (empty_node 0) far
 
 -- the nodes after one was added below `index`, which may reach further now
 pub record IsNodeAdded (old new : Tree) (index : ℕ) : Type 0 where
@@ -108,31 +133,12 @@ progress-same old new last past kept known leaf same up = by_place (place (child
 
 -- ---- the two ways in which a tree grows
 
--- a node that is no child yet
-pub IsGrown-node : (old new : Tree) (index : ℕ) → IsLinked old → index < length old.nodes.items → IsNodeAdded old new index → ((i n : ℕ) → child new i n ≡ child old i n) → IsGrown old new
-IsGrown-node old new index linked inside added same = record {
-  linked = record {
-    within = λ i n k e. let w = linked.within i n k (was i n k e) in (w.0, omega (arith, w.1, added.longer));
-    back = λ i n k e. let w = linked.within i n k (was i n k e) in added.parent k w.1 ∙ linked.back i n k (was i n k e);
-    apart = λ i m n k e f. linked.apart i m n k (was i m k e) (was i n k f);
-    reach = λ i n k e. let w = linked.within i n k (was i n k e) in
-        let less : i < length old.nodes.items = omega (arith, w.0, w.1) in
-        omega (arith, linked.reach i n k (was i n k e), added.reach i less);
-    small = added.small;
-  };
-  longer = omega (arith, added.longer);
-  same = progress-same old new (length old.nodes.items) (omega arith) (λ i n k e. same i n ∙ e) (λ i n k e. inl (was i n k e))
-      (λ n k e. let w = linked.within (length old.nodes.items) n k (was (length old.nodes.items) n k e) in omega (arith, w.0, w.1)) added.progress;
-  kept = place-kept old new (λ i n k e. same i n ∙ e);
-}
-  where
-    was : (i n k : ℕ) → child new i n ≡ Some k → child old i n ≡ Some k
-    was i n k e = sym (same i n) ∙ e
-
 -- a node that is a child
-pub IsGrown-child : (old new : Tree) (index number : ℕ) → IsLinked old → index < length old.nodes.items → child old index number ≡ None → IsNodeAdded old new index → IsChildAdded old new index number (length old.nodes.items) → number < (node_at new index).reach → IsGrown old new
-IsGrown-child old new index number linked inside missing added child_added reaches = record {
+pub IsGrown-child : (old new : Tree) (index number : ℕ) → IsLinked old → IsRising new.links.items → length new.links.items ≡ length old.links.items + 1 → index < length old.nodes.items → child old index number ≡ None → IsNodeAdded old new index → IsChildAdded old new index number (length old.nodes.items) → number < (node_at new index).reach → IsGrown old new
+IsGrown-child old new index number linked rising longer inside missing added child_added reaches = record {
   linked = record {
+    rising = rising;
+    aligned = omega (arith, longer, linked.aligned, added.longer);
     within = λ i n k e.
         ⊎_elim (λ (was : child old i n ≡ Some k). let w = linked.within i n k was in (w.0, omega (arith, w.1, added.longer)))
         (λ (is : (i ≡ index) × ((n ≡ number) × (k ≡ length old.nodes.items))). (omega (arith, is.0, is.1.1, inside), omega (arith, is.1.1, added.longer)))
@@ -190,12 +196,6 @@ IsGrown-child old new index number linked inside missing added child_added reach
         (child_added.others i n)
 
 -- ---- the lists of nodes
-
-pub node_at-get : (tree : Tree) (i : ℕ) → node_at tree i ≡ get_or tree.nodes.items i (empty_node 0)
-node_at-get tree i = unwrap_or-slice_get tree.nodes.items i (empty_node 0)
-
-node_at-past : (tree : Tree) (i : ℕ) → length tree.nodes.items ≤ i → node_at tree i ≡ empty_node 0
-node_at-past tree i far = node_at-get tree i ∙ get_or_past tree.nodes.items i (empty_node 0) far
 
 -- the nodes are the old ones, but for one that stays what it was with a greater reach, and a new last one
 record IsOneMore (old new : Tree) (index : ℕ) (node : Node) : Type 0 where
@@ -298,24 +298,117 @@ IsGrown-through a b c one two = record {
 pub IsGrown-itself : (tree : Tree) → IsLinked tree → IsGrown tree tree
 IsGrown-itself tree linked = record { linked = linked; longer = omega arith; same = λ up. refl; kept = λ up i e. e }
 
--- a node was added, made a child, and its parent reaches to it
-pub IsGrown-made : (old mid new : Tree) (index number made : ℕ) → IsLinked old → index < length old.nodes.items → number ≤ 2 ^ 48 → child old index number ≡ None
-    → mid.nodes.items ≡ old.nodes.items ++ empty_node index ∷ [] → made ≡ length old.nodes.items → Updates key_cmp old.children mid.children (index, number) (Some made)
-    → new.nodes.items ≡ set mid.nodes.items index (with_reach (node_at mid index) number) → new.children ≡ mid.children → IsGrown old new
-IsGrown-made old mid new index number made linked inside small missing pushed last updates written children =
-    IsGrown-child old new index number linked inside missing
-    (IsNodeAdded-set old new index (with_reach (node_at old index) number) linked inside items refl refl (omega arith) (omega (arith, linked.small index)))
-    (IsChildAdded-from old new index number (length old.nodes.items)
-    (subst (λ map. Updates key_cmp old.children map (index, number) (Some (length old.nodes.items))) (sym children)
-    (subst (λ k. Updates key_cmp old.children mid.children (index, number) (Some k)) last updates)))
-    reached
+-- nothing was added
+pub IsGrown-same : (old new : Tree) → new.nodes.items ≡ old.nodes.items → new.links.items ≡ old.links.items → IsLinked old → IsGrown old new
+IsGrown-same old new nodes links linked = record {
+  linked = record {
+    rising = subst IsRising (sym links) linked.rising;
+    aligned = ap length links ∙ linked.aligned ∙ sym (ap length nodes);
+    within = λ i n k e. let w = linked.within i n k (was i n k e) in (w.0, subst (λ xs. k < length xs) (sym nodes) w.1);
+    back = λ i n k e. ap (λ (x : Node). x.parent) (at k) ∙ linked.back i n k (was i n k e);
+    apart = λ i m n k e f. linked.apart i m n k (was i m k e) (was i n k f);
+    reach = λ i n k e. let here : (node_at new i).reach ≡ (node_at old i).reach = ap (λ (x : Node). x.reach) (at i) in omega (arith, here, linked.reach i n k (was i n k e));
+    small = λ i. let here : (node_at new i).reach ≡ (node_at old i).reach = ap (λ (x : Node). x.reach) (at i) in omega (arith, here, linked.small i);
+  };
+  longer = let same : length new.nodes.items ≡ length old.nodes.items = ap length nodes in omega (arith, same);
+  same = progress-same old new (length old.nodes.items) (omega arith) (λ i n k e. same i n ∙ e) (λ i n k e. inl (was i n k e))
+      (λ n k e. let w = linked.within (length old.nodes.items) n k (was (length old.nodes.items) n k e) in omega (arith, w.0, w.1)) (λ i. ap (λ (x : Node). x.progress) (at i));
+  kept = place-kept old new (λ i n k e. same i n ∙ e);
+}
   where
-    same : node_at mid index ≡ node_at old index
-    same = node_at-get mid index ∙ ap (λ xs. get_or xs index (empty_node 0)) pushed
+    same : (i n : ℕ) → child new i n ≡ child old i n
+    same i n = ap (λ xs. found (spot_of xs i n)) links
+
+    was : (i n k : ℕ) → child new i n ≡ Some k → child old i n ≡ Some k
+    was i n k e = sym (same i n) ∙ e
+
+    at : (i : ℕ) → node_at new i ≡ node_at old i
+    at i = ap (λ xs. unwrap_or (slice_get xs i) (empty_node 0)) nodes
+
+-- a root alone
+pub IsGrown-root : (old new : Tree) → IsLinked old → length old.nodes.items ≡ 0 → new.nodes.items ≡ old.nodes.items ++ empty_node 0 ∷ [] → new.links.items ≡ old.links.items ++ leaf_link 0 0 ∷ [] → IsGrown old new
+IsGrown-root old new linked empty nodes links = record {
+  linked = record {
+    rising = λ here side some. let none : behind (link_at new.links.items here) side ≡ 0 = ap (λ l. behind l side) (leaf here) ∙ leaf_behind 0 0 side in absurd (omega (arith, some, none));
+    aligned = omega (arith, long_links, long_nodes, linked.aligned);
+    within = λ i n k e. absurd (none_some k (sym (none i n) ∙ e));
+    back = λ i n k e. absurd (none_some k (sym (none i n) ∙ e));
+    apart = λ i m n k e f. absurd (none_some k (sym (none i m) ∙ e));
+    reach = λ i n k e. absurd (none_some k (sym (none i n) ∙ e));
+    small = λ i. let here : (node_at new i).reach ≡ 0 = ap (λ (x : Node). x.reach) (at i) in omega (arith, here);
+  };
+  longer = omega (arith, long_nodes);
+  same = progress-same old new 0 (omega (arith, empty)) (λ i n k e. absurd (none_some k (sym (none_old i n) ∙ e))) (λ i n k e. absurd (none_some k (sym (none i n) ∙ e)))
+      (λ n k e. none_some k (sym (none 0 n) ∙ e))
+      (λ i. ap (λ (x : Node). x.progress) (at i) ∙ sym (ap (λ (x : Node). x.progress) (node_at-past old i (omega (arith, empty)))));
+  kept = place-kept old new (λ i n k e. absurd (none_some k (sym (none_old i n) ∙ e)));
+}
+  where
+    long_links : length new.links.items ≡ length old.links.items + 1
+    long_links = ap length links ∙ length-append old.links.items (leaf_link 0 0 ∷ [])
+
+    long_nodes : length new.nodes.items ≡ length old.nodes.items + 1
+    long_nodes = ap length nodes ∙ length-append old.nodes.items (empty_node 0 ∷ [])
+
+    leaf : (i : ℕ) → link_at new.links.items i ≡ leaf_link 0 0
+    leaf i =
+        ⊎_elim
+        (λ (first : i ≡ 0).
+        link_at-get new.links.items i ∙ ap (λ xs. get_or xs i (leaf_link 0 0)) links
+        ∙ get_or_push old.links.items (leaf_link 0 0) (leaf_link 0 0) i (sym (first ∙ sym (linked.aligned ∙ empty))))
+        (λ (other : i ≢ 0). link_at-past new.links.items i (omega (arith, other, long_links, linked.aligned, empty)))
+        (cases_eq i 0)
+
+    at : (i : ℕ) → node_at new i ≡ empty_node 0
+    at i =
+        ⊎_elim
+        (λ (first : i ≡ 0).
+        node_at-get new i ∙ ap (λ xs. get_or xs i (empty_node 0)) nodes
+        ∙ get_or_push old.nodes.items (empty_node 0) (empty_node 0) i (sym (first ∙ sym empty)))
+        (λ (other : i ≢ 0). node_at-past new i (omega (arith, other, long_nodes, empty)))
+        (cases_eq i 0)
+
+    none : (i n : ℕ) → child new i n ≡ None
+    none i n = search-none new.links.items (length new.links.items) i n (ap (λ l. behind l First) (leaf i))
+
+    none_old : (i n : ℕ) → child old i n ≡ None
+    none_old i n = search-none old.links.items (length old.links.items) i n (ap (λ l. behind l First) (link_at-past old.links.items i (omega (arith, linked.aligned, empty))))
+
+-- a node was added, made a child, and its parent reaches to it
+pub IsGrown-made : (old mid linked_mid new : Tree) (index number j : ℕ) (s : Side) → IsLinked old → index < length old.nodes.items → number ≤ 2 ^ 48 → spot_of old.links.items index number ≡ Missing j s
+    → mid.nodes.items ≡ old.nodes.items ++ empty_node index ∷ [] → mid.links.items ≡ old.links.items ++ leaf_link index number ∷ []
+    → linked_mid.nodes ≡ mid.nodes → linked_mid.links.items ≡ set mid.links.items j (with_link (link_at mid.links.items j) s (length old.nodes.items))
+    → new.nodes.items ≡ set linked_mid.nodes.items index (with_reach (node_at linked_mid index) number) → new.links ≡ linked_mid.links
+    → (IsGrown old new) × (child new index number ≡ Some (length old.nodes.items))
+IsGrown-made old mid linked_mid new index number j s linked inside small spot pushed pushed_link mid_same put written same_links = (
+  IsGrown-child old new index number linked (IsRising-added old.links.items new.links.items index number j s linked.rising link_added) link_added.longer inside (ap found spot)
+      (IsNodeAdded-set old new index (with_reach (node_at old index) number) linked inside items refl refl (omega arith) (omega (arith, linked.small index)))
+      child_added reached,
+  child_added.here,
+)
+  where
+    links : new.links.items ≡ set (old.links.items ++ leaf_link index number ∷ []) j (with_link (link_at (old.links.items ++ leaf_link index number ∷ []) j) s (length old.links.items))
+    links = ap (λ v. v.items) same_links ∙ put ∙ ap (λ xs. set xs j (with_link (link_at xs j) s (length old.nodes.items))) pushed_link
+        ∙ ap (λ k. set (old.links.items ++ leaf_link index number ∷ []) j (with_link (link_at (old.links.items ++ leaf_link index number ∷ []) j) s k)) (sym linked.aligned)
+
+    ended : (j < length old.links.items) × (behind (link_at old.links.items j) s ≡ 0)
+    ended = missing-at old.links.items linked.rising (length old.links.items) index number number index First j s (omega (arith, inside, linked.aligned)) (omega arith) spot
+
+    link_added : IsLinkAdded old.links.items new.links.items index number j s
+    link_added = IsLinkAdded-set old.links.items new.links.items index number j s ended.0 ended.1 links
+
+    child_added : IsChildAdded old new index number (length old.nodes.items)
+    child_added = IsChildAdded-from old new index number j s linked inside spot link_added
+
+    nodes_mid : linked_mid.nodes.items ≡ old.nodes.items ++ empty_node index ∷ []
+    nodes_mid = ap (λ v. v.items) mid_same ∙ pushed
+
+    same : node_at linked_mid index ≡ node_at old index
+    same = node_at-get linked_mid index ∙ ap (λ xs. get_or xs index (empty_node 0)) nodes_mid
         ∙ get_or_append_left old.nodes.items (empty_node index ∷ []) (empty_node 0) index inside ∙ sym (node_at-get old index)
 
     items : new.nodes.items ≡ set (old.nodes.items ++ empty_node index ∷ []) index (with_reach (node_at old index) number)
-    items = written ∙ ap (λ xs. set xs index (with_reach (node_at mid index) number)) pushed
+    items = written ∙ ap (λ xs. set xs index (with_reach (node_at linked_mid index) number)) nodes_mid
         ∙ ap (λ (node : Node). set (old.nodes.items ++ empty_node index ∷ []) index (with_reach node number)) same
 
     reached : number < (node_at new index).reach

@@ -9,6 +9,7 @@ pub mod HeldLemmas
 pub mod CountLemmas
 pub mod KnownLemmas
 pub mod SettleLemmas
+pub mod LinkLemmas
 pub mod TreeLemmas
 pub mod GrowLemmas
 pub mod UpdateLemmas

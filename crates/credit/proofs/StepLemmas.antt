@@ -12,10 +12,10 @@ use Rattle.credit.proofs.TreeLemmas.{progress_at-place}
 use Rattle.credit.proofs.UpdateLemmas.{IsUpdated, place-parent, place-within, updated-place, updated-parent, updated-length, IsLinked-updated, progress_at-updated, progress_at-kept, progress_at-field, held_children-small}
 
 module _ (shares : List (List Half)) (old new : Tree) (index : ℕ) (linked : IsLinked old) (some : 0 < length old.nodes.items)
-    (nodes : new.nodes.items ≡ set old.nodes.items index (with_since (node_at old index) (length shares))) (children : new.children ≡ old.children) where
+    (nodes : new.nodes.items ≡ set old.nodes.items index (with_since (node_at old index) (length shares))) (links : new.links ≡ old.links) where
   -- a node was marked
   marked-update : (up : List ℕ) → place (child old) up ≡ Some index → IsUpdated old new index (with_since (node_at old index) (length shares))
-  marked-update up here = record { inside = place-within old linked some up index here; nodes = nodes; children = children; parent = refl; reach = refl }
+  marked-update up here = record { inside = place-within old linked some up index here; nodes = nodes; links = links; parent = refl; reach = refl }
 
   pub IsLinked-marked : (up : List ℕ) → place (child old) up ≡ Some index → IsLinked new
   IsLinked-marked up here = IsLinked-updated old new index (with_since (node_at old index) (length shares)) (marked-update up here) linked
@@ -56,7 +56,7 @@ module _ (shares : List (List Half)) (old new : Tree) (index : ℕ) (linked : Is
 
   -- and its parent counted it
   module _ (last : Tree) (n : ℕ) (up : List ℕ) (here : place (child old) (n ∷ up) ≡ Some index)
-      (nodes_last : last.nodes.items ≡ set new.nodes.items (node_at new index).parent (with_child (node_at new (node_at new index).parent))) (children_last : last.children ≡ new.children) where
+      (nodes_last : last.nodes.items ≡ set new.nodes.items (node_at new index).parent (with_child (node_at new (node_at new index).parent))) (links_last : last.links ≡ new.links) where
     parent : ℕ
     parent = (node_at new index).parent
 
@@ -70,7 +70,7 @@ module _ (shares : List (List Half)) (old new : Tree) (index : ℕ) (linked : Is
     counted-update = record {
       inside = place-within new linked_new (omega (arith, some, length-marked (n ∷ up) here)) up (node_at new index).parent above;
       nodes = nodes_last;
-      children = children_last;
+      links = links_last;
       parent = refl;
       reach = refl;
     }
@@ -106,9 +106,9 @@ module _ (shares : List (List Half)) (old new : Tree) (index : ℕ) (linked : Is
 
 -- a run was put down at the node of a share that overlaps no other one
 module _ (shares : List (List Half)) (old new : Tree) (index : ℕ) (s : List Half) (linked : IsLinked old) (here : place (child old) (path_of s).0 ≡ Some index) (inside : index < length old.nodes.items)
-    (nodes : new.nodes.items ≡ set old.nodes.items index (with_run (node_at old index) (record { keeps = (path_of s).1; time = length shares }))) (children : new.children ≡ old.children) where
+    (nodes : new.nodes.items ≡ set old.nodes.items index (with_run (node_at old index) (record { keeps = (path_of s).1; time = length shares }))) (links : new.links ≡ old.links) where
   put-update : IsUpdated old new index (with_run (node_at old index) (record { keeps = (path_of s).1; time = length shares }))
-  put-update = record { inside = inside; nodes = nodes; children = children; parent = refl; reach = refl }
+  put-update = record { inside = inside; nodes = nodes; links = links; parent = refl; reach = refl }
 
   pub IsLinked-put : IsLinked new
   IsLinked-put = IsLinked-updated old new index (with_run (node_at old index) (record { keeps = (path_of s).1; time = length shares })) put-update linked

@@ -1,5 +1,5 @@
 -- What a change of one node changes.
-use Rattle.std.proofs.Common.{◌≡◌, ◌≢◌, ℕ, ◌+◌, ◌^◌, ◌<◌, ◌≤◌, true, List, [], ◌∷◌, length, set, get_or, refl, sym, ◌∙◌, ap, arith, ⊎_elim}
+use Rattle.std.proofs.Common.{◌≡◌, ◌≢◌, ℕ, ◌+◌, ◌^◌, ◌<◌, ◌≤◌, true, List, [], ◌∷◌, length, set, get_or, refl, sym, ◌∙◌, ap, subst, arith, ⊎_elim}
 use Rattle.std.specs.Prelude.{Option, Some, None, is_some}
 use Rattle.std.specs.Option.{option_and_then}
 use Rattle.std.proofs.lemmas.Bool.{cases_eq, false≢true}
@@ -8,6 +8,7 @@ use Rattle.credit.specs.declared.share.Half.{Half}
 use Rattle.credit.specs.declared.tree.Progress.{Progress}
 use Rattle.credit.specs.declared.tree.Node.{Node}
 use Rattle.credit.specs.declared.tree.Tree.{Tree}
+use Rattle.credit.specs.Links.{spot_of, found, IsRising}
 use Rattle.credit.specs.Trees.{no_progress, empty_node, node_at, child, place, progress_at, count_below, IsLinked, IsCounted}
 use Rattle.credit.proofs.KnownLemmas.{none_some, same_some}
 use Rattle.credit.proofs.SettleLemmas.{same_path}
@@ -64,7 +65,7 @@ place-apart tree linked (m ∷ p) (n ∷ q) k e f = both (place-apart tree linke
 pub record IsUpdated (old new : Tree) (index : ℕ) (node : Node) : Type 0 where
   pub inside : index < length old.nodes.items
   pub nodes : new.nodes.items ≡ set old.nodes.items index node
-  pub children : new.children ≡ old.children
+  pub links : new.links ≡ old.links
   pub parent : node.parent ≡ (node_at old index).parent
   pub reach : node.reach ≡ (node_at old index).reach
 
@@ -80,7 +81,7 @@ module _ (old new : Tree) (index : ℕ) (node : Node) (updated : IsUpdated old n
       ∙ get_or-set_other old.nodes.items index i node (empty_node 0) other ∙ sym (node_at-get old i)
 
   updated-child : (i n : ℕ) → child new i n ≡ child old i n
-  updated-child i n = ap (λ map. Rattle.std.specs.BTreeMap.get Rattle.credit.specs.Trees.key_cmp map (i, n)) updated.children
+  updated-child i n = ap (λ xs. found (spot_of xs i n)) (ap (λ v. v.items) updated.links)
 
   pub updated-parent : (i : ℕ) → (node_at new i).parent ≡ (node_at old i).parent
   updated-parent i =
@@ -100,10 +101,12 @@ module _ (old new : Tree) (index : ℕ) (node : Node) (updated : IsUpdated old n
   updated-length = ap length updated.nodes ∙ length-set old.nodes.items index node
 
   pub updated-place : (up : List ℕ) → place (child new) up ≡ place (child old) up
-  updated-place up = ap (λ map. place (λ i n. Rattle.std.specs.BTreeMap.get Rattle.credit.specs.Trees.key_cmp map (i, n)) up) updated.children
+  updated-place up = ap (λ xs. place (λ i n. found (spot_of xs i n)) up) (ap (λ v. v.items) updated.links)
 
   pub IsLinked-updated : IsLinked old → IsLinked new
   IsLinked-updated linked = record {
+    rising = subst IsRising (sym (ap (λ v. v.items) updated.links)) linked.rising;
+    aligned = ap (λ v. length v.items) updated.links ∙ linked.aligned ∙ sym updated-length;
     within = λ i n k e. let w = linked.within i n k (sym (updated-child i n) ∙ e) in (w.0, omega (arith, w.1, updated-length));
     back = λ i n k e. updated-parent k ∙ linked.back i n k (sym (updated-child i n) ∙ e);
     apart = λ i m n k e f. linked.apart i m n k (sym (updated-child i m) ∙ e) (sym (updated-child i n) ∙ f);

@@ -1,4 +1,5 @@
 pub mod Shares
 pub mod Credits
 pub mod Paths
+pub mod Links
 pub mod Trees

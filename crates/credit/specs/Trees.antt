@@ -1,16 +1,17 @@
 -- A purse as a tree: what each node says of the shares that were entered.
-use Rattle.std.specs.Prelude.{◌≡◌, ◌≤◌, ◌<◌, ◌↔◌, ◌^◌, ◌+◌, ℕ, zero, suc, Bool, true, false, List, [], ◌∷◌, length, take, if◌then◌else◌, Option, None, Some, is_some, unwrap_or, nat_le, slice_get, max}
+use Rattle.std.specs.Prelude.{◌≡◌, ◌≤◌, ◌<◌, ◌↔◌, ◌^◌, ◌+◌, ℕ, zero, suc, Bool, true, false, List, [], ◌∷◌, length, reverse, take, if◌then◌else◌, Option, None, Some, is_some, unwrap_or, nat_le, slice_get, max}
 use Rattle.std.specs.Option.{option_and_then, option_map_or}
-use Rattle.std.specs.declared.cmp.Ordering.{Ordering}
-use Rattle.std.specs.Ordering.{nat_cmp, ordering_then}
-use Rattle.std.specs.BTreeMap.{get}
 use Rattle.credit.specs.declared.share.Half.{Half}
 use Rattle.credit.specs.declared.tree.Run.{Run}
 use Rattle.credit.specs.declared.tree.Progress.{Progress}
 use Rattle.credit.specs.declared.tree.Node.{Node}
 use Rattle.credit.specs.declared.tree.Tree.{Tree}
+use Rattle.credit.specs.declared.tree.Start.{Start}
+use Rattle.credit.specs.declared.tree.Walk.{Walk}
+use Rattle.credit.specs.declared.tree.Walk.TheVariants.{Above, Missing, Found}
 use Rattle.credit.specs.Shares.{begins_with, Hold}
 use Rattle.credit.specs.Paths.{keeps, prefix}
+use Rattle.credit.specs.Links.{spot_of, found, IsRising}
 
 -- nothing was entered at or below the node
 abbrev pub no_progress : Progress
@@ -23,11 +24,8 @@ abbrev pub node_at : Tree → ℕ → Node
 node_at tree index = unwrap_or (slice_get tree.nodes.items index) (empty_node 0)
 
 -- the child of a node by its number
-abbrev pub key_cmp : ℕ × ℕ → ℕ × ℕ → Ordering
-key_cmp x y = ordering_then (nat_cmp x.0 y.0) (nat_cmp x.1 y.1)
-
 abbrev pub child : Tree → ℕ → ℕ → Option ℕ
-child tree index number = get key_cmp tree.children (index, number)
+child tree index number = found (spot_of tree.links.items index number)
 
 -- the node to which the path leads
 abbrev pub place : (ℕ → ℕ → Option ℕ) → List ℕ → Option ℕ
@@ -53,6 +51,20 @@ abbrev pub time_above : (List ℕ → Progress) → List ℕ → Option ℕ
 time_above at [] = None
 time_above at (number ∷ up) = first_of (time_above at up) (time_within (at up).run number)
 
+-- the nodes of the first runs are there, and this one is the last of them
+abbrev pub IsStart : Tree → List ℕ → Start → Type 0
+IsStart tree runs start =
+    (start.depth ≤ length runs) × (place (child tree) (reverse (take start.depth runs)) ≡ Some start.index)
+
+-- where a walk down these runs ends
+abbrev pub IsWalked : Tree → List ℕ → Walk → Type 0
+IsWalked tree runs (Above time) = time_above (progress_at tree) (reverse runs) ≡ Some time
+IsWalked tree runs (Missing start) =
+    (time_above (progress_at tree) (reverse runs) ≡ None) × (place (child tree) (reverse runs) ≡ None)
+    × IsStart tree runs start
+IsWalked tree runs (Found index) =
+    (time_above (progress_at tree) (reverse runs) ≡ None) × (place (child tree) (reverse runs) ≡ Some index)
+
 -- the numbers by which `since` tells from when a share is held
 abbrev pub is_by : Option ℕ → ℕ → Bool
 is_by None upto = false
@@ -60,6 +72,8 @@ is_by (Some since) upto = nat_le since upto
 
 -- each edge leads to a node of its own
 pub record IsLinked (tree : Tree) : Type 0 where
+  pub rising : IsRising tree.links.items
+  pub aligned : length tree.links.items ≡ length tree.nodes.items
   pub within : (i n k : ℕ) → child tree i n ≡ Some k → (i < k) × (k < length tree.nodes.items)
   pub back : (i n k : ℕ) → child tree i n ≡ Some k → (node_at tree k).parent ≡ i
   pub apart : (i m n k : ℕ) → child tree i m ≡ Some k → child tree i n ≡ Some k → m ≡ n

@@ -5,6 +5,7 @@
 
 mod fault;
 pub mod laws;
+mod links;
 mod purse;
 mod share;
 mod tree;

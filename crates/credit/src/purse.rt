@@ -1,13 +1,13 @@
 //! The shares of one credit that have come back.
-ghost use Rattle.std.specs.Prelude.{◌≡◌, ◌≤◌, ◌++◌, ◌∷◌, [], ℕ, IfOk, IfErr, OnOk, OnErr, IsErr, IsTrue, IsOkUnless, ◌↔◌, if◌then◌else◌, ◌<◌, take, length, reverse, false, Some, vec_len, vec_capacity};
+ghost use Rattle.std.specs.Prelude.{◌≡◌, ◌≤◌, ◌++◌, ◌∷◌, [], ℕ, IfOk, IfErr, IfSome, is_none, OnOk, OnErr, IsErr, IsTrue, IsOkUnless, ◌↔◌, if◌then◌else◌, ◌<◌, take, length, reverse, false, Some, vec_len, vec_capacity};
 ghost use Rattle.std.specs.List.{list_any};
 ghost use Rattle.credit.specs.Shares.{overlaps, overlaps_either, Hold};
 ghost use Rattle.credit.specs.Paths.{path_of};
-ghost use Rattle.credit.specs.Trees.{is_by, child, place, progress_at, IsLinked, IsSettling, IsKnown};
+ghost use Rattle.credit.specs.Trees.{is_by, child, place, progress_at, time_above, IsLinked, IsSettling, IsKnown, IsHeldFrom, IsStart};
 
 use crate::fault::CreditFault;
 use crate::share::Share;
-use crate::tree::{Run, Tree};
+use crate::tree::{Run, Start, Tree, Walk};
 use std::alloc::Global;
 use std::marker::Model;
 
@@ -59,10 +59,10 @@ impl Purse {
             then CreditFault.Overlap
             else CreditFault.Memory)) }
     {
-        if self.overlaps(&share) {
+        let Some(start) = start_of(&self.tree, self.shares.as_slice(), &share) else {
             return Err((share, CreditFault::Overlap));
-        }
-        prepare_and_add(&mut self.tree, &mut self.shares, share).map_err(|share| (
+        };
+        prepare_and_add(&mut self.tree, &mut self.shares, share, start).map_err(|share| (
             share,
             CreditFault::Memory,
         ))
@@ -83,14 +83,13 @@ impl Purse {
         ensures fault { IfErr result (λ refusal.
             refusal.2 ≡ (if overlaps_either first second self.old then CreditFault.Overlap else CreditFault.Memory)) }
     {
-        if self.overlaps(&first) || self.overlaps(&second) || first.overlaps(&second) {
+        let Some(starts) = starts_of(&self.tree, self.shares.as_slice(), &first, &second) else {
             return Err((first, second, CreditFault::Overlap));
-        }
-        add_both(&mut self.tree, &mut self.shares, first, second).map_err(|(first, second)| (
+        };
+        add_both(&mut self.tree, &mut self.shares, first, second, starts).map_err(|(
             first,
             second,
-            CreditFault::Memory,
-        ))
+        )| (first, second, CreditFault::Memory))
     }
 
     /// Whether the shares in the purse hold this one, so that all of it has come back: each list of halves
@@ -109,52 +108,100 @@ impl Purse {
     pub fn held_since(&self, share: &Share) -> Option<usize>
         ensures { (upto : ℕ) → IsTrue (is_by result upto) ↔ Hold (take upto self.now) share.now }
     {
-        let runs = share.runs();
-        if let Some(time) = self.tree.time_above(runs) {
-            return Some(time + 1);
+        match self.tree.walk(share.runs()) {
+            Walk::Above(time) => Some(time + 1),
+            Walk::Missing(_) => None,
+            Walk::Found(index) => since_at(&self.tree, self.shares.as_slice(), share, index),
         }
-        let Some(index) = self.tree.find(runs) else {
-            return None;
-        };
-        let progress = self.tree.node(index).progress;
-        let Some(run) = progress.run else {
-            return None;
-        };
-        let last = share.last();
-        if run.keeps <= last {
-            Some(run.time + 1)
-        } else if last == 0 {
-            progress.since
-        } else {
-            self.tree.since_all(index, run.time + 1, last, run.keeps)
-        }
-    }
-
-    /// Whether the share overlaps one in the purse.
-    fn overlaps(&self, share: &Share) -> bool
-        ensures { result ≡ list_any (overlaps share.now) self.now }
-    {
-        let runs = share.runs();
-        if let Some(_) = self.tree.time_above(runs) {
-            return true;
-        }
-        let Some(index) = self.tree.find(runs) else {
-            return false;
-        };
-        let node = self.tree.node(index);
-        if let Some(_) = node.progress.run {
-            return true;
-        }
-        if node.reach <= share.last() {
-            return false;
-        }
-        self.shares.iter().any(|entered| share.overlaps(entered))
     }
 }
 
+/// How many of the shares hold the one of which this is the node, where no shorter one begins it.
+fn since_at(tree: &Tree, shares: &[Share], share: &Share, index: usize) -> Option<usize>
+    requires known { IsKnown shares.now (progress_at tree.now) }
+    requires place { place (child tree.now) (path_of share.now).0 ≡ Some index }
+    requires above { time_above (progress_at tree.now) (path_of share.now).0 ≡ None }
+    ensures { IsHeldFrom shares.now result share.now }
+{
+    let progress = tree.node(index).progress;
+    let Some(run) = progress.run else {
+        return None;
+    };
+    let last = share.last();
+    if run.keeps <= last {
+        Some(run.time + 1)
+    } else if last == 0 {
+        progress.since
+    } else {
+        tree.since_all(index, run.time + 1, last, run.keeps)
+    }
+}
+
+/// Where the nodes of a share begin to be missing, or `None` where it overlaps one of the shares.
+fn start_of(tree: &Tree, shares: &[Share], share: &Share) -> Option<Start>
+    requires linked { IsLinked tree.now }
+    requires known { IsKnown shares.now (progress_at tree.now) }
+    ensures overlaps { is_none result ≡ list_any (overlaps share.now) shares.now }
+    ensures start { IfSome result (λ start. IsStart tree.now (reverse (path_of share.now).0) start) }
+{
+    match tree.walk(share.runs()) {
+        Walk::Above(_) => None,
+        Walk::Missing(start) => Some(start),
+        Walk::Found(index) => {
+            if is_taken(tree, shares, share, index) {
+                return None;
+            }
+            Some(Start {
+                depth: share.runs().len(),
+                index,
+            })
+        }
+    }
+}
+
+/// Whether a share overlaps one of the others, where this is its node and no shorter one begins it.
+fn is_taken(tree: &Tree, shares: &[Share], share: &Share, index: usize) -> bool
+    requires linked { IsLinked tree.now }
+    requires known { IsKnown shares.now (progress_at tree.now) }
+    requires place { place (child tree.now) (path_of share.now).0 ≡ Some index }
+    requires above { time_above (progress_at tree.now) (path_of share.now).0 ≡ None }
+    ensures { result ≡ list_any (overlaps share.now) shares.now }
+{
+    let node = tree.node(index);
+    if let Some(_) = node.progress.run {
+        return true;
+    }
+    if node.reach <= share.last() {
+        return false;
+    }
+    shares.iter().any(|entered| share.overlaps(entered))
+}
+
+/// The same for two shares, or `None` where one of them overlaps another one or they overlap one another.
+fn starts_of(tree: &Tree, shares: &[Share], first: &Share, second: &Share) -> Option<(Start, Start)>
+    requires linked { IsLinked tree.now }
+    requires known { IsKnown shares.now (progress_at tree.now) }
+    ensures overlaps { is_none result ≡ overlaps_either first.now second.now shares.now }
+    ensures first { IfSome result (λ starts. IsStart tree.now (reverse (path_of first.now).0) starts.0) }
+    ensures second { IfSome result (λ starts. IsStart tree.now (reverse (path_of second.now).0) starts.1) }
+{
+    let one = start_of(tree, shares, first)?;
+    let other = start_of(tree, shares, second)?;
+    if first.overlaps(second) {
+        return None;
+    }
+    Some((one, other))
+}
+
 /// Adds a share that overlaps none of the others, or gives it back where there is no memory.
-fn prepare_and_add(tree: &mut Tree, shares: &mut Vec<Share>, share: Share) -> Result<(), Share>
+fn prepare_and_add(
+    tree: &mut Tree,
+    shares: &mut Vec<Share>,
+    share: Share,
+    start: Start,
+) -> Result<(), Share>
     requires linked { IsLinked tree.old }
+    requires start { IsStart tree.old (reverse (path_of share).0) start }
     requires known { IsKnown shares.old.items (progress_at tree.old) }
     requires free { list_any (overlaps share) shares.old.items ≡ false }
     ensures linked { IsLinked tree.new }
@@ -162,7 +209,7 @@ fn prepare_and_add(tree: &mut Tree, shares: &mut Vec<Share>, share: Share) -> Re
     ensures added { OnOk result (shares.new.items ≡ shares.old.items ++ share ∷ []) }
     ensures refused { IfErr result (λ back. (shares.new.items ≡ shares.old.items) × (back ≡ share)) }
 {
-    let Ok(index) = tree.make(share.runs()) else {
+    let Ok(index) = tree.make(share.runs(), start) else {
         return Err(share);
     };
     let Ok(()) = shares.reserve(1) else {
@@ -179,8 +226,11 @@ fn add_both(
     shares: &mut Vec<Share>,
     first: Share,
     second: Share,
+    starts: (Start, Start),
 ) -> Result<(), (Share, Share)>
     requires linked { IsLinked tree.old }
+    requires first { IsStart tree.old (reverse (path_of first).0) starts.0 }
+    requires second { IsStart tree.old (reverse (path_of second).0) starts.1 }
     requires known { IsKnown shares.old.items (progress_at tree.old) }
     requires free { overlaps_either first second shares.old.items ≡ false }
     ensures linked { IsLinked tree.new }
@@ -189,10 +239,10 @@ fn add_both(
     ensures refused { IfErr result (λ back.
         (shares.new.items ≡ shares.old.items) × (back.0 ≡ first) × (back.1 ≡ second)) }
 {
-    let Ok(index) = tree.make(first.runs()) else {
+    let Ok(index) = tree.make(first.runs(), starts.0) else {
         return Err((first, second));
     };
-    let Ok(other) = tree.make(second.runs()) else {
+    let Ok(other) = tree.make(second.runs(), starts.1) else {
         return Err((first, second));
     };
     let Ok(()) = shares.reserve(2) else {
@@ -215,7 +265,7 @@ fn add(tree: &mut Tree, shares: &mut Vec<Share>, share: Share, index: usize)
     ensures known { IsKnown shares.new.items (progress_at tree.new) }
     ensures added { shares.new.items ≡ shares.old.items ++ share ∷ [] }
     ensures capacity { vec_capacity shares.old ≤ vec_capacity shares.new }
-    ensures children { tree.new.children ≡ tree.old.children }
+    ensures links { tree.new.links ≡ tree.old.links }
     ensures nodes { length tree.new.nodes.items ≡ length tree.old.nodes.items }
 {
     let run = Run {
@@ -237,7 +287,7 @@ fn settle(tree: &mut Tree, shares: &[Share], runs: &[u64], index: usize)
     requires within { 0 < length tree.old.nodes.items }
     ensures linked { IsLinked tree.new }
     ensures known { IsKnown shares.now (progress_at tree.new) }
-    ensures children { tree.new.children ≡ tree.old.children }
+    ensures links { tree.new.links ≡ tree.old.links }
     ensures nodes { length tree.new.nodes.items ≡ length tree.old.nodes.items }
 {
     let time = shares.len();

@@ -1,10 +1,12 @@
 //! The nodes of a tree of shares.
-ghost use Rattle.std.specs.Prelude.{◌≡◌, ◌≤◌, ◌<◌, ◌+◌, ◌^◌, ◌-◌, ℕ, IsTrue, ◌↔◌, List, length, reverse, slice_set, Some, IfOk, OnOk};
+ghost use Rattle.std.specs.Prelude.{◌≡◌, ◌≤◌, ◌<◌, ◌+◌, ◌^◌, ◌-◌, ◌++◌, ◌∷◌, [], ℕ, IsTrue, ◌↔◌, List, length, reverse, slice_set, Some, IfOk, OnOk, vec_len, vec_capacity};
 ghost use Rattle.credit.specs.Shares.{start_share};
-ghost use Rattle.credit.specs.Trees.{no_progress, empty_node, node_at, child, place, progress_at, time_within, time_above, child_since, since_all, with_reach, with_run, with_since, with_child, IsLinked, IsGrown, IsFull};
+ghost use Rattle.credit.specs.declared.links.Spot.{Spot};
+ghost use Rattle.credit.specs.Links.{leaf_link, link_at, spot_of, with_link};
+ghost use Rattle.credit.specs.Trees.{no_progress, empty_node, node_at, child, place, progress_at, time_within, child_since, since_all, with_reach, with_run, with_since, with_child, IsLinked, IsGrown, IsFull, IsStart, IsWalked};
 
+use crate::links::{Link, Side, Spot, search};
 use std::alloc::{AllocError, Global};
-use std::collections::BTreeMap;
 
 /// A share that was entered: that of a node, and then so many Keep halves.
 #[derive(Clone, Copy, Debug)]
@@ -34,12 +36,29 @@ pub(crate) struct Node {
     pub progress: Progress,
 }
 
-/// The nodes, the root first, and where the children of each one stand by their numbers. A map in the order
-/// of its keys takes no longer for numbers that someone chose to make it slow.
+/// The nodes, the root first, and how the children of each one are found by their numbers.
 #[derive(Debug, Drop)]
 pub(crate) struct Tree {
     pub nodes: Vec<Node>,
-    pub children: BTreeMap<(usize, u64), usize>,
+    pub links: Vec<Link>,
+}
+
+/// Where the nodes of a share begin to be missing: so many of its runs have theirs, and this one is the last.
+#[derive(Clone, Copy, Debug)]
+pub(crate) struct Start {
+    pub depth: usize,
+    pub index: usize,
+}
+
+/// Where a walk down the nodes of a share ended.
+#[derive(Clone, Copy, Debug)]
+pub(crate) enum Walk {
+    /// A share was entered, so many after the first one, that begins this one and has fewer Give halves.
+    Above(usize),
+    /// There was no such share, and a node was missing.
+    Missing(Start),
+    /// There was no such share, and this is the node.
+    Found(usize),
 }
 
 impl Progress {
@@ -86,7 +105,7 @@ impl Tree {
     {
         Tree {
             nodes: Vec::new(alloc),
-            children: BTreeMap::new(alloc),
+            links: Vec::new(alloc),
         }
     }
 
@@ -101,39 +120,29 @@ impl Tree {
     fn child(&self, index: usize, number: u64) -> Option<usize>
         ensures { result ≡ child self.now index number }
     {
-        self.children.get(&(index, number)).copied()
-    }
-
-    /// The node of these runs.
-    pub fn find(&self, runs: &[u64]) -> Option<usize>
-        ensures { result ≡ place (child self.now) (reverse runs.now) }
-    {
-        let mut index = 0;
-        'runs: for number in runs {
-            let Some(child) = self.child(index, *number) else {
-                return None;
-            };
-            index = child;
+        match search(self.links.as_slice(), index, number) {
+            Spot::Found(child) => Some(child),
+            Spot::Missing(_, _) => None,
         }
-        Some(index)
     }
 
-    /// When a share was entered that begins the share of these runs and has fewer Give halves.
-    pub fn time_above(&self, runs: &[u64]) -> Option<usize>
-        ensures { result ≡ time_above (progress_at self.now) (reverse runs.now) }
+    /// Walks down the nodes of these runs, until a share begins theirs, or a node is missing.
+    pub fn walk(&self, runs: &[u64]) -> Walk
+        ensures { IsWalked self.now runs.now result }
     {
         let mut index = 0;
-        'runs: for number in runs {
+        'runs: for depth in 0..runs.len() {
+            let number = runs[depth];
             let run = self.node(index).progress.run;
-            if let Some(time) = ended_within(run, *number) {
-                return Some(time);
+            if let Some(time) = ended_within(run, number) {
+                return Walk::Above(time);
             }
-            let Some(child) = self.child(index, *number) else {
-                return None;
+            let Some(child) = self.child(index, number) else {
+                return Walk::Missing(Start { depth, index });
             };
             index = child;
         }
-        None
+        Walk::Found(index)
     }
 
     /// From when a child of a node is held.
@@ -160,18 +169,19 @@ impl Tree {
         Some(latest)
     }
 
-    /// The node of these runs, made where it is missing, and each one above it too.
-    pub fn make(&mut self, runs: &[u64]) -> Result<usize, AllocError>
+    /// The node of these runs, made where it is missing, and each one above it too, from the start on.
+    pub fn make(&mut self, runs: &[u64], start: Start) -> Result<usize, AllocError>
         requires linked { IsLinked self.old }
         requires small { length (start_share runs.now) ≤ 2 ^ 48 }
+        requires start { IsStart self.old runs.now start }
         ensures grown { IsGrown self.old self.new }
         ensures made { IfOk result (λ index. place (child self.new) (reverse runs.now) ≡ Some index) }
         ensures within { IfOk result (λ index. index < length self.new.nodes.items) }
     {
         self.make_root()?;
-        let mut index = 0;
-        'runs: for number in runs {
-            index = self.make_child(index, *number)?;
+        let mut index = start.index;
+        'runs: for depth in start.depth..runs.len() {
+            index = self.make_child(index, runs[depth])?;
         }
         Ok(index)
     }
@@ -183,7 +193,8 @@ impl Tree {
         ensures made { OnOk result (0 < length self.new.nodes.items) }
     {
         if self.nodes.is_empty() {
-            self.nodes.push(Node::new(0))?;
+            self.reserve()?;
+            self.push(0, 0);
         }
         Ok(())
     }
@@ -197,14 +208,65 @@ impl Tree {
         ensures made { IfOk result (λ made. child self.new index number ≡ Some made) }
         ensures inside { IfOk result (λ made. made < length self.new.nodes.items) }
     {
-        if let Some(child) = self.child(index, number) {
-            return Ok(child);
+        match search(self.links.as_slice(), index, number) {
+            Spot::Found(child) => Ok(child),
+            Spot::Missing(at, side) => {
+                self.reserve()?;
+                let made = self.nodes.len();
+                self.add_child(index, number, at, side);
+                Ok(made)
+            }
         }
+    }
+
+    /// Takes the memory for one more node.
+    fn reserve(&mut self) -> Result<(), AllocError>
+        ensures nodes { self.new.nodes.items ≡ self.old.nodes.items }
+        ensures links { self.new.links.items ≡ self.old.links.items }
+        ensures room_for_node { OnOk result (vec_len self.new.nodes < vec_capacity self.new.nodes) }
+        ensures room_for_link { OnOk result (vec_len self.new.links < vec_capacity self.new.links) }
+    {
+        self.nodes.reserve(1)?;
+        self.links.reserve(1)?;
+        Ok(())
+    }
+
+    /// Adds a node that no other one leads to yet.
+    fn push(&mut self, parent: usize, number: u64)
+        requires room_for_node { vec_len self.old.nodes < vec_capacity self.old.nodes }
+        requires room_for_link { vec_len self.old.links < vec_capacity self.old.links }
+        ensures nodes { self.new.nodes.items ≡ self.old.nodes.items ++ empty_node parent ∷ [] }
+        ensures links { self.new.links.items ≡ self.old.links.items ++ leaf_link parent number ∷ [] }
+    {
+        let _ = self.nodes.push(Node::new(parent));
+        let _ = self.links.push(Link::leaf(parent, number));
+    }
+
+    /// Adds the child of a node where a search for its number ended.
+    fn add_child(&mut self, index: usize, number: u64, at: usize, side: Side)
+        requires linked { IsLinked self.old }
+        requires within { index < length self.old.nodes.items }
+        requires small { number ≤ 2 ^ 48 }
+        requires missing { spot_of self.old.links.items index number ≡ Spot.Missing at side }
+        requires room_for_node { vec_len self.old.nodes < vec_capacity self.old.nodes }
+        requires room_for_link { vec_len self.old.links < vec_capacity self.old.links }
+        ensures grown { IsGrown self.old self.new }
+        ensures made { child self.new index number ≡ Some (length self.old.nodes.items) }
+    {
         let made = self.nodes.len();
-        self.nodes.push(Node::new(index))?;
-        self.children.insert((index, number), made)?;
+        self.push(index, number);
+        self.put_link(at, side, made);
         self.reach_to(index, number);
-        Ok(made)
+    }
+
+    /// Lets a link lead to a node.
+    fn put_link(&mut self, at: usize, side: Side, child: usize)
+        requires { at < length self.old.links.items }
+        ensures nodes { self.new.nodes ≡ self.old.nodes }
+        ensures links { self.new.links.items ≡ slice_set self.old.links.items at (with_link
+            (link_at self.old.links.items at) side child) }
+    {
+        self.links[at] = self.links[at].leading(side, child);
     }
 
     /// Notes that a node has a child with this number.
@@ -213,7 +275,7 @@ impl Tree {
         requires small { number ≤ 2 ^ 48 }
         ensures nodes { self.new.nodes.items ≡ slice_set self.old.nodes.items index (with_reach
             (node_at self.old index) number) }
-        ensures children { self.new.children ≡ self.old.children }
+        ensures links { self.new.links ≡ self.old.links }
     {
         let node = self.nodes[index];
         self.nodes[index] = Node {
@@ -227,7 +289,7 @@ impl Tree {
         requires { index < length self.old.nodes.items }
         ensures nodes { self.new.nodes.items ≡ slice_set self.old.nodes.items index (with_run
             (node_at self.old index) run) }
-        ensures children { self.new.children ≡ self.old.children }
+        ensures links { self.new.links ≡ self.old.links }
     {
         let node = self.nodes[index];
         let progress = Progress {
@@ -242,7 +304,7 @@ impl Tree {
         requires { index < length self.old.nodes.items }
         ensures nodes { self.new.nodes.items ≡ slice_set self.old.nodes.items index (with_since
             (node_at self.old index) time) }
-        ensures children { self.new.children ≡ self.old.children }
+        ensures links { self.new.links ≡ self.old.links }
     {
         let node = self.nodes[index];
         let progress = Progress {
@@ -258,7 +320,7 @@ impl Tree {
         requires small { (node_at self.old index).progress.held_children < 2 ^ 63 }
         ensures nodes { self.new.nodes.items ≡ slice_set self.old.nodes.items index (with_child
             (node_at self.old index)) }
-        ensures children { self.new.children ≡ self.old.children }
+        ensures links { self.new.links ≡ self.old.links }
     {
         let node = self.nodes[index];
         let progress = Progress {

@@ -1,4 +1,6 @@
 pub mod RegionLemmas
 pub mod CodeLemmas
 pub mod LedgerLemmas
+pub mod LockLemmas
 pub mod OverlapLemmas
+pub mod OverLemmas

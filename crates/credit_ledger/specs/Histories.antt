@@ -1,19 +1,12 @@
 -- A ledger's calls, one after another: what a ledger that several threads share is to keep.
-use Rattle.std.specs.Prelude.{◌≡◌, ℕ, false, List, [], ◌∷◌, ◌++◌, length, fold}
+use Rattle.std.specs.Prelude.{◌≡◌, ◌≤◌, ◌<◌, ℕ, false, List, [], ◌∷◌, ◌++◌, length, fold, Some, slice_get}
 use Rattle.std.specs.List.{list_any}
 use Rattle.credit_ledger.specs.declared.entry.Entry.{Entry}
+use Rattle.credit_ledger.specs.declared.entry.Span.{Span}
+use Rattle.credit_ledger.specs.declared.view.Call.{Call}
+use Rattle.credit_ledger.specs.declared.view.Call.TheVariants.{Enter, Look}
+use Rattle.credit_ledger.specs.declared.view.Step.{Step}
 use Rattle.credit_ledger.specs.Entries.{is_full, is_overlap}
-
--- an entry is put into the ledger, or its length is looked at
-pub data Call : Type 0 where
-  Enter : (entry : Entry) → Call
-  Look : Call
-
--- a call with the number of the seat that made it, and the reply
-pub record Step : Type 0 where
-  pub seat : ℕ
-  pub call : Call
-  pub reply : ℕ
 
 -- the entries after a call
 abbrev pub after_call : List Entry → Call → List Entry
@@ -38,3 +31,19 @@ IsLegal history = IsLegalFrom [] history
 -- what the ledger has after these calls
 abbrev pub entries_after : List Step → List Entry
 entries_after history = fold (λ entries step. after_call entries step.call) [] history
+
+-- the entry is of a child of the span, or of one of its descendants
+pub record IsUnder (span : Span) (entry : Entry) : Type 0 where
+  pub same_root : entry.root ≡ span.root
+  pub number : ℕ
+  pub more : List ℕ
+  pub from_there : span.from ≤ number
+  pub to_there : number < span.to
+  pub path : entry.path ≡ span.path ++ number ∷ more
+
+-- whatever legal calls follow, no further entry comes under the span
+abbrev pub IsOver : List Entry → Span → Type 0
+IsOver entries span =
+    (later : List Step) → IsLegalFrom entries later → (index : ℕ) (entry : Entry) → length entries ≤ index
+    → slice_get (fold (λ es step. after_call es step.call) entries later) index ≡ Some entry
+    → IsUnder span entry → ⊥

@@ -1,3 +1,4 @@
 pub mod Entries
 pub mod Histories
 pub mod Codes
+pub mod Seats

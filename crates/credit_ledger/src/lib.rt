@@ -10,7 +10,13 @@ mod entry;
 mod fault;
 mod ledger;
 mod overlap;
+mod rule;
+mod shared;
+mod view;
 
 pub use entry::{Cover, Entry, Span};
 pub use fault::LedgerFault;
 pub use ledger::Ledger;
+pub use rule::Lock;
+pub use shared::{Receipt, Seat, SharedLedger};
+pub use view::{Call, Claim, Stage, Step, View};

@@ -1,5 +1,5 @@
 -- On which thread each explicit task runs, of the first records.
-use Rattle.std.proofs.Common.{◌≡◌, ◌≢◌, ◌∙◌, ℕ, ◌<◌, ◌≤◌, ◌+◌, List, length, get_or, Option, Some, None, Bool, true, false, refl, sym, ap, subst, arith, inl, inr, set}
+use Rattle.std.proofs.Common.{◌≡◌, ◌≢◌, ◌∙◌, ℕ, ◌<◌, ◌≤◌, ◌+◌, List, length, Option, Some, None, refl, sym, ap, arith, inl, inr, set}
 use Rattle.std.proofs.lemmas.Bool.{cases_eq}
 use Rattle.std.proofs.lemmas.Option.{none-some, same_Some, slice_get_within, slice_get-get_or}
 use Rattle.std.proofs.lemmas.List.{length-set, length-replicate, get_or-replicate}
@@ -17,7 +17,7 @@ use Rattle.task_tree.specs.Numbering.{AreApart}
 use Rattle.task_tree.specs.Family.{FamilyView, IsFamilyOf}
 use Rattle.task_tree.specs.Subjects.{object, Calls}
 use Rattle.task_tree.proofs.NamedLemmas.{object_index, started_object}
-use Rattle.task_tree.proofs.ChildrenLemmas.{get_set_same, get_set_other}
+use Rattle.task_tree.proofs.LinkLemmas.{get_set_same, get_set_other}
 use Rattle.task_states.specs.Homes.{IsExplicitStart}
 
 -- the task with the index is explicit

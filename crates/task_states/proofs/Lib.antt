@@ -1,7 +1,7 @@
 mod NumberingLemmas
 mod TargetLemmas
-mod NestingLemmas
 mod CurrentLemmas
+mod NestingLemmas
 mod ProgressLemmas
 mod OriginLemmas
 mod PassLemmas

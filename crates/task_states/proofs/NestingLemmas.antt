@@ -2,7 +2,7 @@
 use Rattle.std.proofs.Common.{◌≡◌, ◌≢◌, ◌∙◌, ℕ, ◌<◌, ◌≤◌, List, [], ◌∷◌, length, take, get_or, Option, Some, None, Bool, true, false, cond, refl, sym, ap, subst, arith, inl, inr}
 use Rattle.std.proofs.lemmas.Bool.{false≢true}
 use Rattle.std.proofs.lemmas.Option.{none-some, same_Some}
-use Rattle.std.specs.Prelude.{◌↔◌, is_some, slice_get, option_map, option_and_then, Contains, IsSomeAnd}
+use Rattle.std.specs.Prelude.{◌↔◌, is_some, slice_get, option_and_then, IsSomeAnd}
 use Rattle.ompt_events.specs.declared.records.Record.{Record}
 use Rattle.ompt_events.specs.declared.records.Membership.{Membership}
 use Rattle.ompt_events.specs.declared.cause.Cause.TheVariants.{NestedParallel}
@@ -19,10 +19,7 @@ use Rattle.ompt_events.specs.Threads.{Walk, walk_of}
 use Rattle.ompt_events.specs.Causes.{IsWalkAt, IsNested, forked_inside, joined_inside, initial_inside, HasCause, nested_parallel, IsFirstWith, IsFreeOf}
 use Rattle.ompt_events.proofs.PlaceLemmas.{read_get, at_read, at_within}
 use Rattle.task_states.specs.Nesting.{IsUnmade, IsMaker, IsInside}
-
-some_and : {X : Type 0} (o : Option X) (P : X → Type 0) → IsSomeAnd o P → (x : X) × (o ≡ Some x) × P x
-some_and None P h = absurd h
-some_and (Some x) P h = (x, refl, h)
+use Rattle.task_states.proofs.CurrentLemmas.{some_and}
 
 and_some : {X : Type 0} (o : Option X) (P : X → Type 0) (x : X) → o ≡ Some x → P x → IsSomeAnd o P
 and_some None P x e h = absurd (none-some x e)

@@ -1,13 +1,13 @@
 -- What each task is, and where it is at home.
-use Rattle.std.proofs.Common.{◌≡◌, ◌≢◌, ◌∙◌, ℕ, zero, suc, ◌<◌, ◌≤◌, ◌+◌, List, [], ◌∷◌, ◌++◌, length, get_or, Option, Some, None, Bool, true, false, cond, refl, sym, ap, subst, arith, inl, inr, ◌⊎◌}
-use Rattle.std.proofs.lemmas.Bool.{cases_Bool, cases_eq, cases_lt, eq-eqb, ne_eqb, eqb-true, false≢true, true≢false}
+use Rattle.std.proofs.Common.{◌≡◌, ◌≢◌, ◌∙◌, ℕ, zero, suc, ◌<◌, ◌≤◌, ◌+◌, List, [], ◌∷◌, ◌++◌, length, get_or, Option, Some, None, Bool, true, false, cond, refl, sym, ap, subst, arith, inl, inr}
+use Rattle.std.proofs.lemmas.Bool.{cases_eq, eq-eqb, eqb-true, false≢true}
 use Rattle.std.proofs.lemmas.Option.{none-some, same_Some, slice_get_within, slice_get-get_or, get_or_from_slice_get}
 use Rattle.std.proofs.lemmas.List.{length_push, length-set, length-replicate, get_or-replicate}
 use Rattle.std.proofs.lemmas.List.Folds.{find-append}
 use Rattle.std.proofs.Math.ListN.{set}
-use Rattle.std.specs.Prelude.{replicate, ◌==◌, ◌↔◌, ◌&&◌, if◌then◌else◌, is_some, find, slice_get, Contains, unwrap_or, option_and_then}
+use Rattle.std.specs.Prelude.{replicate, ◌==◌, ◌&&◌, if◌then◌else◌, is_some, find, slice_get, Contains, unwrap_or, option_and_then}
 use Rattle.std.specs.List.{range_with_len}
-use Rattle.std.specs.Option.{option_or, option_map_or}
+use Rattle.std.specs.Option.{option_or}
 use Rattle.ompt_events.specs.declared.records.Record.{Record}
 use Rattle.ompt_events.specs.declared.records.Body.{Body}
 use Rattle.ompt_events.specs.declared.records.Body.TheVariants.{ImplicitTask, TaskCreate, TaskSchedule}
@@ -19,13 +19,13 @@ use Rattle.ompt_events.specs.Flags.{has_flag}
 use Rattle.ompt_events.specs.Records.{begun_root, created, made, started}
 use Rattle.ompt_events.specs.Places.{at, thread_at, places}
 use Rattle.ompt_events.specs.Tree.{IsRoot, IsExplicit}
-use Rattle.ompt_events.specs.States.{Nature, Root, Wait, Plain, is_task, creates_wait, is_made_so, nature_of, begun_on, run_on, home_of}
+use Rattle.ompt_events.specs.States.{Root, Wait, Plain, is_task, creates_wait, is_made_so, nature_of, begun_on, run_on, home_of}
 use Rattle.ompt_events.proofs.PlaceLemmas.{thread_none, range_more, contains_place, at_within}
-use Rattle.ompt_events.proofs.RecordLemmas.{begun_made, made_cases, begun_at_made, created_at_made, root_or_created}
-use Rattle.ompt_events.proofs.ListLemmas.{get_pushed, get_last, pushed_cases, contains_get}
-use Rattle.task_tree.proofs.FamilyLemmas.{made_once}
+use Rattle.ompt_events.proofs.RecordLemmas.{begun_made, made_cases, begun_at_made}
+use Rattle.ompt_events.proofs.ListLemmas.{pushed_cases, contains_get}
+use Rattle.task_tree.proofs.OnceLemmas.{made_once}
 use Rattle.task_tree.proofs.LookupLemmas.{root_or_explicit}
-use Rattle.task_tree.proofs.ChildrenLemmas.{get_set_same, get_set_other}
+use Rattle.task_tree.proofs.LinkLemmas.{get_set_same, get_set_other}
 use Rattle.task_tree.specs.Numbering.{AreApart}
 use Rattle.task_tree.specs.Subjects.{object, Calls}
 use Rattle.task_states.specs.declared.moves.Nature as code
@@ -64,7 +64,7 @@ found_none p xs none = of (find p xs) refl
 read_made : {X : Type 0} (f : Body → Option X) (rs : List Record) (i : ℕ) (r : Record) → slice_get rs i ≡ Some r → at f rs i ≡ f r.body
 read_made f rs i r stands = ap (option_and_then (λ (q : Record). f q.body)) stands
 
-is_the_task : (task : ℕ) (found : Option ℕ) → is_task task found ≡ true → found ≡ Some task
+pub is_the_task : (task : ℕ) (found : Option ℕ) → is_task task found ≡ true → found ≡ Some task
 is_the_task task None is = absurd (false≢true is)
 is_the_task task (Some other) is = ap Some (eqb-true other task is)
 

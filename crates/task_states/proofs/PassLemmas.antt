@@ -1,6 +1,6 @@
 -- What a pass over the records has read, one record on.
-use Rattle.std.proofs.Common.{◌≡◌, ◌≢◌, ◌∙◌, ℕ, zero, suc, ◌<◌, ◌≤◌, ◌+◌, List, [], ◌∷◌, ◌++◌, length, get_or, Option, Some, None, Bool, true, false, cond, refl, sym, ap, subst, arith, inl, inr}
-use Rattle.std.proofs.lemmas.Option.{slice_get-map, none-some, same_Some, slice_get_within, slice_get-get_or}
+use Rattle.std.proofs.Common.{◌≡◌, ◌∙◌, ℕ, ◌+◌, List, [], ◌∷◌, ◌++◌, length, Option, Some, None, Bool, true, false, cond, refl, sym, ap}
+use Rattle.std.proofs.lemmas.Option.{slice_get-map, none-some, same_Some}
 use Rattle.std.proofs.lemmas.List.{length-map, append-nil, append_assoc}
 use Rattle.std.proofs.lemmas.List.Elements.{filter-append}
 use Rattle.std.proofs.lemmas.Grind.{flat_map-append}
@@ -12,20 +12,19 @@ use Rattle.ompt_events.specs.declared.records.Body.{Body}
 use Rattle.ompt_events.specs.declared.records.Body.TheVariants.{TaskSchedule, Cancel}
 use Rattle.ompt_events.specs.declared.names.Status.{Status}
 use Rattle.ompt_events.specs.declared.state.State.{State}
-use Rattle.ompt_events.specs.Records.{schedule, started, discarded}
+use Rattle.ompt_events.specs.Records.{schedule, discarded}
 use Rattle.ompt_events.specs.Places.{at, places}
-use Rattle.ompt_events.specs.States.{Move, Stopped, Started, Discarded, is_task, moves_by, moves_at, moves_of, nature_of, state_of, first_state}
+use Rattle.ompt_events.specs.States.{Move, Stopped, Started, Discarded, is_task, moves_by, moves_at, moves_of, first_state}
 use Rattle.ompt_events.proofs.PlaceLemmas.{range_more}
-use Rattle.task_tree.specs.Subjects.{subject, object, Calls}
+use Rattle.task_tree.specs.Subjects.{subject, Calls}
 use Rattle.task_tree.proofs.SubjectLemmas.{call_task, call_index}
 use Rattle.task_tree.proofs.NamedLemmas.{discarded_subject}
 use Rattle.task_states.specs.declared.moves.Nature as code
-use Rattle.task_states.specs.declared.moves.Nature.TheVariants.{Plain}
 use Rattle.task_states.specs.declared.moves.Move as steps
 use Rattle.task_states.specs.declared.moves.Move.TheVariants as step
 use Rattle.task_states.specs.declared.progress.Pass.{Pass}
 use Rattle.task_states.specs.declared.progress.Pass.TheVariants.{Early, Home, Rest}
-use Rattle.task_states.specs.Progress.{the_nature, the_move, is_read, read_before, moves_before, and_move, and_record, AreNatures, IsRefused, HasCome}
+use Rattle.task_states.specs.Progress.{the_nature, the_move, is_read, read_before, moves_before, and_move, and_record, AreNatures, HasCome}
 use Rattle.task_states.proofs.ProgressLemmas.{come_same}
 
 -- ---- the task that a record names

@@ -1,12 +1,11 @@
 -- What the states after all records say, and the causes that they exclude.
-use Rattle.std.proofs.Common.{◌≡◌, ◌≢◌, ◌∙◌, ℕ, zero, suc, ◌<◌, ◌≤◌, ◌+◌, List, [], ◌∷◌, ◌++◌, length, get_or, Option, Some, None, Bool, true, false, cond, refl, sym, ap, subst, arith, inl, inr, ◌⊎◌}
-use Rattle.std.proofs.lemmas.Bool.{eq-eqb, eqb-true, cases_order}
-use Rattle.std.proofs.lemmas.Option.{none-some, same_Some, slice_get_within, slice_get-get_or, get_or_from_slice_get}
-use Rattle.std.specs.Prelude.{◌==◌, ◌↔◌, map, filter, slice_get, Contains, IsSomeAnd, option_and_then}
+use Rattle.std.proofs.Common.{◌≡◌, ◌∙◌, ℕ, zero, suc, ◌<◌, ◌≤◌, List, [], ◌∷◌, ◌++◌, length, Option, Some, None, Bool, true, false, cond, refl, sym, ap, subst, arith, inl, inr, ◌⊎◌}
+use Rattle.std.proofs.lemmas.Bool.{eqb-true}
+use Rattle.std.proofs.lemmas.Option.{none-some, same_Some, slice_get_within}
+use Rattle.std.specs.Prelude.{◌==◌, ◌↔◌, map, slice_get, Contains, IsSomeAnd, option_and_then}
 use Rattle.std.specs.Option.{option_map_or}
 use Rattle.std.specs.List.{flat_map}
 use Rattle.std.proofs.lemmas.List.Elements.{Contains-append_cases}
-use Rattle.std.proofs.lemmas.Bool.{false≢true}
 use Rattle.ompt_events.specs.declared.records.Record.{Record}
 use Rattle.ompt_events.specs.declared.records.Body.{Body}
 use Rattle.ompt_events.specs.declared.records.Body.TheVariants.{TaskSchedule, Cancel}
@@ -14,17 +13,16 @@ use Rattle.ompt_events.specs.declared.state.State.{State}
 use Rattle.ompt_events.specs.declared.cause.Cause.{Cause}
 use Rattle.ompt_events.specs.declared.cause.Cause.TheVariants.{NotCurrent, Moved, StatusOrder, RegionOrder}
 use Rattle.ompt_events.specs.CauseNames.{cause_number}
-use Rattle.ompt_events.specs.Causes.{HasCause, status_order, HasNoState, IsMade, IsFirstWith, IsFreeOf, IsMalformed}
+use Rattle.ompt_events.specs.Causes.{HasCause, status_order, HasNoState, IsFirstWith, IsFreeOf, IsMalformed}
 use Rattle.ompt_events.specs.Flags as flag
 use Rattle.ompt_events.specs.Flags.{has_flag}
-use Rattle.ompt_events.specs.Records.{made, discarded}
+use Rattle.ompt_events.specs.Records.{made}
 use Rattle.ompt_events.specs.Places.{at}
 use Rattle.ompt_events.specs.States.{Move, Stopped, Started, Discarded, is_task, moves_by, moves_at, moves_of, nature_of, state_of}
 use Rattle.ompt_events.proofs.PlaceLemmas.{at_within}
 use Rattle.ompt_events.proofs.ListLemmas.{get_contains, contains_get}
 use Rattle.task_tree.specs.Family.{FamilyView, IsFamilyOf}
-use Rattle.task_tree.specs.Makers.{AreNoted}
-use Rattle.task_tree.specs.Subjects.{subject, object, Calls}
+use Rattle.task_tree.specs.Subjects.{subject, object}
 use Rattle.task_tree.proofs.SubjectLemmas.{call_index}
 use Rattle.task_tree.proofs.LookupLemmas.{subject_calls, object_calls}
 use Rattle.task_states.specs.declared.fault.StateFault.{StateFault}
@@ -32,12 +30,9 @@ use Rattle.task_states.specs.declared.fault.StateFault.TheVariants.{Memory, Malf
 use Rattle.task_states.specs.Fault.{IsFound, IsStateFault}
 use Rattle.task_states.specs.Progress.{ProgressView, HasCome, IsRefused}
 use Rattle.task_states.specs.States.{StatesView, AreStates, AreStatesOf, IsLast}
+use Rattle.task_states.proofs.OriginLemmas.{is_the_task}
 
 -- ---- a task that moves is one that a record makes
-
-is_the_task : (task : ℕ) (found : Option ℕ) → is_task task found ≡ true → found ≡ Some task
-is_the_task task None is = absurd (false≢true is)
-is_the_task task (Some other) is = ap Some (eqb-true other task is)
 
 -- what a record moves it names
 named_by : (task : ℕ) (b : Body) (move : Move) → Contains (moves_by task b) move → (subject b ≡ Some task) ⊎ (object b ≡ Some task)

@@ -1,5 +1,5 @@
 -- How far each task has come while the records are gone over in three passes.
-use Rattle.std.specs.Prelude.{ℕ, ◌≡◌, ◌≤◌, ◌<◌, ◌+◌, ◌++◌, ◌∷◌, ◌&&◌, ◌==◌, ltb, not, Bool, true, false, List, [], length, Option, Some, None, Contains, IsSomeAnd, is_some, if◌then◌else◌, filter, find, take, set, get_or, slice_get, unwrap_or}
+use Rattle.std.specs.Prelude.{ℕ, ◌≡◌, ◌≤◌, ◌+◌, ◌++◌, ◌∷◌, ◌&&◌, ◌==◌, ltb, not, Bool, true, false, List, [], length, Option, Some, None, Contains, IsSomeAnd, is_some, if◌then◌else◌, filter, find, take, set, get_or, slice_get, unwrap_or}
 use Rattle.std.specs.List.{flat_map, range_with_len}
 use Rattle.ompt_events.specs.declared.records.Record.{Record}
 use Rattle.ompt_events.specs.declared.state.State.{State}

@@ -26,4 +26,3 @@ pub use ompt_events::State;
 pub use states::{States, run};
 pub use table::{discard_state, next_state, start_state};
 pub use targets::target;
-pub use walk::ThreadWalk;

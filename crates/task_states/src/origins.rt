@@ -104,11 +104,7 @@ fn first_starts(
 fn no_starts(alloc: Global, count: usize) -> Result<Vec<Option<usize>>, AllocError>
     ensures { IfOk result (λ starts. starts.items ≡ replicate count None) }
 {
-    let mut starts = Vec::with_capacity(alloc, count)?;
-    for _index in 0..count {
-        starts.push(None)?;
-    }
-    Ok(starts)
+    vec![in alloc; None; count]
 }
 
 /// The index of the task that runs next, where this is that of the second task that the record names.

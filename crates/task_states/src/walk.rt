@@ -11,7 +11,7 @@ const THREADS: usize = 256;
 
 /// Where a thread stands: its open roots, the innermost last, and the task that it runs.
 #[derive(Debug, Drop)]
-pub struct ThreadWalk {
+pub(crate) struct ThreadWalk {
     roots: Vec<u64>,
     current: Option<u64>,
 }
@@ -27,7 +27,7 @@ impl Model for ThreadWalk {
 
 impl ThreadWalk {
     /// Before the thread's first record.
-    pub fn new(alloc: Global) -> ThreadWalk
+    pub(crate) fn new(alloc: Global) -> ThreadWalk
         ensures { result ≡ at_start }
     {
         ThreadWalk {
@@ -37,7 +37,7 @@ impl ThreadWalk {
     }
 
     /// Goes on by one record of the thread.
-    pub fn advance(&mut self, body: &Body) -> Result<(), AllocError>
+    pub(crate) fn advance(&mut self, body: &Body) -> Result<(), AllocError>
         ensures { OnOk result (self.new ≡ after_body self.old body.now) }
     {
         if let Some(root) = body.begun_root() {
@@ -57,14 +57,14 @@ impl ThreadWalk {
     }
 
     /// The task that runs.
-    pub fn current(&self) -> Option<u64>
+    pub(crate) fn current(&self) -> Option<u64>
         ensures { result ≡ self.now.current }
     {
         self.current
     }
 
     /// The innermost open root.
-    pub fn innermost(&self) -> Option<u64>
+    pub(crate) fn innermost(&self) -> Option<u64>
         ensures { result ≡ slice_get self.now.roots 0 }
     {
         self.roots.last().copied()

@@ -1,7 +1,6 @@
 -- What the tables of a family say of the tree of tasks.
 use Rattle.std.proofs.Common.{◌≡◌, ◌∙◌, ℕ, zero, suc, ◌<◌, List, [], ◌∷◌, ◌++◌, length, get_or, Option, Some, None, refl, sym, ap, subst, arith, inl, inr}
-use Rattle.std.proofs.lemmas.Bool.{cases_order}
-use Rattle.std.proofs.lemmas.Option.{none-some, same_Some, slice_get_within, slice_get-get_or, slice_get_read}
+use Rattle.std.proofs.lemmas.Option.{none-some, same_Some, slice_get_within, slice_get-get_or}
 use Rattle.std.specs.Prelude.{◌↔◌, slice_get, Contains, option_map, option_and_then}
 use Rattle.ompt_events.specs.declared.records.Record.{Record}
 use Rattle.ompt_events.specs.declared.records.Body.{Body}
@@ -9,47 +8,24 @@ use Rattle.ompt_events.specs.declared.records.Body.TheVariants.{TaskCreate}
 use Rattle.ompt_events.specs.declared.cause.Cause.TheVariants.{CreatedTwice, Rootless}
 use Rattle.ompt_events.specs.Records.{made, begun_root, created, creation, named}
 use Rattle.ompt_events.specs.Places.{at}
-use Rattle.ompt_events.specs.Tree.{IsParent, IsChild, HasPath, top, below, children, child_number}
-use Rattle.ompt_events.specs.Causes.{created_twice, unmade, rootless, IsFirstWith, IsFreeOf, IsMalformed}
+use Rattle.ompt_events.specs.Tree.{IsParent, IsChild, HasPath, top, below, children}
+use Rattle.ompt_events.specs.Causes.{unmade, rootless, IsFirstWith, IsFreeOf, IsMalformed}
 use Rattle.ompt_events.specs.CauseNames.{cause_number}
 use Rattle.ompt_events.specs.declared.cause.Cause.{Cause}
 use Rattle.ompt_events.proofs.PlaceLemmas.{at_within}
-use Rattle.ompt_events.proofs.RecordLemmas.{begun_at_made, created_at_made, creation_at_created, root_or_created}
+use Rattle.ompt_events.proofs.RecordLemmas.{begun_at_made, creation_at_created, root_or_created}
 use Rattle.ompt_events.proofs.ListLemmas.{contains_get}
 use Rattle.ompt_events.proofs.TreeLemmas.{child_place, before_child}
-use Rattle.task_tree.specs.declared.children.Link.{Link}
+use Rattle.task_tree.specs.declared.links.Link.{Link}
 use Rattle.task_tree.specs.Makers.{AreNoted}
 use Rattle.task_tree.specs.Family.{FamilyView, IsFamilyOf, IsLinkOf, IsStandingOf}
 use Rattle.task_tree.specs.declared.roots.Standing.{Standing}
+use Rattle.task_tree.proofs.OnceLemmas.{made_once, creation_made, one_number}
 use Rattle.task_tree.proofs.NumberingLemmas.{contains_or_not}
 use Rattle.task_tree.proofs.RootLemmas.{rooted_made}
 use Rattle.task_tree.proofs.RootlessLemmas.{path_rooted}
 
 -- ---- where each task is made once
-
--- a task is made at one place
-pub made_once : (rs : List Record) (task j k : ℕ) → IsFreeOf rs CreatedTwice → at made rs j ≡ Some task → at made rs k ≡ Some task → j ≡ k
-made_once rs task j k free here there = elim (cases_order j k) [
-  | inl same ↦ same
-  | inr (inl less) ↦ absurd (free k (created_twice (task, j, less, here, there)))
-  | inr (inr more) ↦ absurd (free j (created_twice (task, k, more, there, here)))
-]
-
-creation_made : (rs : List Record) (parent task i : ℕ) → at creation rs i ≡ Some (parent, task) → at made rs i ≡ Some task
-creation_made rs parent task i creates = created_at_made task rs i (creation_at_created parent task rs i creates)
-
--- so its parent and its number are one each
-pub one_parent : (rs : List Record) (task parent other i k : ℕ) → IsFreeOf rs CreatedTwice → at creation rs i ≡ Some (parent, task) → at creation rs k ≡ Some (other, task) → (i ≡ k) × (parent ≡ other)
-one_parent rs task parent other i k free here there =
-    let same : i ≡ k = made_once rs task i k free (creation_made rs parent task i here) (creation_made rs other task k there) in
-    (same, ap (λ (p : ℕ × ℕ). p.0) (same_Some (parent, task) (other, task) (sym here ∙ ap (at creation rs) same ∙ there)))
-
-pub one_number : (rs : List Record) (task parent other number another : ℕ) → IsFreeOf rs CreatedTwice → IsChild rs parent number task → IsChild rs other another task → (parent ≡ other) × (number ≡ another)
-one_number rs task parent other number another free here there =
-    let first = child_place rs parent (length rs) number task here in
-    let second = child_place rs other (length rs) another task there in
-    let same = one_parent rs task parent other first.0 second.0 free first.2 second.2 in
-    (same.1, sym first.3 ∙ ap (child_number rs parent) same.0 ∙ ap (λ p. child_number rs p second.0) same.1 ∙ second.3)
 
 -- a root is not created
 root_not_created : (rs : List Record) (i root parent : ℕ) → at begun_root rs i ≡ Some root → at creation rs i ≡ Some (parent, root) → ⊥
@@ -97,44 +73,49 @@ parent_noted rs tasks i parent task noted free creates = elim (contains_or_not t
 -- ---- the look-ups
 
 -- the link of a created task
-pub link_found : (rs : List Record) (family : FamilyView) (i parent task : ℕ) → IsFamilyOf rs family → at creation rs i ≡ Some (parent, task) → (link : Link) × IsLinkOf family task link × (link.parent ≡ parent)
+pub link_found : (rs : List Record) (family : FamilyView) (i parent task : ℕ) → IsFamilyOf rs family → at creation rs i ≡ Some (parent, task) → (link : Link) × IsLinkOf family task link × (slice_get family.tasks link.parent ≡ Some parent)
 link_found rs family i parent task are creates =
     let within = at_within creation rs i (parent, task) creates in
     let index = contains_get family.tasks task (are.noted.each i task within (creation_made rs parent task i creates)) in
     let up = contains_get family.tasks parent (parent_noted rs family.tasks i parent task are.noted are.rooted creates) in
     let found = are.links.linked i parent task index.0 up.0 within creates index.1 up.1 in
-    (found.0, (index.0, index.1, found.1), found.2)
+    (found.0, (index.0, index.1, found.1), ap (slice_get family.tasks) found.2 ∙ up.1)
 
 -- a link is that of a child
-pub link_child : (rs : List Record) (family : FamilyView) (task : ℕ) (link : Link) → IsFamilyOf rs family → IsLinkOf family task link → IsChild rs link.parent link.number task
+pub link_child : (rs : List Record) (family : FamilyView) (task : ℕ) (link : Link) → IsFamilyOf rs family → IsLinkOf family task link → (parent : ℕ) × (slice_get family.tasks link.parent ≡ Some parent) × IsChild rs parent link.number task
 link_child rs family task link are (index, is, stands) = are.links.only index task link is stands
 
-pub parent_is : (rs : List Record) (family : FamilyView) (task : ℕ) (found : Option Link) → IsFamilyOf rs family → ((link : Link) → (found ≡ Some link) ↔ IsLinkOf family task link) → (parent : ℕ) → (option_map (λ (l : Link). l.parent) found ≡ Some parent) ↔ IsParent rs parent task
+pub parent_is : (rs : List Record) (family : FamilyView) (task : ℕ) (found : Option Link) → IsFamilyOf rs family → ((link : Link) → (found ≡ Some link) ↔ IsLinkOf family task link) → (parent : ℕ) → (option_and_then (λ (l : Link). slice_get family.tasks l.parent) found ≡ Some parent) ↔ IsParent rs parent task
 parent_is rs family task found are is parent = (to found refl, from)
   where
-    to : (o : Option Link) → found ≡ o → option_map (λ (l : Link). l.parent) o ≡ Some parent → IsParent rs parent task
+    to : (o : Option Link) → found ≡ o → option_and_then (λ (l : Link). slice_get family.tasks l.parent) o ≡ Some parent → IsParent rs parent task
     to None e says = absurd (none-some parent says)
     to (Some link) e says =
-        let place = child_place rs link.parent (length rs) link.number task (link_child rs family task link are ((is link).0 e)) in
-        (place.0, place.2 ∙ ap (λ p. Some (p, task)) (same_Some link.parent parent says))
+        let of = link_child rs family task link are ((is link).0 e) in
+        let place = child_place rs of.0 (length rs) link.number task of.2 in
+        (place.0, place.2 ∙ ap (λ p. Some (p, task)) (same_Some of.0 parent (sym of.1 ∙ says)))
 
-    from : IsParent rs parent task → option_map (λ (l : Link). l.parent) found ≡ Some parent
+    from : IsParent rs parent task → option_and_then (λ (l : Link). slice_get family.tasks l.parent) found ≡ Some parent
     from (i, creates) =
         let link = link_found rs family i parent task are creates in
-        ap (option_map (λ (l : Link). l.parent)) ((is link.0).1 link.1) ∙ ap Some link.2
+        ap (option_and_then (λ (l : Link). slice_get family.tasks l.parent)) ((is link.0).1 link.1) ∙ link.2
 
 pub number_is : (rs : List Record) (family : FamilyView) (task : ℕ) (found : Option Link) → IsFamilyOf rs family → ((link : Link) → (found ≡ Some link) ↔ IsLinkOf family task link) → (number : ℕ) → (option_map (λ (l : Link). l.number) found ≡ Some number) ↔ ((parent : ℕ) × IsChild rs parent number task)
 number_is rs family task found are is number = (to found refl, from)
   where
     to : (o : Option Link) → found ≡ o → option_map (λ (l : Link). l.number) o ≡ Some number → (parent : ℕ) × IsChild rs parent number task
     to None e says = absurd (none-some number says)
-    to (Some link) e says = let P : ℕ → Type 0 = λ n. IsChild rs link.parent n task in (link.parent, subst P (same_Some link.number number says) (link_child rs family task link are ((is link).0 e)))
+    to (Some link) e says =
+        let of = link_child rs family task link are ((is link).0 e) in
+        let P : ℕ → Type 0 = λ n. IsChild rs of.0 n task in
+        (of.0, subst P (same_Some link.number number says) of.2)
 
     from : (parent : ℕ) × IsChild rs parent number task → option_map (λ (l : Link). l.number) found ≡ Some number
     from (parent, child) =
         let place = child_place rs parent (length rs) number task child in
         let link = link_found rs family place.0 parent task are place.2 in
-        let same = one_number rs task link.0.parent parent link.0.number number are.once (link_child rs family task link.0 are link.1) child in
+        let of = link_child rs family task link.0 are link.1 in
+        let same = one_number rs task of.0 parent link.0.number number are.once of.2 child in
         ap (option_map (λ (l : Link). l.number)) ((is link.0).1 link.1) ∙ ap Some same.1
 
 -- a task that stands below a root is noted
@@ -183,20 +164,16 @@ no_children rs family task are none = of (children rs task) refl
         absurd (none (parent_noted rs family.tasks place.0 task child are.noted are.rooted place.2))
 
 -- what a table has at a task's index is what it says of the task
-pub table_read : {X : Type 0} (tasks : List ℕ) (table : List (Option X)) (task found : ℕ) (value : Option X) → ((k : ℕ) → (Some found ≡ Some k) ↔ (slice_get tasks k ≡ Some task)) → found < length table → value ≡ get_or table found value → (x : X) → (value ≡ Some x) ↔ ((index : ℕ) × (slice_get tasks index ≡ Some task) × (slice_get table index ≡ Some (Some x)))
-table_read tasks table task found value is within read x = (
-  λ says. (found, (is found).0 refl, here ∙ ap Some says),
-  λ (index, is_task, stands). same_Some value (Some x) (sym here ∙ ap (slice_get table) (same_Some found index ((is index).1 is_task)) ∙ stands),
+pub table_at : {X : Type 0} (tasks : List ℕ) (table : List (Option X)) (task index : ℕ) (found : Option X) → ((k : ℕ) → (Some index ≡ Some k) ↔ (slice_get tasks k ≡ Some task)) → ((x : X) → (found ≡ Some x) ↔ (slice_get table index ≡ Some (Some x))) → (x : X) → (found ≡ Some x) ↔ ((k : ℕ) × (slice_get tasks k ≡ Some task) × (slice_get table k ≡ Some (Some x)))
+table_at tasks table task index found is read x = (
+  λ says. (index, (is index).0 refl, (read x).0 says),
+  λ (k, is_task, stands). (read x).1 (ap (slice_get table) (same_Some index k ((is k).1 is_task)) ∙ stands),
 )
-  where
-    here : slice_get table found ≡ Some value
-    here = slice_get_read table (length table) found value refl within read
 
-pub table_none : {X : Type 0} (tasks : List ℕ) (table : List (Option X)) (task : ℕ) → ((k : ℕ) → (None ≡ Some k) ↔ (slice_get tasks k ≡ Some task)) → (x : X) → (None ≡ Some x) ↔ ((index : ℕ) × (slice_get tasks index ≡ Some task) × (slice_get table index ≡ Some (Some x)))
-table_none tasks table task is x = (
-  λ says. absurd (none-some x says),
-  λ (index, is_task, stands). absurd (none-some index ((is index).1 is_task)),
-)
+-- where the task at an index stands
+pub standing_here : (rs : List Record) (family : FamilyView) (index task : ℕ) (found : Option Standing) → IsFamilyOf rs family → slice_get family.tasks index ≡ Some task → ((standing : Standing) → (found ≡ Some standing) ↔ (slice_get family.roots index ≡ Some (Some standing))) → (root : ℕ) (path : List ℕ) → HasPath rs root task path → (standing : Standing) × (found ≡ Some standing) × (standing.root ≡ root) × (standing.depth ≡ length path)
+standing_here rs family index task found are here read root path stands =
+    standing_is rs family task found are (table_at family.tasks family.roots task index found (λ k. (λ same. ap (slice_get family.tasks) (sym (same_Some index k same)) ∙ here, λ is. ap Some (are.makers.apart index k task here is))) read) root path stands
 
 -- the first cause is that of a fault where the one before it does not occur
 pub rootless_fault : (rs : List Record) (i : ℕ) → IsFreeOf rs CreatedTwice → IsFirstWith rs Rootless i → IsMalformed rs (CreatedTwice ∷ Rootless ∷ []) i Rootless

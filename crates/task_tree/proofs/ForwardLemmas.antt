@@ -1,79 +1,89 @@
--- How what is known of where tasks stand grows from record to record.
-use Rattle.std.proofs.Common.{◌≡◌, ◌∙◌, ℕ, ◌<◌, ◌≤◌, ◌+◌, List, [], length, get_or, set, Option, Some, None, refl, sym, ap, subst, arith, inl, inr}
-use Rattle.std.proofs.lemmas.Bool.{cases_eq}
+-- How what is known of where tasks stand grows from task to task.
+use Rattle.std.proofs.Common.{◌≡◌, ◌∙◌, ℕ, ◌≤◌, ◌+◌, List, [], ◌∷◌, ◌++◌, length, get_or, Option, Some, None, sym, ap, subst, arith, inl, inr}
 use Rattle.std.proofs.lemmas.Option.{none-some, same_Some, slice_get_within, slice_get-get_or}
-use Rattle.std.proofs.lemmas.List.{length-set, length-replicate, get_or-replicate}
-use Rattle.std.specs.Prelude.{slice_get, slice_index_or, replicate, IfSome}
+use Rattle.std.proofs.lemmas.List.{length_push}
+use Rattle.std.specs.Prelude.{slice_get, IfSome, option_and_then}
 use Rattle.ompt_events.specs.declared.records.Record.{Record}
-use Rattle.ompt_events.specs.Records.{begun_root, creation}
+use Rattle.ompt_events.specs.Records.{made, begun_root}
 use Rattle.ompt_events.specs.Places.{at}
-use Rattle.ompt_events.specs.Tree.{IsRooted, top}
-use Rattle.ompt_events.proofs.PlaceLemmas.{at_within}
-use Rattle.ompt_events.proofs.TreeLemmas.{child_before}
+use Rattle.ompt_events.specs.Tree.{top, below}
+use Rattle.ompt_events.proofs.ListLemmas.{pushed_cases}
+use Rattle.ompt_events.proofs.RecordLemmas.{begun_at_made}
+use Rattle.task_tree.specs.declared.links.Link.{Link}
 use Rattle.task_tree.specs.declared.roots.Standing.{Standing}
+use Rattle.task_tree.specs.Makers.{AreMade}
+use Rattle.task_tree.specs.Links.{AreLinks}
 use Rattle.task_tree.specs.Roots.{AreRoots}
-use Rattle.task_tree.specs.Forward.{IsStood, AreStanding, IsStandingAt, Stands}
-use Rattle.task_tree.proofs.ChildrenLemmas.{get_set_same, get_set_other}
-use Rattle.task_tree.proofs.RootLemmas.{below_it, child_stands}
+use Rattle.task_tree.specs.Forward.{IsStood, AreStanding, StandsBelow}
 
-pub standing_start : (rs : List Record) (tasks : List ℕ) (roots : List (Option Standing)) → roots ≡ replicate (length tasks) None → AreStanding rs 0 tasks roots
-standing_start rs tasks roots are = record {
-  all = ap length are ∙ length-replicate (length tasks) None;
-  each = λ index task standing is stands.
-      let within = slice_get_within tasks index task is in
-      let nothing : Option Standing = None in
-      let none : slice_get roots index ≡ Some None = ap (λ l. slice_get l index) are ∙ slice_get-get_or (replicate (length tasks) None) index None (rw (length-replicate (length tasks) nothing) within) ∙ ap Some (get_or-replicate (length tasks) index None None within) in
-      absurd (none-some standing (same_Some None (Some standing) (sym none ∙ stands)));
+pub standing_start : (rs : List Record) (tasks : List ℕ) (roots : List (Option Standing)) → roots ≡ [] → AreStanding rs 0 tasks roots
+standing_start rs tasks roots empty = record {
+  all = ap length empty;
+  each = λ index task standing is stands. absurd (none-some (Some standing) (ap (λ l. slice_get l index) (sym empty) ∙ stands));
+  known = λ index none. absurd (none-some None (ap (λ l. slice_get l index) (sym empty) ∙ none));
 }
 
--- what is known stays known
-pub standing_later : (rs : List Record) (n : ℕ) (tasks : List ℕ) (roots : List (Option Standing)) → AreStanding rs n tasks roots → AreStanding rs (n + 1) tasks roots
-standing_later rs n tasks roots are = record {
-  all = are.all;
-  each = λ index task standing is stands. let old = are.each index task standing is stands in record { stands = old.stands; shallow = let low = old.shallow in omega (arith, low) };
-}
-
-pub standing_more : (rs : List Record) (n task : ℕ) (standing : Standing) (tasks : List ℕ) (old new : List (Option Standing)) → AreStanding rs n tasks old → IsStood rs (n + 1) task standing → Stands tasks task standing old new → AreStanding rs (n + 1) tasks new
-standing_more rs n task standing tasks old new are stood (inl same) = rw same (standing_later rs n tasks old are)
-standing_more rs n task standing tasks old new are stood (inr (index, is, same)) = rw same (record {
-  all = length-set old index (Some standing) ∙ are.all;
-  each = λ other own found is_own stands. elim (cases_eq other index) [
-    | inl here ↦
-        let same_task : task ≡ own = same_Some task own (sym is ∙ ap (slice_get tasks) (sym here) ∙ is_own) in
-        let within : index < length old = (let inside = slice_get_within tasks index task is in let all = are.all in omega (arith, inside, all)) in
-        let same_standing : standing ≡ found = same_Some standing found (same_Some (Some standing) (Some found) (sym (get_set_same old index (Some standing) within) ∙ ap (slice_get (set old index (Some standing))) (sym here) ∙ stands)) in
-        let P : Standing → Type 0 = IsStood rs (n + 1) own in
-        let Q : ℕ → Type 0 = λ t. IsStood rs (n + 1) t standing in
-        subst P same_standing (subst Q same_task stood)
-    | inr apart ↦ (standing_later rs n tasks old are).each other own found is_own (sym (get_set_other old index other (Some standing) apart) ∙ stands)
+pub standing_more : (rs : List Record) (n : ℕ) (found : Standing) (tasks : List ℕ) (roots : List (Option Standing)) → AreStanding rs n tasks roots → ((task : ℕ) → slice_get tasks n ≡ Some task → IsStood rs n task found) → AreStanding rs (n + 1) tasks (roots ++ Some found ∷ [])
+standing_more rs n found tasks roots are stood = record {
+  all = length_push roots (Some found) ∙ ap (λ k. k + 1) are.all;
+  each = λ index task standing is stands. elim (pushed_cases roots (Some found) (Some standing) index stands) [
+    | inl old ↦ are.each index task standing is old
+    | inr (here, same) ↦
+        let at_end : index ≡ n = here ∙ are.all in
+        let P : Standing → Type 0 = IsStood rs index task in
+        let Q : ℕ → Type 0 = λ k. IsStood rs k task found in
+        subst P (same_Some found standing same) (subst Q (sym at_end) (stood task (ap (slice_get tasks) (sym at_end) ∙ is)))
   ];
-})
+  known = λ index none. elim (pushed_cases roots (Some found) None index none) [
+    | inl old ↦ are.known index old
+    | inr (here, same) ↦ none-some found (sym same)
+  ];
+}
 
 -- a root stands at the top
-pub root_stood : (rs : List Record) (i n root : ℕ) → at begun_root rs i ≡ Some root → IsStood rs n root (record { depth = 0; root = root })
-root_stood rs i n root begins = record { stands = ([], top (i, begins), refl); shallow = omega arith }
+pub root_stood : (rs : List Record) (place index task : ℕ) (found : Standing) → at made rs place ≡ Some task → at begun_root rs place ≡ Some found.root → found.depth ≡ 0 → IsStood rs index task found
+root_stood rs place index task found makes begins flat =
+    let same : found.root ≡ task = same_Some found.root task (sym (begun_at_made found.root rs place begins) ∙ makes) in
+    let P : ℕ → Type 0 = λ t. IsStood rs index t found in
+    subst P same (record { stands = ([], top (place, begins), sym flat); shallow = omega (arith, flat) })
 
 -- a created task stands below its parent
-pub child_stood : (rs : List Record) (i parent task : ℕ) (tasks : List ℕ) (roots : List (Option Standing)) (above : Standing) → AreStanding rs i tasks roots → at creation rs i ≡ Some (parent, task) → IsStandingAt tasks roots parent above → IsStood rs (i + 1) task (below_it above)
-child_stood rs i parent task tasks roots above are creates (index, is, known) =
-    let stood = are.each index parent above is known in
-    record {
-      stands = child_stands rs above parent task stood.stands (child_before rs parent task (length rs) i (at_within creation rs i (parent, task) creates) creates);
-      shallow = let low = stood.shallow in omega (arith, low);
-    }
+pub child_stood : (rs : List Record) (n task : ℕ) (found : Standing) (link : Link) (tasks : List ℕ) (links : List (Option Link)) (roots : List (Option Standing)) → AreLinks rs (length rs) tasks links → AreStanding rs n tasks roots → slice_get tasks n ≡ Some task → slice_get links n ≡ Some (Some link) → StandsBelow roots link.parent found → IsStood rs n task found
+child_stood rs n task found link tasks links roots links_are are is is_link (above, known, deep, same) =
+    let of = links_are.only n task link is is_link in
+    let stood = are.each link.parent of.0 above of.1 known in
+    let within = slice_get_within roots link.parent (Some above) known in
+    let path = stood.stands in
+    let P : ℕ → Type 0 = λ r. IsStood rs n task (record { depth = found.depth; root = r }) in
+    subst P (sym same) (record {
+      stands = (path.0 ++ link.number ∷ [], below link.number path.1 of.2, length_push path.0 link.number ∙ ap (λ k. k + 1) path.2 ∙ sym deep);
+      shallow = let low = stood.shallow in omega (arith, low, within, deep, are.all);
+    })
+
+pub below_stood : (rs : List Record) (n : ℕ) (link : Link) (tasks : List ℕ) (links : List (Option Link)) (roots : List (Option Standing)) (found : Option Standing) → AreLinks rs (length rs) tasks links → AreStanding rs n tasks roots → slice_get links n ≡ Some (Some link) → IfSome found (StandsBelow roots link.parent) → IfSome found (λ standing. (task : ℕ) → slice_get tasks n ≡ Some task → IsStood rs n task standing)
+below_stood rs n link tasks links roots None links_are are is_link stands = stands
+below_stood rs n link tasks links roots (Some found) links_are are is_link stands = λ task is. child_stood rs n task found link tasks links roots links_are are is is_link stands
+
+-- what is known of a root by the record that makes it
+pub made_stood : (rs : List Record) (n place : ℕ) (event : Record) (tasks places : List ℕ) (found : Option Standing) → AreMade rs (length rs) tasks places → slice_get places n ≡ Some place → slice_get rs place ≡ Some event → IfSome found (λ standing. (begun_root event.body ≡ Some standing.root) × (standing.depth ≡ 0)) → IfSome found (λ standing. (task : ℕ) → slice_get tasks n ≡ Some task → IsStood rs n task standing)
+made_stood rs n place event tasks places None are at_place is_event made = made
+made_stood rs n place event tasks places (Some found) are at_place is_event (begins, flat) = λ task is.
+    let maker = are.each n task is in
+    let same : maker.0 ≡ place = same_Some maker.0 place (sym maker.1 ∙ at_place) in
+    root_stood rs place n task found (ap (at made rs) (sym same) ∙ maker.3) (ap (option_and_then (λ (r : Record). begun_root r.body)) is_event ∙ begins) flat
 
 -- where each task is known, none is without a root
-pub standing_roots : (rs : List Record) (n : ℕ) (tasks : List ℕ) (roots : List (Option Standing)) → AreStanding rs n tasks roots → ((index : ℕ) → slice_get roots index ≡ Some None → ⊥) → AreRoots rs tasks roots
-standing_roots rs n tasks roots are all = record {
+pub standing_roots : (rs : List Record) (tasks : List ℕ) (roots : List (Option Standing)) → AreStanding rs (length tasks) tasks roots → AreRoots rs tasks roots
+standing_roots rs tasks roots are = record {
   all = are.all;
   rooted = λ index task standing is stands. (are.each index task standing is stands).stands;
-  unrooted = λ index task is none rooted. all index none;
+  unrooted = λ index task is none rooted. are.known index none;
 }
 
--- what is read at the task's index is where it stands
-pub standing_read : (tasks : List ℕ) (roots : List (Option Standing)) (task index : ℕ) → slice_get tasks index ≡ Some task → index < length roots → IfSome (slice_index_or roots index None) (IsStandingAt tasks roots task)
-standing_read tasks roots task index is within = of (slice_index_or roots index None) (slice_get-get_or roots index None within)
-  where
-    of : (o : Option Standing) → slice_get roots index ≡ Some o → IfSome o (IsStandingAt tasks roots task)
-    of None e = tt
-    of (Some standing) e = (index, is, e)
+-- what is known is near the top where there are few tasks
+pub above_shallow : (rs : List Record) (n index : ℕ) (tasks : List ℕ) (roots : List (Option Standing)) (above : Standing) → AreStanding rs n tasks roots → n ≤ length tasks → slice_get roots index ≡ Some (Some above) → above.depth ≤ n
+above_shallow rs n index tasks roots above are low known =
+    let within = slice_get_within roots index (Some above) known in
+    let stood = are.each index (get_or tasks index 0) above (slice_get-get_or tasks index 0 (omega (arith, within, are.all, low))) known in
+    let shallow = stood.shallow in
+    omega (arith, shallow, within, are.all)

@@ -2,11 +2,14 @@ pub mod RankingLemmas
 pub mod NumberingLemmas
 pub mod SubjectLemmas
 pub mod MakerLemmas
-pub mod ChildrenLemmas
+pub mod OnceLemmas
+pub mod LinkLemmas
+pub mod RowLemmas
 pub mod RootLemmas
 pub mod ForwardLemmas
 pub mod RootlessLemmas
 pub mod FamilyLemmas
 pub mod PathLemmas
+pub mod ClimbLemmas
 pub mod LookupLemmas
 pub mod NamedLemmas

@@ -16,13 +16,14 @@ use Rattle.ompt_events.proofs.PlaceLemmas.{at_within}
 use Rattle.ompt_events.proofs.RecordLemmas.{begun_at_made, created_at_made, created_at_creation, creation_at_created, root_or_created, made_cases}
 use Rattle.ompt_events.proofs.ListLemmas.{contains_get}
 use Rattle.ompt_events.proofs.TreeLemmas.{child_place}
-use Rattle.task_tree.specs.declared.children.Link.{Link}
+use Rattle.task_tree.specs.declared.links.Link.{Link}
 use Rattle.task_tree.specs.Makers.{AreNoted}
 use Rattle.task_tree.specs.Subjects.{subject, object, Calls, AreFound}
 use Rattle.task_tree.specs.Family.{FamilyView, IsFamilyOf}
 use Rattle.task_tree.proofs.NumberingLemmas.{contains_or_not}
 use Rattle.task_tree.proofs.SubjectLemmas.{finds_calls}
-use Rattle.task_tree.proofs.FamilyLemmas.{made_once, link_found, link_child}
+use Rattle.task_tree.proofs.OnceLemmas.{made_once}
+use Rattle.task_tree.proofs.FamilyLemmas.{link_found, link_child}
 
 -- ---- the tasks that a record names
 
@@ -96,8 +97,9 @@ explicit_is rs family index task found are is stands = (to found stands, from)
     to : (o : Option Link) → slice_get family.links index ≡ Some o → is_some o ≡ true → IsExplicit rs task
     to None e holds = absurd (false≢true holds)
     to (Some link) e holds =
-        let place = child_place rs link.parent (length rs) link.number task (link_child rs family task link are (index, is, e)) in
-        (place.0, creation_at_created link.parent task rs place.0 place.2)
+        let of = link_child rs family task link are (index, is, e) in
+        let place = child_place rs of.0 (length rs) link.number task of.2 in
+        (place.0, creation_at_created of.0 task rs place.0 place.2)
 
     from : IsExplicit rs task → is_some found ≡ true
     from (i, creates) =

@@ -12,15 +12,16 @@ use Rattle.ompt_events.proofs.RecordLemmas.{made_cases}
 use Rattle.ompt_events.specs.Tree.{root, HasPath, top, below, IsChild}
 use Rattle.ompt_events.proofs.ListLemmas.{get_contains}
 use Rattle.ompt_events.proofs.TreeLemmas.{child_place}
-use Rattle.task_tree.specs.declared.children.Link.{Link}
-use Rattle.task_tree.specs.Family.{FamilyView, IsFamilyOf, IsLinkOf}
+use Rattle.task_tree.specs.declared.links.Link.{Link}
+use Rattle.task_tree.specs.Family.{FamilyView, IsFamilyOf}
 use Rattle.task_tree.specs.Paths.{IsClimbed, TreeView, IsTreeOf}
 use Rattle.task_tree.specs.declared.roots.Standing.{Standing}
-use Rattle.task_tree.proofs.FamilyLemmas.{link_found, link_child, one_number, path_noted}
+use Rattle.task_tree.proofs.OnceLemmas.{one_number}
+use Rattle.task_tree.proofs.FamilyLemmas.{link_found, link_child, path_noted}
 
 -- before the first step
-pub climb_start : (rs : List Record) (r task : ℕ) (path numbers : List ℕ) → HasPath rs r task path → numbers ≡ [] → IsClimbed rs r path 0 task numbers
-climb_start rs r task path numbers stands empty = record { up = path; passed = []; parts = sym (append-nil path); stands = stands; reversed = empty; all = refl }
+pub climb_start : (rs : List Record) (tasks : List ℕ) (r task index : ℕ) (path numbers : List ℕ) → slice_get tasks index ≡ Some task → HasPath rs r task path → numbers ≡ [] → IsClimbed rs tasks r path 0 index numbers
+climb_start rs tasks r task index path numbers here stands empty = record { current = task; up = path; passed = []; here = here; parts = sym (append-nil path); stands = stands; reversed = empty; all = refl }
 
 -- the last number of a path, if it has one
 last_step : (rs : List Record) (r current : ℕ) (up : List ℕ) → HasPath rs r current up → (up ≡ []) ⊎ ((number parent : ℕ) × (rest : List ℕ) × (up ≡ rest ++ number ∷ []) × HasPath rs r parent rest × IsChild rs parent number current)
@@ -28,42 +29,44 @@ last_step rs r current up (top is) = inl refl
 last_step rs r current up (below number {parent = parent} {path = rest} stands child) = inr (number, parent, rest, refl, stands, child)
 
 -- not at the root there is one
-more_steps : (rs : List Record) (r steps current : ℕ) (path numbers : List ℕ) → (climbed : IsClimbed rs r path steps current numbers) → steps < length path → climbed.up ≡ [] → ⊥
-more_steps rs r steps current path numbers climbed short empty =
+more_steps : (rs : List Record) (tasks : List ℕ) (r steps index : ℕ) (path numbers : List ℕ) → (climbed : IsClimbed rs tasks r path steps index numbers) → steps < length path → climbed.up ≡ [] → ⊥
+more_steps rs tasks r steps index path numbers climbed short empty =
     let same = ap length (climbed.parts ∙ ap (λ l. l ++ climbed.passed) empty) in
     let all = climbed.all in
     omega (arith, same, all, short)
 
 -- one step up
-pub climb_more : (rs : List Record) (family : FamilyView) (r current steps : ℕ) (path numbers : List ℕ) (link : Link) → IsFamilyOf rs family → IsClimbed rs r path steps current numbers → steps < length path → IsLinkOf family current link → IsClimbed rs r path (steps + 1) link.parent (numbers ++ link.number ∷ [])
-climb_more rs family r current steps path numbers link are climbed short is_link = elim (last_step rs r current climbed.up climbed.stands) [
-  | inl empty ↦ absurd (more_steps rs r steps current path numbers climbed short empty)
+pub climb_more : (rs : List Record) (family : FamilyView) (r index steps : ℕ) (path numbers : List ℕ) (link : Link) → IsFamilyOf rs family → IsClimbed rs family.tasks r path steps index numbers → steps < length path → slice_get family.links index ≡ Some (Some link) → IsClimbed rs family.tasks r path (steps + 1) link.parent (numbers ++ link.number ∷ [])
+climb_more rs family r index steps path numbers link are climbed short is_link = elim (last_step rs r climbed.current climbed.up climbed.stands) [
+  | inl empty ↦ absurd (more_steps rs family.tasks r steps index path numbers climbed short empty)
   | inr (number, parent, rest, is, stands, child) ↦
-      let same = one_number rs current link.parent parent link.number number are.once (link_child rs family current link are is_link) child in
-      let P : ℕ → Type 0 = λ p. HasPath rs r p rest in
+      let of = link_child rs family climbed.current link are (index, climbed.here, is_link) in
+      let same = one_number rs climbed.current of.0 parent link.number number are.once of.2 child in
       record {
+        current = parent;
         up = rest;
         passed = number ∷ climbed.passed;
+        here = of.1 ∙ ap Some same.0;
         parts = climbed.parts ∙ ap (λ l. l ++ climbed.passed) is ∙ append_assoc rest (number ∷ []) climbed.passed;
-        stands = subst P (sym same.0) stands;
+        stands = stands;
         reversed = ap (λ l. l ++ link.number ∷ []) climbed.reversed ∙ ap (λ n. reverse climbed.passed ++ n ∷ []) same.1 ∙ sym (reverse-append (number ∷ []) climbed.passed);
         all = let all = climbed.all in omega (arith, all);
       }
 ]
 
 -- a task that stands below its root has a link
-pub climb_link : (rs : List Record) (family : FamilyView) (r current steps : ℕ) (path numbers : List ℕ) → IsFamilyOf rs family → IsClimbed rs r path steps current numbers → steps < length path → (link : Link) × IsLinkOf family current link
-climb_link rs family r current steps path numbers are climbed short = elim (last_step rs r current climbed.up climbed.stands) [
-  | inl empty ↦ absurd (more_steps rs r steps current path numbers climbed short empty)
+pub climb_link : (rs : List Record) (family : FamilyView) (r index steps : ℕ) (path numbers : List ℕ) → IsFamilyOf rs family → IsClimbed rs family.tasks r path steps index numbers → steps < length path → (link : Link) × (slice_get family.links index ≡ Some (Some link))
+climb_link rs family r index steps path numbers are climbed short = elim (last_step rs r climbed.current climbed.up climbed.stands) [
+  | inl empty ↦ absurd (more_steps rs family.tasks r steps index path numbers climbed short empty)
   | inr (number, parent, rest, is, stands, child) ↦
-      let place = child_place rs parent (length rs) number current child in
-      let found = link_found rs family place.0 parent current are place.2 in
-      (found.0, found.1)
+      let place = child_place rs parent (length rs) number climbed.current child in
+      let found = link_found rs family place.0 parent climbed.current are place.2 in
+      (found.0, ap (slice_get family.links) (are.makers.apart index found.1.0 climbed.current climbed.here found.1.1) ∙ found.1.2)
 ]
 
 -- at the root all numbers are passed
-pub climbed_all : (rs : List Record) (r current steps : ℕ) (path numbers : List ℕ) → IsClimbed rs r path steps current numbers → length path ≤ steps → reverse numbers ≡ path
-climbed_all rs r current steps path numbers climbed enough = from climbed.up climbed.parts
+pub climbed_all : (rs : List Record) (tasks : List ℕ) (r index steps : ℕ) (path numbers : List ℕ) → IsClimbed rs tasks r path steps index numbers → length path ≤ steps → reverse numbers ≡ path
+climbed_all rs tasks r index steps path numbers climbed enough = from climbed.up climbed.parts
   where
     from : (up : List ℕ) → path ≡ up ++ climbed.passed → reverse numbers ≡ path
     from [] parts = ap reverse climbed.reversed ∙ reverse-reverse climbed.passed ∙ sym parts
@@ -88,7 +91,7 @@ has_root rs family task index are is none =
       | inr creates ↦ are.rooted maker.0 (rootless (unrooted task creates (are.roots.unrooted index task is none)))
     ]
 
-root_known : (rs : List Record) (family : FamilyView) (task index : ℕ) → IsFamilyOf rs family → slice_get family.tasks index ≡ Some task → (r : ℕ) × (path : List ℕ) × HasPath rs r task path
+pub root_known : (rs : List Record) (family : FamilyView) (task index : ℕ) → IsFamilyOf rs family → slice_get family.tasks index ≡ Some task → (r : ℕ) × (path : List ℕ) × HasPath rs r task path
 root_known rs family task index are is = of (get_or family.roots index None) (slice_get-get_or family.roots index None (let within = slice_get_within family.tasks index task is in omega (arith, within, are.roots.all)))
   where
     of : (o : Option Standing) → slice_get family.roots index ≡ Some o → (r : ℕ) × (path : List ℕ) × HasPath rs r task path

@@ -1,16 +1,15 @@
 -- How ids are put in the order of their values and found there.
-use Rattle.std.proofs.Common.{◌≡◌, ◌≢◌, ◌∙◌, ℕ, zero, suc, ◌<◌, ◌≤◌, ◌+◌, ◌-◌, List, [], ◌∷◌, ◌++◌, length, get_or, Option, Some, None, refl, sym, ap, subst, arith, inl, inr, ◌⊎◌}
-use Rattle.std.proofs.lemmas.Bool.{cases_eq, cases_lt, cases_order}
-use Rattle.std.proofs.lemmas.Option.{none-some, same_Some, slice_get_within, slice_get-get_or, slice_get_past}
-use Rattle.std.proofs.lemmas.List.{length_push}
+use Rattle.std.proofs.Common.{◌≡◌, ◌≢◌, ◌∙◌, ℕ, ◌<◌, ◌≤◌, ◌+◌, ◌-◌, List, [], ◌∷◌, ◌++◌, length, get_or, Some, sym, ap, subst, arith, inl, inr}
+use Rattle.std.proofs.lemmas.Bool.{cases_eq, cases_order}
+use Rattle.std.proofs.lemmas.Option.{same_Some, slice_get_within, slice_get-get_or}
 use Rattle.std.proofs.lemmas.List.Elements.{Contains-push, Contains-push_cases, Contains-append_left}
 use Rattle.std.proofs.lemmas.List.Sorted.{Contains-permutation, IsPermutation-sym}
 use Rattle.std.specs.List.Sorted.{IsPermutation}
 use Rattle.std.specs.Prelude.{slice_get, Contains}
-use Rattle.ompt_events.proofs.ListLemmas.{contains_get, get_contains}
+use Rattle.ompt_events.proofs.ListLemmas.{contains_get}
 use Rattle.task_tree.specs.declared.ranking.Entry.{Entry}
 use Rattle.task_tree.specs.Numbering.{AreApart}
-use Rattle.task_tree.specs.Ranking.{AreEntries, IsRising, IsRanked, HasEntry, HasNoEntry}
+use Rattle.task_tree.specs.Ranking.{AreEntries, IsRising, IsRanked, HasNoEntry}
 
 pub entries_none : (ids : List ℕ) (ranked : List Entry) → ranked ≡ [] → AreEntries ids 0 ranked
 entries_none ids ranked empty = record {

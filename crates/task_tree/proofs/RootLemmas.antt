@@ -1,12 +1,10 @@
 -- How the tree is gone down from its roots.
 use Rattle.std.proofs.Common.{◌≡◌, ◌≢◌, ◌∙◌, ℕ, zero, suc, ◌<◌, ◌≤◌, ◌+◌, List, [], ◌∷◌, ◌++◌, length, get_or, set, Option, Some, None, refl, sym, ap, subst, arith, inl, inr}
 use Rattle.std.proofs.lemmas.Bool.{cases_eq, false≢true, true≢false}
-use Rattle.std.proofs.lemmas.Option.{none-some, same_Some, slice_get_within, slice_get-get_or, slice_get_read}
+use Rattle.std.proofs.lemmas.Option.{none-some, same_Some, slice_get_within, slice_get-get_or}
 use Rattle.std.proofs.lemmas.List.{length-set, length_push, length-replicate, get_or-replicate}
 use Rattle.std.proofs.lemmas.List.Elements.{Contains-push, Contains-push_cases, Contains-append_left}
-use Rattle.std.specs.Prelude.{slice_get, Contains, replicate, option_map, is_some, ◌↔◌, true, false}
-use Rattle.std.specs.Global.{Vec}
-use Rattle.task_tree.specs.Children.{AreChildren}
+use Rattle.std.specs.Prelude.{slice_get, Contains, replicate, is_some, ◌↔◌, true, false}
 use Rattle.ompt_events.specs.declared.records.Record.{Record}
 use Rattle.ompt_events.specs.Records.{made, begun_root, creation}
 use Rattle.ompt_events.specs.Places.{at}
@@ -19,7 +17,7 @@ use Rattle.task_tree.specs.declared.roots.Reached.{Reached}
 use Rattle.task_tree.specs.declared.roots.Standing.{Standing}
 use Rattle.task_tree.specs.Makers.{AreNoted}
 use Rattle.task_tree.specs.Roots.{StandsAt, AreRoots, Reaches, known, new, Spreads, none, more, missing, IsReach, IsSeeded}
-use Rattle.task_tree.proofs.ChildrenLemmas.{get_set_same, get_set_other}
+use Rattle.task_tree.proofs.LinkLemmas.{get_set_same, get_set_other}
 
 -- one root more is known
 missing_set : (roots : List (Option Standing)) (index : ℕ) (task : Standing) → index < length roots → get_or roots index None ≡ None → missing (set roots index (Some task)) + 1 ≡ missing roots
@@ -249,11 +247,6 @@ roots_found rs tasks roots order n noted are closed all = record {
 }
 
 -- ---- one turn
-
--- the list that is read at an index is that of the children
-pub list_read : (rs : List Record) (tasks : List ℕ) (lists : List (Vec ℕ)) (index task : ℕ) (list : Vec ℕ) → AreChildren rs (length rs) tasks lists → slice_get tasks index ≡ Some task → index < length lists → list ≡ get_or lists index list → list.items ≡ children rs task
-list_read rs tasks lists index task list are is within read =
-    same_Some list.items (children rs task) (sym (ap (option_map (λ (l : Vec ℕ). l.items)) (slice_get_read lists (length lists) index list refl within read)) ∙ are.each index task is)
 
 -- the state after a turn
 pub record IsTurned (rs : List Record) (tasks : List ℕ) (roots_now : List (Option Standing)) (order : List Reached) (order_now : List Reached) (next : ℕ) : Type 0 where

@@ -9,7 +9,7 @@ use Rattle.ompt_events.specs.Records.{made, named, created, claim, region_named}
 use Rattle.ompt_events.specs.Places.{at}
 use Rattle.ompt_events.specs.Tree.{IsRoot, IsRooted, root as root_rooted, child as child_rooted, HasPath, top, below}
 use Rattle.ompt_events.specs.Causes.{IsMade, IsForked, HasNoRoot, unmade, unrooted, no_region, HasCause, rootless, IsFirstWith, IsFreeOf}
-use Rattle.ompt_events.proofs.PlaceLemmas.{none_from_test, read_get, at_read, at_within}
+use Rattle.ompt_events.proofs.PlaceLemmas.{read_get, at_read, at_within}
 use Rattle.ompt_events.proofs.RecordLemmas.{begun_at_made, created_at_made}
 use Rattle.ompt_events.proofs.TreeLemmas.{child_place}
 use Rattle.ompt_events.proofs.ListLemmas.{contains_get, get_contains}

@@ -1,33 +1,33 @@
 -- When a family is that of the records.
-use Rattle.std.specs.Prelude.{ℕ, ◌≡◌, List, length, Option, Some, slice_get}
-use Rattle.std.specs.Global.{Vec}
+use Rattle.std.specs.Prelude.{ℕ, ◌≡◌, ◌+◌, List, length, Option, Some, slice_get}
 use Rattle.ompt_events.specs.declared.records.Record.{Record}
 use Rattle.ompt_events.specs.declared.cause.Cause.TheVariants.{CreatedTwice, Rootless}
 use Rattle.ompt_events.specs.Records.{made}
 use Rattle.task_tree.specs.Subjects.{subject, object, AreFound}
 use Rattle.ompt_events.specs.Causes.{IsFreeOf}
-use Rattle.task_tree.specs.declared.children.Link.{Link}
+use Rattle.task_tree.specs.declared.links.Link.{Link}
 use Rattle.task_tree.specs.declared.roots.Standing.{Standing}
 use Rattle.task_tree.specs.Makers.{AreNoted, AreMade}
-use Rattle.task_tree.specs.Children.{AreChildren, AreLinks}
+use Rattle.task_tree.specs.Links.{AreLinks}
+use Rattle.task_tree.specs.Rows.{RowsView, AreChildren}
 use Rattle.task_tree.specs.Roots.{AreRoots}
 
 -- what clauses see of a family: the tasks in the order in which they are made; by index of the task the
--- place of the record that makes it, its children, its link to its parent and its root; and by place of the
+-- place of the record that makes it, the row of its children, its link to its parent and its root; and by place of the
 -- record the indices of the tasks that it names
 pub record FamilyView : Type 0 where
   pub tasks : List ℕ
   pub places : List ℕ
   pub subjects : List (Option ℕ)
   pub objects : List (Option ℕ)
-  pub lists : List (Vec ℕ)
+  pub rows : RowsView
   pub links : List (Option Link)
   pub roots : List (Option Standing)
 
 -- there is one entry for each task
-abbrev pub AreAligned : List ℕ → List ℕ → List (Vec ℕ) → List (Option Link) → List (Option Standing) → Type 0
-AreAligned tasks places lists links roots =
-    (length lists ≡ length tasks) × (length links ≡ length tasks) × (length roots ≡ length tasks)
+abbrev pub AreAligned : List ℕ → List ℕ → RowsView → List (Option Link) → List (Option Standing) → Type 0
+AreAligned tasks places rows links roots =
+    (length rows.offsets ≡ length tasks + 1) × (length links ≡ length tasks) × (length roots ≡ length tasks)
     × (length places ≡ length tasks)
 
 -- each table is right for all records, which make each task once and speak of tasks with roots alone
@@ -36,7 +36,7 @@ pub record IsFamilyOf (rs : List Record) (family : FamilyView) : Type 0 where
   pub makers : AreMade rs (length rs) family.tasks family.places
   pub subjects : AreFound subject rs (length rs) family.tasks family.subjects
   pub objects : AreFound object rs (length rs) family.tasks family.objects
-  pub children : AreChildren rs (length rs) family.tasks family.lists
+  pub children : AreChildren rs family.tasks family.rows
   pub links : AreLinks rs (length rs) family.tasks family.links
   pub roots : AreRoots rs family.tasks family.roots
   pub once : IsFreeOf rs CreatedTwice

@@ -8,7 +8,8 @@ pub mod Numbering
 pub mod Slots
 pub mod Makers
 pub mod Subjects
-pub mod Children
+pub mod Links
+pub mod Rows
 pub mod Roots
 pub mod Forward
 pub mod Rootless

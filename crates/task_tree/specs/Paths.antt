@@ -12,11 +12,14 @@ pub record ArePaths (rs : List Record) (tasks : List ℕ) (paths : List (Vec ℕ
       → HasPath rs root task path
       → option_map (λ (found : Vec ℕ). found.items) (slice_get paths index) ≡ Some path
 
--- after so many steps up from a task with this path: the numbers that were passed, the last one first
-pub record IsClimbed (rs : List Record) (root : ℕ) (path : List ℕ) (steps current : ℕ)
+-- after so many steps up from a task with this path: the index of the task that is reached, and the numbers
+-- that were passed, the last one first
+pub record IsClimbed (rs : List Record) (tasks : List ℕ) (root : ℕ) (path : List ℕ) (steps index : ℕ)
     (numbers : List ℕ) : Type 0 where
+  pub current : ℕ
   pub up : List ℕ
   pub passed : List ℕ
+  pub here : slice_get tasks index ≡ Some current
   pub parts : path ≡ up ++ passed
   pub stands : HasPath rs root current up
   pub reversed : numbers ≡ reverse passed

@@ -1,5 +1,5 @@
 -- Ids in the order of their values.
-use Rattle.std.specs.Prelude.{ℕ, ◌≡◌, ◌<◌, List, length, Option, Some, Contains, slice_get}
+use Rattle.std.specs.Prelude.{ℕ, ◌≡◌, ◌<◌, List, length, Some, Contains, slice_get}
 use Rattle.task_tree.specs.declared.ranking.Entry.{Entry}
 
 -- the first n ids, each with its index

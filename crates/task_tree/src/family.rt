@@ -8,12 +8,14 @@ ghost use Rattle.task_tree.specs.Family.{IsFamilyOf, IsLinkOf, IsStandingOf};
 ghost use Rattle.task_tree.specs.Subjects.{subject, object, Calls};
 ghost use Rattle.task_tree.specs.Fault.{IsTreeFault};
 
-use crate::children::{Children, Link, find_children};
+use crate::children::{Children, find_children};
 use crate::fault::TreeFault;
+use crate::links::Link;
 use crate::makers::{Made, find_made};
 use crate::numbering::Numbering;
 use crate::rootless::find_rootless;
 use crate::roots::{Standing, find_roots};
+use crate::rows::Rows;
 use crate::slot::Slot;
 use crate::subjects::{Subjects, find_subjects};
 use ompt_events::{Cause, Record, Trace};
@@ -28,7 +30,7 @@ pub struct Family {
     places: Vec<u32>,
     subjects: Vec<Slot>,
     objects: Vec<Slot>,
-    lists: Vec<Vec<u64>>,
+    rows: Rows,
     links: Vec<Option<Link>>,
     roots: Vec<Option<Standing>>,
 }
@@ -43,13 +45,13 @@ impl Model for Family {
       places = family.places.items;
       subjects = family.subjects.items;
       objects = family.objects.items;
-      lists = family.lists.items;
+      rows = family.rows;
       links = family.links.items;
       roots = family.roots.items;
     } };
 
     ghost invariant = { λ family.
-        AreAligned family.tasks family.places.items family.lists.items family.links.items
+        AreAligned family.tasks family.places.items family.rows family.links.items
         family.roots.items };
 }
 
@@ -68,8 +70,8 @@ impl Family {
             regions,
         } = find_made(alloc, records)?;
         let named = find_subjects(alloc, records, &tasks)?;
-        let Children { lists, links } = find_children(alloc, records, &tasks, &named)?;
-        let roots = find_roots(alloc, records, &tasks, &named, lists.as_slice())?;
+        let Children { rows, links } = find_children(alloc, records, &tasks, &named)?;
+        let roots = find_roots(alloc, records, &tasks, &places, &links, &rows)?;
         match find_rootless(records, &tasks, &named, &regions, roots.as_slice()) {
             Some(at) => Err(TreeFault::Malformed {
                 at,
@@ -80,7 +82,7 @@ impl Family {
                 places,
                 subjects: named.subjects,
                 objects: named.objects,
-                lists,
+                rows,
                 links,
                 roots,
             }),
@@ -169,7 +171,10 @@ impl Family {
         ensures { (records : List Record) → IsFamilyOf records self.now → (parent : ℕ)
             → (result ≡ Some parent) ↔ IsParent records parent task }
     {
-        self.link_of(task).map(|link| link.parent)
+        match self.link_of(task) {
+            Some(link) => self.tasks.id_at(link.parent as usize),
+            None => None,
+        }
     }
 
     /// How many children the task's parent created before it; none for a root, or where no record makes the
@@ -196,8 +201,28 @@ impl Family {
             → result.now ≡ children records task }
     {
         match self.tasks.index_of(task) {
-            Some(index) => self.lists[index].as_slice(),
+            Some(index) => self.rows.row(index),
             None => &[],
+        }
+    }
+
+    /// The children of the task at this index, in the order of their numbers.
+    pub fn children_at(&self, index: usize) -> &[u64]
+        requires { index < length self.now.tasks }
+        ensures { (records : List Record) → IsFamilyOf records self.now → (task : ℕ)
+            → slice_get self.now.tasks index ≡ Some task → result.now ≡ children records task }
+    {
+        self.rows.row(index)
+    }
+
+    /// The link of the created task at this index.
+    pub(crate) fn link_at(&self, index: usize) -> Option<Link>
+        ensures { (link : Link) → (result ≡ Some link) ↔ (slice_get self.now.links index ≡ Some (Some link)) }
+    {
+        if index < self.links.len() {
+            self.links[index]
+        } else {
+            None
         }
     }
 
@@ -205,14 +230,26 @@ impl Family {
     pub(crate) fn link_of(&self, task: u64) -> Option<Link>
         ensures { (link : Link) → (result ≡ Some link) ↔ IsLinkOf self.now task link }
     {
-        self.links[self.tasks.index_of(task)?]
+        self.link_at(self.tasks.index_of(task)?)
+    }
+
+    /// Where the task at this index stands.
+    pub(crate) fn standing_at(&self, index: usize) -> Option<Standing>
+        ensures { (standing : Standing) → (result ≡ Some standing)
+            ↔ (slice_get self.now.roots index ≡ Some (Some standing)) }
+    {
+        if index < self.roots.len() {
+            self.roots[index]
+        } else {
+            None
+        }
     }
 
     /// Where the task stands.
     pub(crate) fn standing_of(&self, task: u64) -> Option<Standing>
         ensures { (standing : Standing) → (result ≡ Some standing) ↔ IsStandingOf self.now task standing }
     {
-        self.roots[self.tasks.index_of(task)?]
+        self.standing_at(self.tasks.index_of(task)?)
     }
 }
 

@@ -1,105 +1,81 @@
-//! Where each task stands, as far as it is created later in the file than its parent.
-ghost use Rattle.std.specs.Prelude.{ℕ, ◌≡◌, ◌<◌, ◌≤◌, ◌+◌, ◌^◌, Some, None, IfOk, IfSome, IsTrue, length, slice_get};
-ghost use Rattle.task_tree.specs.Forward.{AreStanding, IsStood, IsStandingAt, Stands};
+//! Where each task stands, where all are made later in the file than their parents.
+ghost use Rattle.std.specs.Prelude.{ℕ, ◌≡◌, ◌<◌, ◌≤◌, ◌+◌, ◌^◌, IfOk, IfSome, length, slice_get, slice_index};
+ghost use Rattle.ompt_events.specs.Records.{begun_root};
+ghost use Rattle.ompt_events.specs.Places.{at as says_at};
+ghost use Rattle.task_tree.specs.Makers.{AreMade};
+ghost use Rattle.task_tree.specs.Links.{AreLinks};
+ghost use Rattle.task_tree.specs.Roots.{AreRoots};
+ghost use Rattle.task_tree.specs.Forward.{AreStanding, StandsBelow, IsStood};
 
-use crate::numbering::Numbering;
-use crate::roots::{Standing, no_roots};
-use crate::subjects::Subjects;
+use crate::links::Link;
+use crate::roots::Standing;
 use ompt_events::Record;
 use std::alloc::{AllocError, Global};
 
-/// A task, where it stands, and where it is in the list of tasks, as a hint.
-#[derive(Clone, Copy)]
-struct Found {
-    near: usize,
-    task: u64,
-    standing: Standing,
-}
-
-/// By index of the task where it stands, as far as it is created later in the file than its parent.
+/// By index of the task where it stands; none where a task is made before its parent, or has no root.
 pub(crate) fn find_forward(
     alloc: Global,
     records: &[Record],
-    tasks: &Numbering,
-    named: &Subjects,
-) -> Result<Vec<Option<Standing>>, AllocError>
+    tasks: &[u64],
+    places: &[u32],
+    links: &[Option<Link>],
+) -> Result<Option<Vec<Option<Standing>>>, AllocError>
+    requires places { AreMade records.now (length records.now) tasks.now places.now }
+    requires links { AreLinks records.now (length records.now) tasks.now links.now }
     requires few { length records.now ≤ 2 ^ 22 }
-    ensures { IfOk result (λ roots. AreStanding records.now (length records.now) tasks.now roots.items) }
+    ensures { IfOk result (λ found. IfSome found (λ roots. AreRoots records.now tasks.now roots.items)) }
 {
-    let mut roots = no_roots(alloc, tasks.as_slice().len())?;
-    for at in 0..records.len() {
-        if let Some(found) = found_at(records, at, tasks, named, &roots) {
-            stand(tasks, found, &mut roots);
-        }
+    let mut roots = Vec::with_capacity(alloc, tasks.len())?;
+    for index in 0..tasks.len() {
+        let found = standing_at(records, tasks, places, links, roots.as_slice(), index);
+        let Some(standing) = found else {
+            return Ok(None);
+        };
+        roots.push(Some(standing))?;
     }
-    Ok(roots)
+    Ok(Some(roots))
 }
 
-/// The task that the record makes, if its standing is known.
-fn found_at(
+/// Where the task at this index stands, where it is a root or its parent's standing is known.
+fn standing_at(
     records: &[Record],
-    at: usize,
-    tasks: &Numbering,
-    named: &Subjects,
+    tasks: &[u64],
+    places: &[u32],
+    links: &[Option<Link>],
     roots: &[Option<Standing>],
-) -> Option<Found>
-    requires within { at < length records.now }
+    index: usize,
+) -> Option<Standing>
+    requires within { index < length tasks.now }
+    requires places { AreMade records.now (length records.now) tasks.now places.now }
+    requires links { AreLinks records.now (length records.now) tasks.now links.now }
     requires few { length records.now ≤ 2 ^ 22 }
-    requires standing { AreStanding records.now at tasks.now roots.now }
-    ensures { IfSome result (λ found. IsStood records.now (at + 1) found.task found.standing) }
+    requires roots { AreStanding records.now index tasks.now roots.now }
+    ensures { IfSome result (λ standing. (task : ℕ) → slice_get tasks.now index ≡ Some task
+        → IsStood records.now index task standing) }
 {
-    let body = &records[at].body;
-    if let Some(root) = body.begun_root() {
-        return Some(Found {
-            near: named.near_subject(at),
-            task: root,
-            standing: Standing { depth: 0, root },
-        });
+    match links[index] {
+        Some(link) => below(roots, link.parent as usize),
+        None => root_made(&records[places[index] as usize]),
     }
-    let (parent, child) = body.creation()?;
-    let above = standing_of(tasks, parent, named.near_subject(at), roots)?;
-    Some(Found {
-        near: named.near_object(at),
-        task: child,
-        standing: Standing {
-            depth: above.depth + 1,
-            root: above.root,
-        },
+}
+
+/// One step below the task at this index, where it is known where that stands.
+fn below(roots: &[Option<Standing>], parent: usize) -> Option<Standing>
+    requires { (above : Standing) → slice_get roots.now parent ≡ Some (Some above) → above.depth < 2 ^ 22 }
+    ensures { IfSome result (StandsBelow roots.now parent) }
+{
+    let above = (*roots.get(parent)?)?;
+    Some(Standing {
+        depth: above.depth + 1,
+        root: above.root,
     })
 }
 
-/// Where the task stands, if that is known.
-fn standing_of(
-    tasks: &Numbering,
-    task: u64,
-    near: usize,
-    roots: &[Option<Standing>],
-) -> Option<Standing>
-    requires { length roots.now ≡ length tasks.now }
-    ensures { IfSome result (IsStandingAt tasks.now roots.now task) }
+/// Where the root stands that the record begins, if it begins one.
+fn root_made(event: &Record) -> Option<Standing>
+    ensures { IfSome result (λ standing. (begun_root event.now.body ≡ Some standing.root)
+        × (standing.depth ≡ 0)) }
 {
-    let index = tasks.index_near(task, near)?;
-    roots[index]
-}
-
-/// Notes where the task stands.
-fn stand(tasks: &Numbering, found: Found, roots: &mut Vec<Option<Standing>>)
-    requires { length roots.old.items ≡ length tasks.now }
-    ensures { Stands tasks.now found.task found.standing roots.old.items roots.new.items }
-{
-    if let Some(index) = tasks.index_near(found.task, found.near) {
-        roots[index] = Some(found.standing);
-    }
-}
-
-/// Whether it is known of each task where it stands.
-pub(crate) fn all_stand(roots: &[Option<Standing>]) -> bool
-    ensures { IsTrue result → (index : ℕ) → slice_get roots.now index ≡ Some None → ⊥ }
-{
-    for standing in roots {
-        if standing.is_none() {
-            return false;
-        }
-    }
-    true
+    let root = event.body.begun_root()?;
+    Some(Standing { depth: 0, root })
 }

@@ -2,22 +2,26 @@
 //!
 //! `Family` has parents, numbers, roots and children, and the index of each task that a record names, so
 //! that no later phase searches for a task again; `Tree` has the paths too. Read `family` and `tree` for
-//! what a caller sees, then `makers`, `subjects`, `children`, `roots` (after `forward`) and `rootless`, the
-//! steps of a build. `numbering` is the list of ids that they share (`ranking` searches it), `slot` an index
-//! or none in 32 bits, and `hints` says where a task is looked for first.
+//! what a caller sees, then `makers`, `subjects`, `children` (after `links` and `rows`), `roots` (after
+//! `forward`) and `rootless`, the steps of a build. `numbering` is the list of ids that they share
+//! (`ranking` searches it), `slot` an index or none in 32 bits, and `hints` says where a task is looked for
+//! first.
 #![tactic(auto)]
 
 mod children;
+mod climbing;
 mod family;
 mod fault;
 mod forward;
 mod hints;
+mod links;
 mod makers;
 mod numbering;
 mod paths;
 mod ranking;
 mod rootless;
 mod roots;
+mod rows;
 mod slot;
 mod subjects;
 mod tree;

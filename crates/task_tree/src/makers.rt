@@ -84,9 +84,11 @@ fn gather(alloc: Global, records: &[Record]) -> Result<Option<Gathered>, AllocEr
         if let Some(task) = event.body.made() {
             add_task(&mut ids, &mut places, task, at)?;
         }
-        let region_again = regions.note(forked_region(&event.body))?;
-        if region_again {
-            return Ok(None);
+        if let Some(region) = forked_region(&event.body) {
+            let region_again = regions.note_id(region)?;
+            if region_again {
+                return Ok(None);
+            }
         }
     }
     Ok(Some(Gathered {

@@ -65,6 +65,17 @@ impl Numbering {
         self.ids.as_slice()
     }
 
+    /// The id that stands at the index, if one does.
+    pub(crate) fn id_at(&self, index: usize) -> Option<u64>
+        ensures { result ≡ slice_get self.now index }
+    {
+        if index < self.ids.len() {
+            Some(self.ids[index])
+        } else {
+            None
+        }
+    }
+
     /// The id's index, if it was noted.
     pub fn index_of(&self, id: u64) -> Option<usize>
         ensures { (index : ℕ) → (result ≡ Some index) ↔ (slice_get self.now index ≡ Some id) }
@@ -112,9 +123,16 @@ impl Numbering {
     pub(crate) fn note(&mut self, found: Option<u64>) -> Result<bool, AllocError>
         ensures { IfOk result (IsNoted self.old self.new found) }
     {
-        let Some(id) = found else {
-            return Ok(false);
-        };
+        match found {
+            Some(id) => self.note_id(id),
+            None => Ok(false),
+        }
+    }
+
+    /// Notes the id, and answers whether it was noted before.
+    pub(crate) fn note_id(&mut self, id: u64) -> Result<bool, AllocError>
+        ensures { IfOk result (IsNoted self.old self.new (Some id)) }
+    {
         if self.contains(id) {
             return Ok(true);
         }

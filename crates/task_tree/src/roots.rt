@@ -1,13 +1,15 @@
 //! The root below which each task stands.
 ghost use Rattle.std.specs.Prelude.{◌≡◌, ◌<◌, ◌≤◌, ◌^◌, [], Some, None, IfOk, OnOk, length, replicate};
 ghost use Rattle.ompt_events.specs.Records.{made};
-ghost use Rattle.task_tree.specs.Makers.{AreNoted};
-ghost use Rattle.task_tree.specs.Children.{AreChildren};
+ghost use Rattle.task_tree.specs.Makers.{AreNoted, AreMade};
+ghost use Rattle.task_tree.specs.Links.{AreLinks};
+ghost use Rattle.task_tree.specs.Rows.{AreChildren};
 ghost use Rattle.task_tree.specs.Roots.{AreRoots, Reaches, Spreads, IsSeeded};
 
-use crate::forward::{all_stand, find_forward};
+use crate::forward::find_forward;
+use crate::links::Link;
 use crate::numbering::Numbering;
-use crate::subjects::Subjects;
+use crate::rows::Rows;
 use ompt_events::Record;
 use std::alloc::{AllocError, Global};
 
@@ -31,19 +33,21 @@ pub(crate) fn find_roots(
     alloc: Global,
     records: &[Record],
     tasks: &Numbering,
-    named: &Subjects,
-    lists: &[Vec<u64>],
+    places: &[u32],
+    links: &[Option<Link>],
+    rows: &Rows,
 ) -> Result<Vec<Option<Standing>>, AllocError>
     requires noted { AreNoted made records.now (length records.now) tasks.now }
-    requires lists { AreChildren records.now (length records.now) tasks.now lists.now }
+    requires places { AreMade records.now (length records.now) tasks.now places.now }
+    requires links { AreLinks records.now (length records.now) tasks.now links.now }
+    requires rows { AreChildren records.now tasks.now rows.now }
     requires few { length records.now ≤ 2 ^ 22 }
     ensures { IfOk result (λ roots. AreRoots records.now tasks.now roots.items) }
 {
-    let roots = find_forward(alloc, records, tasks, named)?;
-    if all_stand(&roots) {
-        return Ok(roots);
+    match find_forward(alloc, records, tasks.as_slice(), places, links)? {
+        Some(roots) => Ok(roots),
+        None => find_downward(alloc, records, tasks, rows),
     }
-    find_downward(alloc, records, tasks, lists)
 }
 
 /// The same down from the roots.
@@ -51,14 +55,14 @@ fn find_downward(
     alloc: Global,
     records: &[Record],
     tasks: &Numbering,
-    lists: &[Vec<u64>],
+    rows: &Rows,
 ) -> Result<Vec<Option<Standing>>, AllocError>
     requires noted { AreNoted made records.now (length records.now) tasks.now }
-    requires lists { AreChildren records.now (length records.now) tasks.now lists.now }
+    requires rows { AreChildren records.now tasks.now rows.now }
     ensures { IfOk result (λ roots. AreRoots records.now tasks.now roots.items) }
 {
     let mut roots = no_roots(alloc, tasks.as_slice().len())?;
-    let mut order = Vec::new(alloc);
+    let mut order = Vec::with_capacity(alloc, roots.len())?;
     reach_roots(records, tasks, &mut roots, &mut order)?;
     // Each task is reached once, a parent before its children.
     let mut next = 0;
@@ -68,14 +72,14 @@ fn find_downward(
             depth: task.standing.depth + 1,
             root: task.standing.root,
         };
-        reach_children(tasks, &lists[task.index], below, &mut roots, &mut order)?;
+        reach_children(tasks, rows.row(task.index), below, &mut roots, &mut order)?;
         next += 1;
     }
     Ok(roots)
 }
 
 /// No root for any task.
-pub(crate) fn no_roots(alloc: Global, tasks: usize) -> Result<Vec<Option<Standing>>, AllocError>
+fn no_roots(alloc: Global, tasks: usize) -> Result<Vec<Option<Standing>>, AllocError>
     ensures { IfOk result (λ roots. roots.items ≡ replicate tasks None) }
 {
     vec![in alloc; None; tasks]

@@ -8,17 +8,20 @@ mod ledger;
 mod lines;
 mod names;
 mod refusals;
+mod shared;
 mod shares;
 mod states;
 mod tables;
 mod tree;
+mod turns;
 mod verdict;
 
 use anyhow::{Result, bail};
 use std::env;
 
 const WORDS: &str =
-    "values, read, write, lines, names, tables, shares, states, ledger, devices, refusals, tree or verdict";
+    "values, read, write, lines, names, tables, shares, states, ledger, devices, refusals, tree, verdict, \
+     shared or turns";
 
 /// Does what the word asks for.
 fn run(rt: &HostRuntime, word: &str) -> Result<()> {
@@ -46,5 +49,14 @@ fn main(rt: HostRuntime) -> Result<()> {
     let Some(word) = words.next() else {
         bail!("the word must be {WORDS}");
     };
-    run(&rt, word.as_str())
+    match word.as_str() {
+        "shared" => shared::each(&rt),
+        "turns" => {
+            let (Some(calls), Some(threads)) = (words.next(), words.next()) else {
+                bail!("turns takes the entries of each thread and the number of threads");
+            };
+            turns::timed(&rt, calls.parse()?, threads.parse()?)
+        }
+        word => run(&rt, word),
+    }
 }

@@ -1,7 +1,9 @@
+use Rattle.std.proofs.Common.{sym, ◌∙◌}
 use Rattle.std.proofs.lemmas.Result.{err_from_is_err_and}
 use Rattle.certificate.specs.declared.faults.ReadCause.TheVariants.{Memory}
 use Rattle.certificate.proofs.RecordLemmas.{ok_not_err}
-use Rattle.certificate.proofs.ReadingLemmas.{IsBetween-keeps, IsBetween-line, IsAfter-no_line, IsAfter-text_fault, IsAfter-none_first, IsAfter-none, Grows-text}
+use Rattle.certificate.proofs.ReadingLemmas.{IsBetween-keeps, IsBetween-line, IsAfter-no_line, IsAfter-text_fault, IsAfter-none_first, IsAfter-none, Grows-text, IsOfText-from, IsOfText-not_spent, breaks_told-text}
+use Rattle.certificate.proofs.CountLemmas.{TakesTurns-other}
 use Rattle.certificate.proofs.reading.read_line.Goals as goal
 
 pub returns-in_err-len-clause-after : goal.returns-in_err-len-clause-after
@@ -40,3 +42,15 @@ returns-in-None-2-clause-after g c =
     λ known now. IsAfter-none known c.args.line c.args.kept.now c.next_line.new.window (g.S.Source.remaining c.next_line.new.source) c.if-line-eq1.false
     (rw c.in-None.is at c.in_ok-len.ensures.found)
     (IsBetween-keeps known c.args.line c.args.kept.now c.args.window.now c.next_line.new.window (g.S.Source.remaining c.args.source.now) (g.S.Source.remaining c.next_line.new.source) c.in_ok-len.ensures.bytes now)
+
+pub returns-in_err-take_text-in-Some-clause-turns : goal.returns-in_err-take_text-in-Some-clause-turns
+returns-in_err-take_text-in-Some-clause-turns g c =
+    let p = err_from_is_err_and c.from_residual-in_err-take_text-in-Some.result c.from_residual-in_err-take_text-in-Some.ensures.1 in
+    let is = IsOfText-from c.args.line c.args.kept.now c.front.result.now c.in_err-take_text-in-Some.field-0.0 c.in_err-take_text-in-Some.ensures in
+    rw (p.1, p.2) (TakesTurns-other _ _ _ _ _ (IsOfText-not_spent _ is) c.in_ok-len.ensures.turns)
+
+pub returns-in_err-take_text-in-Some-clause-breaks : goal.returns-in_err-take_text-in-Some-clause-breaks
+returns-in_err-take_text-in-Some-clause-breaks g c =
+    let p = err_from_is_err_and c.from_residual-in_err-take_text-in-Some.result c.from_residual-in_err-take_text-in-Some.ensures.1 in
+    let is = IsOfText-from c.args.line c.args.kept.now c.front.result.now c.in_err-take_text-in-Some.field-0.0 c.in_err-take_text-in-Some.ensures in
+    rw (p.1, p.2) (c.in_ok-len.ensures.breaks ∙ sym (breaks_told-text _ (g.S.Source.breaks c.args.source.now) is))

@@ -23,12 +23,12 @@ mark-requires c = place-within c.levels.tree c.levels.invariant.linked c.levels.
 
 pub returns-then-depth-eq0-clause-linked : goal.returns-then-depth-eq0-clause-linked
 returns-then-depth-eq0-clause-linked c =
-    IsLinked-marked c.args.shares.now c.levels.tree c.mark.new.self c.levels.index c.levels.invariant.linked c.levels.invariant.within c.mark.ensures.nodes c.mark.ensures.children (reverse (take c.levels.depth c.args.runs.now)) c.levels.invariant.place
+    IsLinked-marked c.args.shares.now c.levels.tree c.mark.new.self c.levels.index c.levels.invariant.linked c.levels.invariant.within c.mark.ensures.nodes c.mark.ensures.links (reverse (take c.levels.depth c.args.runs.now)) c.levels.invariant.place
 
 pub returns-then-depth-eq0-clause-known : goal.returns-then-depth-eq0-clause-known
 returns-then-depth-eq0-clause-known c =
     let none = path-none c.args.runs.now c.levels.depth c.if-depth-eq0.true in
-    IsKnown-top c.args.shares.now c.levels.tree c.mark.new.self c.levels.index c.levels.invariant.linked c.levels.invariant.within c.mark.ensures.nodes c.mark.ensures.children
+    IsKnown-top c.args.shares.now c.levels.tree c.mark.new.self c.levels.index c.levels.invariant.linked c.levels.invariant.within c.mark.ensures.nodes c.mark.ensures.links
     (ap (place (child c.levels.tree)) (sym none) ∙ c.levels.invariant.place)
     (subst (λ p. IsSettling c.args.shares.now (progress_at c.levels.tree) p) none c.levels.invariant.settling)
     (subst (λ (x : Node). IsFull x.progress) c.node.ensures (c.is_full.ensures.0 c.levels-test.true))
@@ -48,11 +48,11 @@ count_child-requires-clause-within c =
     let more : reverse (take c.levels.depth c.args.runs.now) ≡ n ∷ up = path-more c.args.runs.now c.levels.depth (omega arith) c.levels.invariant.depth in
     let here : place (child c.levels.tree) (n ∷ up) ≡ Some c.levels.index = ap (place (child c.levels.tree)) (sym more) ∙ c.levels.invariant.place in
     let e : c.node-index.result.parent ≡ (node_at c.mark.new.self c.levels.index).parent = ap (λ (x : Node). x.parent) c.node-index.ensures in
-    let long = length-marked c.args.shares.now c.levels.tree c.mark.new.self c.levels.index c.levels.invariant.linked c.levels.invariant.within c.mark.ensures.nodes c.mark.ensures.children (n ∷ up) here in
+    let long = length-marked c.args.shares.now c.levels.tree c.mark.new.self c.levels.index c.levels.invariant.linked c.levels.invariant.within c.mark.ensures.nodes c.mark.ensures.links (n ∷ up) here in
     let inside = place-within c.mark.new.self
-    (IsLinked-marked c.args.shares.now c.levels.tree c.mark.new.self c.levels.index c.levels.invariant.linked c.levels.invariant.within c.mark.ensures.nodes c.mark.ensures.children (n ∷ up) here)
+    (IsLinked-marked c.args.shares.now c.levels.tree c.mark.new.self c.levels.index c.levels.invariant.linked c.levels.invariant.within c.mark.ensures.nodes c.mark.ensures.links (n ∷ up) here)
     (omega (arith, long, c.levels.invariant.within)) up (node_at c.mark.new.self c.levels.index).parent
-    (place-above c.args.shares.now c.levels.tree c.mark.new.self c.levels.index c.levels.invariant.linked c.levels.invariant.within c.mark.ensures.nodes c.mark.ensures.children n up here) in
+    (place-above c.args.shares.now c.levels.tree c.mark.new.self c.levels.index c.levels.invariant.linked c.levels.invariant.within c.mark.ensures.nodes c.mark.ensures.links n up here) in
     omega (arith, inside, e)
 
 pub count_child-requires-clause-small : goal.count_child-requires-clause-small
@@ -63,7 +63,7 @@ count_child-requires-clause-small c =
     let here : place (child c.levels.tree) (n ∷ up) ≡ Some c.levels.index = ap (place (child c.levels.tree)) (sym more) ∙ c.levels.invariant.place in
     let e : (node_at c.mark.new.self c.node-index.result.parent).progress.held_children ≡ (node_at c.mark.new.self (node_at c.mark.new.self c.levels.index).parent).progress.held_children =
     ap (λ (x : Node). (node_at c.mark.new.self x.parent).progress.held_children) c.node-index.ensures in
-    let small = count-small c.args.shares.now c.levels.tree c.mark.new.self c.levels.index c.levels.invariant.linked c.levels.invariant.within c.mark.ensures.nodes c.mark.ensures.children n up here c.levels.invariant.settling.counted in
+    let small = count-small c.args.shares.now c.levels.tree c.mark.new.self c.levels.index c.levels.invariant.linked c.levels.invariant.within c.mark.ensures.nodes c.mark.ensures.links n up here c.levels.invariant.settling.counted in
     omega (arith, small, e)
 
 pub levels-preserved : goal.levels-preserved
@@ -75,15 +75,15 @@ levels-preserved c =
     let e : c.node-index.result.parent ≡ (node_at c.mark.new.self c.levels.index).parent = ap (λ (x : Node). x.parent) c.node-index.ensures in
     let nodes : c.count_child.new.self.nodes.items ≡ set c.mark.new.self.nodes.items (node_at c.mark.new.self c.levels.index).parent (with_child (node_at c.mark.new.self (node_at c.mark.new.self c.levels.index).parent)) =
     subst (λ p. c.count_child.new.self.nodes.items ≡ set c.mark.new.self.nodes.items p (with_child (node_at c.mark.new.self p))) e c.count_child.ensures.nodes in
-    let long = length-counted c.args.shares.now c.levels.tree c.mark.new.self c.levels.index c.levels.invariant.linked c.levels.invariant.within c.mark.ensures.nodes c.mark.ensures.children c.count_child.new.self n up here nodes c.count_child.ensures.children in
+    let long = length-counted c.args.shares.now c.levels.tree c.mark.new.self c.levels.index c.levels.invariant.linked c.levels.invariant.within c.mark.ensures.nodes c.mark.ensures.links c.count_child.new.self n up here nodes c.count_child.ensures.links in
     record {
-      linked = IsLinked-counted c.args.shares.now c.levels.tree c.mark.new.self c.levels.index c.levels.invariant.linked c.levels.invariant.within c.mark.ensures.nodes c.mark.ensures.children c.count_child.new.self n up here nodes c.count_child.ensures.children;
-      place = place-counted c.args.shares.now c.levels.tree c.mark.new.self c.levels.index c.levels.invariant.linked c.levels.invariant.within c.mark.ensures.nodes c.mark.ensures.children c.count_child.new.self n up here nodes c.count_child.ensures.children ∙ ap (λ k. Some k) (sym e);
-      settling = IsSettling-counted c.args.shares.now c.levels.tree c.mark.new.self c.levels.index c.levels.invariant.linked c.levels.invariant.within c.mark.ensures.nodes c.mark.ensures.children c.count_child.new.self n up here nodes c.count_child.ensures.children
+      linked = IsLinked-counted c.args.shares.now c.levels.tree c.mark.new.self c.levels.index c.levels.invariant.linked c.levels.invariant.within c.mark.ensures.nodes c.mark.ensures.links c.count_child.new.self n up here nodes c.count_child.ensures.links;
+      place = place-counted c.args.shares.now c.levels.tree c.mark.new.self c.levels.index c.levels.invariant.linked c.levels.invariant.within c.mark.ensures.nodes c.mark.ensures.links c.count_child.new.self n up here nodes c.count_child.ensures.links ∙ ap (λ k. Some k) (sym e);
+      settling = IsSettling-counted c.args.shares.now c.levels.tree c.mark.new.self c.levels.index c.levels.invariant.linked c.levels.invariant.within c.mark.ensures.nodes c.mark.ensures.links c.count_child.new.self n up here nodes c.count_child.ensures.links
           (subst (λ p. IsSettling c.args.shares.now (progress_at c.levels.tree) p) more c.levels.invariant.settling)
           (subst (λ (x : Node). IsFull x.progress) c.node.ensures (c.is_full.ensures.0 c.levels-test.true));
       within = omega (arith, long, c.levels.invariant.within);
       depth = omega arith;
-      children = c.count_child.ensures.children ∙ c.mark.ensures.children ∙ c.levels.invariant.children;
+      links = c.count_child.ensures.links ∙ c.mark.ensures.links ∙ c.levels.invariant.links;
       nodes = omega (arith, long, c.levels.invariant.nodes);
     }

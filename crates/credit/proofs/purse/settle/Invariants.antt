@@ -10,7 +10,7 @@ invariant-levels l = record {
   settling : IsSettling l.shares (progress_at l.tree) (reverse (take l.depth l.runs));
   within : 0 < length l.tree.nodes.items;
   depth : l.depth ≤ length l.runs;
-  children : l.tree.children ≡ l.initial.tree.children;
+  links : l.tree.links ≡ l.initial.tree.links;
   nodes : length l.tree.nodes.items ≡ length l.initial.tree.nodes.items;
 }
 

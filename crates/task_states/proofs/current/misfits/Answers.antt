@@ -1,4 +1,4 @@
-use Rattle.std.proofs.Common.{◌≡◌, ◌≢◌, ◌∙◌, Some, refl, sym, inl, inr}
+use Rattle.std.proofs.Common.{◌≢◌, ◌∙◌, Some, refl, sym, inl, inr}
 use Rattle.std.proofs.lemmas.Bool.{false≢true}
 use Rattle.std.specs.Prelude.{IsSomeAnd, slice_get}
 use Rattle.ompt_events.specs.Records.{running, ended_root}

@@ -1,12 +1,12 @@
-use Rattle.std.proofs.Common.{◌≡◌, ◌≢◌, ◌∙◌, ◌<◌, ℕ, Some, length, refl, sym, ap, arith, rules, below_more}
+use Rattle.std.proofs.Common.{◌≡◌, ◌≢◌, ◌∙◌, ◌<◌, ℕ, Some, length, refl, sym, arith, rules, below_more}
 use Rattle.std.proofs.lemmas.Bool.{false≢true}
 use Rattle.std.specs.Prelude.{IsSomeAnd, slice_get}
 use Rattle.std.proofs.lemmas.Option.{none-some, slice_get_within, slice_get_read}
 use Rattle.ompt_events.specs.Records.{started}
 use Rattle.ompt_events.specs.Places.{at, thread_at}
 use Rattle.ompt_events.specs.Tree.{IsExplicit}
-use Rattle.ompt_events.proofs.PlaceLemmas.{at_read, thread_read}
-use Rattle.task_states.proofs.HomeLemmas.{explicit_index, homes_start, free_of_moved, moves_here, moves_not, homes_more, homes_other, stays_put}
+use Rattle.ompt_events.proofs.PlaceLemmas.{thread_read}
+use Rattle.task_states.proofs.HomeLemmas.{explicit_index, free_of_moved, moves_here, moves_not, homes_more, homes_other, stays_put}
 use Rattle.task_states.proofs.homes.find_moved.Goals as goal
 use Rattle.task_states.proofs.homes.find_moved.Goals.{in-Some+else-is_other, in_default}
 

@@ -1,6 +1,5 @@
-use Rattle.std.proofs.Common.{◌≡◌, ◌∙◌, length, ap, sym, subst}
+use Rattle.std.proofs.Common.{◌∙◌, length, ap}
 use Rattle.ompt_events.proofs.PlaceLemmas.{read_get}
-use Rattle.task_states.specs.Progress.{AreStarts, start_noted}
 use Rattle.task_states.proofs.OriginLemmas.{starts_next, noted_length}
 use Rattle.task_states.proofs.origins.first_starts.Goals as goal
 

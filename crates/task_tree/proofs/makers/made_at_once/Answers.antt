@@ -1,4 +1,3 @@
-use Rattle.task_tree.specs.Makers.{AreMadeOnce}
 use Rattle.task_tree.proofs.MakerLemmas.{made_once_each}
 use Rattle.task_tree.proofs.makers.made_at_once.Goals as goal
 

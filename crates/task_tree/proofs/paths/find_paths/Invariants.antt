@@ -5,5 +5,5 @@ use Rattle.task_tree.specs.Paths.{ArePaths}
 use Rattle.task_tree.proofs.paths.find_paths.Given as goal
 
 -- the paths of the tasks so far
-abbrev pub invariant-loop-task : goal.invariant-loop-task
-invariant-loop-task l = (records : List Record) → IsFamilyOf records l.family → ArePaths records (take l.task-index l.tasks) l.paths.items
+abbrev pub invariant-loop-index : goal.invariant-loop-index
+invariant-loop-index l = (records : List Record) → IsFamilyOf records l.family → ArePaths records (take l.index l.family.tasks) l.paths.items

@@ -1,4 +1,3 @@
-use Rattle.std.proofs.Common.{ap}
 use Rattle.std.proofs.lemmas.Option.{slice_get-get_or}
 use Rattle.task_tree.proofs.RankingLemmas.{entries_more}
 use Rattle.task_tree.proofs.ranking.entries.Goals as goal

@@ -1,4 +1,4 @@
-use Rattle.std.proofs.Common.{◌≡◌, ◌<◌, take, Some, length}
+use Rattle.std.proofs.Common.{◌≡◌, ◌<◌, ◌≤◌, take, Some, length}
 use Rattle.std.specs.Prelude.{reverse}
 use Rattle.credit.specs.Trees.{place, child, IsGrown}
 use Rattle.credit.proofs.tree.Tree.make.Given as goal
@@ -6,6 +6,7 @@ use Rattle.credit.proofs.tree.Tree.make.Given as goal
 abbrev pub invariant-runs : goal.invariant-runs
 invariant-runs l = record {
   grown : IsGrown l.fn.self l.self;
-  place : place (child l.self) (reverse (take l.number-index l.runs)) ≡ Some l.index;
+  place : place (child l.self) (reverse (take l.depth l.runs)) ≡ Some l.index;
   within : l.index < length l.self.nodes.items;
+  depth : l.depth ≤ length l.runs;
 }

@@ -1,4 +1,4 @@
-use Rattle.std.proofs.Common.{◌≡◌, ◌∙◌, ◌<◌, Some, None, get_or, length, sym, ap}
+use Rattle.std.proofs.Common.{◌≡◌, ◌∙◌, ap}
 use Rattle.std.proofs.Math.ListN.{set}
 use Rattle.task_states.specs.Progress.{ProgressView}
 use Rattle.task_states.proofs.ProgressLemmas.{was_state, states_gone, refused_gone}

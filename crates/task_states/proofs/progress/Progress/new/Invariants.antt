@@ -1,4 +1,4 @@
-use Rattle.std.proofs.Common.{◌≡◌, Option, Some, take}
+use Rattle.std.proofs.Common.{◌≡◌, take}
 use Rattle.std.specs.Prelude.{map}
 use Rattle.task_states.proofs.PassLemmas.{state_at_first}
 use Rattle.task_states.proofs.progress.Progress.new.Given as goal

@@ -1,4 +1,3 @@
-use Rattle.std.proofs.Common.{◌≡◌, length}
 use Rattle.task_states.specs.Progress.{HasCome, moves_before}
 use Rattle.task_states.proofs.progress.Progress.read_all.Given as goal
 

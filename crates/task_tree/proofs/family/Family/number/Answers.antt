@@ -1,6 +1,6 @@
 use Rattle.std.proofs.Common.{◌≡◌, rules}
 use Rattle.std.specs.Prelude.{option_map}
-use Rattle.task_tree.specs.declared.children.Link.{Link}
+use Rattle.task_tree.specs.declared.links.Link.{Link}
 use Rattle.task_tree.proofs.FamilyLemmas.{number_is}
 use Rattle.task_tree.proofs.family.Family.number.Goals as goal
 

@@ -1,0 +1,18 @@
+-- The lengths that records name, while they are compared.
+use Rattle.std.specs.Prelude.{◌≡◌, ◌<◌, ◌≤◌, ℕ, List, length, Some, slice_index_or}
+use Rattle.ompt_events.specs.declared.records.Record.{Record}
+use Rattle.ompt_events.specs.Places.{thread_at, seen_at}
+use Rattle.ompt_events.specs.Causes.{known_after}
+use Rattle.checker.specs.Merge.{Awaits}
+
+-- the record names a lesser length than the creation that it awaits
+abbrev pub PrecedesCreation : List Record → ℕ → Type 0
+PrecedesCreation rs i = (c : ℕ) × Awaits rs i c × (seen_at rs i < seen_at rs c)
+
+-- what each thread knew last, by its first n records: none of these knew more
+pub record AreKnown (rs : List Record) (n : ℕ) (known : List ℕ) : Type 0 where
+  pub all : length known ≡ 256
+  pub most : (k thread : ℕ) → k < n → thread_at rs k ≡ Some thread
+      → known_after rs k ≤ slice_index_or known thread 0
+  pub last : (thread : ℕ) → 0 < slice_index_or known thread 0 → (k : ℕ) × (k < n)
+      × (thread_at rs k ≡ Some thread) × (known_after rs k ≡ slice_index_or known thread 0)

@@ -1,0 +1,6 @@
+use Rattle.std.proofs.Common.{◌≡◌, ◌-◌, length}
+use Rattle.credit.specs.Links.{spot_within, spot_of}
+use Rattle.credit.proofs.links.search.Given as goal
+
+abbrev pub invariant-links : goal.invariant-links
+invariant-links l = spot_within l.links (length l.links - l.counter) l.index l.number l.digits l.at l.side ≡ spot_of l.links l.index l.number

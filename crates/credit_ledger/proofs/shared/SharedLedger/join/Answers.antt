@@ -1,0 +1,12 @@
+use Rattle.std.proofs.Common.{arith}
+use Rattle.credit_ledger.proofs.LockLemmas.{tells}
+use Rattle.credit_ledger.proofs.shared.SharedLedger.join.Goals as goal
+
+pub join_seat-requires : goal.join_seat-requires
+join_seat-requires g c = (
+  c.requires.seat,
+  c.requires.other,
+  c.args.other.empty,
+  omega (arith, c.args.self.now.counts.0),
+  tells c.args.seat.now.place.id c.args.other.place.id c.args.seat.now.place.me.0 c.args.other.place.me.0 c.args.seat.now.stage c.args.other.stage,
+)

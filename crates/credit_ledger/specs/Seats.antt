@@ -1,0 +1,183 @@
+-- The seats of a ledger that threads share behind a lock of tickets: what each seat knows of the one history,
+-- and the rule that each step keeps.
+use Rattle.std.specs.Prelude.{◌≡◌, ◌≢◌, ◌≤◌, ◌<◌, ◌⊎◌, ◌==◌, ℕ, Bool, true, false, List, [], ◌∷◌, ◌++◌, length, Option, Some}
+use Rattle.std.specs.List.{filter}
+use mathlib.Core.Option.{some, none}
+use lib.ListN.{get_elem?}
+use Rattle.atomic_table.specs.Table.{State, Me}
+use Rattle.credit_ledger.specs.declared.entry.Entry.{Entry}
+use Rattle.credit_ledger.specs.declared.view.Call.{Call}
+use Rattle.credit_ledger.specs.declared.view.Call.TheVariants.{Enter, Look}
+use Rattle.credit_ledger.specs.declared.view.Step.{Step}
+use Rattle.credit_ledger.specs.declared.view.Stage.{Stage}
+use Rattle.credit_ledger.specs.declared.view.Stage.TheVariants.{Fresh, Idle, Waiting, Turn, Spent}
+use Rattle.credit_ledger.specs.declared.view.Claim.{Claim}
+use Rattle.credit_ledger.specs.declared.view.View.{View}
+use Rattle.credit_ledger.specs.Histories.{IsLegal, entries_after}
+
+-- what the slot has: the ledger, or nothing
+abbrev pub Slot : Type 0
+Slot = Option (List Entry)
+
+-- the calls of the seat with this number
+abbrev pub calls_of : ℕ → List Step → List Step
+calls_of number history = filter (λ (s : Step). s.seat == number) history
+
+-- the history begins with this one
+abbrev pub StartsWith : List Step → List Step → Type 0
+StartsWith history first = (more : List Step) × (history ≡ first ++ more)
+
+-- the first seat
+abbrev pub newcomer : View
+newcomer = record { number = 0; seen = []; told = []; own = []; stage = Idle; ticket = 0; claims = [] }
+
+-- a new seat, which knows the same history
+abbrev pub copied : View → View
+copied v = record { number = 0; seen = v.seen; told = v.seen; own = []; stage = Fresh; ticket = 0; claims = [] }
+
+-- the seat, told of what the other one has seen
+abbrev pub told_of : View → View → View
+told_of v w = record v { told = w.seen }
+
+-- a seat that was joined into another one
+abbrev pub spent : View
+spent = record { number = 0; seen = []; told = []; own = []; stage = Spent; ticket = 0; claims = [] }
+
+abbrev pub with_number : View → ℕ → View
+with_number v n = record v { number = n; stage = Idle }
+
+abbrev pub with_ticket : View → ℕ → View
+with_ticket v t = record v { stage = Waiting; ticket = t }
+
+-- the seat has the turn, and has seen all of the history
+abbrev pub with_turn : View → List Step → View
+with_turn v history = record v { seen = history; stage = Turn; claims = [] }
+
+abbrev pub claim_of : View → Claim
+claim_of v = record { number = v.number; seen = v.seen; own = v.own }
+
+-- the seat has taken in another one
+abbrev pub with_claim : View → View → View
+with_claim v w = record v { claims = claim_of w ∷ v.claims }
+
+-- the history begins with what each of these had seen, and has just the calls of it that it made
+abbrev pub AreClaims : List Step → List Claim → Type 0
+AreClaims history [] = Unit {0}
+AreClaims history (c ∷ claims) =
+    (StartsWith history c.seen × (calls_of c.number history ≡ c.own)) × AreClaims history claims
+
+-- the call that the seat makes where it has the turn
+abbrev pub step_of : View → Call → Step
+step_of v call = record { seat = v.number; call = call; reply = length (entries_after v.seen) }
+
+-- the seat after its call
+abbrev pub with_call : View → Call → View
+with_call v call =
+    record v { seen = v.seen ++ step_of v call ∷ []; own = v.own ++ step_of v call ∷ []; stage = Idle }
+
+abbrev pub has_ticket : Stage → Bool
+has_ticket Fresh = false
+has_ticket Idle = false
+has_ticket Waiting = true
+has_ticket Turn = true
+has_ticket Spent = false
+
+-- the history begins with all that the seat knows of, and has just its own calls of it
+pub record Knows (history : List Step) (n : ℕ) (v : View) : Type 0 where
+  pub number : v.number ≡ n
+  pub seen : StartsWith history v.seen
+  pub told : StartsWith history v.told
+  pub own : calls_of n history ≡ v.own
+
+-- what the rule says of the seat with this number, by its stage
+abbrev pub FitsAt : Stage → List Step → ℕ → ℕ → ℕ → View → Type 0
+FitsAt Fresh history next serving n v =
+    StartsWith history v.seen × StartsWith history v.told × (v.own ≡ []) × (calls_of n history ≡ [])
+FitsAt Idle history next serving n v = Knows history n v
+FitsAt Waiting history next serving n v = Knows history n v × (serving ≤ v.ticket) × (v.ticket < next)
+FitsAt Turn history next serving n v =
+    Knows history n v × (v.ticket ≡ serving) × (serving < next) × (v.seen ≡ history) × AreClaims v.seen v.claims
+FitsAt Spent history next serving n v = Unit {0}
+
+abbrev pub Fits : List Step → ℕ → ℕ → ℕ → View → Type 0
+Fits history next serving n v = FitsAt v.stage history next serving n v
+
+-- the ledger is at home, or a seat has the turn
+abbrev pub IsHome : List Step → State Slot View → Type 0
+IsHome history s =
+    (s.homes ≡ some (Some (entries_after history)) ∷ [])
+    ⊎ ((s.homes ≡ none ∷ []) × (n : ℕ) × (v : View) × (get_elem? s.views n ≡ some v) × (v.stage ≡ Turn))
+
+-- the rule, at this history, next ticket, and ticket that is served
+pub record IsKept (history : List Step) (next serving : ℕ) (s : State Slot View) : Type 0 where
+  pub words : s.words ≡ next ∷ serving ∷ []
+  pub served : serving ≤ next
+  pub legal : IsLegal history
+  pub seats : (n : ℕ) (v : View) → get_elem? s.views n ≡ some v → Fits history next serving n v
+  pub strangers : (n : ℕ) → length s.views ≤ n → calls_of n history ≡ []
+  pub apart : (m n : ℕ) (v w : View) → get_elem? s.views m ≡ some v → get_elem? s.views n ≡ some w
+      → has_ticket v.stage ≡ true → has_ticket w.stage ≡ true → v.ticket ≡ w.ticket → m ≡ n
+  pub home : IsHome history s
+
+-- there is one legal history; the ledger at home is what it leaves, or one seat has the turn
+abbrev pub Kept : State Slot View → Type 0
+Kept s = (history : List Step) × (next : ℕ) × (serving : ℕ) × IsKept history next serving s
+
+-- a new seat has learned its number, which no call so far has
+abbrev pub Settled : Me Slot View → Me Slot View → Type 0
+Settled before after =
+    (n : ℕ) × (calls_of n before.0.seen ≡ []) × (after ≡ (with_number before.0 n, before.1))
+
+-- a new seat, which has seen what this one has, and has made no call
+pub record IsCopy (v w : View) : Type 0 where
+  pub seen : w.seen ≡ v.seen
+  pub own : w.own ≡ []
+  pub alone : calls_of w.number v.seen ≡ []
+
+-- the seat has a ticket, or nothing was changed
+abbrev pub Drawn : ℕ → Me Slot View → ℕ → Me Slot View → Type 0
+Drawn ticket before found after =
+    ((found ≡ ticket) × (after ≡ (with_ticket before.0 ticket, before.1)))
+    ⊎ ((found ≢ ticket) × (after ≡ before))
+
+-- the seat has the turn at this history
+pub record HasTurn (v : View) (history : List Step) : Type 0 where
+  pub legal : IsLegal history
+  pub seen : StartsWith history v.seen
+  pub told : StartsWith history v.told
+  pub own : calls_of v.number history ≡ v.own
+
+-- the seat has the turn and the ledger, or nothing was changed
+abbrev pub Served : Me Slot View → ℕ → Me Slot View → Type 0
+Served before found after =
+    ((found ≡ before.0.ticket) × (history : List Step) × HasTurn before.0 history
+    × (after ≡ (with_turn before.0 history, (0, Some (entries_after history)) ∷ [])))
+    ⊎ ((found < before.0.ticket) × (after ≡ before))
+
+abbrev pub Looked : Me Slot View → Me Slot View → Type 0
+Looked before after = after ≡ (with_call before.0 Look, [])
+
+abbrev pub Entered : Me Slot View → Me Slot View → Type 0
+Entered before after =
+    (e : Entry) × (before.1 ≡ (0, Some (entries_after before.0.seen ++ e ∷ [])) ∷ [])
+    × (after ≡ (with_call before.0 (Enter e), []))
+
+-- the history after a call is legal, begins with all that the seat had seen and was told of, and ends with the
+-- call and its reply; the seat's own calls are the former ones and this one, and it has no others in the history
+pub record Extends (v : View) (call : Call) (reply : ℕ) (w : View) : Type 0 where
+  pub number : w.number ≡ v.number
+  pub legal : IsLegal w.seen
+  pub before : List Step
+  pub ends : w.seen ≡ before ++ record { seat = v.number; call = call; reply = reply } ∷ []
+  pub seen : StartsWith before v.seen
+  pub told : StartsWith before v.told
+  pub own : w.own ≡ v.own ++ record { seat = v.number; call = call; reply = reply } ∷ []
+  pub alone : calls_of v.number w.seen ≡ w.own
+
+-- a new seat
+abbrev pub Sat : Me Slot View → Type 0
+Sat after = after.0.stage ≡ Idle
+
+-- what the seat has taken in is in the history that it has seen
+abbrev pub Told : Me Slot View → Me Slot View → Type 0
+Told before after = (after ≡ before) × AreClaims before.0.seen before.0.claims

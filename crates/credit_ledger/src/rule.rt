@@ -1,0 +1,112 @@
+//! The rule of the lock, and what its steps tell.
+use crate::ledger::Ledger;
+use crate::view::View;
+use atomic_table::{Join, Play, Split, TableRule};
+
+/// Word 0 is the next ticket, word 1 the ticket that is served, and the slot has the ledger where no seat has
+/// the turn.
+pub struct Lock;
+
+impl TableRule<Option<Ledger>, View, ()> for Lock {
+    ghost use Rattle.credit_ledger.specs.Seats.{Kept, newcomer};
+
+    ghost holds = { λ _. Kept };
+
+    ghost first = { λ _. newcomer };
+}
+
+/// A new seat learns its number.
+pub(crate) struct Settle;
+
+impl Play<Option<Ledger>, View> for Settle {
+    ghost use Rattle.credit_ledger.specs.Seats.{Settled};
+
+    ghost then = { λ _ before _ after. Settled before after };
+}
+
+/// A seat takes a ticket, or fails.
+pub(crate) struct Draw;
+
+impl Play<Option<Ledger>, View> for Draw {
+    ghost use Rattle.credit_ledger.specs.Seats.{Drawn};
+
+    ghost then = { λ step before found after. Drawn step.first before found after };
+}
+
+/// A seat looks whether its ticket is served, and then has the turn and the ledger.
+pub(crate) struct Serve;
+
+impl Play<Option<Ledger>, View> for Serve {
+    ghost use Rattle.credit_ledger.specs.Seats.{Served};
+
+    ghost then = { λ _ before found after. Served before found after };
+}
+
+/// A seat gives the turn back with a Look.
+pub(crate) struct Looks;
+
+impl Play<Option<Ledger>, View> for Looks {
+    ghost use Rattle.credit_ledger.specs.Seats.{Looked};
+
+    ghost then = { λ _ before _ after. Looked before after };
+}
+
+/// A seat gives the turn back with an Enter.
+pub(crate) struct Enters;
+
+impl Play<Option<Ledger>, View> for Enters {
+    ghost use Rattle.credit_ledger.specs.Seats.{Entered};
+
+    ghost then = { λ _ before _ after. Entered before after };
+}
+
+/// A seat with the same history, which is to learn its number.
+pub(crate) struct Copies;
+
+impl Split<View> for Copies {
+    ghost use Rattle.credit_ledger.specs.Seats.{copied};
+
+    ghost left = { λ v. v };
+
+    ghost right = { copied };
+}
+
+/// A seat is told of the history that another one has seen.
+pub(crate) struct Tells;
+
+impl Join<View> for Tells {
+    ghost use Rattle.credit_ledger.specs.Seats.{told_of, spent};
+
+    ghost both = { told_of };
+
+    ghost spent = { spent };
+}
+
+/// A new seat that has seen nothing.
+pub(crate) struct Sit;
+
+impl Play<Option<Ledger>, View> for Sit {
+    ghost use Rattle.credit_ledger.specs.Seats.{Sat};
+
+    ghost then = { λ _ _ _ after. Sat after };
+}
+
+/// A seat that has the turn takes in what another one has seen and called.
+pub(crate) struct Gathers;
+
+impl Join<View> for Gathers {
+    ghost use Rattle.credit_ledger.specs.Seats.{with_claim, spent};
+
+    ghost both = { with_claim };
+
+    ghost spent = { spent };
+}
+
+/// A seat that has the turn is told that what it took in is in the history.
+pub(crate) struct Claims;
+
+impl Play<Option<Ledger>, View> for Claims {
+    ghost use Rattle.credit_ledger.specs.Seats.{Told};
+
+    ghost then = { λ _ before _ after. Told before after };
+}

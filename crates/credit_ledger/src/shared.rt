@@ -1,0 +1,335 @@
+//! The ledger that threads share, behind a lock of tickets.
+ghost use Rattle.std.specs.Prelude.{◌≡◌, ◌≤◌, ◌<◌, ◌^◌, ◌-◌, ◌++◌, ◌∷◌, [], ℕ, length, Some, IfOk, IfErr, OnOk, OnErr, IsOkUnless, IsTrue, ◌↔◌, All, List, map};
+ghost use Rattle.atomic_table.specs.Seated.{TableId};
+ghost use Rattle.credit_ledger.specs.declared.view.Call.{Call};
+ghost use Rattle.credit_ledger.specs.declared.view.Stage.{Stage};
+ghost use Rattle.credit_ledger.specs.declared.view.Step.{Step};
+ghost use Rattle.credit_ledger.specs.declared.view.View.{View};
+ghost use Rattle.credit_ledger.specs.declared.entry.Cover.{Cover};
+ghost use Rattle.credit_ledger.specs.Entries.{fault_of, IsSpanHeld};
+ghost use Rattle.credit_ledger.specs.Histories.{entries_after, IsPossible, IsLegal, IsOver};
+ghost use Rattle.credit_ledger.specs.Seats.{newcomer, told_of, with_ticket, with_turn, HasTurn, IsCopy, Extends, AreClaims, claim_of};
+
+use crate::entry::{Cover, Entry, Span};
+use crate::fault::LedgerFault;
+use crate::ledger::Ledger;
+use crate::rule::{Claims, Copies, Draw, Enters, Gathers, Lock, Looks, Serve, Settle, Sit, Tells};
+use crate::view::View;
+use atomic_table::Table;
+use std::alloc::Global;
+use std::hint::spin_loop;
+use std::sync::Wait;
+use std::thread::yield_now;
+
+/// How often the next in line spins before it yields.
+const SPINS: u32 = 64;
+
+type Board = Table<Option<Ledger>, View, (), Lock, Global>;
+
+type Place = atomic_table::Seat<Option<Ledger>, View>;
+
+/// A ledger that several threads share. Each call on it takes the turn, which its seats have one after another.
+#[derive(Drop)]
+pub struct SharedLedger {
+    board: Board,
+    ghost counts: { (board.shared.table_id.words ≡ 2) × (board.shared.table_id.slots ≡ 1) },
+}
+
+/// What one thread knows of a shared ledger: a history that it has seen.
+#[derive(Drop)]
+pub struct Seat {
+    place: Place,
+    ghost stage: { place.me.0.stage ≡ Stage.Idle },
+    ghost empty: { place.me.1 ≡ [] },
+}
+
+/// That an entry was accepted.
+#[derive(Clone, Copy, Debug, PartialEq, Eq)]
+pub struct Receipt {
+    /// The entry's index.
+    pub index: u32,
+}
+
+impl SharedLedger {
+    /// A ledger with no entry, and its first seat, which has seen no call. `Memory` is the only refusal.
+    pub fn new(alloc: Global) -> Result<(SharedLedger, Seat), LedgerFault>
+        ensures seat { IfOk result (λ made. made.1.place.table_id ≡ made.0.board.shared.table_id) }
+        ensures first { IfOk result (λ made. made.1.place.me.0 ≡ newcomer) }
+        ensures memory_alone { IsOkUnless result LedgerFault.Memory }
+    {
+        let mut slots = Vec::new(alloc);
+        let Ok(()) = slots.push(Some(Ledger::new(alloc))) else {
+            return Err(LedgerFault::Memory);
+        };
+        match Table::new(alloc, &[0, 0], slots, &()) {
+            Ok((board, place)) => Ok((SharedLedger { board }, Seat { place })),
+            Err(_) => Err(LedgerFault::Memory),
+        }
+    }
+
+    /// Adds an entry, and tells its index. An entry is refused as by `Ledger::enter`, by the entries that the
+    /// call meets, and comes back then. It takes the turn, and gives it back also where it refuses. The
+    /// entry's path has at most 1,024 numbers.
+    pub fn enter<R: Wait>(
+        &self,
+        wait: &R,
+        seat: &mut Seat,
+        entry: Entry,
+    ) -> Result<Receipt, (Entry, LedgerFault)>
+        requires seat { seat.old.place.table_id ≡ self.now.board.shared.table_id }
+        requires depth { length entry.path ≤ 1024 }
+        ensures seat { seat.new.place.table_id ≡ seat.old.place.table_id }
+        ensures entered { IfOk result (λ receipt.
+            Extends seat.old.place.me.0 (Call.Enter entry) receipt.index seat.new.place.me.0) }
+        ensures looked { IfErr result (λ refusal.
+            (length : ℕ) × Extends seat.old.place.me.0 Call.Look length seat.new.place.me.0) }
+        ensures returned { IfErr result (λ refusal. refusal.0 ≡ entry) }
+        ensures fault { IfErr result (λ refusal.
+            refusal.1 ≡ fault_of (entries_after seat.new.place.me.0.seen) entry) }
+    {
+        let ticket = draw(&self.board, wait, &mut seat.place);
+        await_turn(&self.board, wait, &mut seat.place, ticket);
+        match put(&self.board, &mut seat.place, entry) {
+            Ok(index) => {
+                self.board
+                    .shared
+                    .store::<Enters>(&mut seat.place, 1, ticket + 1);
+                Ok(Receipt { index })
+            }
+            Err(refusal) => {
+                self.board
+                    .shared
+                    .store::<Looks>(&mut seat.place, 1, ticket + 1);
+                Err(refusal)
+            }
+        }
+    }
+
+    /// How many entries there are, and whether these hold each child of the span, with all its descendants. If
+    /// so, no later entry is of one of these. `Memory` is the only refusal. It takes the turn, and gives it back also where it refuses. The span's
+    /// path has at most 1,024 numbers.
+    pub fn whole<R: Wait>(
+        &self,
+        wait: &R,
+        seat: &mut Seat,
+        span: &Span,
+    ) -> Result<(u32, bool), LedgerFault>
+        requires seat { seat.old.place.table_id ≡ self.now.board.shared.table_id }
+        requires depth { length span.now.path ≤ 1024 }
+        ensures seat { seat.new.place.table_id ≡ seat.old.place.table_id }
+        ensures told { IfOk result (λ whole.
+            Extends seat.old.place.me.0 Call.Look whole.0 seat.new.place.me.0) }
+        ensures held { IfOk result (λ whole. IsTrue whole.1
+            ↔ IsSpanHeld (entries_after seat.new.place.me.0.seen) span.now Cover.Descendants) }
+        ensures over { IfOk result (λ whole. IsTrue whole.1
+            → IsOver (entries_after seat.new.place.me.0.seen) span.now) }
+        ensures looked { (length : ℕ) × Extends seat.old.place.me.0 Call.Look length seat.new.place.me.0 }
+        ensures memory_alone { IsOkUnless result LedgerFault.Memory }
+    {
+        let ticket = draw(&self.board, wait, &mut seat.place);
+        await_turn(&self.board, wait, &mut seat.place, ticket);
+        let whole = held(&self.board, &mut seat.place, span);
+        self.board
+            .shared
+            .store::<Looks>(&mut seat.place, 1, ticket + 1);
+        whole
+    }
+
+    /// A new seat, which has seen the same history, and of which no call is in it.
+    pub fn split(&self, seat: &mut Seat) -> Seat
+        requires seat { seat.old.place.table_id ≡ self.now.board.shared.table_id }
+        ensures seat { (seat.new.place.table_id ≡ seat.old.place.table_id) × (seat.new.place.me ≡ seat.old.place.me) }
+        ensures place { result.place.table_id ≡ seat.old.place.table_id }
+        ensures copy { IsCopy seat.old.place.me.0 result.place.me.0 }
+    {
+        let mut place = self.board.shared.split_seat::<Copies>(&mut seat.place);
+        let _ = self.board.shared.load::<Settle>(&mut place, 0);
+        Seat { place }
+    }
+
+    /// Takes in what another seat has seen, which is spent then, and tells how many entries there are. It takes
+    /// the turn.
+    pub fn join<R: Wait>(&self, wait: &R, seat: &mut Seat, other: Seat) -> u32
+        requires seat { seat.old.place.table_id ≡ self.now.board.shared.table_id }
+        requires other { other.place.table_id ≡ self.now.board.shared.table_id }
+        ensures seat { seat.new.place.table_id ≡ seat.old.place.table_id }
+        ensures call { Extends (told_of seat.old.place.me.0 other.place.me.0) Call.Look result seat.new.place.me.0 }
+    {
+        let Seat { place } = other;
+        self.board.shared.join_seat::<Tells>(&mut seat.place, place);
+        self.look(wait, seat)
+    }
+
+    /// The ledger, after a history that begins with what each of these seats had seen, and in which just those
+    /// calls of it stand that it made. It takes the turn a last time.
+    pub fn close<R: Wait>(self, wait: &R, seats: Vec<Seat>) -> Ledger
+        requires seats { All (λ seat. seat.place.table_id ≡ self.board.shared.table_id) seats.items }
+        ensures { (history : List Step) × IsLegal history × (result ≡ entries_after history)
+            × AreClaims history (map (λ seat. claim_of seat.place.me.0) seats.items) }
+    {
+        let (_, mut place) = self.board.shared.load_new_seat::<Sit>(0);
+        let ticket = draw(&self.board, wait, &mut place);
+        await_turn(&self.board, wait, &mut place, ticket);
+        gather(&self.board, &mut place, seats);
+        take(&self.board, &mut place)
+    }
+
+    /// How many entries there are. It takes the turn.
+    pub fn look<R: Wait>(&self, wait: &R, seat: &mut Seat) -> u32
+        requires seat { seat.old.place.table_id ≡ self.now.board.shared.table_id }
+        ensures seat { seat.new.place.table_id ≡ seat.old.place.table_id }
+        ensures call { Extends seat.old.place.me.0 Call.Look result seat.new.place.me.0 }
+    {
+        let ticket = draw(&self.board, wait, &mut seat.place);
+        await_turn(&self.board, wait, &mut seat.place, ticket);
+        let len = count(&self.board, &mut seat.place);
+        self.board
+            .shared
+            .store::<Looks>(&mut seat.place, 1, ticket + 1);
+        len
+    }
+}
+
+/// Takes a ticket. Once the last is drawn, it waits without end.
+fn draw<R: Wait>(board: &Board, wait: &R, place: &mut Place) -> u64
+    requires board { (board.now.shared.table_id.words ≡ 2) × (board.now.shared.table_id.slots ≡ 1) }
+    requires place { place.old.table_id ≡ board.now.shared.table_id }
+    requires stage { place.old.me.0.stage ≡ Stage.Idle }
+    requires empty { place.old.me.1 ≡ [] }
+    ensures place { place.new.table_id ≡ place.old.table_id }
+    ensures ticket { place.new.me ≡ (with_ticket place.old.me.0 result, []) }
+    ensures small { result < 2 ^ 64 - 1 }
+{
+    'tickets: for _ in wait.forever() {
+        let next = board.shared.peek(0);
+        if next < u64::MAX {
+            let found = board
+                .shared
+                .compare_exchange::<Draw>(place, 0, next, next + 1);
+            if found == next {
+                return next;
+            }
+        } else {
+            yield_now();
+        }
+    }
+    0
+}
+
+/// Waits until the ticket is served.
+fn await_turn<R: Wait>(board: &Board, wait: &R, place: &mut Place, ticket: u64)
+    requires board { (board.now.shared.table_id.words ≡ 2) × (board.now.shared.table_id.slots ≡ 1) }
+    requires place { place.old.table_id ≡ board.now.shared.table_id }
+    requires stage { place.old.me.0.stage ≡ Stage.Waiting }
+    requires ticket { place.old.me.0.ticket ≡ ticket }
+    requires empty { place.old.me.1 ≡ [] }
+    ensures place { place.new.table_id ≡ place.old.table_id }
+    ensures turn { HasTurn place.old.me.0 place.new.me.0.seen }
+    ensures view { place.new.me ≡ (with_turn place.old.me.0 place.new.me.0.seen, (0, Some (entries_after place.new.me.0.seen)) ∷ []) }
+{
+    let mut spins = 0;
+    'rounds: for _ in wait.forever() {
+        let serving = board.shared.load::<Serve>(place, 1);
+        if serving == ticket {
+            return;
+        }
+        if ticket - serving == 1 && spins < SPINS {
+            spins += 1;
+            spin_loop();
+        } else {
+            yield_now();
+        }
+    }
+}
+
+/// The length of the ledger that the place has.
+fn count(board: &Board, place: &mut Place) -> u32
+    requires place { place.old.table_id ≡ board.now.shared.table_id }
+    requires ledger { place.old.me.1 ≡ (0, Some (entries_after place.old.me.0.seen)) ∷ [] }
+    ensures place { place.new.table_id ≡ place.old.table_id }
+    ensures view { place.new.me ≡ place.old.me }
+    ensures count { result ≡ length (entries_after place.old.me.0.seen) }
+{
+    let Some(ledger) = place.slot_mut(&board.shared, 0) else {
+        unreachable!()
+    };
+    ledger.len()
+}
+
+/// Adds an entry to the ledger that the place has, or gives it back with the fault.
+fn put(board: &Board, place: &mut Place, entry: Entry) -> Result<u32, (Entry, LedgerFault)>
+    requires place { place.old.table_id ≡ board.now.shared.table_id }
+    requires ledger { place.old.me.1 ≡ (0, Some (entries_after place.old.me.0.seen)) ∷ [] }
+    requires depth { length entry.path ≤ 1024 }
+    ensures place { place.new.table_id ≡ place.old.table_id }
+    ensures entered { IfOk result (λ index. place.new.me ≡ (
+      place.old.me.0,
+      (
+        0,
+        Some
+            (entries_after place.old.me.0.seen ++ entry ∷ []),
+      ) ∷ [],
+    )) }
+    ensures index { IfOk result (λ index. index ≡ length (entries_after place.old.me.0.seen)) }
+    ensures possible { OnOk result (IsPossible (entries_after place.old.me.0.seen) (Call.Enter entry)) }
+    ensures unchanged { OnErr result (place.new.me ≡ place.old.me) }
+    ensures returned { IfErr result (λ refusal. refusal.0 ≡ entry) }
+    ensures fault { IfErr result (λ refusal. refusal.1 ≡ fault_of (entries_after place.old.me.0.seen) entry) }
+{
+    let Some(ledger) = place.slot_mut(&board.shared, 0) else {
+        unreachable!()
+    };
+    ledger.enter(entry)
+}
+
+/// The length of the ledger that the place has, and whether all its entries hold the span.
+fn held(board: &Board, place: &mut Place, span: &Span) -> Result<(u32, bool), LedgerFault>
+    requires place { place.old.table_id ≡ board.now.shared.table_id }
+    requires ledger { place.old.me.1 ≡ (0, Some (entries_after place.old.me.0.seen)) ∷ [] }
+    requires depth { length span.now.path ≤ 1024 }
+    ensures place { place.new.table_id ≡ place.old.table_id }
+    ensures view { place.new.me ≡ place.old.me }
+    ensures count { IfOk result (λ whole. whole.0 ≡ length (entries_after place.old.me.0.seen)) }
+    ensures held { IfOk result (λ whole.
+        IsTrue whole.1 ↔ IsSpanHeld (entries_after place.old.me.0.seen) span.now Cover.Descendants) }
+    ensures memory_alone { IsOkUnless result LedgerFault.Memory }
+{
+    let Some(ledger) = place.slot_mut(&board.shared, 0) else {
+        unreachable!()
+    };
+    let len = ledger.len();
+    let is_held = ledger.holds(len, span, Cover::Descendants)?;
+    Ok((len, is_held))
+}
+
+/// Takes in what these seats have seen and called.
+fn gather(board: &Board, place: &mut Place, seats: Vec<Seat>)
+    requires board { (board.now.shared.table_id.words ≡ 2) × (board.now.shared.table_id.slots ≡ 1) }
+    requires place { place.old.table_id ≡ board.now.shared.table_id }
+    requires stage { place.old.me.0.stage ≡ Stage.Turn }
+    requires none { place.old.me.0.claims ≡ [] }
+    requires seats { All (λ seat. seat.place.table_id ≡ board.now.shared.table_id) seats.items }
+    ensures place { place.new.table_id ≡ place.old.table_id }
+    ensures slots { place.new.me.1 ≡ place.old.me.1 }
+    ensures seen { place.new.me.0.seen ≡ place.old.me.0.seen }
+    ensures claims { AreClaims place.old.me.0.seen (map (λ seat. claim_of seat.place.me.0) seats.items) }
+{
+    let mut seats = seats;
+    'seats: while let Some(seat) = seats.pop() {
+        let Seat { place: other } = seat;
+        board.shared.join_seat::<Gathers>(place, other);
+    }
+    board.shared.load::<Claims>(place, 0);
+}
+
+/// Takes the ledger for good.
+fn take(board: &Board, place: &mut Place) -> Ledger
+    requires place { place.old.table_id ≡ board.now.shared.table_id }
+    requires ledger { place.old.me.1 ≡ (0, Some (entries_after place.old.me.0.seen)) ∷ [] }
+    ensures { result ≡ entries_after place.old.me.0.seen }
+{
+    let Some(ledger) = board.shared.exchange(place, 0, None) else {
+        unreachable!()
+    };
+    ledger
+}

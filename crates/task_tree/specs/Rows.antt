@@ -1,0 +1,61 @@
+-- The children of all tasks in one array, those of each task in a row.
+use Rattle.std.specs.Prelude.{ℕ, ◌≡◌, ◌<◌, ◌≤◌, ◌+◌, List, length, Option, Some, slice_get, slice_index, slice_range}
+use Rattle.ompt_events.specs.declared.records.Record.{Record}
+use Rattle.ompt_events.specs.Tree.{children}
+use Rattle.task_tree.specs.declared.links.Link.{Link}
+
+-- what clauses see of the rows: where each begins and the one before it ends, and all that stands in them
+pub record RowsView : Type 0 where
+  pub offsets : List ℕ
+  pub ids : List ℕ
+
+-- no row ends before it begins
+abbrev pub AreRising : List ℕ → Type 0
+AreRising offsets =
+    (index : ℕ) → index + 1 < length offsets → slice_index offsets index ≤ slice_index offsets (index + 1)
+
+-- each row lies within the array
+pub record AreWithin (offsets ids : List ℕ) : Type 0 where
+  pub rising : AreRising offsets
+  pub within : (index : ℕ) → index < length offsets → slice_index offsets index ≤ length ids
+
+-- the row at an index
+abbrev pub row : RowsView → ℕ → List ℕ
+row rows index =
+    slice_range rows.ids (slice_index rows.offsets index) (slice_index rows.offsets (index + 1))
+
+-- the rows have these lengths
+pub record AreOffsets (counts offsets : List ℕ) : Type 0 where
+  pub all : length offsets ≡ length counts + 1
+  pub next : (index : ℕ) → index < length counts
+      → slice_index offsets (index + 1) ≡ slice_index offsets index + slice_index counts index
+
+-- each link has one of the numbers that are counted for its parent
+abbrev pub AreCounted : List ℕ → List (Option Link) → Type 0
+AreCounted counts links =
+    (index : ℕ) (link : Link) → slice_get links index ≡ Some (Some link) → (link.parent < length counts)
+    × (link.number < slice_index counts link.parent)
+
+-- each link has a place in its parent's row
+abbrev pub AreFitting : List ℕ → List (Option Link) → Type 0
+AreFitting offsets links =
+    (index : ℕ) (link : Link) → slice_get links index ≡ Some (Some link) → (link.parent + 1 < length offsets)
+    × (slice_index offsets link.parent + link.number < slice_index offsets (link.parent + 1))
+
+-- no two tasks are the same child of one parent
+abbrev pub AreSingle : List (Option Link) → Type 0
+AreSingle links =
+    (one other : ℕ) (link : Link) → slice_get links one ≡ Some (Some link)
+    → slice_get links other ≡ Some (Some link) → one ≡ other
+
+-- the first n tasks stand in the rows of their parents, at their numbers
+abbrev pub AreFilled : ℕ → List ℕ → List (Option Link) → List ℕ → List ℕ → Type 0
+AreFilled n tasks links offsets ids =
+    (index task : ℕ) (link : Link) → index < n → slice_get tasks index ≡ Some task
+    → slice_get links index ≡ Some (Some link)
+    → slice_get ids (slice_index offsets link.parent + link.number) ≡ Some task
+
+-- the row of each task is the list of its children
+pub record AreChildren (rs : List Record) (tasks : List ℕ) (rows : RowsView) : Type 0 where
+  pub all : length rows.offsets ≡ length tasks + 1
+  pub each : (index task : ℕ) → slice_get tasks index ≡ Some task → row rows index ≡ children rs task

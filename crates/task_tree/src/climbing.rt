@@ -1,0 +1,56 @@
+//! Where a task stands, by climbing from it to its root.
+ghost use Rattle.std.specs.Prelude.{ℕ, ◌≡◌, ◌↔◌, ◌<◌, List, Some, IsTrue, length, slice_get};
+ghost use Rattle.ompt_events.specs.declared.records.Record.{Record};
+ghost use Rattle.ompt_events.specs.Tree.{HasPath, children};
+ghost use Rattle.task_tree.specs.Family.{IsFamilyOf};
+
+use crate::family::Family;
+
+impl Family {
+    /// Whether the task at this index stands below the root at this path, the numbers of the children from
+    /// the root down. It climbs as many steps as the path has numbers.
+    pub fn has_path(&self, index: usize, root: u64, path: &[u32]) -> bool
+        ensures { (records : List Record) → IsFamilyOf records self.now → (task : ℕ)
+            → slice_get self.now.tasks index ≡ Some task
+            → IsTrue result ↔ HasPath records root task path.now }
+    {
+        let Some(standing) = self.standing_at(index) else {
+            return false;
+        };
+        if standing.root != root {
+            return false;
+        }
+        if standing.depth != path.len() {
+            return false;
+        }
+        self.climbs(index, path)
+    }
+
+    /// Whether a path of the same length as that of the task at this index is the same.
+    fn climbs(&self, index: usize, path: &[u32]) -> bool
+        ensures { (records : List Record) → IsFamilyOf records self.now → (root task : ℕ) (whole : List ℕ)
+            → slice_get self.now.tasks index ≡ Some task → HasPath records root task whole
+            → length whole ≡ length path.now → IsTrue result ↔ (whole ≡ path.now) }
+    {
+        let mut current = index;
+        for step in 0..path.len() {
+            let Some(link) = self.link_at(current) else {
+                return false;
+            };
+            if link.number != path[path.len() - 1 - step] {
+                return false;
+            }
+            current = link.parent as usize;
+        }
+        true
+    }
+
+    /// How many children the task at this index has.
+    pub fn child_count(&self, index: usize) -> usize
+        requires { index < length self.now.tasks }
+        ensures { (records : List Record) → IsFamilyOf records self.now → (task : ℕ)
+            → slice_get self.now.tasks index ≡ Some task → result ≡ length (children records task) }
+    {
+        self.children_at(index).len()
+    }
+}

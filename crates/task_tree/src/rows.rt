@@ -1,0 +1,103 @@
+//! The children of all tasks in one array, those of each task in a row.
+ghost use Rattle.std.specs.Prelude.{ℕ, ◌≡◌, ◌<◌, ◌≤◌, ◌+◌, ◌^◌, IfOk, length, slice_index, sum, replicate};
+ghost use Rattle.task_tree.specs.Rows.{row, AreRising, AreWithin, AreOffsets, AreCounted, AreFitting, AreSingle, AreFilled};
+
+use crate::links::Link;
+use std::alloc::{AllocError, Global};
+use std::marker::Model;
+
+/// The children of all tasks: by index of the task where its row begins, and behind the last one where that
+/// ends.
+#[derive(Debug, Drop)]
+pub(crate) struct Rows {
+    offsets: Vec<u32>,
+    ids: Vec<u64>,
+}
+
+impl Model for Rows {
+    ghost use Rattle.task_tree.specs.Rows.{RowsView, AreWithin};
+
+    ghost Value = { RowsView };
+
+    ghost view = { λ rows. record { offsets = rows.offsets.items; ids = rows.ids.items } };
+
+    ghost invariant = { λ rows. AreWithin rows.offsets.items rows.ids.items };
+}
+
+impl Rows {
+    /// The children of the task at this index, in the order of their numbers.
+    pub(crate) fn row(&self, index: usize) -> &[u64]
+        requires { index + 1 < length self.now.offsets }
+        ensures { result.now ≡ row self.now index }
+    {
+        let begin = self.offsets[index] as usize;
+        let end = self.offsets[index + 1] as usize;
+        &self.ids[begin..end]
+    }
+}
+
+/// Puts each created task into the row of its parent, at its number.
+pub(crate) fn find_rows(
+    alloc: Global,
+    tasks: &[u64],
+    counts: &[u32],
+    links: &[Option<Link>],
+) -> Result<Rows, AllocError>
+    requires all { length links.now ≡ length tasks.now }
+    requires short { length counts.now ≤ 2 ^ 22 }
+    requires few { sum counts.now ≤ 2 ^ 22 }
+    requires counted { AreCounted counts.now links.now }
+    requires single { AreSingle links.now }
+    ensures offsets { IfOk result (λ rows. AreOffsets counts.now rows.offsets) }
+    ensures within { IfOk result (λ rows. AreWithin rows.offsets rows.ids) }
+    ensures filled { IfOk result (λ rows. AreFilled
+        (length tasks.now) tasks.now links.now rows.offsets rows.ids) }
+{
+    let offsets = find_offsets(alloc, counts)?;
+    let total = offsets[counts.len()];
+    let mut ids = no_ids(alloc, total as usize)?;
+    fill(tasks, links, offsets.as_slice(), &mut ids);
+    Ok(Rows { offsets, ids })
+}
+
+/// Where the row of each task begins, and where the last one ends.
+fn find_offsets(alloc: Global, counts: &[u32]) -> Result<Vec<u32>, AllocError>
+    requires few { sum counts.now ≤ 2 ^ 22 }
+    requires short { length counts.now ≤ 2 ^ 22 }
+    ensures { IfOk result (λ offsets. AreOffsets counts.now offsets.items) }
+{
+    let mut offsets = Vec::with_capacity(alloc, counts.len() + 1)?;
+    let mut end = 0u32;
+    offsets.push(end)?;
+    for count in counts {
+        end += *count;
+        offsets.push(end)?;
+    }
+    Ok(offsets)
+}
+
+/// An id for each of so many children.
+fn no_ids(alloc: Global, children: usize) -> Result<Vec<u64>, AllocError>
+    ensures { IfOk result (λ ids. ids.items ≡ replicate children 0) }
+{
+    vec![in alloc; 0; children]
+}
+
+/// Writes each created task to its place.
+fn fill(tasks: &[u64], links: &[Option<Link>], offsets: &[u32], ids: &mut Vec<u64>)
+    requires all { length links.now ≡ length tasks.now }
+    requires rising { AreRising offsets.now }
+    requires within { (index : ℕ) → index < length offsets.now
+        → slice_index offsets.now index ≤ length ids.old.items }
+    requires fitting { AreFitting offsets.now links.now }
+    requires single { AreSingle links.now }
+    ensures all { length ids.new.items ≡ length ids.old.items }
+    ensures filled { AreFilled (length tasks.now) tasks.now links.now offsets.now ids.new.items }
+{
+    for index in 0..links.len() {
+        if let Some(link) = links[index] {
+            let place = offsets[link.parent as usize] + link.number;
+            ids[place as usize] = tasks[index];
+        }
+    }
+}

@@ -1,0 +1,156 @@
+//! A ledger that threads share, and what it answers where they meet.
+ghost use Rattle.std.specs.Prelude.{◌≡◌, IfOk};
+ghost use Rattle.std.specs.Thread.{IsSync};
+
+use crate::turns::{all_turns, are_each_once, are_in_order, enter_one};
+use anyhow::{Result, bail};
+use credit_ledger::{LedgerFault, Seat, SharedLedger, Span};
+use ompt_events::Path;
+use std::alloc::Global;
+use std::sync::{Barrier, Wait};
+use std::thread::{Threads, join};
+
+/// Prints one line for each scenario.
+pub fn each<R: Threads + Wait + Sync + Print + AllocGlobal>(rt: &R) -> Result<()> {
+    in_one_thread(rt)?;
+    at_barriers(rt)?;
+    in_eight_threads(rt)?;
+    handed_on(rt)
+}
+
+/// Two seats of one thread.
+fn in_one_thread<R: Wait + Print + AllocGlobal>(rt: &R) -> Result<()> {
+    let alloc = rt.alloc();
+    let (ledger, mut first) = SharedLedger::new(alloc)?;
+    let mut second = ledger.split(&mut first);
+    let index = enter_one(rt, alloc, &ledger, &mut first, 1, 0)?;
+    let note = ledger.split(&mut first);
+    let joined = ledger.join(rt, &mut second, note);
+    let looked = ledger.look(rt, &mut second);
+    let span = Span {
+        from: 0,
+        to: 1,
+        root: 1,
+        path: Path::from_vec(Vec::new(alloc)),
+    };
+    let (len, is_held) = ledger.whole(rt, &mut second, &span)?;
+    let mut seats = Vec::new(alloc);
+    seats.push(first)?;
+    seats.push(second)?;
+    let count = ledger.close(rt, seats).len();
+    println!(rt;
+        "one thread: index {index}, joined {joined}, look {looked}, whole ({len}, {is_held}), {count} entry"
+    )?;
+    Ok(())
+}
+
+/// Two threads, each of which enters an entry between two barriers, and looks after the second.
+fn at_barriers<R: Threads + Wait + Sync + Print + AllocGlobal>(rt: &R) -> Result<()> {
+    let alloc = rt.alloc();
+    let (ledger, mut first) = SharedLedger::new(alloc)?;
+    let second = ledger.split(&mut first);
+    let barrier = Barrier::new(2);
+    let (one, other) = join(
+        rt,
+        || -> Result<(u32, u32), LedgerFault>
+            requires { IsSync R.row × (second.place.table_id ≡ ledger.board.shared.table_id) }
+        { meet(rt, alloc, &ledger, &barrier, second, 10) },
+        || -> Result<(u32, u32), LedgerFault>
+            requires { IsSync R.row × (first.place.table_id ≡ ledger.board.shared.table_id) }
+        { meet(rt, alloc, &ledger, &barrier, first, 1) },
+    );
+    let (index, looked) = one?;
+    let (other_index, other_looked) = other?;
+    let low = index.min(other_index);
+    let high = index.max(other_index);
+    println!(rt; "two barriers: indices {low} and {high}, looks {looked} and {other_looked}")?;
+    Ok(())
+}
+
+/// Enters an entry between two barriers, and tells its index and what a look after the second answers.
+fn meet<R: Wait>(
+    rt: &R,
+    alloc: Global,
+    ledger: &SharedLedger,
+    barrier: &Barrier,
+    seat: Seat,
+    root: u64,
+) -> Result<(u32, u32), LedgerFault>
+    requires { seat.place.table_id ≡ ledger.now.board.shared.table_id }
+{
+    let mut seat = seat;
+    barrier.wait(rt);
+    let entered = enter_one(rt, alloc, ledger, &mut seat, root, 0);
+    barrier.wait(rt);
+    let looked = ledger.look(rt, &mut seat);
+    Ok((entered?, looked))
+}
+
+/// Eight threads that enter 1,000 entries each.
+fn in_eight_threads<R: Threads + Wait + Sync + Print + AllocGlobal>(rt: &R) -> Result<()> {
+    let alloc = rt.alloc();
+    let (ledger, seat) = SharedLedger::new(alloc)?;
+    let turns = all_turns(rt, alloc, &ledger, seat, 1, 8, 1_000)?;
+    let closed = ledger.close(rt, turns.seats);
+    let count = closed.len();
+    if !are_in_order(alloc, &closed, 8)? {
+        bail!("a thread's entries are not in its order");
+    }
+    if !are_each_once(alloc, turns.indices.as_slice(), count)? {
+        bail!("an index was told twice, or not at all");
+    }
+    println!(rt; "{count} entries, each thread's in order, each index once")?;
+    Ok(())
+}
+
+/// Three threads, one after another, of which each enters an entry and gives a new seat to the next.
+fn handed_on<R: Threads + Wait + Sync + Print + AllocGlobal>(rt: &R) -> Result<()> {
+    let alloc = rt.alloc();
+    let (ledger, mut first) = SharedLedger::new(alloc)?;
+    let note = ledger.split(&mut first);
+    let note = in_thread(rt, alloc, &ledger, note, 1)?;
+    let note = in_thread(rt, alloc, &ledger, note, 2)?;
+    let note = in_thread(rt, alloc, &ledger, note, 3)?;
+    let joined = ledger.join(rt, &mut first, note);
+    let looked = ledger.look(rt, &mut first);
+    println!(rt; "three threads: joined {joined}, look {looked}")?;
+    Ok(())
+}
+
+/// Lets another thread enter an entry with this seat, and takes the seat that it splits off.
+fn in_thread<R: Threads + Wait + Sync>(
+    rt: &R,
+    alloc: Global,
+    ledger: &SharedLedger,
+    seat: Seat,
+    root: u64,
+) -> Result<Seat, LedgerFault>
+    requires { seat.place.table_id ≡ ledger.now.board.shared.table_id }
+    ensures { IfOk result (λ note. note.place.table_id ≡ ledger.now.board.shared.table_id) }
+{
+    let (note, ()) = join(
+        rt,
+        || -> Result<Seat, LedgerFault>
+            requires { IsSync R.row × (seat.place.table_id ≡ ledger.now.board.shared.table_id) }
+            ensures { IfOk result (λ note. note.place.table_id ≡ ledger.entry.now.board.shared.table_id) }
+        { enter_and_split(rt, alloc, ledger, seat, root) },
+        || (),
+    );
+    note
+}
+
+/// Enters an entry, and splits off a seat that has seen it.
+fn enter_and_split<R: Wait>(
+    rt: &R,
+    alloc: Global,
+    ledger: &SharedLedger,
+    seat: Seat,
+    root: u64,
+) -> Result<Seat, LedgerFault>
+    requires { seat.place.table_id ≡ ledger.now.board.shared.table_id }
+    ensures { IfOk result (λ note. note.place.table_id ≡ ledger.now.board.shared.table_id) }
+{
+    let mut seat = seat;
+    enter_one(rt, alloc, ledger, &mut seat, root, 0)?;
+    Ok(ledger.split(&mut seat))
+}

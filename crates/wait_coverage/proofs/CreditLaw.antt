@@ -1,0 +1,130 @@
+-- The entries below the length that an end names finish what it covers exactly where they hold its spans.
+use Rattle.std.proofs.Common.{◌≡◌, ◌≢◌, ◌∙◌, ℕ, ◌<◌, ◌≤◌, true, List, [], ◌∷◌, ◌++◌, length, take, Some, refl, sym, ap, subst, arith, inl, inr, ◌⊎◌}
+use Rattle.std.specs.Prelude.{◌↔◌, Contains}
+use Rattle.std.proofs.lemmas.Bool.{false≢true}
+use Rattle.ompt_events.specs.declared.records.Record.{Record}
+use Rattle.ompt_events.specs.declared.names.SyncKind.TheVariants.{Taskwait, Taskgroup}
+use Rattle.ompt_events.specs.declared.cause.Cause.TheVariants.{CreatedTwice, ShareWrong}
+use Rattle.ompt_events.specs.Places.{seen_at}
+use Rattle.ompt_events.specs.Traces.{IsTrace}
+use Rattle.ompt_events.specs.Tree.{children_before, children_between, child_number, below}
+use Rattle.ompt_events.specs.Regions.{IsRegion, is_barrier}
+use Rattle.ompt_events.specs.Coverage.{Covers, IsFamily}
+use Rattle.ompt_events.specs.Coverage as coverage
+use Rattle.ompt_events.specs.Completion.{IsCompleteAt}
+use Rattle.credit_ledger.specs.declared.entry.Entry.{Entry}
+use Rattle.credit_ledger.specs.declared.entry.Span.{Span}
+use Rattle.credit_ledger.specs.declared.entry.Cover.{Cover}
+use Rattle.credit_ledger.specs.declared.entry.Cover.TheVariants.{Children, Descendants}
+use Rattle.credit_ledger.specs.Entries.{IsSpanHeld}
+use Rattle.ompt_events.proofs.ListLemmas.{get_contains}
+use Rattle.wait_coverage.specs.Entries.{IsLedgerOf}
+use Rattle.wait_coverage.specs.Spans.{IsSpan, AreSpans, waited, grouped, AreHeldAt, IsCoverComplete, IsFreeUpTo}
+use Rattle.wait_coverage.proofs.CoverLemmas.{ends_at, one_region, child_with, dropped, number_between, done_there, complete_there}
+use Rattle.wait_coverage.proofs.TreeLaw.{IsKnown, tree_held, tree_done}
+use Rattle.wait_coverage.proofs.PoolLaw.{pool_held, pool_done}
+
+-- ---- a span is held where its children are finished
+
+pub known_of : (rs : List Record) (entries : List Entry) → IsTrace rs → IsFreeUpTo rs 13 → IsLedgerOf rs entries → IsKnown rs entries
+known_of rs entries trace free are = record { trace = trace; once = free CreatedTwice (omega arith); right = free ShareWrong (omega arith); ledger = are }
+
+waited_held : (rs : List Record) (entries : List Entry) (i task begin : ℕ) (span : Span) → IsKnown rs entries → IsRegion rs i task Taskwait begin → IsSpan rs task 0 (child_number rs task begin) span → IsCoverComplete rs i → IsSpanHeld (take (seen_at rs i) entries) span Children
+waited_held rs entries i task begin span known region is complete number enough few =
+    let ends = ends_at rs i task begin Taskwait region in
+    let to = is.to_there in
+    let before = ends.below in
+    let inside = ends.inside in
+    let child = child_with rs task begin number (omega (arith, before, inside)) (omega (arith, few, to)) in
+    let covers = coverage.waited region (get_contains (children_before rs task begin) child.0 number child.1.there) in
+    pool_held rs entries (seen_at rs i) span.root task number child.0 span.path known is.stands child.1.numbered
+    (done_there rs i task child.0 Taskwait ends.endpoint ends.says (complete child.0 covers))
+
+grouped_held : (rs : List Record) (entries : List Entry) (i task begin : ℕ) (span : Span) → IsKnown rs entries → IsRegion rs i task Taskgroup begin → IsSpan rs task (child_number rs task begin) (child_number rs task i) span → IsCoverComplete rs i → IsSpanHeld (take (seen_at rs i) entries) span Descendants
+grouped_held rs entries i task begin span known region is complete number enough few =
+    let ends = ends_at rs i task begin Taskgroup region in
+    let from = is.from_there in
+    let to = is.to_there in
+    let inside = ends.inside in
+    let child = child_with rs task i number (omega (arith, inside)) (omega (arith, few, to)) in
+    let among = dropped (children_before rs task i) (child_number rs task begin) number child.0 (omega (arith, enough, from)) child.1.there in
+    tree_held rs entries (seen_at rs i) span.root child.0 (span.path ++ number ∷ []) known (below number is.stands child.1.numbered)
+    (λ t of. done_there rs i task t Taskgroup ends.endpoint ends.says (complete t (coverage.grouped region among of)))
+
+-- ---- and the other way round
+
+waited_done : (rs : List Record) (entries : List Entry) (i task begin covered : ℕ) (span : Span) → IsKnown rs entries → IsRegion rs i task Taskwait begin → IsSpan rs task 0 (child_number rs task begin) span → IsSpanHeld (take (seen_at rs i) entries) span Children → Contains (children_before rs task begin) covered → IsCompleteAt rs covered i
+waited_done rs entries i task begin covered span known region is held found =
+    let ends = ends_at rs i task begin Taskwait region in
+    let before = ends.below in
+    let inside = ends.inside in
+    let child = number_between rs task begin 0 covered (omega (arith, before, inside)) found in
+    let from = is.from_there in
+    let to = is.to_there in
+    let few = child.few in
+    complete_there rs i covered
+    (pool_done rs entries (seen_at rs i) span.root task child.number covered span.path known is.stands child.numbered
+    (held child.number (omega (arith, from)) (omega (arith, few, to))))
+
+grouped_done : (rs : List Record) (entries : List Entry) (i task begin child covered : ℕ) (span : Span) → IsKnown rs entries → IsRegion rs i task Taskgroup begin → IsSpan rs task (child_number rs task begin) (child_number rs task i) span → IsSpanHeld (take (seen_at rs i) entries) span Descendants → Contains (children_between rs task begin i) child → IsFamily rs child covered → IsCompleteAt rs covered i
+grouped_done rs entries i task begin child covered span known region is held found of =
+    let ends = ends_at rs i task begin Taskgroup region in
+    let inside = ends.inside in
+    let numbered = number_between rs task i (child_number rs task begin) child (omega (arith, inside)) found in
+    let from = is.from_there in
+    let to = is.to_there in
+    let enough = numbered.enough in
+    let few = numbered.few in
+    complete_there rs i covered
+    (tree_done rs entries (seen_at rs i) span.root child covered (span.path ++ numbered.number ∷ []) known (below numbered.number is.stands numbered.numbered)
+    (held numbered.number (omega (arith, enough, from)) (omega (arith, few, to))) of)
+
+-- ---- the law
+
+single : (P : Span → Type 0) (span other : Span) → P span → Contains (span ∷ []) other → P other
+single P span other is (k, less, there) = subst P (first k less there) is
+  where
+    first : (k : ℕ) → k < 1 → Rattle.std.proofs.Common.get_or (span ∷ []) k other ≡ other → span ≡ other
+    first k less there = let zero_there : k ≡ 0 = omega (arith, less) in ap (λ j. Rattle.std.proofs.Common.get_or (span ∷ []) j other) (sym zero_there) ∙ there
+
+held_from : (rs : List Record) (entries : List Entry) (i : ℕ) (cover : Cover) (spans : List Span) → IsKnown rs entries → AreSpans rs i cover spans → IsCoverComplete rs i → AreHeldAt rs entries i cover spans
+held_from rs entries i cover spans known (waited {task = task} {begin = begin} {span = own} region is) complete span found =
+    single (λ s. IsSpanHeld (take (seen_at rs i) entries) s Children) own span (waited_held rs entries i task begin own known region is complete) found
+held_from rs entries i cover spans known (grouped {task = task} {begin = begin} {span = own} region is) complete span found =
+    single (λ s. IsSpanHeld (take (seen_at rs i) entries) s Descendants) own span (grouped_held rs entries i task begin own known region is complete) found
+
+waited_complete : (rs : List Record) (entries : List Entry) (i task begin covered : ℕ) (span : Span) → IsKnown rs entries → IsRegion rs i task Taskwait begin → IsSpan rs task 0 (child_number rs task begin) span → IsSpanHeld (take (seen_at rs i) entries) span Children → Covers rs i covered → IsCompleteAt rs covered i
+waited_complete rs entries i task begin covered span known region is held (coverage.waited {parent = parent} {begin = start} other found) =
+    let one = one_region rs i task parent begin start Taskwait Taskwait region other in
+    let P : ℕ → ℕ → Type 0 = λ t b. Contains (children_before rs t b) covered in
+    waited_done rs entries i task begin covered span known region is held
+    (subst (λ b. Contains (children_before rs task b) covered) (sym one.begin_is) (subst (λ t. Contains (children_before rs t start) covered) (sym one.task_is) found))
+waited_complete rs entries i task begin covered span known region is held (coverage.grouped {parent = parent} {begin = start} other found of) =
+    let one = one_region rs i task parent begin start Taskwait Taskgroup region other in
+    let kinds = one.kind_is in absurd (cc)
+waited_complete rs entries i task begin covered span known region is held (coverage.synchronised {own = own} {begin = start} {kind = kind} number other barrier own_begin mate mate_begin found of) =
+    let one = one_region rs i task own begin start Taskwait kind region other in
+    absurd (false≢true (ap is_barrier one.kind_is ∙ barrier))
+
+grouped_complete : (rs : List Record) (entries : List Entry) (i task begin covered : ℕ) (span : Span) → IsKnown rs entries → IsRegion rs i task Taskgroup begin → IsSpan rs task (child_number rs task begin) (child_number rs task i) span → IsSpanHeld (take (seen_at rs i) entries) span Descendants → Covers rs i covered → IsCompleteAt rs covered i
+grouped_complete rs entries i task begin covered span known region is held (coverage.waited {parent = parent} {begin = start} other found) =
+    let one = one_region rs i task parent begin start Taskgroup Taskwait region other in
+    let kinds = one.kind_is in absurd (cc)
+grouped_complete rs entries i task begin covered span known region is held (coverage.grouped {parent = parent} {begin = start} {child = child} other found of) =
+    let one = one_region rs i task parent begin start Taskgroup Taskgroup region other in
+    grouped_done rs entries i task begin child covered span known region is held
+    (subst (λ b. Contains (children_between rs task b i) child) (sym one.begin_is) (subst (λ t. Contains (children_between rs t start i) child) (sym one.task_is) found)) of
+grouped_complete rs entries i task begin covered span known region is held (coverage.synchronised {own = own} {begin = start} {kind = kind} number other barrier own_begin mate mate_begin found of) =
+    let one = one_region rs i task own begin start Taskgroup kind region other in
+    absurd (false≢true (ap is_barrier one.kind_is ∙ barrier))
+
+complete_from : (rs : List Record) (entries : List Entry) (i : ℕ) (cover : Cover) (spans : List Span) → IsKnown rs entries → AreSpans rs i cover spans → AreHeldAt rs entries i cover spans → IsCoverComplete rs i
+complete_from rs entries i cover spans known (waited {task = task} {begin = begin} {span = own} region is) held covered covers =
+    waited_complete rs entries i task begin covered own known region is (held own (get_contains (own ∷ []) own 0 refl)) covers
+complete_from rs entries i cover spans known (grouped {task = task} {begin = begin} {span = own} region is) held covered covers =
+    grouped_complete rs entries i task begin covered own known region is (held own (get_contains (own ∷ []) own 0 refl)) covers
+
+pub held_is_complete : (rs : List Record) (entries : List Entry) (i : ℕ) (cover : Cover) (spans : List Span) → IsTrace rs → IsFreeUpTo rs 13 → IsLedgerOf rs entries → AreSpans rs i cover spans → IsCoverComplete rs i ↔ AreHeldAt rs entries i cover spans
+held_is_complete rs entries i cover spans trace free are spans_are =
+    let known = known_of rs entries trace free are in
+    (held_from rs entries i cover spans known spans_are, complete_from rs entries i cover spans known spans_are)

@@ -1,0 +1,45 @@
+-- The credit that the end of a region waits for: that of some children of one task, or of some of each member
+-- of a team.
+use Rattle.std.specs.Prelude.{◌≡◌, ◌≤◌, ℕ, List, [], ◌∷◌, Contains, take}
+use Rattle.ompt_events.specs.declared.records.Record.{Record}
+use Rattle.ompt_events.specs.declared.names.SyncKind.TheVariants.{Taskwait, Taskgroup}
+use Rattle.ompt_events.specs.Places.{seen_at}
+use Rattle.ompt_events.specs.Tree.{child_number, HasPath}
+use Rattle.ompt_events.specs.Regions.{IsRegion}
+use Rattle.ompt_events.specs.Coverage.{Covers}
+use Rattle.ompt_events.specs.Completion.{IsCompleteAt}
+use Rattle.ompt_events.specs.CauseNames.{cause_number}
+use Rattle.ompt_events.specs.Causes.{IsFreeOf}
+use Rattle.ompt_events.specs.declared.cause.Cause.{Cause}
+use Rattle.credit_ledger.specs.declared.entry.Entry.{Entry}
+use Rattle.credit_ledger.specs.declared.entry.Span.{Span}
+use Rattle.credit_ledger.specs.declared.entry.Cover.{Cover}
+use Rattle.credit_ledger.specs.Entries.{IsSpanHeld}
+
+-- the children of the task with these numbers, by the place of the task below its root
+pub record IsSpan (rs : List Record) (task from to : ℕ) (span : Span) : Type 0 where
+  pub stands : HasPath rs span.root task span.path
+  pub from_there : span.from ≡ from
+  pub to_there : span.to ≡ to
+
+-- what the end at i waits for: the children that the task created before a taskwait began (OpenMP 5.2, 15.5),
+-- or while a taskgroup was open (15.4)
+pub data AreSpans (rs : List Record) (i : ℕ) : Cover → List Span → Type 0 where
+  waited : {task begin : ℕ} {span : Span} → IsRegion rs i task Taskwait begin
+      → IsSpan rs task 0 (child_number rs task begin) span → AreSpans rs i Cover.Children (span ∷ [])
+  grouped : {task begin : ℕ} {span : Span} → IsRegion rs i task Taskgroup begin
+      → IsSpan rs task (child_number rs task begin) (child_number rs task i) span
+      → AreSpans rs i Cover.Descendants (span ∷ [])
+
+-- the first entries, so many as the record at i has seen, hold the start share of each child of the spans
+abbrev pub AreHeldAt : List Record → List Entry → ℕ → Cover → List Span → Type 0
+AreHeldAt rs entries i cover spans =
+    (span : Span) → Contains spans span → IsSpanHeld (take (seen_at rs i) entries) span cover
+
+-- each task that the end at i covers is complete there
+abbrev pub IsCoverComplete : List Record → ℕ → Type 0
+IsCoverComplete rs i = (task : ℕ) → Covers rs i task → IsCompleteAt rs task i
+
+-- no cause with this number or a lower one occurs
+abbrev pub IsFreeUpTo : List Record → ℕ → Type 0
+IsFreeUpTo rs number = (cause : Cause) → cause_number cause ≤ number → IsFreeOf rs cause

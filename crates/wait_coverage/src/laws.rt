@@ -1,0 +1,19 @@
+//! What held credit tells of tasks: a law over the definitions alone, proved for every trace. The function
+//! does nothing.
+ghost use Rattle.std.specs.Prelude.{◌↔◌, ℕ, List};
+ghost use Rattle.ompt_events.specs.declared.records.Record.{Record};
+ghost use Rattle.ompt_events.specs.Traces.{IsTrace};
+ghost use Rattle.credit_ledger.specs.declared.entry.Entry.{Entry};
+ghost use Rattle.credit_ledger.specs.declared.entry.Span.{Span};
+ghost use Rattle.credit_ledger.specs.declared.entry.Cover.{Cover};
+ghost use Rattle.wait_coverage.specs.Entries.{IsLedgerOf};
+ghost use Rattle.wait_coverage.specs.Spans.{AreSpans, AreHeldAt, IsCoverComplete, IsFreeUpTo};
+
+/// The entries below the ledger length that an end names finish each task that it covers exactly where they
+/// hold the start share of each child of its spans: in its parent's pool for a taskwait, in the tree for the
+/// others (F. Mattern, 1989: work is over exactly where all of its credit has come back).
+pub fn held_is_complete()
+    ensures { (rs : List Record) (entries : List Entry) (i : ℕ) (cover : Cover) (spans : List Span)
+        → IsTrace rs → IsFreeUpTo rs 13 → IsLedgerOf rs entries → AreSpans rs i cover spans
+        → IsCoverComplete rs i ↔ AreHeldAt rs entries i cover spans }
+{}

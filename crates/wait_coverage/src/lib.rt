@@ -1,0 +1,6 @@
+//! Which tasks the end of a region waits for, and whether the ledger of finished tasks holds their credit.
+//!
+//! `laws` says why held credit means finished tasks; the definitions stand in `specs/`.
+#![tactic(auto)]
+
+pub mod laws;
