@@ -11,5 +11,6 @@ pub mod RootlessLemmas
 pub mod FamilyLemmas
 pub mod PathLemmas
 pub mod ClimbLemmas
+pub mod LineageLemmas
 pub mod LookupLemmas
 pub mod NamedLemmas

@@ -12,4 +12,5 @@ pub mod Links
 pub mod Rows
 pub mod Roots
 pub mod Forward
+pub mod Lineage
 pub mod Rootless

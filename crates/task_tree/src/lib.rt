@@ -14,6 +14,7 @@ mod family;
 mod fault;
 mod forward;
 mod hints;
+mod lineage;
 mod links;
 mod makers;
 mod numbering;

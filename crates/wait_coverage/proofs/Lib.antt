@@ -6,3 +6,8 @@ pub mod TreeLaw
 pub mod PoolLaw
 pub mod CoverLemmas
 pub mod CreditLaw
+pub mod LengthLemmas
+pub mod OrderLemmas
+pub mod DoneLemmas
+pub mod ChainLemmas
+pub mod LimitLemmas

@@ -2,3 +2,6 @@
 -- tasks it waits for is defined in `ompt_events`, and what a ledger holds in `credit_ledger`.
 pub mod Entries
 pub mod Spans
+pub mod Lengths
+pub mod Done
+pub mod Limits

@@ -3,4 +3,9 @@
 //! `laws` says why held credit means finished tasks; the definitions stand in `specs/`.
 #![tactic(auto)]
 
+mod done;
+mod lengths;
+mod limits;
+mod order;
+
 pub mod laws;

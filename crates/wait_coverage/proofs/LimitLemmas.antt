@@ -1,0 +1,352 @@
+-- From which ledger length on what the end of a region covers is finished.
+use Rattle.std.proofs.Common.{◌≡◌, ◌≢◌, ◌∙◌, ℕ, ◌<◌, ◌≤◌, ◌+◌, ◌^◌, true, false, List, [], ◌∷◌, ◌++◌, length, get_or, Option, Some, None, refl, sym, ap, subst, arith, inl, inr, ◌⊎◌}
+use Rattle.std.proofs.lemmas.Bool.{cases_eq, cases_lt, false≢true}
+use Rattle.std.proofs.lemmas.Option.{none-some, same_Some, slice_get_within, slice_get-get_or}
+use Rattle.std.proofs.lemmas.List.{length_push, length-set, get_or-replicate, length-replicate}
+use Rattle.std.proofs.Math.ListN.{set}
+use Rattle.std.specs.Prelude.{max, slice_get, is_some, replicate, option_and_then, option_map, Contains}
+use Rattle.ompt_events.specs.declared.records.Record.{Record}
+use Rattle.ompt_events.specs.declared.records.Body.{Body}
+use Rattle.ompt_events.specs.declared.records.Body.TheVariants.{TaskCreate}
+use Rattle.ompt_events.specs.declared.names.Endpoint.{Endpoint}
+use Rattle.ompt_events.specs.declared.names.Endpoint.TheVariants.{Begin, End, BeginEnd}
+use Rattle.ompt_events.specs.declared.names.SyncKind.{SyncKind}
+use Rattle.ompt_events.specs.declared.names.SyncKind.TheVariants.{Taskwait, Taskgroup}
+use Rattle.ompt_events.specs.Records.{creation, region}
+use Rattle.ompt_events.specs.Places.{at}
+use Rattle.ompt_events.specs.Tree.{children_before, children_between, child_number}
+use Rattle.ompt_events.specs.Regions.{IsRegion, EndsRegion, ended, at_once, is_barrier}
+use Rattle.ompt_events.specs.Coverage.{Covers, IsFamily, waited, grouped, synchronised}
+use Rattle.ompt_events.proofs.ListLemmas.{pushed_cases}
+use Rattle.ompt_events.proofs.RecordLemmas.{at_through}
+use Rattle.ompt_events.proofs.RegionLemmas.{own_begin, begin_before}
+use Rattle.ompt_events.proofs.TreeLemmas.{before_child, child_place}
+use Rattle.task_tree.specs.Numbering.{AreApart}
+use Rattle.task_tree.specs.Subjects.{subject}
+use Rattle.task_tree.proofs.NamedLemmas.{region_subject}
+use Rattle.task_tree.proofs.LinkLemmas.{get_set_same, get_set_other}
+use Rattle.task_states.specs.States.{IsBegin}
+use Rattle.wait_coverage.specs.Entries.{IsDone}
+use Rattle.wait_coverage.specs.Done.{IsDoneFrom, IsFamilyLimit}
+use Rattle.wait_coverage.specs.Limits.{HaveNoBarriers, IsChildLimit, IsEndLimit, IsLimitOfBegin, IsOnChain, Gathers, HasNode, AreLatest, AreChains, AreNoted}
+use Rattle.wait_coverage.specs.declared.limits.Node.{Node}
+use Rattle.wait_coverage.specs.declared.limits.Progress.{Progress}
+use Rattle.wait_coverage.proofs.CoverLemmas.{ends_at, one_region, child_with, number_between}
+use Rattle.wait_coverage.proofs.StandLemmas.{created_child}
+use Rattle.wait_coverage.proofs.ChainLemmas.{chains_other, chains_more}
+
+-- ---- what an end covers, by the places of the creations
+
+-- a child created before a taskwait began
+pub record IsWaited (rs : List Record) (i task : ℕ) : Type 0 where
+  pub parent : ℕ
+  pub begin : ℕ
+  pub place : ℕ
+  pub is_region : IsRegion rs i parent Taskwait begin
+  pub before : place < begin
+  pub creates : at creation rs place ≡ Some (parent, task)
+
+-- one of the family of a child created in a taskgroup
+pub record IsGrouped (rs : List Record) (i task : ℕ) : Type 0 where
+  pub parent : ℕ
+  pub begin : ℕ
+  pub child : ℕ
+  pub place : ℕ
+  pub is_region : IsRegion rs i parent Taskgroup begin
+  pub from : begin ≤ place
+  pub before : place < i
+  pub creates : at creation rs place ≡ Some (parent, child)
+  pub of : IsFamily rs child task
+
+-- where a contained child was created
+pub created_between : (rs : List Record) (parent begin i child : ℕ) → i ≤ length rs → Contains (children_between rs parent begin i) child → (c : ℕ) × (begin ≤ c) × (c < i) × (at creation rs c ≡ Some (parent, child))
+created_between rs parent begin i child inside found =
+    let numbered = number_between rs parent i (child_number rs parent begin) child inside found in
+    let few = numbered.few in
+    let enough = numbered.enough in
+    let other = child_with rs parent i numbered.number inside few in
+    let is_child : other.0 ≡ child = same_Some other.0 child (sym other.1.numbered ∙ numbered.numbered) in
+    let P : ℕ → Type 0 = λ t. slice_get (children_before rs parent i) numbered.number ≡ Some t in
+    let place = child_place rs parent i numbered.number child (subst P is_child other.1.there) in
+    (place.0, after begin place.0 place.2 (let same = place.3 in omega (arith, enough, same)), place.1, place.2)
+  where
+    after : (b c : ℕ) → at creation rs c ≡ Some (parent, child) → child_number rs parent b ≤ child_number rs parent c → b ≤ c
+    after b c creates low = elim (cases_lt c b) [
+      | inl less ↦ let few = slice_get_within (children_before rs parent b) (child_number rs parent c) child (created_child rs c parent child b creates less) in absurd (omega (arith, few, low))
+      | inr at_most ↦ at_most
+    ]
+
+pub covers_cases : (rs : List Record) (i task : ℕ) → HaveNoBarriers rs → Covers rs i task → IsWaited rs i task ⊎ IsGrouped rs i task
+covers_cases rs i task none (waited {parent = parent} {begin = begin} there found) =
+    let place = before_child rs parent task begin found in
+    inl record { parent = parent; begin = begin; place = place.0; is_region = there; before = place.1; creates = place.2 }
+covers_cases rs i task none (grouped {parent = parent} {begin = begin} {child = child} there found of) =
+    let inside = (ends_at rs i parent begin Taskgroup there).inside in
+    let place = created_between rs parent begin i child (omega (arith, inside)) found in
+    inr record { parent = parent; begin = begin; child = child; place = place.0; is_region = there; from = place.1; before = place.2; creates = place.3; of = of }
+covers_cases rs i task none (synchronised {own = own} {begin = begin} {kind = kind} number there barrier begins team starts found of) =
+    let ends = ends_at rs i own begin kind there in
+    absurd (none i own kind ends.endpoint ends.says barrier)
+
+pub end_limit_by : (rs : List Record) (i limit : ℕ) → HaveNoBarriers rs → ((parent begin : ℕ) → IsRegion rs i parent Taskwait begin → IsChildLimit rs begin parent limit) → ((parent begin c child : ℕ) → IsRegion rs i parent Taskgroup begin → begin ≤ c → c < i → at creation rs c ≡ Some (parent, child) → IsFamilyLimit rs child limit) → IsEndLimit rs i limit
+end_limit_by rs i limit none waits groups m t small low covers = elim (covers_cases rs i t none covers) [
+  | inl one ↦ waits one.parent one.begin one.is_region m one.place t small low one.before one.creates
+  | inr one ↦ groups one.parent one.begin one.place one.child one.is_region one.from one.before one.creates m t small low one.of
+]
+
+-- a record of another region, or of none
+pub says_other : (rs : List Record) (i parent begin : ℕ) (kind : SyncKind) → ((task : ℕ) (endpoint : Endpoint) → at region rs i ≡ Some (task, kind, endpoint) → ⊥) → IsRegion rs i parent kind begin → ⊥
+says_other rs i parent begin kind none there = let ends = ends_at rs i parent begin kind there in none parent ends.endpoint ends.says
+
+-- ---- one record more
+
+pub latest_start : (rs : List Record) (tasks latest : List ℕ) → latest ≡ replicate (length tasks) 0 → AreLatest rs 0 tasks latest
+latest_start rs tasks latest is = record {
+  all = ap length is ∙ length-replicate (length tasks) 0;
+  each = λ index task limit is_task stands m c child small low below. absurd (omega arith);
+}
+
+latest_other : (rs : List Record) (n : ℕ) (tasks latest : List ℕ) → AreLatest rs n tasks latest → at creation rs n ≡ None → AreLatest rs (n + 1) tasks latest
+latest_other rs n tasks latest are none = record {
+  all = are.all;
+  each = λ index task limit is_task stands m c child small low below creates. elim (cases_eq c n) [
+    | inl same ↦ absurd (none-some (task, child) (sym none ∙ ap (at creation rs) (sym same) ∙ creates))
+    | inr apart ↦ are.each index task limit is_task stands m c child small low (omega arith) creates
+  ];
+}
+
+latest_more : (rs : List Record) (n own parent child value done d : ℕ) (tasks latest : List ℕ) → AreApart tasks → AreLatest rs n tasks latest → slice_get tasks own ≡ Some parent → at creation rs n ≡ Some (parent, child) → value ≡ max (get_or latest own d) done → ((m : ℕ) → m < 2 ^ 32 → done ≤ m → IsDone rs m child) → AreLatest rs (n + 1) tasks (set latest own value)
+latest_more rs n own parent child value done d tasks latest apart are is_own creates is_value finished = record {
+  all = length-set latest own value ∙ are.all;
+  each = λ index other limit is_other stands m c born small low below creates_there. elim (cases_eq index own) [
+    | inl same ↦
+        let is_parent : parent ≡ other = same_Some parent other (sym is_own ∙ ap (slice_get tasks) (sym same) ∙ is_other) in
+        let is_limit : value ≡ limit = same_Some value limit (sym (get_set_same latest own value within) ∙ ap (slice_get (set latest own value)) (sym same) ∙ stands) in
+        elim (cases_eq c n) [
+          | inl here ↦
+              let pair = same_Some (parent, child) (other, born) (sym creates ∙ ap (at creation rs) (sym here) ∙ creates_there) in
+              let P : ℕ → Type 0 = IsDone rs m in
+              subst P (ap (λ (p : ℕ × ℕ). p.1) pair) (finished m small (omega arith))
+          | inr earlier ↦ are.each own parent (get_or latest own d) is_own (slice_get-get_or latest own d within) m c born small (omega arith) (omega arith) (creates_there ∙ ap (λ t. Some (t, born)) (sym is_parent))
+        ]
+    | inr different ↦ elim (cases_eq c n) [
+      | inl here ↦
+          let pair = same_Some (parent, child) (other, born) (sym creates ∙ ap (at creation rs) (sym here) ∙ creates_there) in
+          absurd (different (apart index own parent (is_other ∙ ap Some (sym (ap (λ (p : ℕ × ℕ). p.0) pair))) is_own))
+      | inr earlier ↦ are.each index other limit is_other (sym (get_set_other latest own index value different) ∙ stands) m c born small low (omega arith) creates_there
+    ]
+  ];
+}
+  where
+    within : own < length latest
+    within = let inside = slice_get_within tasks own parent is_own in omega (arith, inside, are.all)
+
+pub noted_push : (rs : List Record) (n : ℕ) (tasks : List ℕ) (nodes : List Node) (new : Node) (before after : Progress) → AreNoted rs n tasks nodes before → AreLatest rs (n + 1) tasks after.latest.items → AreChains rs tasks (nodes ++ new ∷ []) after.heads.items → ((task : ℕ) → at region rs n ≡ Some (task, Taskwait, Begin) → IsChildLimit rs n task new.limit) → IsEndLimit rs n new.limit → AreNoted rs (n + 1) tasks (nodes ++ new ∷ []) after
+noted_push rs n tasks nodes new before after are latest chains begins ends = record {
+  count = length_push nodes new ∙ ap (λ k. k + 1) are.count;
+  latest = latest;
+  chains = chains;
+  begins = λ i task node there says. elim (pushed_cases nodes new node i there) [
+    | inl old ↦ are.begins i task node old says
+    | inr last ↦
+        let is_n : i ≡ n = last.0 ∙ are.count in
+        let P : ℕ → Type 0 = λ k. IsChildLimit rs k task node.limit in
+        let Q : Node → Type 0 = λ x. IsChildLimit rs n task x.limit in
+        subst P (sym is_n) (subst Q last.1 (begins task (ap (at region rs) (sym is_n) ∙ says)))
+  ];
+  ends = λ i node there. elim (pushed_cases nodes new node i there) [
+    | inl old ↦ are.ends i node old
+    | inr last ↦
+        let is_n : i ≡ n = last.0 ∙ are.count in
+        let P : ℕ → Type 0 = λ k. IsEndLimit rs k node.limit in
+        let Q : Node → Type 0 = λ x. IsEndLimit rs n x.limit in
+        subst P (sym is_n) (subst Q last.1 ends)
+  ];
+}
+
+pub noted_alone : (rs : List Record) (n : ℕ) (tasks : List ℕ) (nodes : List Node) (new : Node) (progress : Progress) → AreNoted rs n tasks nodes progress → at creation rs n ≡ None → new.previous ≡ None → ((task : ℕ) → at region rs n ≡ Some (task, Taskwait, Begin) → IsChildLimit rs n task new.limit) → IsEndLimit rs n new.limit → AreNoted rs (n + 1) tasks (nodes ++ new ∷ []) progress
+noted_alone rs n tasks nodes new progress are none alone begins ends =
+    noted_push rs n tasks nodes new progress progress are (latest_other rs n tasks progress.latest.items are.latest none)
+    (chains_other rs tasks nodes new progress.heads.items are.chains alone (ap (at creation rs) are.count ∙ none)) begins ends
+
+-- ---- the kinds of record
+
+-- a creation begins and ends no region
+creates_no_region : (rs : List Record) (i parent child own : ℕ) (kind : SyncKind) (endpoint : Endpoint) → at creation rs i ≡ Some (parent, child) → at region rs i ≡ Some (own, kind, endpoint) → ⊥
+creates_no_region rs i parent child own kind endpoint creates says = there (slice_get rs i) creates says
+  where
+    of : (b : Body) → creation b ≡ Some (parent, child) → region b ≡ Some (own, kind, endpoint) → ⊥
+    of (TaskCreate deps flags task made_there) is is' = none-some (own, kind, endpoint) is'
+    of _ is is' = none-some (parent, child) is
+
+    there : (o : Option Record) → option_and_then (λ (r : Record). creation r.body) o ≡ Some (parent, child) → option_and_then (λ (r : Record). region r.body) o ≡ Some (own, kind, endpoint) → ⊥
+    there None is is' = none-some (parent, child) is
+    there (Some r) is is' = of r.body is is'
+
+pub created_noted : (rs : List Record) (n own parent child done : ℕ) (tasks : List ℕ) (nodes : List Node) (new : Node) (before after : Progress) → HaveNoBarriers rs → AreApart tasks → AreNoted rs n tasks nodes before → at creation rs n ≡ Some (parent, child) → slice_get tasks own ≡ Some parent → slice_get before.heads.items own ≡ Some new.previous → IsFamilyLimit rs child new.limit → ((m : ℕ) → m < 2 ^ 32 → done ≤ m → IsDone rs m child) → after.heads.items ≡ set before.heads.items own (Some n) → ((old : ℕ) → slice_get before.latest.items own ≡ Some old → after.latest.items ≡ set before.latest.items own (max old done)) → AreNoted rs (n + 1) tasks (nodes ++ new ∷ []) after
+created_noted rs n own parent child done tasks nodes new before after none apart are creates is_own head_there limit finished heads latest =
+    noted_push rs n tasks nodes new before after are
+    (subst (AreLatest rs (n + 1) tasks) (sym latest_are) (latest_more rs n own parent child (max (get_or before.latest.items own 0) done) done 0 tasks before.latest.items apart are.latest is_own creates refl finished))
+    (subst (AreChains rs tasks (nodes ++ new ∷ [])) (sym heads_are) (chains_more rs tasks nodes new before.heads.items own parent apart are.chains is_own known makes kept))
+    (λ task says. absurd (creates_no_region rs n parent child task Taskwait Begin creates says))
+    (end_limit_by rs n new.limit none
+    (λ p b there. absurd (no_region p b Taskwait there))
+    (λ p b c t there from below made_it. absurd (no_region p b Taskgroup there)))
+  where
+    no_region : (p b : ℕ) (kind : SyncKind) → IsRegion rs n p kind b → ⊥
+    no_region p b kind there = let ends = ends_at rs n p b kind there in creates_no_region rs n parent child p kind ends.endpoint creates ends.says
+
+    heads_are : after.heads.items ≡ set before.heads.items own (Some (length nodes))
+    heads_are = heads ∙ ap (λ k. set before.heads.items own (Some k)) (sym are.count)
+
+    latest_are : after.latest.items ≡ set before.latest.items own (max (get_or before.latest.items own 0) done)
+    latest_are = latest (get_or before.latest.items own 0) (slice_get-get_or before.latest.items own 0 (let inside = slice_get_within tasks own parent is_own in let count = are.latest.all in omega (arith, inside, count)))
+
+    known : (next : ℕ) → new.previous ≡ Some next → next < length nodes
+    known next is = are.chains.known own next (head_there ∙ ap Some is)
+
+    makes : (other born : ℕ) → at creation rs (length nodes) ≡ Some (other, born) → (other ≡ parent) × IsFamilyLimit rs born new.limit
+    makes other born made_it =
+        let pair = same_Some (parent, child) (other, born) (sym creates ∙ ap (at creation rs) (sym are.count) ∙ made_it) in
+        let P : ℕ → Type 0 = λ t. IsFamilyLimit rs t new.limit in
+        (sym (ap (λ (x : ℕ × ℕ). x.0) pair), subst P (ap (λ (x : ℕ × ℕ). x.1) pair) limit)
+
+    kept : (c born : ℕ) (head : Option ℕ) → slice_get before.heads.items own ≡ Some head → c < length nodes → HasNode rs nodes head c born → HasNode rs nodes new.previous c born ⊎ IsFamilyLimit rs born new.limit
+    kept c born head stands less has =
+        let P : Option ℕ → Type 0 = λ h. HasNode rs nodes h c born in
+        inl (subst P (same_Some head new.previous (sym stands ∙ head_there)) has)
+
+pub closed_noted : (rs : List Record) (n own parent begin : ℕ) (tasks : List ℕ) (nodes : List Node) (new : Node) (before after : Progress) → HaveNoBarriers rs → AreApart tasks → AreNoted rs n tasks nodes before → EndsRegion rs n parent Taskgroup begin → slice_get tasks own ≡ Some parent → (head : Option ℕ) → slice_get before.heads.items own ≡ Some head → Gathers nodes head begin new → after.heads.items ≡ set before.heads.items own (Some n) → after.latest.items ≡ before.latest.items → AreNoted rs (n + 1) tasks (nodes ++ new ∷ []) after
+closed_noted rs n own parent begin tasks nodes new before after none apart are ends is_own head head_there gathered heads latest =
+    noted_push rs n tasks nodes new before after are
+    (subst (AreLatest rs (n + 1) tasks) (sym latest) (latest_other rs n tasks before.latest.items are.latest no_creation))
+    (subst (AreChains rs tasks (nodes ++ new ∷ [])) (sym heads_are) (chains_more rs tasks nodes new before.heads.items own parent apart are.chains is_own gathered.known makes kept))
+    (λ task says. absurd (let same = same_Some (parent, Taskgroup, End) (task, Taskwait, Begin) (sym ends.ends ∙ says) in let kinds : End ≡ Begin = ap (λ (x : ℕ × SyncKind × Endpoint). x.2) same in cc))
+    (end_limit_by rs n new.limit none
+    (λ p b there. let same = one_region rs n parent p begin b Taskgroup Taskwait (ended ends) there in absurd (let kinds = same.kind_is in cc))
+    (λ p b c t there from less creates. grouped_limit c t
+    (let same = one_region rs n parent p begin b Taskgroup Taskgroup (ended ends) there in let begins = same.begin_is in omega (arith, begins, from)) less
+    (creates ∙ ap (λ x. Some (x, t)) (sym (one_region rs n parent p begin b Taskgroup Taskgroup (ended ends) there).task_is))))
+  where
+    no_creation : at creation rs n ≡ None
+    no_creation = of (at creation rs n) refl
+      where
+        of : (o : Option (ℕ × ℕ)) → at creation rs n ≡ o → o ≡ None
+        of None e = refl
+        of (Some (p, t)) e = absurd (creates_no_region rs n p t parent Taskgroup End e ends.ends)
+
+    heads_are : after.heads.items ≡ set before.heads.items own (Some (length nodes))
+    heads_are = heads ∙ ap (λ k. set before.heads.items own (Some k)) (sym are.count)
+
+    makes : (other born : ℕ) → at creation rs (length nodes) ≡ Some (other, born) → (other ≡ parent) × IsFamilyLimit rs born new.limit
+    makes other born made_it = absurd (none-some (other, born) (sym no_creation ∙ ap (at creation rs) (sym are.count) ∙ made_it))
+
+    weaker : (born : ℕ) (node : Node) → IsFamilyLimit rs born node.limit → node.limit ≤ new.limit → IsFamilyLimit rs born new.limit
+    weaker born node limit low m t small at_most of = limit m t small (omega (arith, low, at_most)) of
+
+    kept : (c born : ℕ) (first : Option ℕ) → slice_get before.heads.items own ≡ Some first → c < length nodes → HasNode rs nodes first c born → HasNode rs nodes new.previous c born ⊎ IsFamilyLimit rs born new.limit
+    kept c born first stands less has =
+        let P : Option ℕ → Type 0 = λ h. IsOnChain nodes h has.place in
+        let on : IsOnChain nodes head has.place = subst P (same_Some first head (sym stands ∙ head_there)) has.on in
+        elim (cases_lt begin has.place) [
+          | inl later ↦ inr (weaker born has.node has.limit (gathered.within has.place has.node on later has.there))
+          | inr earlier ↦ inl record { place = has.place; node = has.node; on = gathered.rest has.place on earlier; there = has.there; after = has.after; limit = has.limit }
+        ]
+
+    grouped_limit : (c born : ℕ) → begin ≤ c → c < n → at creation rs c ≡ Some (parent, born) → IsFamilyLimit rs born new.limit
+    grouped_limit c born from less creates =
+        let count = are.count in
+        let has = are.chains.each own parent c born head is_own head_there (omega (arith, less, count)) creates in
+        let begins = own_begin rs n parent begin Taskgroup ends in
+        let apart_from : c ≢ begin = λ same. creates_no_region rs c parent born parent begins.kind Begin creates (ap (at region rs) same ∙ begins.begins) in
+        let after = has.after in
+        let later : begin < has.place = elim (cases_eq c begin) [ | inl same ↦ absurd (apart_from same) | inr other ↦ omega (arith, from, after, other) ] in
+        weaker born has.node has.limit (gathered.within has.place has.node has.on later has.there)
+
+-- the begin that is found for the end of a region
+pub begin_found : (rs : List Record) (i task begin found : ℕ) (kind : SyncKind) (slot : Option ℕ) → IsBegin rs i task kind slot → EndsRegion rs i task kind begin → slot ≡ Some found → found ≡ begin
+begin_found rs i task begin found kind slot known ends is =
+    let there = known ends.ends in
+    let same = one_region rs i task task there.0 begin kind kind (ended there.2) (ended ends) in
+    same_Some found there.0 (sym is ∙ there.1) ∙ same.begin_is
+
+pub begin_within : (rs : List Record) (i : ℕ) (found : ℕ) (slot : Option ℕ) → ((task : ℕ) (kind : SyncKind) → IsBegin rs i task kind slot) → ((task : ℕ) × (kind : SyncKind) × (at region rs i ≡ Some (task, kind, End))) → slot ≡ Some found → found < i
+begin_within rs i found slot known (task, kind, says) is =
+    let there = known task kind says in
+    let less = begin_before rs i task there.0 kind there.2 in
+    let same = same_Some found there.0 (sym is ∙ there.1) in
+    omega (arith, less, same)
+
+-- what is read at an index
+pub read_at : {X : Type 0} (table : List X) (index : ℕ) (x : X) → index < length table → x ≡ get_or table index x → slice_get table index ≡ Some x
+read_at table index x within is = slice_get-get_or table index x within ∙ ap Some (sym is)
+
+-- a record that creates
+pub creation_there : (rs : List Record) (i : ℕ) → (at creation rs i ≡ None → ⊥) → (parent child : ℕ) × (at creation rs i ≡ Some (parent, child))
+creation_there rs i some = of (at creation rs i) refl
+  where
+    of : (o : Option (ℕ × ℕ)) → at creation rs i ≡ o → (parent child : ℕ) × (at creation rs i ≡ Some (parent, child))
+    of None e = absurd (some e)
+    of (Some (parent, child)) e = (parent, child, e)
+
+-- ---- taskwaits, and records that say nothing
+
+no_creation : (rs : List Record) (i own : ℕ) (kind : SyncKind) (endpoint : Endpoint) → at region rs i ≡ Some (own, kind, endpoint) → at creation rs i ≡ None
+no_creation rs i own kind endpoint says = of (at creation rs i) refl
+  where
+    of : (o : Option (ℕ × ℕ)) → at creation rs i ≡ o → o ≡ None
+    of None e = refl
+    of (Some (p, t)) e = absurd (creates_no_region rs i p t own kind endpoint e says)
+
+-- what two readings of one record's region say
+same_says : (rs : List Record) (i task other : ℕ) (kind another : SyncKind) (e f : Endpoint) → at region rs i ≡ Some (task, kind, e) → at region rs i ≡ Some (other, another, f) → (task ≡ other) × (kind ≡ another) × (e ≡ f)
+same_says rs i task other kind another e f here there =
+    let same = same_Some (task, kind, e) (other, another, f) (sym here ∙ there) in
+    (ap (λ (p : ℕ × SyncKind × Endpoint). p.0) same, ap (λ (p : ℕ × SyncKind × Endpoint). p.1) same, ap (λ (p : ℕ × SyncKind × Endpoint). p.2) same)
+
+-- the end of a taskwait
+pub ended_noted : (rs : List Record) (n task : ℕ) (tasks : List ℕ) (nodes : List Node) (new : Node) (progress : Progress) → HaveNoBarriers rs → AreNoted rs n tasks nodes progress → at region rs n ≡ Some (task, Taskwait, End) → new.previous ≡ None → IsLimitOfBegin rs nodes n new.limit → AreNoted rs (n + 1) tasks (nodes ++ new ∷ []) progress
+ended_noted rs n task tasks nodes new progress none are says alone limit =
+    noted_alone rs n tasks nodes new progress are (no_creation rs n task Taskwait End says) alone
+    (λ t begins. absurd (let same = (same_says rs n task t Taskwait Taskwait End Begin says begins).2 in cc))
+    (end_limit_by rs n new.limit none waits (λ p b c t there from less creates. absurd (let ends = ends_at rs n p b Taskgroup there in let same = (same_says rs n task p Taskwait Taskgroup End ends.endpoint says ends.says).1 in cc)))
+  where
+    waits : (p b : ℕ) → IsRegion rs n p Taskwait b → IsChildLimit rs b p new.limit
+    waits p b (ended ends) =
+        let there = limit p b ends in
+        let begins = own_begin rs n p b Taskwait ends in
+        let kinds : begins.kind ≡ Taskwait = same_Some begins.kind Taskwait (sym (ap (option_map (λ (r : ℕ × SyncKind × Endpoint). r.1)) begins.begins) ∙ ends.same_kind) in
+        let P : ℕ → Type 0 = λ l. IsChildLimit rs b p l in
+        subst P there.2 (are.begins b p there.0 there.1 (begins.begins ∙ ap (λ k. Some (p, k, Begin)) kinds))
+    waits p b (at_once once) = absurd (let same = (same_says rs n task p Taskwait Taskwait End BeginEnd says once).2 in cc)
+
+-- the begin of one, or one that begins and ends at once
+pub begun_noted : (rs : List Record) (n task : ℕ) (endpoint : Endpoint) (tasks : List ℕ) (nodes : List Node) (new : Node) (progress : Progress) → HaveNoBarriers rs → AreNoted rs n tasks nodes progress → at region rs n ≡ Some (task, Taskwait, endpoint) → endpoint ≢ End → new.previous ≡ None → ((t : ℕ) → at subject rs n ≡ Some t → IsChildLimit rs n t new.limit) → AreNoted rs (n + 1) tasks (nodes ++ new ∷ []) progress
+begun_noted rs n task endpoint tasks nodes new progress none are says not_end alone limit =
+    noted_alone rs n tasks nodes new progress are (no_creation rs n task Taskwait endpoint says) alone
+    (λ t begins. mine t Begin begins)
+    (end_limit_by rs n new.limit none waits (λ p b c t there from less creates. absurd (let ends = ends_at rs n p b Taskgroup there in let same = (same_says rs n task p Taskwait Taskgroup endpoint ends.endpoint says ends.says).1 in cc)))
+  where
+    mine : (t : ℕ) (e : Endpoint) → at region rs n ≡ Some (t, Taskwait, e) → IsChildLimit rs n t new.limit
+    mine t e there = limit t (at_through region subject (t, Taskwait, e) t rs n (region_subject t Taskwait e) there)
+
+    waits : (p b : ℕ) → IsRegion rs n p Taskwait b → IsChildLimit rs b p new.limit
+    waits p b (ended ends) = absurd (not_end (same_says rs n task p Taskwait Taskwait endpoint End says ends.ends).2)
+    waits p b (at_once once) = mine p BeginEnd once
+
+-- a record that is no creation, no part of a taskwait and no end of a taskgroup that began before it
+pub silent_noted : (rs : List Record) (n : ℕ) (tasks : List ℕ) (nodes : List Node) (new : Node) (progress : Progress) → HaveNoBarriers rs → AreNoted rs n tasks nodes progress → at creation rs n ≡ None → ((task : ℕ) (endpoint : Endpoint) → at region rs n ≡ Some (task, Taskwait, endpoint) → ⊥) → ((task : ℕ) → at region rs n ≡ Some (task, Taskgroup, End) → ⊥) → new.previous ≡ None → AreNoted rs (n + 1) tasks (nodes ++ new ∷ []) progress
+silent_noted rs n tasks nodes new progress none are quiet no_wait no_group alone =
+    noted_alone rs n tasks nodes new progress are quiet alone
+    (λ t begins. absurd (no_wait t Begin begins))
+    (end_limit_by rs n new.limit none
+    (λ p b there. absurd (let ends = ends_at rs n p b Taskwait there in no_wait p ends.endpoint ends.says))
+    groups)
+  where
+    groups : (p b c t : ℕ) → IsRegion rs n p Taskgroup b → b ≤ c → c < n → at creation rs c ≡ Some (p, t) → IsFamilyLimit rs t new.limit
+    groups p b c t (ended ends) from less creates = absurd (no_group p ends.ends)
+    groups p b c t (at_once once) from less creates = absurd (omega (arith, from, less))
+
+pub not_some : {X : Type 0} {o : Option X} → is_some o ≡ false → o ≡ None
+not_some {o = None} nothing = refl
+not_some {o = Some x} nothing = absurd (false≢true (sym nothing))

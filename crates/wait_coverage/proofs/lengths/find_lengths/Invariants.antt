@@ -1,0 +1,6 @@
+use Rattle.wait_coverage.specs.Lengths.{AreLengths}
+use Rattle.wait_coverage.proofs.lengths.find_lengths.Given as goal
+
+-- the lengths by the records so far are known
+abbrev pub invariant-loop-at : goal.invariant-loop-at
+invariant-loop-at l = AreLengths l.records l.at l.family.tasks l.table.items

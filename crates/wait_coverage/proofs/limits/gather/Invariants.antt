@@ -1,0 +1,15 @@
+use Rattle.std.proofs.Common.{ℕ, ◌≡◌, ◌<◌, ◌+◌, length, Some, suc}
+use Rattle.std.specs.Option.{option_map_or}
+use Rattle.wait_coverage.proofs.ChainLemmas.{IsGathered}
+use Rattle.wait_coverage.proofs.limits.gather.Given as goal
+
+-- the nodes passed are at most the limit, the others still ahead
+abbrev pub invariant-nodes : goal.invariant-nodes
+invariant-nodes l = record {
+  gathered : IsGathered l.nodes l.fn.head l.begin l.limit l.rest;
+  known : (place : ℕ) → l.rest ≡ Some place → place < length l.nodes;
+}
+
+-- each link is to an earlier one
+abbrev pub decreases-nodes : goal.decreases-nodes
+decreases-nodes l = option_map_or (λ place. place + 1) l.rest 0

@@ -1,0 +1,256 @@
+//! From which ledger length on what the end of a region covers is finished.
+ghost use Rattle.std.specs.Prelude.{ℕ, ◌≡◌, ◌<◌, ◌≤◌, ◌+◌, ◌^◌, ◌↔◌, ◌++◌, ◌∷◌, [], Some, None, IfOk, IsTrue, length, replicate};
+ghost use Rattle.ompt_events.specs.Records.{creation, region};
+ghost use Rattle.ompt_events.specs.Places.{at as says_at};
+ghost use Rattle.task_tree.specs.Family.{IsFamilyOf};
+ghost use Rattle.task_states.specs.States.{AreStatesOf};
+ghost use Rattle.wait_coverage.specs.Done.{AreDone};
+ghost use Rattle.task_tree.specs.Subjects.{subject};
+ghost use Rattle.wait_coverage.specs.Limits.{HaveNoBarriers, IsChildLimit, IsLimitOfBegin, AreFalling, Gathers, AreLatest, AreNoted, AreEndLimits};
+
+use crate::done::Done;
+use ompt_events::{Body, Endpoint, Record, SyncKind};
+use std::alloc::{AllocError, Global};
+use task_states::States;
+use task_tree::{Family, Slot};
+
+/// What is noted at one record.
+#[derive(Clone, Copy, Debug, PartialEq, Eq)]
+pub(crate) struct Node {
+    /// The ledger length from which on tasks are finished: of a creation, the child and its descendants; of
+    /// the begin of a taskwait, the children so far; of the end of a region, what it covers.
+    limit: u64,
+    /// For a creation and the end of a taskgroup the one before of the same task, of those that are not in a
+    /// taskgroup that ended since.
+    previous: Slot,
+}
+
+/// What is known of each task, by its index, while the records are gone over.
+#[derive(Debug, Drop)]
+struct Progress {
+    /// The last node of the task that an end of a taskgroup may have to look at.
+    heads: Vec<Slot>,
+    /// The ledger length from which on the children so far are finished.
+    latest: Vec<u64>,
+}
+
+impl Node {
+    /// A node that no end of a taskgroup has to look at.
+    fn alone(limit: u64) -> Node
+        ensures limit { result.limit ≡ limit }
+        ensures alone { result.previous ≡ None }
+    {
+        Node {
+            limit,
+            previous: Slot::none(),
+        }
+    }
+}
+
+/// What is noted at each record.
+pub(crate) fn find_limits(
+    alloc: Global,
+    records: &[Record],
+    family: &Family,
+    states: &States,
+    done: &Done,
+) -> Result<Vec<Node>, AllocError>
+    requires few { length records.now ≤ 2 ^ 22 }
+    requires family { IsFamilyOf records.now family.now }
+    requires states { AreStatesOf records.now states.now }
+    requires no_barriers { HaveNoBarriers records.now }
+    requires done { AreDone records.now family.now.tasks done.now }
+    ensures { IfOk result (λ nodes. AreEndLimits records.now nodes.items) }
+{
+    let mut progress = no_progress(alloc, family.tasks().as_slice().len())?;
+    let mut nodes: Vec<Node> = Vec::with_capacity(alloc, records.len())?;
+    for at in 0..records.len() {
+        let node = node_at(records, family, states, done, nodes.as_slice(), &mut progress, at);
+        nodes.push(node)?;
+    }
+    Ok(nodes)
+}
+
+/// No record is gone over.
+fn no_progress(alloc: Global, tasks: usize) -> Result<Progress, AllocError>
+    ensures heads { IfOk result (λ progress. progress.heads.items ≡ replicate tasks None) }
+    ensures latest { IfOk result (λ progress. progress.latest.items ≡ replicate tasks 0) }
+{
+    Ok(Progress {
+        heads: vec![in alloc; Slot::none(); tasks]?,
+        latest: vec![in alloc; 0; tasks]?,
+    })
+}
+
+/// The node of the record at a place.
+fn node_at(
+    records: &[Record],
+    family: &Family,
+    states: &States,
+    done: &Done,
+    nodes: &[Node],
+    progress: &mut Progress,
+    at: usize,
+) -> Node
+    requires within { at < length records.now }
+    requires few { length records.now ≤ 2 ^ 22 }
+    requires family { IsFamilyOf records.now family.now }
+    requires states { AreStatesOf records.now states.now }
+    requires no_barriers { HaveNoBarriers records.now }
+    requires done { AreDone records.now family.now.tasks done.now }
+    requires noted { AreNoted records.now at family.now.tasks nodes.now progress.old }
+    ensures { AreNoted records.now (at + 1) family.now.tasks (nodes.now ++ result ∷ []) progress.new }
+{
+    let body = &records[at].body;
+    if body.creation().is_some() {
+        return create(records, family, done, nodes, progress, at);
+    }
+    if ends_taskgroup(body) {
+        return close(records, family, states, nodes, progress, at);
+    }
+    match taskwait_endpoint(body) {
+        Some(endpoint) => match endpoint {
+            Endpoint::End => Node::alone(limit_of_begin(records, states, nodes, at)),
+            Endpoint::Begin | Endpoint::BeginEnd => {
+                Node::alone(latest_limit(records, family, progress.latest.as_slice(), at))
+            }
+        },
+        None => Node::alone(0),
+    }
+}
+
+/// Whether the record ends a taskgroup that it did not begin itself.
+fn ends_taskgroup(body: &Body) -> bool
+    ensures { IsTrue result ↔ ((task : ℕ) × (region body.now ≡ Some (task, SyncKind.Taskgroup, Endpoint.End))) }
+{
+    match body.region() {
+        Some((_, SyncKind::Taskgroup, Endpoint::End)) => true,
+        _ => false,
+    }
+}
+
+/// Whether the record begins or ends a taskwait, or both.
+fn taskwait_endpoint(body: &Body) -> Option<Endpoint>
+    ensures { (endpoint : Endpoint) → (result ≡ Some endpoint)
+        ↔ ((task : ℕ) × (region body.now ≡ Some (task, SyncKind.Taskwait, endpoint))) }
+{
+    match body.region() {
+        Some((_, SyncKind::Taskwait, endpoint)) => Some(endpoint),
+        _ => None,
+    }
+}
+
+/// The node of a creation, which is the child's.
+fn create(
+    records: &[Record],
+    family: &Family,
+    done: &Done,
+    nodes: &[Node],
+    progress: &mut Progress,
+    at: usize,
+) -> Node
+    requires within { at < length records.now }
+    requires few { length records.now ≤ 2 ^ 22 }
+    requires family { IsFamilyOf records.now family.now }
+    requires no_barriers { HaveNoBarriers records.now }
+    requires creates { says_at creation records.now at ≡ None → ⊥ }
+    requires done { AreDone records.now family.now.tasks done.now }
+    requires noted { AreNoted records.now at family.now.tasks nodes.now progress.old }
+    ensures { AreNoted records.now (at + 1) family.now.tasks (nodes.now ++ result ∷ []) progress.new }
+{
+    let Some(parent) = family.subject(at) else {
+        return Node::alone(0);
+    };
+    let Some(child) = family.object(at) else {
+        return Node::alone(0);
+    };
+    let previous = progress.heads[parent];
+    progress.heads[parent] = Slot::some(at);
+    progress.latest[parent] = progress.latest[parent].max(done.own[child]);
+    Node {
+        limit: done.families[child],
+        previous,
+    }
+}
+
+/// The node of the end of a taskgroup, which stands for all that were created in it.
+fn close(
+    records: &[Record],
+    family: &Family,
+    states: &States,
+    nodes: &[Node],
+    progress: &mut Progress,
+    at: usize,
+) -> Node
+    requires within { at < length records.now }
+    requires few { length records.now ≤ 2 ^ 22 }
+    requires family { IsFamilyOf records.now family.now }
+    requires states { AreStatesOf records.now states.now }
+    requires no_barriers { HaveNoBarriers records.now }
+    requires ends { (task : ℕ) × (says_at region records.now at ≡ Some (task, SyncKind.Taskgroup, Endpoint.End)) }
+    requires noted { AreNoted records.now at family.now.tasks nodes.now progress.old }
+    ensures { AreNoted records.now (at + 1) family.now.tasks (nodes.now ++ result ∷ []) progress.new }
+{
+    let Some(parent) = family.subject(at) else {
+        return Node::alone(0);
+    };
+    let Some(begin) = states.begin(at) else {
+        return Node::alone(0);
+    };
+    let node = gather(nodes, progress.heads[parent], begin);
+    progress.heads[parent] = Slot::some(at);
+    node
+}
+
+/// One node for those of a chain that are later than the begin.
+fn gather(nodes: &[Node], head: Slot, begin: usize) -> Node
+    requires falling { AreFalling nodes.now }
+    requires known { (place : ℕ) → head ≡ Some place → place < length nodes.now }
+    ensures { Gathers nodes.now head begin result }
+{
+    let mut limit: u64 = 0;
+    let mut rest = head;
+    'nodes: while let Some(place) = later(rest, begin) {
+        limit = limit.max(nodes[place].limit);
+        rest = nodes[place].previous;
+    }
+    Node {
+        limit,
+        previous: rest,
+    }
+}
+
+/// The place in the slot, if it is later than the begin.
+fn later(slot: Slot, begin: usize) -> Option<usize>
+    ensures { (place : ℕ) → (result ≡ Some place) ↔ ((slot ≡ Some place) × (begin < place)) }
+{
+    match slot.get() {
+        Some(place) if place > begin => Some(place),
+        _ => None,
+    }
+}
+
+/// The limit at the begin of the taskwait that ends at the place.
+fn limit_of_begin(records: &[Record], states: &States, nodes: &[Node], at: usize) -> u64
+    requires states { AreStatesOf records.now states.now }
+    requires count { length nodes.now ≡ at }
+    requires ends { (task : ℕ) × (says_at region records.now at ≡ Some (task, SyncKind.Taskwait, Endpoint.End)) }
+    ensures { IsLimitOfBegin records.now nodes.now at result }
+{
+    match states.begin(at) {
+        Some(begin) => nodes[begin].limit,
+        None => 0,
+    }
+}
+
+/// The limit so far of the task that the record at a place is of; 0 where it is of none.
+fn latest_limit(records: &[Record], family: &Family, latest: &[u64], at: usize) -> u64
+    requires family { IsFamilyOf records.now family.now }
+    requires latest { AreLatest records.now at family.now.tasks latest.now }
+    ensures { (task : ℕ) → says_at subject records.now at ≡ Some task → IsChildLimit records.now at task result }
+{
+    match family.subject(at) {
+        Some(index) => latest[index],
+        None => 0,
+    }
+}
