@@ -119,13 +119,13 @@ raised_step family order floor limits new passed index first less here within is
 -- ---- from parents to descendants
 
 -- a task that is created has an index, as has its parent
-record HasIndices (rs : List Record) (tasks : List ℕ) (parent task : ℕ) : Type 0 where
+pub record HasIndices (rs : List Record) (tasks : List ℕ) (parent task : ℕ) : Type 0 where
   pub index : ℕ
   pub up : ℕ
   pub is_task : slice_get tasks index ≡ Some task
   pub is_parent : slice_get tasks up ≡ Some parent
 
-indices_of : (rs : List Record) (family : FamilyView) (i parent task : ℕ) → IsFamilyOf rs family → at creation rs i ≡ Some (parent, task) → HasIndices rs family.tasks parent task
+pub indices_of : (rs : List Record) (family : FamilyView) (i parent task : ℕ) → IsFamilyOf rs family → at creation rs i ≡ Some (parent, task) → HasIndices rs family.tasks parent task
 indices_of rs family i parent task are creates =
     let own = contains_get family.tasks task (are.noted.each i task (at_within creation rs i (parent, task) creates) (creation_made rs parent task i creates)) in
     let up = contains_get family.tasks parent (parent_noted rs family.tasks i parent task are.noted are.rooted creates) in

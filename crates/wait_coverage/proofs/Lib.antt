@@ -11,3 +11,4 @@ pub mod OrderLemmas
 pub mod DoneLemmas
 pub mod ChainLemmas
 pub mod LimitLemmas
+pub mod WaitLemmas

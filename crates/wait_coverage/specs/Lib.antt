@@ -5,3 +5,4 @@ pub mod Spans
 pub mod Lengths
 pub mod Done
 pub mod Limits
+pub mod Waits

@@ -7,5 +7,6 @@ mod done;
 mod lengths;
 mod limits;
 mod order;
+mod waits;
 
 pub mod laws;

@@ -1,0 +1,8 @@
+use Rattle.std.proofs.Common.{ℕ, ◌<◌}
+use Rattle.wait_coverage.specs.declared.waits.Wait.{Wait}
+use Rattle.wait_coverage.specs.Waits.{AreAwaited, IsLateAt}
+use Rattle.wait_coverage.proofs.waits.first_late.Given as goal
+
+-- no task created so far is late
+abbrev pub invariant-loop-place : goal.invariant-loop-place
+invariant-loop-place l = (wait : Wait) → AreAwaited l.records l.family.tasks wait l.marks → (k task : ℕ) → k < l.place → IsLateAt l.records l.family.tasks wait l.seen k task → ⊥

@@ -1,0 +1,117 @@
+-- What the end of a region waits for, by the places of the creations, and what of it is unfinished.
+use Rattle.std.specs.Prelude.{ℕ, ◌≡◌, ◌<◌, ◌≤◌, ◌⊎◌, ◌↔◌, Bool, false, IsTrue, List, length, Some, slice_get, slice_index_or}
+use Rattle.ompt_events.specs.declared.records.Record.{Record}
+use Rattle.ompt_events.specs.declared.records.Body.{Body}
+use Rattle.ompt_events.specs.declared.names.Endpoint.{Endpoint}
+use Rattle.ompt_events.specs.declared.names.Endpoint.TheVariants.{Begin}
+use Rattle.ompt_events.specs.declared.names.SyncKind.{SyncKind}
+use Rattle.ompt_events.specs.declared.names.SyncKind.TheVariants.{Taskwait, Taskgroup}
+use Rattle.ompt_events.specs.Records.{creation, created, region}
+use Rattle.ompt_events.specs.Places.{at}
+use Rattle.ompt_events.specs.Regions.{IsRegion}
+use Rattle.ompt_events.specs.Coverage.{Covers, IsFamily}
+use Rattle.ompt_events.specs.Completion.{IsCompleteAt}
+use Rattle.task_tree.specs.Family.{FamilyView}
+use Rattle.task_tree.specs.Lineage.{parent_index}
+use Rattle.credit_ledger.specs.declared.entry.Cover.{Cover}
+use Rattle.credit_ledger.specs.declared.entry.Cover.TheVariants.{Children, Descendants}
+use Rattle.wait_coverage.specs.Entries.{IsDone}
+use Rattle.wait_coverage.specs.Spans.{IsCoverComplete}
+use Rattle.wait_coverage.specs.declared.waits.Wait.{Wait}
+
+-- ---- what a wait is for
+
+-- the wait that ends at i: for the children created before a taskwait began, or for those created in a
+-- taskgroup, with their descendants
+pub data IsWaitAt (rs : List Record) (tasks : List ℕ) (i : ℕ) : Wait → Type 0 where
+  waits : {parent begin index : ℕ} → slice_get tasks index ≡ Some parent → IsRegion rs i parent Taskwait begin
+      → IsWaitAt rs tasks i (record { task = index; from = 0; to = begin; cover = Children })
+  groups : {parent begin index : ℕ} → slice_get tasks index ≡ Some parent → IsRegion rs i parent Taskgroup begin
+      → IsWaitAt rs tasks i (record { task = index; from = begin; to = i; cover = Descendants })
+
+-- the child is created while the wait's children are
+pub record IsOwnChild (rs : List Record) (tasks : List ℕ) (wait : Wait) (child : ℕ) : Type 0 where
+  pub parent : ℕ
+  pub place : ℕ
+  pub is_parent : slice_get tasks wait.task ≡ Some parent
+  pub from : wait.from ≤ place
+  pub before : place < wait.to
+  pub creates : at creation rs place ≡ Some (parent, child)
+
+-- one of the tasks that are waited for: a child, or one of its family
+abbrev pub IsAwaitedBy : List Record → List ℕ → ℕ → Wait → Cover → Type 0
+IsAwaitedBy rs tasks task wait Children = IsOwnChild rs tasks wait task
+IsAwaitedBy rs tasks task wait Descendants = (child : ℕ) × IsOwnChild rs tasks wait child × IsFamily rs child task
+
+abbrev pub IsAwaited : List Record → List ℕ → Wait → ℕ → Type 0
+IsAwaited rs tasks wait task = IsAwaitedBy rs tasks task wait wait.cover
+
+-- at the index of each task stands whether it is waited for
+pub record AreAwaited (rs : List Record) (tasks : List ℕ) (wait : Wait) (marks : List Bool) : Type 0 where
+  pub all : length marks ≡ length tasks
+  pub each : (index task : ℕ) → slice_get tasks index ≡ Some task
+      → IsTrue (slice_index_or marks index false) ↔ IsAwaited rs tasks wait task
+
+-- the same of the tasks at the first n places of an order
+pub record AreMarked (rs : List Record) (tasks : List ℕ) (wait : Wait) (order : List ℕ) (n : ℕ) (marks : List Bool) : Type 0 where
+  pub all : length marks ≡ length tasks
+  pub each : (place index task : ℕ) → place < n → slice_get order place ≡ Some index
+      → slice_get tasks index ≡ Some task
+      → IsTrue (slice_index_or marks index false) ↔ IsAwaited rs tasks wait task
+
+-- of the parent of the task at the index it is known whether it is waited for
+abbrev pub IsMarkedAbove : List Record → FamilyView → Wait → List Bool → ℕ → Type 0
+IsMarkedAbove rs family wait marks index = (up parent : ℕ) → parent_index family index ≡ Some up
+    → slice_get family.tasks up ≡ Some parent
+    → IsTrue (slice_index_or marks up false) ↔ IsAwaited rs family.tasks wait parent
+
+-- the record ends no wait for tasks
+abbrev pub EndsNoWait : Body → Type 0
+EndsNoWait body = (task : ℕ) (kind : SyncKind) (endpoint : Endpoint)
+    → region body ≡ Some (task, kind, endpoint) → (endpoint ≡ Begin)
+    ⊎ ((kind ≡ Taskwait → ⊥) × (kind ≡ Taskgroup → ⊥))
+
+-- the kind of region whose end waits so
+abbrev pub kind_of : Cover → SyncKind
+kind_of Children = Taskwait
+kind_of Descendants = Taskgroup
+
+-- the record ends a wait for these tasks
+abbrev pub EndsWaitFor : Body → Cover → Type 0
+EndsWaitFor body cover = (task : ℕ) × (endpoint : Endpoint)
+    × (region body ≡ Some (task, kind_of cover, endpoint)) × (endpoint ≡ Begin → ⊥)
+
+-- the region that ends at i began there
+abbrev pub IsBeginOf : List Record → ℕ → ℕ → Type 0
+IsBeginOf rs i begin = (task : ℕ) (kind : SyncKind) (endpoint : Endpoint)
+    → at region rs i ≡ Some (task, kind, endpoint) → IsRegion rs i task kind begin
+
+-- ---- what is unfinished
+
+-- the end at i covers the task, which is unfinished there
+pub record IsOpen (rs : List Record) (i task : ℕ) : Type 0 where
+  pub covered : Covers rs i task
+  pub incomplete : IsCompleteAt rs task i → ⊥
+
+-- of the tasks that the end at i covers and that are unfinished there this one was created first in file order
+pub record IsFirstOpen (rs : List Record) (i task : ℕ) : Type 0 where
+  pub is_open : IsOpen rs i task
+  pub creation : ℕ
+  pub is_created : at created rs creation ≡ Some task
+  pub created_first : (k other : ℕ) → k < creation → at created rs k ≡ Some other → IsOpen rs i other → ⊥
+
+-- at the first end with an unfinished task the one of them that was created first
+pub record IsFirstOpenEnd (rs : List Record) (i task : ℕ) : Type 0 where
+  pub first_open : IsFirstOpen rs i task
+  pub before : (k : ℕ) → k < i → IsCoverComplete rs k
+
+-- the task that is created there is waited for, and not finished by entries below the length seen
+abbrev pub IsLateAt : List Record → List ℕ → Wait → ℕ → ℕ → ℕ → Type 0
+IsLateAt rs tasks wait seen place task =
+    (at created rs place ≡ Some task) × IsAwaited rs tasks wait task × (IsDone rs seen task → ⊥)
+
+-- the first such task
+pub record IsFirstLate (rs : List Record) (tasks : List ℕ) (wait : Wait) (seen task : ℕ) : Type 0 where
+  pub place : ℕ
+  pub late : IsLateAt rs tasks wait seen place task
+  pub first : (k other : ℕ) → k < place → IsLateAt rs tasks wait seen k other → ⊥
