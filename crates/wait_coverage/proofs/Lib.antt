@@ -12,3 +12,4 @@ pub mod DoneLemmas
 pub mod ChainLemmas
 pub mod LimitLemmas
 pub mod WaitLemmas
+pub mod OpenLemmas

@@ -6,3 +6,4 @@ pub mod Lengths
 pub mod Done
 pub mod Limits
 pub mod Waits
+pub mod Known

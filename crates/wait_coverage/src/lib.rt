@@ -7,6 +7,9 @@ mod done;
 mod lengths;
 mod limits;
 mod order;
+mod unfinished;
 mod waits;
 
 pub mod laws;
+
+pub use unfinished::find_open;

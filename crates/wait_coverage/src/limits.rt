@@ -19,7 +19,7 @@ use task_tree::{Family, Slot};
 pub(crate) struct Node {
     /// The ledger length from which on tasks are finished: of a creation, the child and its descendants; of
     /// the begin of a taskwait, the children so far; of the end of a region, what it covers.
-    limit: u64,
+    pub(crate) limit: u64,
     /// For a creation and the end of a taskgroup the one before of the same task, of those that are not in a
     /// taskgroup that ended since.
     previous: Slot,

@@ -1,0 +1,138 @@
+-- What of the tasks that an end covers is unfinished there.
+use Rattle.std.proofs.Common.{◌≡◌, ◌≢◌, ◌∙◌, ℕ, ◌<◌, ◌≤◌, ◌+◌, ◌^◌, List, length, drop, get_or, Option, Some, None, refl, sym, ap, subst, arith, inl, inr, ◌⊎◌}
+use Rattle.std.proofs.lemmas.Bool.{cases_lt}
+use Rattle.std.proofs.lemmas.Option.{none-some, same_Some, slice_get_within, slice_get-get_or}
+use Rattle.std.specs.Prelude.{◌↔◌, MatchOption, slice_get, Contains}
+use Rattle.ompt_events.specs.declared.records.Record.{Record}
+use Rattle.ompt_events.specs.declared.names.SyncKind.{SyncKind}
+use Rattle.ompt_events.specs.declared.names.SyncKind.TheVariants.{Taskwait, Taskgroup}
+use Rattle.ompt_events.specs.Records.{created, creation}
+use Rattle.ompt_events.specs.Places.{at, seen_at}
+use Rattle.ompt_events.specs.Tree.{children_before, children_between, child_number, IsExplicit, IsDescendant, child, deeper}
+use Rattle.ompt_events.specs.Regions.{IsRegion}
+use Rattle.ompt_events.specs.Coverage.{Covers, IsFamily, waited, grouped}
+use Rattle.ompt_events.specs.Completion.{IsCompleteAt}
+use Rattle.ompt_events.proofs.RecordLemmas.{creation_at_created}
+use Rattle.ompt_events.proofs.TreeLemmas.{child_before}
+use Rattle.credit_ledger.specs.declared.entry.Cover.{Cover}
+use Rattle.credit_ledger.specs.declared.entry.Cover.TheVariants.{Children, Descendants}
+use Rattle.wait_coverage.specs.Entries.{IsDone}
+use Rattle.wait_coverage.specs.Spans.{IsCoverComplete}
+use Rattle.wait_coverage.specs.Limits.{HaveNoBarriers, AreEndLimits}
+use Rattle.wait_coverage.specs.Waits.{IsWaitAt, waits, groups, IsOwnChild, IsAwaitedBy, IsAwaited, IsOpen, IsFirstOpen, IsFirstOpenEnd, IsLateAt, IsFirstLate}
+use Rattle.wait_coverage.specs.declared.waits.Wait.{Wait}
+use Rattle.wait_coverage.specs.declared.limits.Node.{Node}
+use Rattle.wait_coverage.proofs.CoverLemmas.{EndsAt, ends_at, one_region, child_with, child_stays, dropped, done_there, complete_there}
+use Rattle.wait_coverage.proofs.CompleteLemmas.{done_or_not}
+use Rattle.wait_coverage.proofs.StandLemmas.{created_child}
+use Rattle.wait_coverage.proofs.LimitLemmas.{covers_cases}
+
+-- ---- what is waited for is what is covered
+
+-- numbers of children rise
+number_rises : (rs : List Record) (parent n m : ℕ) → n ≤ m → m ≤ length rs → child_number rs parent n ≤ child_number rs parent m
+number_rises rs parent n m less inside = elim (cases_lt (child_number rs parent m) (child_number rs parent n)) [
+  | inl more ↦
+      let found = child_with rs parent n (child_number rs parent m) (omega (arith, less, inside)) more in
+      let past = slice_get_within (children_before rs parent m) (child_number rs parent m) found.0 (child_stays rs parent n m (child_number rs parent m) found.0 found.1.there less) in
+      absurd (omega (arith, past))
+  | inr at_most ↦ at_most
+]
+
+between : (rs : List Record) (parent begin i c task : ℕ) → c < length rs → begin ≤ c → c < i → at creation rs c ≡ Some (parent, task) → Contains (children_between rs parent begin i) task
+between rs parent begin i c task inside from before creates =
+    dropped (children_before rs parent i) (child_number rs parent begin) (child_number rs parent c) task
+    (number_rises rs parent begin c from (omega (arith, inside))) (created_child rs c parent task i creates before)
+
+awaited_covered : (rs : List Record) (tasks : List ℕ) (i task : ℕ) (wait : Wait) → IsWaitAt rs tasks i wait → IsAwaited rs tasks wait task → Covers rs i task
+awaited_covered rs tasks i task wait (waits {parent = parent} {begin = begin} is_parent there) own =
+    let same = same_Some own.parent parent (sym own.is_parent ∙ is_parent) in
+    waited there (child_before rs parent task begin own.place own.before (own.creates ∙ ap (λ p. Some (p, task)) same))
+awaited_covered rs tasks i task wait (groups {parent = parent} {begin = begin} is_parent there) (first, own, of) =
+    let same = same_Some own.parent parent (sym own.is_parent ∙ is_parent) in
+    let ends = ends_at rs i parent begin Taskgroup there in
+    let inside = ends.inside in
+    let before = own.before in
+    grouped there (between rs parent begin i own.place first (omega (arith, inside, before)) own.from own.before (own.creates ∙ ap (λ p. Some (p, first)) same)) of
+
+covered_awaited : (rs : List Record) (tasks : List ℕ) (i task : ℕ) (wait : Wait) → HaveNoBarriers rs → IsWaitAt rs tasks i wait → Covers rs i task → IsAwaited rs tasks wait task
+covered_awaited rs tasks i task wait none (waits {parent = parent} {begin = begin} is_parent there) covers = elim (covers_cases rs i task none covers) [
+  | inl one ↦
+      let same = one_region rs i one.parent parent one.begin begin Taskwait Taskwait one.is_region there in
+      let begins = same.begin_is in
+      let before = one.before in
+      record { parent = parent; place = one.place; is_parent = is_parent; from = omega arith; before = omega (arith, begins, before); creates = one.creates ∙ ap (λ p. Some (p, task)) same.task_is }
+  | inr one ↦ let same = (one_region rs i one.parent parent one.begin begin Taskgroup Taskwait one.is_region there).kind_is in absurd (cc)
+]
+covered_awaited rs tasks i task wait none (groups {parent = parent} {begin = begin} is_parent there) covers = elim (covers_cases rs i task none covers) [
+  | inl one ↦ let same = (one_region rs i one.parent parent one.begin begin Taskwait Taskgroup one.is_region there).kind_is in absurd (cc)
+  | inr one ↦
+      let same = one_region rs i one.parent parent one.begin begin Taskgroup Taskgroup one.is_region there in
+      let begins = same.begin_is in
+      let from = one.from in
+      (one.child, record { parent = parent; place = one.place; is_parent = is_parent; from = omega (arith, begins, from); before = one.before; creates = one.creates ∙ ap (λ p. Some (p, one.child)) same.task_is }, one.of)
+]
+
+-- ---- unfinished tasks
+
+-- what ends there
+wait_ends : (rs : List Record) (tasks : List ℕ) (i : ℕ) (wait : Wait) → IsWaitAt rs tasks i wait → (task begin : ℕ) × (kind : SyncKind) × EndsAt rs i task begin kind
+wait_ends rs tasks i wait (waits {parent = parent} {begin = begin} is_parent there) = (parent, begin, Taskwait, ends_at rs i parent begin Taskwait there)
+wait_ends rs tasks i wait (groups {parent = parent} {begin = begin} is_parent there) = (parent, begin, Taskgroup, ends_at rs i parent begin Taskgroup there)
+
+-- a task that is waited for was created
+awaited_created : (rs : List Record) (tasks : List ℕ) (task : ℕ) (wait : Wait) → IsAwaited rs tasks wait task → (place : ℕ) × (at created rs place ≡ Some task)
+awaited_created rs tasks task wait is = of wait.cover is
+  where
+    of : (cover : Cover) → IsAwaitedBy rs tasks task wait cover → (place : ℕ) × (at created rs place ≡ Some task)
+    of Children own = (own.place, creation_at_created own.parent task rs own.place own.creates)
+    of Descendants (first, own, inl same) = (own.place, creation_at_created own.parent first rs own.place own.creates ∙ ap Some (sym same))
+    of Descendants (first, own, inr (child i creates)) = (i, creation_at_created first task rs i creates)
+    of Descendants (first, own, inr (deeper i {parent = parent} above creates)) = (i, creation_at_created parent task rs i creates)
+
+pub limit_complete : (rs : List Record) (i : ℕ) (nodes : List Node) (node : Node) (seen : ℕ) → AreEndLimits rs nodes → slice_get nodes i ≡ Some node → seen_at rs i ≡ seen → seen < 2 ^ 32 → node.limit ≤ seen → IsCoverComplete rs i
+limit_complete rs i nodes node seen are there names small low task covers =
+    let P : ℕ → Type 0 = λ n. IsDone rs n task in
+    complete_there rs i task (subst P (sym names) (are.known i node there seen task small low covers))
+
+pub none_complete : (rs : List Record) (i : ℕ) → ((task : ℕ) → Covers rs i task → ⊥) → IsCoverComplete rs i
+none_complete rs i none task covers = absurd (none task covers)
+
+pub late_open : (rs : List Record) (tasks : List ℕ) (i seen : ℕ) (wait : Wait) (found : Option ℕ) → HaveNoBarriers rs → IsWaitAt rs tasks i wait → seen_at rs i ≡ seen → MatchOption found ((place task : ℕ) → IsLateAt rs tasks wait seen place task → ⊥) (IsFirstLate rs tasks wait seen) → MatchOption found (IsCoverComplete rs i) (IsFirstOpen rs i)
+late_open rs tasks i seen wait None none is names in_time = λ task covers. elim (done_or_not rs seen task) [
+  | inl done ↦ complete_there rs i task (subst (done_below task) (sym names) done)
+  | inr not_done ↦
+      let awaited = covered_awaited rs tasks i task wait none is covers in
+      let place = awaited_created rs tasks task wait awaited in
+      absurd (in_time place.0 task (place.1, awaited, not_done))
+]
+  where
+    done_below : ℕ → ℕ → Type 0
+    done_below t n = IsDone rs n t
+late_open rs tasks i seen wait (Some task) none is names late = record {
+  is_open = record {
+    covered = awaited_covered rs tasks i task wait is late.late.1;
+    incomplete = λ complete. late.late.2 (subst (done_below task) names (done_there rs i ends.0 task ends.2 ends.3.endpoint ends.3.says complete));
+  };
+  creation = late.place;
+  is_created = late.late.0;
+  created_first = λ k other below creates is_open. late.first k other below (creates, covered_awaited rs tasks i other wait none is is_open.covered, λ done. is_open.incomplete (complete_there rs i other (subst (done_below other) (sym names) done)));
+}
+  where
+    done_below : ℕ → ℕ → Type 0
+    done_below t n = IsDone rs n t
+
+    ends : (own begin : ℕ) × (kind : SyncKind) × EndsAt rs i own begin kind
+    ends = wait_ends rs tasks i wait is
+
+-- ---- all ends
+
+pub first_open_end : (rs : List Record) (i task : ℕ) → ((k : ℕ) → k < i → IsCoverComplete rs k) → IsFirstOpen rs i task → IsFirstOpenEnd rs i task
+first_open_end rs i task before first = record { first_open = first; before = before }
+
+-- past the last record nothing is covered
+pub complete_whole : (rs : List Record) (n : ℕ) → HaveNoBarriers rs → ((k : ℕ) → k < n → IsCoverComplete rs k) → length rs ≤ n → (i : ℕ) → IsCoverComplete rs i
+complete_whole rs n none before all i task covers = elim (covers_cases rs i task none covers) [
+  | inl one ↦ let inside = (ends_at rs i one.parent one.begin Taskwait one.is_region).inside in before i (omega (arith, inside, all)) task covers
+  | inr one ↦ let inside = (ends_at rs i one.parent one.begin Taskgroup one.is_region).inside in before i (omega (arith, inside, all)) task covers
+]
