@@ -1,5 +1,5 @@
 -- What records that a check takes don't say.
-use Rattle.std.proofs.Common.{◌≡◌, ◌∙◌, ℕ, ◌+◌, ◌<◌, ◌≤◌, List, length, take, get_or, Option, Some, None, true, refl, sym, ap, subst}
+use Rattle.std.proofs.Common.{◌≡◌, ◌∙◌, ℕ, ◌+◌, ◌<◌, ◌≤◌, List, length, take, get_or, Option, Some, None, true, false, refl, sym, ap, subst}
 use Rattle.std.specs.Prelude.{slice_get, option_and_then}
 use Rattle.std.proofs.lemmas.Bool.{false≢true}
 use Rattle.std.proofs.lemmas.List.{take_all}
@@ -10,12 +10,13 @@ use Rattle.ompt_events.specs.declared.records.Body.{Body}
 use Rattle.ompt_events.specs.declared.records.Body.TheVariants.{Dependences, SyncRegion}
 use Rattle.ompt_events.specs.declared.names.Endpoint.{Endpoint}
 use Rattle.ompt_events.specs.declared.names.SyncKind.{SyncKind}
-use Rattle.ompt_events.specs.declared.names.SyncKind.TheVariants.{Taskwait}
+use Rattle.ompt_events.specs.declared.names.SyncKind.TheVariants.{Taskwait, Taskgroup, Reduction}
 use Rattle.ompt_events.specs.declared.deps.Dep.{Dep}
 use Rattle.ompt_events.specs.Records.{dependences, region}
 use Rattle.ompt_events.specs.Places.{at}
-use Rattle.checker.specs.Audited.{is_audited, AreAudited}
-use Rattle.checker.specs.Waits.{AreTaskwaits, HaveNoDependences}
+use Rattle.ompt_events.specs.Regions.{is_barrier}
+use Rattle.wait_coverage.specs.Limits.{HaveNoBarriers}
+use Rattle.checker.specs.Audited.{is_audited, AreAudited, HaveNoDependences}
 
 pub audited_at : (rs : List Record) → AreAudited rs → (i : ℕ) (r : Record) → slice_get rs i ≡ Some r → is_audited r.body ≡ true
 audited_at rs are i r stands =
@@ -45,19 +46,24 @@ lists_none : (b : Body) (x : ℕ × List Dep) → is_audited b ≡ true → depe
 lists_none (Dependences task list) x ok says = false≢true ok
 lists_none _ x ok says = none-some x says
 
-region_waits : (b : Body) (x : ℕ × SyncKind × Endpoint) → is_audited b ≡ true → region b ≡ Some x → x.1 ≡ Taskwait
-region_waits (SyncRegion Taskwait endpoint parallel own) x ok says = sym (ap (λ (p : ℕ × SyncKind × Endpoint). p.1) (same_Some (own, Taskwait, endpoint) x says))
-region_waits (SyncRegion kind endpoint parallel own) x ok says = absurd (false≢true ok)
-region_waits _ x ok says = absurd (none-some x says)
+not_one : (kind : SyncKind) (own : ℕ) (endpoint : Endpoint) (x : ℕ × SyncKind × Endpoint) → is_barrier kind ≡ false → Some (own, kind, endpoint) ≡ Some x → is_barrier x.1 ≡ true → ⊥
+not_one kind own endpoint x not_barrier says barrier = false≢true (sym not_barrier ∙ ap (λ (p : ℕ × SyncKind × Endpoint). is_barrier p.1) (same_Some (own, kind, endpoint) x says) ∙ barrier)
+
+no_barrier : (b : Body) (x : ℕ × SyncKind × Endpoint) → is_audited b ≡ true → region b ≡ Some x → is_barrier x.1 ≡ true → ⊥
+no_barrier (SyncRegion Taskwait endpoint parallel own) x ok says barrier = not_one Taskwait own endpoint x refl says barrier
+no_barrier (SyncRegion Taskgroup endpoint parallel own) x ok says barrier = not_one Taskgroup own endpoint x refl says barrier
+no_barrier (SyncRegion Reduction endpoint parallel own) x ok says barrier = not_one Reduction own endpoint x refl says barrier
+no_barrier (SyncRegion kind endpoint parallel own) x ok says barrier = false≢true ok
+no_barrier _ x ok says barrier = none-some x says
 
 -- ---- the same at a place
 
 pub no_dependences : (rs : List Record) → AreAudited rs → HaveNoDependences rs
 no_dependences = never dependences lists_none
 
-pub only_waits : (rs : List Record) → AreAudited rs → AreTaskwaits rs
-only_waits rs are i task kind endpoint says = there (slice_get rs i) refl says
+pub no_barriers : (rs : List Record) → AreAudited rs → HaveNoBarriers rs
+no_barriers rs are i task kind endpoint says = there (slice_get rs i) refl says
   where
-    there : (o : Option Record) → slice_get rs i ≡ o → option_and_then (λ (r : Record). region r.body) o ≡ Some (task, kind, endpoint) → kind ≡ Taskwait
+    there : (o : Option Record) → slice_get rs i ≡ o → option_and_then (λ (r : Record). region r.body) o ≡ Some (task, kind, endpoint) → is_barrier kind ≡ true → ⊥
     there None e says' = absurd (none-some (task, kind, endpoint) says')
-    there (Some r) e says' = region_waits r.body (task, kind, endpoint) (audited_at rs are i r e) says'
+    there (Some r) e says' = no_barrier r.body (task, kind, endpoint) (audited_at rs are i r e) says'

@@ -9,4 +9,3 @@ mod MergingLemmas
 mod ScheduleLemmas
 mod PhaseLemmas
 mod VerdictLemmas
-mod WaitLemmas

@@ -10,10 +10,14 @@ use Rattle.ompt_events.specs.Places.{at, places}
 use Rattle.ompt_events.specs.HappensBefore.{IsStep, ledger, step}
 use Rattle.ompt_events.specs.Linearization.{IsLinearization, IsGreedy, IsFirstReady}
 use Rattle.ompt_events.specs.Completion.{IsPartFinished, CountsIn, CountsAt, IsCompleteIn, IsCompleteAt}
+use Rattle.ompt_events.specs.Coverage.{Covers}
+use Rattle.ompt_events.specs.Violations.{IsRequired, covered, preceding, awaited, IsFirstUnfinished}
 use Rattle.ompt_events.specs.Causes.{IsFreeOf, no_order}
-use Rattle.checker.specs.Verdicts.{sought, IsAlwaysComplete, IsApproved}
+use Rattle.wait_coverage.specs.Spans.{IsCoverComplete}
+use Rattle.wait_coverage.specs.Waits.{IsFirstOpenEnd}
+use Rattle.checker.specs.Audited.{HaveNoDependences}
+use Rattle.checker.specs.Verdicts.{sought, AreComplete, IsAlwaysComplete, IsApproved}
 use Rattle.checker.specs.Search.{IsClear}
-use Rattle.checker.specs.Waits.{AreComplete}
 use Rattle.std.proofs.lemmas.List.{length-take, get_or-take}
 use Rattle.std.proofs.lemmas.List.FromFn.{length-range_with_len, get_or-range_with_len}
 use Rattle.std.proofs.lemmas.List.Sorted.{IsPermutation-refl}
@@ -34,6 +38,28 @@ part_in rs order i task p linear (k, finishes, counts) = (k, finishes, counts_in
 pub complete_in : (rs : List Record) (order : List ℕ) (i task : ℕ) → IsLinearization rs order → IsCompleteAt rs task i → IsCompleteIn rs order task i
 complete_in rs order i task linear (inl whole) = inl (part_in rs order i task part.Whole linear whole)
 complete_in rs order i task linear (inr (body, event)) = inr (part_in rs order i task part.Body linear body, part_in rs order i task part.Event linear event)
+
+-- ---- what is required where no record lists dependences
+
+-- it is what an end covers
+required_covered : (rs : List Record) (i task : ℕ) → HaveNoDependences rs → IsRequired rs i task → Covers rs i task
+required_covered rs i task none (covered covers) = covers
+required_covered rs i task none (preceding explicit start before) = absurd (none before.depends.0 (_, before.depends.1) before.depends.2)
+required_covered rs i task none (awaited completes before) = absurd (none before.depends.0 (_, before.depends.1) before.depends.2)
+
+pub cover_complete : (rs : List Record) → HaveNoDependences rs → ((i : ℕ) → IsCoverComplete rs i) → (i : ℕ) → AreComplete rs i
+cover_complete rs none complete i task required = complete i task (required_covered rs i task none required)
+
+pub open_unfinished : (rs : List Record) (i task : ℕ) → HaveNoDependences rs → IsFirstOpenEnd rs i task → IsFirstUnfinished rs i task
+open_unfinished rs i task none is = record {
+  unfinished = record { required = covered is.first_open.is_open.covered; incomplete = is.first_open.is_open.incomplete };
+  first = λ k other below unfinished. unfinished.incomplete (is.before k below other (required_covered rs k other none unfinished.required));
+  creation = is.first_open.creation;
+  is_created = is.first_open.is_created;
+  created_first = λ k other below creates unfinished. is.first_open.created_first k other below creates (record { covered = required_covered rs i other none unfinished.required; incomplete = unfinished.incomplete });
+}
+
+-- ---- a yes
 
 -- where each required task is complete by what the record there has seen, each is complete in every order
 pub always_complete : (rs : List Record) → ((i : ℕ) → AreComplete rs i) → IsAlwaysComplete rs

@@ -7,4 +7,3 @@ pub mod Repeats
 pub mod Lengths
 pub mod Entries
 pub mod Merge
-pub mod Waits

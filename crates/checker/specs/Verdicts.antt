@@ -4,7 +4,7 @@ use Rattle.ompt_events.specs.declared.records.Record.{Record}
 use Rattle.ompt_events.specs.declared.cause.Cause.{Cause}
 use Rattle.ompt_events.specs.declared.cause.Cause.TheVariants.{SeqGap, CreatedTwice, Rootless, NotCurrent, Moved, StatusOrder, RegionOrder, NestedParallel, ShareWrong, EntryTwice, LengthAhead, LengthBack, NoOrder, TargetTask}
 use Rattle.ompt_events.specs.Linearization.{IsLinearization, IsGreedy}
-use Rattle.ompt_events.specs.Completion.{IsCompleteIn}
+use Rattle.ompt_events.specs.Completion.{IsCompleteIn, IsCompleteAt}
 use Rattle.ompt_events.specs.Violations.{IsRequired, IsUnfinished, IsFirstUnfinished}
 use Rattle.ompt_events.specs.Causes.{IsMalformed, IsWellFormed}
 use Rattle.checker.specs.declared.verdict.Verdict.{Verdict}
@@ -16,6 +16,10 @@ abbrev pub sought : List Cause
 sought =
     SeqGap ∷ CreatedTwice ∷ Rootless ∷ NotCurrent ∷ Moved ∷ StatusOrder ∷ RegionOrder ∷ NestedParallel
     ∷ ShareWrong ∷ EntryTwice ∷ LengthAhead ∷ LengthBack ∷ NoOrder ∷ TargetTask ∷ []
+
+-- what must be complete at i is, by what the record there has seen
+abbrev pub AreComplete : List Record → ℕ → Type 0
+AreComplete rs i = (task : ℕ) → IsRequired rs i task → IsCompleteAt rs task i
 
 -- in every order that the records allow, every task that must be complete at a record is complete there
 abbrev pub IsAlwaysComplete : List Record → Type 0

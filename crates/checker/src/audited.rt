@@ -6,8 +6,7 @@ use bitflags::Flags;
 use ompt_events::{Body, Record, SyncKind, TaskFlags, Trace};
 
 /// The first record of a form that `check` does not take yet: a parallel region, a member of a team,
-/// dependences or a creation that they follow, or a synchronisation region other than a taskwait. Takes no
-/// memory.
+/// dependences or a creation that they follow, or a barrier. Takes no memory.
 pub fn unaudited(trace: &Trace) -> Option<usize>
     ensures { MatchOption result (AreAudited trace.now.records) (IsFirstUnaudited trace.now.records) }
 {
@@ -35,7 +34,7 @@ fn is_audited(body: &Body) -> bool
         Body::ImplicitTask { flags, .. } => flags.contains(TaskFlags::INITIAL),
         Body::TaskCreate { deps, .. } => !*deps,
         Body::SyncRegion {
-            kind: SyncKind::Taskwait,
+            kind: SyncKind::Taskwait | SyncKind::Taskgroup | SyncKind::Reduction,
             ..
         } => true,
         Body::SyncRegion { .. } => false,

@@ -17,15 +17,15 @@ use crate::repeats::{entry_count, find_ahead, find_repeated_entry};
 use crate::schedule::{creations_awaited, is_in_order};
 use crate::search::SearchFault;
 use crate::verdict::{CheckFault, Order, Verdict, Why};
-use crate::waits::find_unfinished;
 use ompt_events::{Cause, Record, Trace};
 use std::alloc::{AllocError, Global};
 use task_states::{States, gap, nested, run, target};
 use task_tree::Family;
+use wait_coverage::find_open;
 
 /// The verdict on the records: malformed with the lowest-numbered cause that occurs, at the first record that
-/// shows it; else no at the first end of a taskwait that covers an unfinished task; else yes with the greedy
-/// order. Fails only when out of memory. Every record must be of a supported form: `unaudited` finds no
+/// shows it; else no at the first end of a taskwait or taskgroup that covers an unfinished task; else yes
+/// with the greedy order. Fails only when out of memory. Every record must be of a supported form: `unaudited` finds no
 /// other.
 pub fn check(alloc: Global, trace: &Trace) -> Result<Verdict, CheckFault>
     requires { AreAudited trace.now.records }
@@ -56,7 +56,7 @@ fn verdict_of(alloc: Global, trace: &Trace) -> Result<Verdict, SearchFault>
     lengths_rise(trace, &family)?;
     let order = order_of(alloc, trace, &family)?;
     no_task_is_for_a_device(trace)?;
-    match find_unfinished(alloc, trace.records(), &family, &states)? {
+    match find_open(alloc, trace.records(), &family, &states)? {
         Some((at, task)) => Ok(Verdict::No {
             at,
             why: Why::Unfinished(task),

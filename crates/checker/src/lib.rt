@@ -14,7 +14,6 @@ mod repeats;
 mod schedule;
 mod search;
 mod verdict;
-mod waits;
 
 pub use audited::unaudited;
 pub use checking::check;

@@ -225,4 +225,3 @@ late_there rs tasks table index child seen l are is stands late finished = let d
 
 pub in_time_there : (rs : List Record) (tasks : List ℕ) (table : List Lengths) (index child seen : ℕ) (l : Lengths) → AreLengths rs (length rs) tasks table → slice_get tasks index ≡ Some child → slice_get table index ≡ Some l → seen < 2 ^ 32 → done_length l ≤ seen → IsDone rs seen child
 in_time_there rs tasks table index child seen l are is stands small low = done_below rs (length rs) child seen l (are.each index child l is stands) small low
-

@@ -260,7 +260,7 @@ closed_noted rs n own parent begin tasks nodes new before after none apart are e
         let begins = own_begin rs n parent begin Taskgroup ends in
         let apart_from : c ≢ begin = λ same. creates_no_region rs c parent born parent begins.kind Begin creates (ap (at region rs) same ∙ begins.begins) in
         let after = has.after in
-        let later : begin < has.place = elim (cases_eq c begin) [ | inl same ↦ absurd (apart_from same) | inr other ↦ omega (arith, from, after, other) ] in
+        let later : begin < has.place = elim (cases_eq c begin) [ inl same ↦ absurd (apart_from same) | inr other ↦ omega (arith, from, after, other) ] in
         weaker born has.node has.limit (gathered.within has.place has.node has.on later has.there)
 
 -- the begin that is found for the end of a region

@@ -36,11 +36,7 @@ pub(crate) fn find_done(
 }
 
 /// By index of the task the ledger length from which on it is finished.
-fn find_own(
-    alloc: Global,
-    records: &[Record],
-    family: &Family,
-) -> Result<Vec<u64>, AllocError>
+fn find_own(alloc: Global, records: &[Record], family: &Family) -> Result<Vec<u64>, AllocError>
     requires { IsFamilyOf records.now family.now }
     ensures { IfOk result (λ own. AreOwn records.now family.now.tasks own.items) }
 {

@@ -100,4 +100,3 @@ fn note_finish(records: &[Record], family: &Family, table: &mut Vec<Lengths>, at
         }
     }
 }
-

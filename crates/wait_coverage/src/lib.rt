@@ -4,12 +4,11 @@
 #![tactic(auto)]
 
 mod done;
+pub mod laws;
 mod lengths;
 mod limits;
 mod order;
 mod unfinished;
 mod waits;
-
-pub mod laws;
 
 pub use unfinished::find_open;

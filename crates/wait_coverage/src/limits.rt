@@ -65,7 +65,15 @@ pub(crate) fn find_limits(
     let mut progress = no_progress(alloc, family.tasks().as_slice().len())?;
     let mut nodes: Vec<Node> = Vec::with_capacity(alloc, records.len())?;
     for at in 0..records.len() {
-        let node = node_at(records, family, states, done, nodes.as_slice(), &mut progress, at);
+        let node = node_at(
+            records,
+            family,
+            states,
+            done,
+            nodes.as_slice(),
+            &mut progress,
+            at,
+        );
         nodes.push(node)?;
     }
     Ok(nodes)

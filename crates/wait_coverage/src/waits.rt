@@ -124,7 +124,13 @@ fn no_marks(alloc: Global, tasks: usize) -> Result<Vec<bool>, AllocError>
 }
 
 /// Whether the task at the index is waited for, where that is known of its parent.
-fn is_awaited(records: &[Record], family: &Family, marks: &[bool], wait: &Wait, index: usize) -> bool
+fn is_awaited(
+    records: &[Record],
+    family: &Family,
+    marks: &[bool],
+    wait: &Wait,
+    index: usize,
+) -> bool
     requires within { index < length family.now.tasks }
     requires all { length marks.now ≡ length family.now.tasks }
     requires family { IsFamilyOf records.now family.now }

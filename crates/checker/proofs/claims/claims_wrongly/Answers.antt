@@ -7,7 +7,7 @@ use Rattle.ompt_events.proofs.PlaceLemmas.{at_read}
 use Rattle.ompt_events.proofs.RecordLemmas.{at_through}
 use Rattle.task_tree.proofs.NamedLemmas.{finish_subject}
 use Rattle.checker.proofs.ClaimLemmas.{wrong_where}
-use Rattle.checker.proofs.WaitLemmas.{call_same}
+use Rattle.wait_coverage.proofs.LengthLemmas.{call_same}
 use Rattle.checker.proofs.claims.claims_wrongly.Goals as goal
 
 pub returns : goal.returns

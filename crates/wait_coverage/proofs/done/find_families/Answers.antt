@@ -14,10 +14,10 @@ raise-requires-clause-parent c = λ up is.
 pub loop-passed-preserved : goal.loop-passed-preserved
 loop-passed-preserved c =
     let within : (up : ℕ) → parent_index c.args.family.now (get_or c.args.order.now (length c.args.order.now - 1 - c.loop-passed.passed) 0) ≡ Some up → up < length c.loop-passed.families.items = λ up is.
-        let inside = parent_within c.args.records.now c.args.family.now (get_or c.args.order.now (length c.args.order.now - 1 - c.loop-passed.passed) 0) up c.requires.family is in
-        let one = c.loop-passed.invariant.all in
-        let two = c.requires.own.all in
-        omega (arith, inside, one, two) in
+    let inside = parent_within c.args.records.now c.args.family.now (get_or c.args.order.now (length c.args.order.now - 1 - c.loop-passed.passed) 0) up c.requires.family is in
+    let one = c.loop-passed.invariant.all in
+    let two = c.requires.own.all in
+    omega (arith, inside, one, two) in
     raised_step c.args.family.now c.args.order.now c.args.own.now c.loop-passed.families.items _ c.loop-passed.passed _ c.requires.order c.loop-passed-test.true refl within c.raise.ensures c.loop-passed.invariant
 
 pub returns : goal.returns

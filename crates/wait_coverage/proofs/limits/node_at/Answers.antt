@@ -27,7 +27,7 @@ pub returns-in-Begin : goal.returns-in-Begin
 returns-in-Begin c =
     let there = (c.taskwait_endpoint.ensures c.in-Some.endpoint).0 c.in-Some.is in
     let says = at_index region c.args.records.now c.args.at c.index-records-at.result c.requires.within ∙ there.1 in
-    let not_end : c.in-Some.endpoint ≢ End = λ same. elim c.in-Begin.is [ | inl begins ↦ absurd (let never : End ≡ Begin = sym same ∙ begins in cc) | inr both ↦ absurd (let never : End ≡ BeginEnd = sym same ∙ both in cc) ] in
+    let not_end : c.in-Some.endpoint ≢ End = λ same. elim c.in-Begin.is [ inl begins ↦ absurd (let never : End ≡ Begin = sym same ∙ begins in cc) | inr both ↦ absurd (let never : End ≡ BeginEnd = sym same ∙ both in cc) ] in
     begun_noted c.args.records.now c.args.at there.0 c.in-Some.endpoint c.args.family.now.tasks c.args.nodes.now c.alone-in-Begin.result c.args.progress.now c.requires.no_barriers c.requires.noted says not_end c.alone-in-Begin.ensures.alone
     (rw c.alone-in-Begin.ensures.limit c.latest_limit.ensures)
 

@@ -20,8 +20,7 @@ returns-in-Some c = λ task is.
     let above = sym c.parent_at.ensures ∙ c.in-Some.is in
     let parent = get_or family.tasks up 0 in
     let is_parent = slice_get-get_or family.tasks up 0 (parent_within rs family c.args.index up c.requires.family above) in
-    let known = c.requires.above up parent above is_parent in
-    (
+    let known = c.requires.above up parent above is_parent in (
       λ mark. below_awaited rs family c.args.index task up parent c.args.wait.now c.requires.family is c.in-Descendants.is above is_parent (known.0 mark),
       λ awaited. elim (awaited_cases rs family c.args.index task c.args.wait.now c.requires.family is c.in-Descendants.is awaited) [
         | inl own ↦ absurd (false≢true (sym c.if-is_own_child.false ∙ (c.is_own_child.ensures task is).1 own))

@@ -15,8 +15,7 @@ returns c = λ task is.
     let family = c.args.family.now in
     let found : c.parent_at.result ≡ Some c.args.wait.now.task = search rules in
     let above = sym c.parent_at.ensures ∙ found in
-    let is_made = c.made_at-place.ensures rs c.requires.family in
-    (
+    let is_made = c.made_at-place.ensures rs c.requires.family in (
       λ less. own_child rs family c.args.index task c.made_at-place.result c.args.wait.now c.requires.family is above is_made c.if-place-wait.false (ltb-true c.made_at-place.result c.args.wait.now.to less),
       λ own. lt-ltb c.made_at-place.result c.args.wait.now.to (own_place rs family c.args.index task c.made_at-place.result c.args.wait.now c.requires.family is is_made own).1,
     )

@@ -24,8 +24,7 @@ returns c = λ wait awaited.
     let tasks = c.args.family.now.tasks in
     let says : at created rs c.args.place ≡ Some c.in_ok-task.task = at_index created rs c.args.place c.index-records-place.result c.requires.within ∙ sym c.created.ensures ∙ c.in_ok-task.was in
     let is = call_same tasks (at object rs c.args.place) c.object.result c.in_ok-index.index c.in_ok-task.task (c.object.ensures rs c.requires.family) c.in_ok-index.was (at_through created object c.in_ok-task.task c.in_ok-task.task rs c.args.place (created_object c.in_ok-task.task) says) in
-    let small : c.args.seen < 2 ^ 32 = search rules in
-    (
+    let small : c.args.seen < 2 ^ 32 = search rules in (
       says,
       (awaited.each c.in_ok-index.index c.in_ok-task.task is).0 c.if-not-marks-index.false,
       late_task rs tasks c.args.own.now c.args.seen c.in_ok-index.index c.in_ok-task.task c.requires.own is small (let same = c.from.ensures in omega (arith, same, c.if-own-index.false)),

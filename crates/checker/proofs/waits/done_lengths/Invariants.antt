@@ -1,6 +1,0 @@
-use Rattle.checker.specs.Waits.{AreLengths}
-use Rattle.checker.proofs.waits.done_lengths.Given as goal
-
--- the lengths by the records so far are known
-abbrev pub invariant-loop-at : goal.invariant-loop-at
-invariant-loop-at l = AreLengths l.records l.at l.family.tasks l.table.items
