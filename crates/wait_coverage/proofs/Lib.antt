@@ -13,3 +13,4 @@ pub mod ChainLemmas
 pub mod LimitLemmas
 pub mod WaitLemmas
 pub mod OpenLemmas
+pub mod NumberLemmas

@@ -19,7 +19,7 @@ use Rattle.credit_ledger.specs.declared.entry.Cover.TheVariants.{Children, Desce
 use Rattle.wait_coverage.specs.Entries.{IsDone}
 use Rattle.wait_coverage.specs.Spans.{IsCoverComplete}
 use Rattle.wait_coverage.specs.Limits.{HaveNoBarriers, AreEndLimits}
-use Rattle.wait_coverage.specs.Waits.{IsWaitAt, waits, groups, IsOwnChild, IsAwaitedBy, IsAwaited, IsOpen, IsFirstOpen, IsFirstOpenEnd, IsLateAt, IsFirstLate}
+use Rattle.wait_coverage.specs.Waits.{EndsNoWaitAt, IsWaitAt, waits, groups, IsOwnChild, IsAwaitedBy, IsAwaited, IsOpen, IsFirstOpen, IsFirstOpenEnd, IsLateAt, IsFirstLate}
 use Rattle.wait_coverage.specs.declared.waits.Wait.{Wait}
 use Rattle.wait_coverage.specs.declared.limits.Node.{Node}
 use Rattle.wait_coverage.proofs.CoverLemmas.{EndsAt, ends_at, one_region, child_with, child_stays, dropped, done_there, complete_there}
@@ -95,8 +95,11 @@ limit_complete rs i nodes node seen are there names small low task covers =
     let P : ℕ → Type 0 = λ n. IsDone rs n task in
     complete_there rs i task (subst P (sym names) (are.known i node there seen task small low covers))
 
-pub none_complete : (rs : List Record) (i : ℕ) → ((task : ℕ) → Covers rs i task → ⊥) → IsCoverComplete rs i
-none_complete rs i none task covers = absurd (none task covers)
+pub none_complete : (rs : List Record) (i : ℕ) → HaveNoBarriers rs → EndsNoWaitAt rs i → IsCoverComplete rs i
+none_complete rs i none ends_none task covers = elim (covers_cases rs i task none covers) [
+  | inl one ↦ absurd ((ends_none one.parent one.begin).0 one.is_region)
+  | inr one ↦ absurd ((ends_none one.parent one.begin).1 one.is_region)
+]
 
 pub late_open : (rs : List Record) (tasks : List ℕ) (i seen : ℕ) (wait : Wait) (found : Option ℕ) → HaveNoBarriers rs → IsWaitAt rs tasks i wait → seen_at rs i ≡ seen → MatchOption found ((place task : ℕ) → IsLateAt rs tasks wait seen place task → ⊥) (IsFirstLate rs tasks wait seen) → MatchOption found (IsCoverComplete rs i) (IsFirstOpen rs i)
 late_open rs tasks i seen wait None none is names in_time = λ task covers. elim (done_or_not rs seen task) [

@@ -27,7 +27,7 @@ use Rattle.task_states.specs.States.{IsBegin}
 use Rattle.wait_coverage.specs.Entries.{IsDone}
 use Rattle.wait_coverage.specs.Done.{IsDoneFrom, AreOwn, IsParentsFirst}
 use Rattle.wait_coverage.specs.Limits.{HaveNoBarriers}
-use Rattle.wait_coverage.specs.Waits.{IsWaitAt, waits, groups, IsOwnChild, IsAwaitedBy, IsAwaited, AreAwaited, AreMarked, IsMarkedAbove, EndsNoWait, kind_of, IsBeginOf, IsLateAt}
+use Rattle.wait_coverage.specs.Waits.{IsWaitAt, waits, groups, IsOwnChild, IsAwaitedBy, IsAwaited, AreAwaited, AreMarked, IsMarkedAbove, EndsNoWait, EndsNoWaitAt, kind_of, IsBeginOf, IsLateAt}
 use Rattle.wait_coverage.specs.declared.waits.Wait.{Wait}
 use Rattle.wait_coverage.proofs.CoverLemmas.{ends_at, one_region}
 use Rattle.wait_coverage.proofs.DoneLemmas.{indices_of}
@@ -179,13 +179,6 @@ begin_ends_none rs i own kind says task begin other (at_once once) = let same = 
 pub silent_ends_none : (rs : List Record) (i : ℕ) → at region rs i ≡ None → (task begin : ℕ) (other : SyncKind) → IsRegion rs i task other begin → ⊥
 silent_ends_none rs i none task begin other there = let ends = ends_at rs i task begin other there in none-some (task, other, ends.endpoint) (sym none ∙ ends.says)
 
--- where no region ends that waits, nothing is covered
-pub no_cover : (rs : List Record) (i : ℕ) → HaveNoBarriers rs → ((task begin : ℕ) → IsRegion rs i task Taskwait begin → ⊥) → ((task begin : ℕ) → IsRegion rs i task Taskgroup begin → ⊥) → (task : ℕ) → Covers rs i task → ⊥
-no_cover rs i none no_wait no_group task covers = elim (covers_cases rs i task none covers) [
-  | inl one ↦ no_wait one.parent one.begin one.is_region
-  | inr one ↦ no_group one.parent one.begin one.is_region
-]
-
 pub found_begin : (rs : List Record) (i own : ℕ) (kind : SyncKind) (found : Option ℕ) → at region rs i ≡ Some (own, kind, End) → IsBegin rs i own kind found → MatchOption found ((task begin : ℕ) (other : SyncKind) → IsRegion rs i task other begin → ⊥) (IsBeginOf rs i)
 found_begin rs i own kind None says known = let there = known says in absurd (none-some there.0 there.1)
 found_begin rs i own kind (Some begin) says known =
@@ -198,8 +191,8 @@ not_begin : (rs : List Record) (i task begin own : ℕ) (kind other : SyncKind) 
 not_begin rs i task begin own kind other endpoint (ended ends) says same = let e = (same_says rs i task own kind other End endpoint ends.ends says).2 in let never : End ≡ Begin = e ∙ same in cc
 not_begin rs i task begin own kind other endpoint (at_once once) says same = let e = (same_says rs i task own kind other BeginEnd endpoint once says).2 in let never : BeginEnd ≡ Begin = e ∙ same in cc
 
-pub no_wait_there : (rs : List Record) (i : ℕ) (r : Record) → i < length rs → HaveNoBarriers rs → EndsNoWait (get_or rs i r).body → (task : ℕ) → Covers rs i task → ⊥
-no_wait_there rs i r within none ends_none = no_cover rs i none (λ t b there. (of Taskwait t b there).0 refl) (λ t b there. (of Taskgroup t b there).1 refl)
+pub no_wait_there : (rs : List Record) (i : ℕ) (r : Record) → i < length rs → EndsNoWait (get_or rs i r).body → EndsNoWaitAt rs i
+no_wait_there rs i r within ends_none task begin = (λ there. (of Taskwait task begin there).0 refl, λ there. (of Taskgroup task begin there).1 refl)
   where
     of : (kind : SyncKind) (t b : ℕ) → IsRegion rs i t kind b → (kind ≡ Taskwait → ⊥) × (kind ≡ Taskgroup → ⊥)
     of kind t b there =

@@ -7,3 +7,5 @@ pub mod Done
 pub mod Limits
 pub mod Waits
 pub mod Known
+pub mod Numbers
+pub mod Coverage

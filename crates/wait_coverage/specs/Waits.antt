@@ -29,6 +29,10 @@ pub data IsWaitAt (rs : List Record) (tasks : List ℕ) (i : ℕ) : Wait → Typ
   groups : {parent begin index : ℕ} → slice_get tasks index ≡ Some parent → IsRegion rs i parent Taskgroup begin
       → IsWaitAt rs tasks i (record { task = index; from = begin; to = i; cover = Descendants })
 
+-- no taskwait and no taskgroup ends there
+abbrev pub EndsNoWaitAt : List Record → ℕ → Type 0
+EndsNoWaitAt rs i = (task begin : ℕ) → (IsRegion rs i task Taskwait begin → ⊥) × (IsRegion rs i task Taskgroup begin → ⊥)
+
 -- the child is created while the wait's children are
 pub record IsOwnChild (rs : List Record) (tasks : List ℕ) (wait : Wait) (child : ℕ) : Type 0 where
   pub parent : ℕ

@@ -4,13 +4,11 @@ ghost use Rattle.ompt_events.specs.declared.names.SyncKind.{SyncKind};
 ghost use Rattle.ompt_events.specs.Regions.{IsRegion};
 ghost use Rattle.ompt_events.specs.Places.{at as says_at};
 ghost use Rattle.ompt_events.specs.Records.{created};
-ghost use Rattle.ompt_events.specs.Coverage.{Covers};
 ghost use Rattle.task_tree.specs.Family.{IsFamilyOf};
 ghost use Rattle.task_states.specs.States.{AreStatesOf};
 ghost use Rattle.wait_coverage.specs.Done.{AreOwn, IsParentsFirst};
-ghost use Rattle.wait_coverage.specs.Limits.{HaveNoBarriers};
 ghost use Rattle.wait_coverage.specs.declared.waits.Wait.{Wait};
-ghost use Rattle.wait_coverage.specs.Waits.{EndsNoWait, EndsWaitFor, IsBeginOf, IsMarkedAbove, IsWaitAt, IsOwnChild, IsAwaited, AreAwaited, AreMarked, IsLateAt, IsFirstLate};
+ghost use Rattle.wait_coverage.specs.Waits.{EndsNoWaitAt, EndsNoWait, EndsWaitFor, IsBeginOf, IsMarkedAbove, IsWaitAt, IsOwnChild, IsAwaited, AreAwaited, AreMarked, IsLateAt, IsFirstLate};
 
 use credit_ledger::Cover;
 use ompt_events::{Body, Endpoint, Record, SyncKind};
@@ -39,9 +37,7 @@ pub(crate) fn wait_at(
     requires within { at < length records.now }
     requires family { IsFamilyOf records.now family.now }
     requires states { AreStatesOf records.now states.now }
-    requires no_barriers { HaveNoBarriers records.now }
-    ensures { MatchOption result ((task : ℕ) → Covers records.now at task → ⊥)
-        (IsWaitAt records.now family.now.tasks at) }
+    ensures { MatchOption result (EndsNoWaitAt records.now at) (IsWaitAt records.now family.now.tasks at) }
 {
     let cover = cover_of_end(&records[at].body)?;
     let task = family.subject(at)?;

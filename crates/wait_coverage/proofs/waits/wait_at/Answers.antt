@@ -11,7 +11,7 @@ use Rattle.wait_coverage.proofs.WaitLemmas.{no_wait_there, children_wait, descen
 use Rattle.wait_coverage.proofs.waits.wait_at.Goals as goal
 
 pub returns-in_err-cover : goal.returns-in_err-cover
-returns-in_err-cover c = rw c.from_residual.ensures (no_wait_there c.args.records.now c.args.at c.index-records-at.result c.requires.within c.requires.no_barriers c.in_err-cover.ensures)
+returns-in_err-cover c = rw c.from_residual.ensures (no_wait_there c.args.records.now c.args.at c.index-records-at.result c.requires.within c.in_err-cover.ensures)
 
 pub returns-in_err-task : goal.returns-in_err-task
 returns-in_err-task c =
