@@ -14,3 +14,4 @@ pub mod LimitLemmas
 pub mod WaitLemmas
 pub mod OpenLemmas
 pub mod NumberLemmas
+pub mod CoverageLemmas

@@ -1,13 +1,17 @@
 //! The ends of waits in a trace, the credit that each waits for, and the task that is unfinished at each.
-ghost use Rattle.std.specs.Prelude.{ℕ, ◌≡◌, ◌<◌, Some, IfOk, MatchOption, length, slice_get};
+ghost use Rattle.std.specs.Prelude.{ℕ, ◌≡◌, ◌<◌, ◌∷◌, [], List, Some, IfOk, IsTrue, MatchOption, length, slice_get, take};
+ghost use Rattle.ompt_events.specs.declared.records.Record.{Record};
+ghost use Rattle.ompt_events.specs.Tree.{HasPath};
+ghost use Rattle.ompt_events.specs.Regions.{IsRegion};
 ghost use Rattle.task_tree.specs.Family.{IsFamilyOf};
 ghost use Rattle.task_tree.specs.Paths.{IsTreeOf};
 ghost use Rattle.task_states.specs.States.{AreStatesOf};
-ghost use Rattle.credit_ledger.specs.declared.entry.Span.{Span};
+ghost use Rattle.credit_ledger.specs.Entries.{IsSpanHeld};
+ghost use Rattle.wait_coverage.specs.declared.waits.Wait.{Wait};
 ghost use Rattle.wait_coverage.specs.Entries.{IsLedgerOf};
 ghost use Rattle.wait_coverage.specs.Spans.{AreSpans, IsCoverComplete, IsFreeUpTo};
 ghost use Rattle.wait_coverage.specs.Limits.{HaveNoBarriers};
-ghost use Rattle.wait_coverage.specs.Waits.{IsFirstOpen, IsWaitAt};
+ghost use Rattle.wait_coverage.specs.Waits.{IsFirstOpen, kind_of};
 ghost use Rattle.wait_coverage.specs.Coverage.{AreEnds, AreWaits};
 
 use crate::fault::CoverFault;
@@ -91,6 +95,108 @@ impl<'a> Coverage<'a> {
         ensures { AreEnds self.now.records (length self.now.records) result.now }
     {
         self.ends.as_slice()
+    }
+
+    /// Whether the end with this number among the ends waits for children alone or for all descendants.
+    pub fn cover(&self, number: usize) -> Cover
+        requires { number < length self.now.ends }
+        ensures { (end : ℕ) → slice_get self.now.ends number ≡ Some end
+            → (task begin : ℕ) × IsRegion self.now.records end task (kind_of result) begin }
+    {
+        self.waits[number].cover
+    }
+
+    /// The credit that the end with this number among the ends waits for: the spans of children whose start
+    /// shares must have come back. `Memory` is the only refusal.
+    pub fn spans(&self, number: usize) -> Result<Vec<Span>, CoverFault>
+        requires { number < length self.now.ends }
+        ensures { IfOk result (λ spans. (end : ℕ) → slice_get self.now.ends number ≡ Some end
+            → (cover : Cover) × AreSpans self.now.records end cover spans.items) }
+    {
+        let mut spans = Vec::new(*self.ends.allocator());
+        spans.push(self.span(number)?)?;
+        Ok(spans)
+    }
+
+    /// Of the tasks that the end with this number among the ends covers the first created one that is not
+    /// finished by the entries of the ledger below the length that the end names: none where these hold the
+    /// credit that it waits for (F. Mattern, 1989). The ledger must be that of the trace, and no cause up to
+    /// NoOrder but these may occur in it: EntryTwice to LengthBack. `Memory` is the only refusal.
+    pub fn first_open(&self, number: usize, ledger: &Ledger) -> Result<Option<u64>, CoverFault>
+        requires below { number < length self.now.ends }
+        requires ledger { IsLedgerOf self.now.records ledger.now }
+        requires free { IsFreeUpTo self.now.records 13 }
+        ensures { IfOk result (λ found. (end : ℕ) → slice_get self.now.ends number ≡ Some end
+            → MatchOption found (IsCoverComplete self.now.records end) (IsFirstOpen self.now.records end)) }
+    {
+        let at = self.ends[number];
+        let wait = &self.waits[number];
+        let span = self.span(number)?;
+        if is_held(ledger, self.records[at].seen, &span, wait.cover)? {
+            return Ok(None);
+        }
+        let alloc = *self.ends.allocator();
+        Ok(open_of(alloc, self.records, self.tree.family(), &self.known, wait, at)?)
+    }
+
+    /// The span of children that the end with this number waits for.
+    fn span(&self, number: usize) -> Result<Span, AllocError>
+        requires { number < length self.now.ends }
+        ensures { IfOk result (λ span. (end : ℕ) (wait : Wait) → slice_get self.now.ends number ≡ Some end
+            → slice_get self.now.waits number ≡ Some wait
+            → AreSpans self.now.records end wait.cover (span ∷ [])) }
+    {
+        let wait = &self.waits[number];
+        let task = self.tree.family().tasks().as_slice()[wait.task];
+        let (root, path) = stands_at(*self.ends.allocator(), self.tree, task)?;
+        let (from, to) = numbers_of(self.numbers.as_slice(), wait);
+        Ok(Span {
+            from,
+            to,
+            root,
+            path,
+        })
+    }
+}
+
+/// The root and the path of a task.
+fn stands_at(alloc: Global, tree: &Tree, task: u64) -> Result<(u64, Path), AllocError>
+    ensures { IfOk result (λ place. (records : List Record) (root : ℕ) (path : List ℕ) → IsTreeOf records tree.now
+        → HasPath records root task path → HasPath records place.0 task place.1) }
+{
+    let root = tree.root(task).unwrap_or(0);
+    let mut numbers = Vec::new(alloc);
+    if let Some(path) = tree.path(task) {
+        numbers.extend_from_slice(path)?;
+    }
+    Ok((root, Path::from_vec(numbers)))
+}
+
+/// The numbers of the first of the children that are waited for, and of the first one behind them.
+fn numbers_of(numbers: &[u32], wait: &Wait) -> (u32, u32)
+    requires from { wait.now.from < length numbers.now }
+    requires to { wait.now.to < length numbers.now }
+    ensures from { wait.now.cover ≡ Cover.Children → result.0 ≡ 0 }
+    ensures later { wait.now.cover ≡ Cover.Descendants → slice_get numbers.now wait.now.from ≡ Some result.0 }
+    ensures to { slice_get numbers.now wait.now.to ≡ Some result.1 }
+{
+    match wait.cover {
+        Cover::Children => (0, numbers[wait.to]),
+        Cover::Descendants => (numbers[wait.from], numbers[wait.to]),
+    }
+}
+
+/// Whether the first entries of the ledger, so many as were seen, hold the span. No credit comes back from
+/// deeper than 1,024 steps below a root.
+fn is_held(ledger: &Ledger, seen: u32, span: &Span, cover: Cover) -> Result<bool, CoverFault>
+    ensures { IfOk result (λ held. IsTrue held → IsSpanHeld (take seen ledger.now) span.now cover) }
+{
+    if span.path.as_slice().len() > 1024 {
+        return Ok(false);
+    }
+    match ledger.holds(seen, span, cover) {
+        Ok(held) => Ok(held),
+        Err(_) => Err(CoverFault::Memory),
     }
 }
 
