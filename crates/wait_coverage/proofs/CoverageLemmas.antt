@@ -1,9 +1,9 @@
 -- The ends of waits, and the credit that each waits for.
-use Rattle.std.proofs.Common.{◌≡◌, ◌≢◌, ◌∙◌, ℕ, zero, suc, ◌<◌, ◌≤◌, ◌+◌, true, false, List, [], ◌∷◌, ◌++◌, length, get_or, Option, Some, None, refl, sym, ap, subst, arith, inl, inr, ◌⊎◌}
-use Rattle.std.proofs.lemmas.Bool.{cases_eq, false≢true}
-use Rattle.std.proofs.lemmas.Option.{none-some, same_Some, slice_get_within, slice_get-get_or}
+use Rattle.std.proofs.Common.{◌≡◌, ◌∙◌, ℕ, zero, suc, ◌<◌, ◌+◌, true, List, [], ◌∷◌, ◌++◌, length, get_or, Option, Some, refl, sym, ap, subst, arith, inl, inr, ◌⊎◌}
+use Rattle.std.proofs.lemmas.Bool.{cases_eq}
+use Rattle.std.proofs.lemmas.Option.{same_Some, slice_get_within, slice_get-get_or}
 use Rattle.std.proofs.lemmas.List.{length_push}
-use Rattle.std.specs.Prelude.{slice_get, take, Contains}
+use Rattle.std.specs.Prelude.{slice_get, take, Contains, MatchOption}
 use Rattle.ompt_events.specs.declared.records.Record.{Record}
 use Rattle.ompt_events.specs.declared.names.SyncKind.{SyncKind}
 use Rattle.ompt_events.specs.declared.names.SyncKind.TheVariants.{Taskwait, Taskgroup}
@@ -28,8 +28,8 @@ use Rattle.wait_coverage.specs.Entries.{IsLedgerOf}
 use Rattle.wait_coverage.specs.Spans as spans
 use Rattle.wait_coverage.specs.Spans.{AreSpans, IsCoverComplete, IsFreeUpTo}
 use Rattle.wait_coverage.specs.Limits.{HaveNoBarriers}
-use Rattle.wait_coverage.specs.Waits.{EndsNoWaitAt, IsWaitAt, waits, groups, kind_of}
-use Rattle.wait_coverage.specs.Coverage.{IsEnd, AreEnds, AreWaits, CoverageView, IsCoverage}
+use Rattle.wait_coverage.specs.Waits.{EndsNoWaitAt, IsWaitAt, waits, groups, kind_of, IsFirstOpen}
+use Rattle.wait_coverage.specs.Coverage.{IsEnd, AreEnds, AreWaits, CoverageView, IsCoverage, AreFirstOpen}
 use Rattle.wait_coverage.specs.declared.waits.Wait.{Wait}
 use Rattle.wait_coverage.proofs.CoverLemmas.{ends_at}
 use Rattle.wait_coverage.proofs.CreditLaw.{held_is_complete}
@@ -229,3 +229,24 @@ any_wait coverage number end is here =
     let all = is.waits.all in
     let d : Wait = record { task = 0; from = 0; to = 0; cover = Children } in
     (get_or coverage.waits number d, slice_get-get_or coverage.waits number d (omega (arith, below, all)))
+
+-- ---- several ends
+
+pub none_asked : (rs : List Record) (ends of : List ℕ) (found : List (Option ℕ)) → found ≡ [] → AreFirstOpen rs ends of 0 found
+none_asked rs ends of found empty = record {
+  count = ap length empty;
+  each = λ k number end answer asked here there. absurd (let inside = slice_get_within found k answer there in let none = ap length empty in omega (arith, inside, none));
+}
+
+pub one_more : (rs : List Record) (ends of : List ℕ) (n number : ℕ) (answer : Option ℕ) (found : List (Option ℕ)) → slice_get of n ≡ Some number → AreFirstOpen rs ends of n found → ((end : ℕ) → slice_get ends number ≡ Some end → MatchOption answer (IsCoverComplete rs end) (IsFirstOpen rs end)) → AreFirstOpen rs ends of (n + 1) (found ++ answer ∷ [])
+one_more rs ends of n number answer found asked are is = record {
+  count = length_push found answer ∙ ap (λ k. k + 1) are.count;
+  each = λ k other end x asked_there here there. elim (pushed_cases found answer x k there) [
+    | inl old ↦ are.each k other end x asked_there here old
+    | inr last ↦
+        let at_n : k ≡ n = last.0 ∙ are.count in
+        let same = same_Some number other (sym asked ∙ ap (slice_get of) (sym at_n) ∙ asked_there) in
+        let P : Option ℕ → Type 0 = λ a. MatchOption a (IsCoverComplete rs end) (IsFirstOpen rs end) in
+        subst P last.1 (is end (ap (slice_get ends) same ∙ here))
+  ];
+}

@@ -1,16 +1,15 @@
 -- From which ledger length on tasks are finished, with their descendants.
-use Rattle.std.proofs.Common.{◌≡◌, ◌∙◌, ℕ, ◌<◌, ◌≤◌, ◌+◌, ◌-◌, ◌^◌, List, [], ◌∷◌, ◌++◌, length, get_or, Option, Some, None, refl, sym, ap, subst, arith, inl, inr, ◌⊎◌}
-use Rattle.std.proofs.lemmas.Bool.{cases_eq, cases_lt}
+use Rattle.std.proofs.Common.{◌≡◌, ◌∙◌, ℕ, ◌<◌, ◌≤◌, ◌+◌, ◌-◌, ◌^◌, List, length, get_or, Option, Some, None, refl, sym, ap, subst, arith, inl, inr}
+use Rattle.std.proofs.lemmas.Bool.{cases_eq}
 use Rattle.std.proofs.lemmas.Option.{none-some, same_Some, slice_get_within, slice_get-get_or}
 use Rattle.wait_coverage.proofs.OrderLemmas.{map_get}
 use Rattle.std.proofs.lemmas.List.{take_all, length-map, length-set, get_or-set_same, get_or-set_other}
-use Rattle.std.specs.Prelude.{◌↔◌, max, slice_get, slice_set, slice_index, Contains, map, take}
+use Rattle.std.specs.Prelude.{max, slice_get, slice_set, slice_index, map, take}
 use Rattle.std.specs.Option.{option_map_or}
 use Rattle.ompt_events.specs.declared.records.Record.{Record}
-use Rattle.ompt_events.specs.Records.{made, creation}
+use Rattle.ompt_events.specs.Records.{creation}
 use Rattle.ompt_events.specs.Places.{at}
-use Rattle.ompt_events.specs.Tree.{IsParent, IsDescendant, child, deeper}
-use Rattle.ompt_events.specs.Coverage.{IsFamily}
+use Rattle.ompt_events.specs.Tree.{IsDescendant, child, deeper}
 use Rattle.ompt_events.proofs.PlaceLemmas.{at_within}
 use Rattle.ompt_events.proofs.ListLemmas.{contains_get}
 use Rattle.task_tree.specs.Family.{FamilyView, IsFamilyOf}
@@ -19,8 +18,8 @@ use Rattle.task_tree.proofs.OnceLemmas.{creation_made}
 use Rattle.task_tree.proofs.FamilyLemmas.{parent_noted}
 use Rattle.task_tree.proofs.LineageLemmas.{parent_at_is, child_within}
 use Rattle.wait_coverage.specs.Entries.{IsDone}
-use Rattle.wait_coverage.specs.Lengths.{done_length, AreLeast, AreLengths}
-use Rattle.wait_coverage.specs.Done.{IsDoneFrom, IsFamilyLimit, AreOwn, AreFamilies, IsParentsFirst, raised, AreRaised}
+use Rattle.wait_coverage.specs.Lengths.{done_length, AreLengths}
+use Rattle.wait_coverage.specs.Done.{IsDoneFrom, AreOwn, AreFamilies, IsParentsFirst, raised, AreRaised}
 use Rattle.wait_coverage.specs.declared.lengths.Lengths.{Lengths}
 use Rattle.wait_coverage.proofs.LengthLemmas.{done_below, below_done}
 

@@ -1,35 +1,23 @@
 -- From which ledger length on a task is finished.
-use Rattle.std.proofs.Common.{◌≡◌, ◌≢◌, ◌∙◌, ℕ, ◌<◌, ◌≤◌, ◌+◌, ◌^◌, List, [], ◌∷◌, ◌++◌, length, get_or, Option, Some, None, true, refl, sym, ap, subst, arith, inl, inr, ◌⊎◌}
-use Rattle.std.proofs.lemmas.Bool.{false≢true, cases_eq, cases_lt, cases_order}
+use Rattle.std.proofs.Common.{◌≡◌, ◌∙◌, ℕ, ◌<◌, ◌≤◌, ◌+◌, ◌^◌, List, length, get_or, Option, Some, None, true, refl, sym, ap, subst, arith, inl, inr, ◌⊎◌}
+use Rattle.std.proofs.lemmas.Bool.{false≢true, cases_eq, cases_lt}
 use Rattle.std.proofs.lemmas.Option.{none-some, same_Some, slice_get-get_or, slice_get_within}
-use Rattle.std.proofs.lemmas.List.{get_or_append_left, get_or_push, length-set, length-replicate, get_or-replicate}
+use Rattle.std.proofs.lemmas.List.{length-set, length-replicate, get_or-replicate}
 use Rattle.std.proofs.Math.ListN.{set}
 use Rattle.std.specs.Option.{option_map_or}
-use Rattle.std.specs.Prelude.{is_some, min, max, MatchOption, Contains, slice_get, slice_index, replicate}
+use Rattle.std.specs.Prelude.{is_some, min, slice_get, replicate}
 use Rattle.ompt_events.specs.declared.records.Record.{Record}
 use Rattle.ompt_events.specs.declared.records.Part.{Part}
 use Rattle.ompt_events.specs.declared.records.Part.TheVariants.{Whole, Body as BodyPart, Event}
-use Rattle.ompt_events.specs.declared.names.Endpoint.{Endpoint}
-use Rattle.ompt_events.specs.declared.names.Endpoint.TheVariants.{Begin, End, BeginEnd}
-use Rattle.ompt_events.specs.declared.names.SyncKind.{SyncKind}
-use Rattle.ompt_events.specs.declared.names.SyncKind.TheVariants.{Taskwait, Taskgroup}
-use Rattle.ompt_events.specs.declared.cause.Cause.TheVariants.{CreatedTwice}
-use Rattle.ompt_events.specs.Records.{created, creation, finish, region}
+use Rattle.ompt_events.specs.Records.{creation, finish}
 use Rattle.ompt_events.specs.Places.{at, seen_at}
-use Rattle.ompt_events.specs.Regions.{open_regions, is_barrier, IsRegion, ended, at_once}
-use Rattle.ompt_events.specs.Completion.{IsPartFinished, IsFinished, CountsAt, IsCompleteAt}
-use Rattle.ompt_events.specs.Tree.{children_before}
-use Rattle.ompt_events.specs.Coverage.{waited, grouped, synchronised}
-use Rattle.ompt_events.specs.Violations.{IsRequired, covered, preceding, awaited, IsFirstUnfinished}
-use Rattle.ompt_events.specs.Causes.{created_twice, IsFreeOf}
+use Rattle.ompt_events.specs.Completion.{IsPartFinished}
 use Rattle.ompt_events.proofs.PlaceLemmas.{at_within}
-use Rattle.ompt_events.proofs.RecordLemmas.{creation_at_created, created_at_made, at_through}
-use Rattle.ompt_events.proofs.RegionLemmas.{region_starts_none, own_begin}
-use Rattle.ompt_events.proofs.TreeLemmas.{child_before, before_child}
+use Rattle.ompt_events.proofs.RecordLemmas.{at_through}
 use Rattle.task_tree.specs.Numbering.{AreApart}
 use Rattle.task_tree.specs.Subjects.{subject, object, Calls}
 use Rattle.task_tree.proofs.LinkLemmas.{get_set_same, get_set_other}
-use Rattle.task_tree.proofs.NamedLemmas.{region_subject, creation_subject, creation_object, subject_index, object_index}
+use Rattle.task_tree.proofs.NamedLemmas.{creation_subject, creation_object, subject_index, object_index}
 use Rattle.task_tree.proofs.SubjectLemmas.{call_task, call_index, call_none}
 use Rattle.wait_coverage.specs.Entries.{IsDone}
 use Rattle.wait_coverage.specs.declared.lengths.Lengths.{Lengths}

@@ -1,8 +1,8 @@
 -- From which ledger length on what the end of a region covers is finished.
-use Rattle.std.proofs.Common.{◌≡◌, ◌≢◌, ◌∙◌, ℕ, ◌<◌, ◌≤◌, ◌+◌, ◌^◌, true, false, List, [], ◌∷◌, ◌++◌, length, get_or, Option, Some, None, refl, sym, ap, subst, arith, inl, inr, ◌⊎◌}
+use Rattle.std.proofs.Common.{◌≡◌, ◌≢◌, ◌∙◌, ℕ, ◌<◌, ◌≤◌, ◌+◌, ◌^◌, false, List, [], ◌∷◌, ◌++◌, length, get_or, Option, Some, None, refl, sym, ap, subst, arith, inl, inr, ◌⊎◌}
 use Rattle.std.proofs.lemmas.Bool.{cases_eq, cases_lt, false≢true}
 use Rattle.std.proofs.lemmas.Option.{none-some, same_Some, slice_get_within, slice_get-get_or}
-use Rattle.std.proofs.lemmas.List.{length_push, length-set, get_or-replicate, length-replicate}
+use Rattle.std.proofs.lemmas.List.{length_push, length-set, length-replicate}
 use Rattle.std.proofs.Math.ListN.{set}
 use Rattle.std.specs.Prelude.{max, slice_get, is_some, replicate, option_and_then, option_map, Contains}
 use Rattle.ompt_events.specs.declared.records.Record.{Record}
@@ -15,7 +15,7 @@ use Rattle.ompt_events.specs.declared.names.SyncKind.TheVariants.{Taskwait, Task
 use Rattle.ompt_events.specs.Records.{creation, region}
 use Rattle.ompt_events.specs.Places.{at}
 use Rattle.ompt_events.specs.Tree.{children_before, children_between, child_number}
-use Rattle.ompt_events.specs.Regions.{IsRegion, EndsRegion, ended, at_once, is_barrier}
+use Rattle.ompt_events.specs.Regions.{IsRegion, EndsRegion, ended, at_once}
 use Rattle.ompt_events.specs.Coverage.{Covers, IsFamily, waited, grouped, synchronised}
 use Rattle.ompt_events.proofs.ListLemmas.{pushed_cases}
 use Rattle.ompt_events.proofs.RecordLemmas.{at_through}
@@ -27,7 +27,7 @@ use Rattle.task_tree.proofs.NamedLemmas.{region_subject}
 use Rattle.task_tree.proofs.LinkLemmas.{get_set_same, get_set_other}
 use Rattle.task_states.specs.States.{IsBegin}
 use Rattle.wait_coverage.specs.Entries.{IsDone}
-use Rattle.wait_coverage.specs.Done.{IsDoneFrom, IsFamilyLimit}
+use Rattle.wait_coverage.specs.Done.{IsFamilyLimit}
 use Rattle.wait_coverage.specs.Limits.{HaveNoBarriers, IsChildLimit, IsEndLimit, IsLimitOfBegin, IsOnChain, Gathers, HasNode, AreLatest, AreChains, AreNoted}
 use Rattle.wait_coverage.specs.declared.limits.Node.{Node}
 use Rattle.wait_coverage.specs.declared.limits.Progress.{Progress}

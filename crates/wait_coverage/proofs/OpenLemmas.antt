@@ -1,17 +1,15 @@
 -- What of the tasks that an end covers is unfinished there.
-use Rattle.std.proofs.Common.{◌≡◌, ◌≢◌, ◌∙◌, ℕ, ◌<◌, ◌≤◌, ◌+◌, ◌^◌, List, length, drop, get_or, Option, Some, None, refl, sym, ap, subst, arith, inl, inr, ◌⊎◌}
+use Rattle.std.proofs.Common.{◌≡◌, ◌∙◌, ℕ, ◌<◌, ◌≤◌, ◌^◌, List, length, Option, Some, None, sym, ap, subst, arith, inl, inr}
 use Rattle.std.proofs.lemmas.Bool.{cases_lt}
-use Rattle.std.proofs.lemmas.Option.{none-some, same_Some, slice_get_within, slice_get-get_or}
-use Rattle.std.specs.Prelude.{◌↔◌, MatchOption, slice_get, Contains}
+use Rattle.std.proofs.lemmas.Option.{same_Some, slice_get_within}
+use Rattle.std.specs.Prelude.{MatchOption, slice_get, Contains}
 use Rattle.ompt_events.specs.declared.records.Record.{Record}
 use Rattle.ompt_events.specs.declared.names.SyncKind.{SyncKind}
 use Rattle.ompt_events.specs.declared.names.SyncKind.TheVariants.{Taskwait, Taskgroup}
 use Rattle.ompt_events.specs.Records.{created, creation}
 use Rattle.ompt_events.specs.Places.{at, seen_at}
-use Rattle.ompt_events.specs.Tree.{children_before, children_between, child_number, IsExplicit, IsDescendant, child, deeper}
-use Rattle.ompt_events.specs.Regions.{IsRegion}
-use Rattle.ompt_events.specs.Coverage.{Covers, IsFamily, waited, grouped}
-use Rattle.ompt_events.specs.Completion.{IsCompleteAt}
+use Rattle.ompt_events.specs.Tree.{children_before, children_between, child_number, child, deeper}
+use Rattle.ompt_events.specs.Coverage.{Covers, waited, grouped}
 use Rattle.ompt_events.proofs.RecordLemmas.{creation_at_created}
 use Rattle.ompt_events.proofs.TreeLemmas.{child_before}
 use Rattle.credit_ledger.specs.declared.entry.Cover.{Cover}
@@ -19,7 +17,7 @@ use Rattle.credit_ledger.specs.declared.entry.Cover.TheVariants.{Children, Desce
 use Rattle.wait_coverage.specs.Entries.{IsDone}
 use Rattle.wait_coverage.specs.Spans.{IsCoverComplete}
 use Rattle.wait_coverage.specs.Limits.{HaveNoBarriers, AreEndLimits}
-use Rattle.wait_coverage.specs.Waits.{EndsNoWaitAt, IsWaitAt, waits, groups, IsOwnChild, IsAwaitedBy, IsAwaited, IsOpen, IsFirstOpen, IsFirstOpenEnd, IsLateAt, IsFirstLate}
+use Rattle.wait_coverage.specs.Waits.{EndsNoWaitAt, IsWaitAt, waits, groups, IsAwaitedBy, IsAwaited, IsFirstOpen, IsFirstOpenEnd, IsLateAt, IsFirstLate}
 use Rattle.wait_coverage.specs.declared.waits.Wait.{Wait}
 use Rattle.wait_coverage.specs.declared.limits.Node.{Node}
 use Rattle.wait_coverage.proofs.CoverLemmas.{EndsAt, ends_at, one_region, child_with, child_stays, dropped, done_there, complete_there}

@@ -1,21 +1,20 @@
 -- What the end of a region waits for, and which of it is unfinished.
-use Rattle.std.proofs.Common.{◌≡◌, ◌≢◌, ◌∙◌, ℕ, ◌<◌, ◌≤◌, ◌+◌, ◌^◌, Bool, true, false, List, [], ◌∷◌, ◌++◌, length, get_or, Option, Some, None, refl, sym, ap, subst, arith, inl, inr, ◌⊎◌}
-use Rattle.std.proofs.lemmas.Bool.{cases_eq, cases_lt, false≢true}
+use Rattle.std.proofs.Common.{◌≡◌, ◌≢◌, ◌∙◌, ℕ, ◌<◌, ◌≤◌, ◌+◌, ◌^◌, Bool, false, List, length, get_or, Option, Some, None, refl, sym, ap, subst, arith, inl, inr, ◌⊎◌}
+use Rattle.std.proofs.lemmas.Bool.{cases_eq}
 use Rattle.std.proofs.lemmas.Option.{none-some, same_Some, slice_get_within, slice_get-get_or}
 use Rattle.std.proofs.lemmas.List.{length-set, get_or-set_same, get_or-set_other}
 use Rattle.std.proofs.Math.ListN.{set}
 use Rattle.std.specs.Prelude.{◌↔◌, IsTrue, MatchOption, slice_get, slice_index, slice_index_or}
 use Rattle.ompt_events.specs.declared.records.Record.{Record}
-use Rattle.ompt_events.specs.declared.records.Body.{Body}
 use Rattle.ompt_events.specs.declared.names.Endpoint.{Endpoint}
 use Rattle.ompt_events.specs.declared.names.Endpoint.TheVariants.{Begin, End, BeginEnd}
 use Rattle.ompt_events.specs.declared.names.SyncKind.{SyncKind}
 use Rattle.ompt_events.specs.declared.names.SyncKind.TheVariants.{Taskwait, Taskgroup}
 use Rattle.ompt_events.specs.Records.{made, created, creation, region}
 use Rattle.ompt_events.specs.Places.{at}
-use Rattle.ompt_events.specs.Tree.{IsDescendant, child, deeper}
+use Rattle.ompt_events.specs.Tree.{child, deeper}
 use Rattle.ompt_events.specs.Regions.{IsRegion, EndsRegion, ended, at_once}
-use Rattle.ompt_events.specs.Coverage.{Covers, IsFamily, waited, grouped}
+use Rattle.ompt_events.specs.Coverage.{IsFamily}
 use Rattle.task_tree.specs.Family.{FamilyView, IsFamilyOf}
 use Rattle.task_tree.specs.Lineage.{parent_index, IsParentAt}
 use Rattle.task_tree.proofs.OnceLemmas.{made_once, creation_made}
@@ -26,12 +25,10 @@ use Rattle.ompt_events.proofs.PlaceLemmas.{at_index, at_within}
 use Rattle.task_states.specs.States.{IsBegin}
 use Rattle.wait_coverage.specs.Entries.{IsDone}
 use Rattle.wait_coverage.specs.Done.{IsDoneFrom, AreOwn, IsParentsFirst}
-use Rattle.wait_coverage.specs.Limits.{HaveNoBarriers}
 use Rattle.wait_coverage.specs.Waits.{IsWaitAt, waits, groups, IsOwnChild, IsAwaitedBy, IsAwaited, AreAwaited, AreMarked, IsMarkedAbove, EndsNoWait, EndsNoWaitAt, kind_of, IsBeginOf, IsLateAt}
 use Rattle.wait_coverage.specs.declared.waits.Wait.{Wait}
-use Rattle.wait_coverage.proofs.CoverLemmas.{ends_at, one_region}
+use Rattle.wait_coverage.proofs.CoverLemmas.{ends_at}
 use Rattle.wait_coverage.proofs.DoneLemmas.{indices_of}
-use Rattle.wait_coverage.proofs.LimitLemmas.{covers_cases}
 
 -- ---- the children
 

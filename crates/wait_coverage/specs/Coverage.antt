@@ -1,5 +1,5 @@
 -- What the coverage of the waits of a trace knows.
-use Rattle.std.specs.Prelude.{ℕ, ◌≡◌, ◌<◌, true, List, length, Some, Contains, slice_get}
+use Rattle.std.specs.Prelude.{ℕ, ◌≡◌, ◌<◌, true, List, length, Option, Some, MatchOption, Contains, slice_get}
 use Rattle.ompt_events.specs.declared.records.Record.{Record}
 use Rattle.ompt_events.specs.declared.names.SyncKind.{SyncKind}
 use Rattle.ompt_events.specs.Traces.{IsTrace}
@@ -8,7 +8,8 @@ use Rattle.task_tree.specs.Paths.{TreeView, IsTreeOf}
 use Rattle.wait_coverage.specs.Limits.{HaveNoBarriers}
 use Rattle.wait_coverage.specs.Known.{IsKnown}
 use Rattle.wait_coverage.specs.Numbers.{AreNumbers}
-use Rattle.wait_coverage.specs.Waits.{IsWaitAt}
+use Rattle.wait_coverage.specs.Spans.{IsCoverComplete}
+use Rattle.wait_coverage.specs.Waits.{IsWaitAt, IsFirstOpen}
 use Rattle.wait_coverage.specs.declared.unfinished.Known.{Known}
 use Rattle.wait_coverage.specs.declared.waits.Wait.{Wait}
 
@@ -47,3 +48,10 @@ pub record IsCoverage (coverage : CoverageView) : Type 0 where
   pub numbers : AreNumbers coverage.records (length coverage.records) coverage.numbers
   pub ends : AreEnds coverage.records (length coverage.records) coverage.ends
   pub waits : AreWaits coverage.records coverage.tree.family.tasks coverage.ends coverage.waits
+
+-- of the first n ends that are asked for, by their numbers, the first open task of each
+pub record AreFirstOpen (rs : List Record) (ends of : List ℕ) (n : ℕ) (found : List (Option ℕ)) : Type 0 where
+  pub count : length found ≡ n
+  pub each : (k number end : ℕ) (answer : Option ℕ) → slice_get of k ≡ Some number
+      → slice_get ends number ≡ Some end → slice_get found k ≡ Some answer
+      → MatchOption answer (IsCoverComplete rs end) (IsFirstOpen rs end)

@@ -1,12 +1,10 @@
 -- From which ledger length on each task is finished.
-use Rattle.std.specs.Prelude.{ℕ, ◌≡◌, ◌<◌, ◌≤◌, ◌+◌, ◌^◌, ◌⊎◌, List, length, Some, min, max, slice_get}
+use Rattle.std.specs.Prelude.{ℕ, ◌≡◌, ◌<◌, ◌≤◌, ◌+◌, ◌⊎◌, List, length, Some, min, max, slice_get}
 use Rattle.ompt_events.specs.declared.records.Record.{Record}
 use Rattle.ompt_events.specs.declared.records.Part.{Part}
 use Rattle.ompt_events.specs.declared.records.Part.TheVariants.{Whole, Body, Event}
 use Rattle.ompt_events.specs.Records.{finish}
 use Rattle.ompt_events.specs.Places.{at, seen_at}
-use Rattle.ompt_events.specs.Coverage.{IsFamily}
-use Rattle.wait_coverage.specs.Entries.{IsDone}
 use Rattle.wait_coverage.specs.declared.lengths.Lengths.{Lengths}
 
 -- a number above all ledger lengths

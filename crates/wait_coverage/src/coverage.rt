@@ -1,5 +1,5 @@
 //! The ends of waits in a trace, the credit that each waits for, and the task that is unfinished at each.
-ghost use Rattle.std.specs.Prelude.{ℕ, ◌≡◌, ◌<◌, ◌∷◌, [], List, Some, IfOk, IsTrue, MatchOption, length, slice_get, take};
+ghost use Rattle.std.specs.Prelude.{ℕ, ◌≡◌, ◌<◌, ◌∷◌, [], List, Some, All, IfOk, IsTrue, MatchOption, length, slice_get, take};
 ghost use Rattle.ompt_events.specs.declared.records.Record.{Record};
 ghost use Rattle.ompt_events.specs.Tree.{HasPath};
 ghost use Rattle.ompt_events.specs.Regions.{IsRegion};
@@ -12,7 +12,7 @@ ghost use Rattle.wait_coverage.specs.Entries.{IsLedgerOf};
 ghost use Rattle.wait_coverage.specs.Spans.{AreSpans, IsCoverComplete, IsFreeUpTo};
 ghost use Rattle.wait_coverage.specs.Limits.{HaveNoBarriers};
 ghost use Rattle.wait_coverage.specs.Waits.{IsFirstOpen, kind_of};
-ghost use Rattle.wait_coverage.specs.Coverage.{AreEnds, AreWaits};
+ghost use Rattle.wait_coverage.specs.Coverage.{AreEnds, AreWaits, AreFirstOpen};
 
 use crate::fault::CoverFault;
 use crate::numbers::find_numbers;
@@ -136,7 +136,32 @@ impl<'a> Coverage<'a> {
             return Ok(None);
         }
         let alloc = *self.ends.allocator();
-        Ok(open_of(alloc, self.records, self.tree.family(), &self.known, wait, at)?)
+        Ok(open_of(
+            alloc,
+            self.records,
+            self.tree.family(),
+            &self.known,
+            wait,
+            at,
+        )?)
+    }
+
+    /// The same for several ends. Each costs what it costs by itself.
+    pub fn first_open_all(
+        &self,
+        of: &[usize],
+        ledger: &Ledger,
+    ) -> Result<Vec<Option<u64>>, CoverFault>
+        requires below { All (λ number. number < length self.now.ends) of.now }
+        requires ledger { IsLedgerOf self.now.records ledger.now }
+        requires free { IsFreeUpTo self.now.records 13 }
+        ensures { IfOk result (λ found. AreFirstOpen self.now.records self.now.ends of.now (length of.now) found.items) }
+    {
+        let mut found = Vec::with_capacity(*self.ends.allocator(), of.len())?;
+        for index in 0..of.len() {
+            found.push(self.first_open(of[index], ledger)?)?;
+        }
+        Ok(found)
     }
 
     /// The span of children that the end with this number waits for.

@@ -1,8 +1,7 @@
-use Rattle.std.proofs.Common.{◌≡◌, ◌∙◌, ℕ, ◌++◌, Some, sym, ap, subst, rules}
+use Rattle.std.proofs.Common.{◌≡◌, ◌∙◌, ℕ, ◌++◌, sym, ap, rules}
 use Rattle.std.proofs.lemmas.Option.{none-some, same_Some}
 use Rattle.std.specs.Option.{option_copied}
 use Rattle.std.specs.Global.{Vec}
-use Rattle.ompt_events.specs.Tree.{HasPath}
 use Rattle.wait_coverage.proofs.coverage.stands_at.Goals as goal
 use Rattle.wait_coverage.proofs.coverage.stands_at.Goals.{in-Some+in_ok-extend_from_slice, in_default}
 

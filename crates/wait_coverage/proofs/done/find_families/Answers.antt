@@ -1,7 +1,7 @@
 use Rattle.std.proofs.Common.{◌≡◌, ℕ, ◌<◌, ◌-◌, length, get_or, Some, arith, refl}
 use Rattle.task_tree.specs.Lineage.{parent_index}
 use Rattle.task_tree.proofs.LineageLemmas.{parent_within}
-use Rattle.wait_coverage.proofs.DoneLemmas.{raised_start, raised_step, families_by}
+use Rattle.wait_coverage.proofs.DoneLemmas.{raised_step, families_by}
 use Rattle.wait_coverage.proofs.done.find_families.Goals as goal
 
 pub raise-requires-clause-parent : goal.raise-requires-clause-parent

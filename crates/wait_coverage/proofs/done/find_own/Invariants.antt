@@ -1,4 +1,4 @@
-use Rattle.std.proofs.Common.{ℕ, ◌≡◌, Some}
+use Rattle.std.proofs.Common.{◌≡◌}
 use Rattle.std.specs.Prelude.{map, take}
 use Rattle.wait_coverage.specs.Lengths.{done_length}
 use Rattle.wait_coverage.proofs.done.find_own.Given as goal

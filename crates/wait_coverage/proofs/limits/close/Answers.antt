@@ -1,4 +1,4 @@
-use Rattle.std.proofs.Common.{◌≡◌, ◌∙◌, ℕ, ◌<◌, length, get_or, Option, Some, None, refl, ap, sym, subst, rules}
+use Rattle.std.proofs.Common.{◌∙◌, ℕ, ◌<◌, length, Some, refl, ap, sym, subst, rules}
 use Rattle.std.proofs.lemmas.Option.{same_Some}
 use Rattle.std.proofs.Math.ListN.{set}
 use Rattle.ompt_events.specs.declared.names.SyncKind.TheVariants.{Taskgroup}

@@ -1,10 +1,9 @@
-use Rattle.std.proofs.Common.{◌≡◌, ◌∙◌, ℕ, ◌<◌, ◌≤◌, ◌^◌, length, get_or, Option, Some, None, refl, ap, sym, arith, rules}
+use Rattle.std.proofs.Common.{◌≡◌, ◌∙◌, ℕ, Some, ap, sym, arith}
 use Rattle.std.proofs.lemmas.Option.{same_Some, slice_get_within}
 use Rattle.std.proofs.Math.ListN.{set}
 use Rattle.std.specs.Prelude.{max, slice_get}
-use Rattle.wait_coverage.specs.Entries.{IsDone}
 use Rattle.wait_coverage.specs.declared.limits.Node.{Node}
-use Rattle.wait_coverage.proofs.LengthLemmas.{parent_index, child_index, creates_subject, creates_object}
+use Rattle.wait_coverage.proofs.LengthLemmas.{parent_index, child_index}
 use Rattle.wait_coverage.proofs.LimitLemmas.{creation_there, read_at, created_noted}
 use Rattle.wait_coverage.proofs.limits.create.Goals as goal
 

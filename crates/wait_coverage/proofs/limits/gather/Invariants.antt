@@ -1,4 +1,4 @@
-use Rattle.std.proofs.Common.{ℕ, ◌≡◌, ◌<◌, ◌+◌, length, Some, suc}
+use Rattle.std.proofs.Common.{ℕ, ◌≡◌, ◌<◌, ◌+◌, length, Some}
 use Rattle.std.specs.Option.{option_map_or}
 use Rattle.wait_coverage.proofs.ChainLemmas.{IsGathered}
 use Rattle.wait_coverage.proofs.limits.gather.Given as goal

@@ -1,10 +1,8 @@
-use Rattle.std.proofs.Common.{◌≡◌, ◌≢◌, ◌∙◌, ℕ, true, false, Option, Some, None, sym, ap, inl, inr}
+use Rattle.std.proofs.Common.{◌≡◌, ◌≢◌, ◌∙◌, false, Some, sym, ap, inl, inr}
 use Rattle.std.proofs.lemmas.Bool.{false≢true}
 use Rattle.std.proofs.lemmas.Option.{none-some}
 use Rattle.std.specs.Prelude.{is_some}
-use Rattle.ompt_events.specs.declared.names.Endpoint.{Endpoint}
 use Rattle.ompt_events.specs.declared.names.Endpoint.TheVariants.{Begin, End, BeginEnd}
-use Rattle.ompt_events.specs.declared.names.SyncKind.TheVariants.{Taskwait}
 use Rattle.ompt_events.specs.Records.{creation, region}
 use Rattle.ompt_events.specs.Places.{at}
 use Rattle.ompt_events.proofs.PlaceLemmas.{at_index}

@@ -1,13 +1,8 @@
-use Rattle.std.proofs.Common.{◌≡◌, ◌∙◌, ℕ, Option, Some, None, refl, sym, ap}
-use Rattle.std.proofs.lemmas.Option.{none-some}
-use Rattle.std.specs.Prelude.{MatchOption}
-use Rattle.ompt_events.specs.declared.names.Endpoint.TheVariants.{Begin, End, BeginEnd}
-use Rattle.ompt_events.specs.declared.names.SyncKind.{SyncKind}
+use Rattle.std.proofs.Common.{◌≡◌, ◌∙◌, Some, sym, ap}
+use Rattle.ompt_events.specs.declared.names.Endpoint.TheVariants.{End, BeginEnd}
 use Rattle.ompt_events.specs.Records.{region}
 use Rattle.ompt_events.specs.Places.{at}
-use Rattle.ompt_events.specs.Regions.{IsRegion}
 use Rattle.ompt_events.proofs.PlaceLemmas.{at_index}
-use Rattle.wait_coverage.specs.Waits.{IsBeginOf}
 use Rattle.wait_coverage.proofs.WaitLemmas.{once_begin, found_begin}
 use Rattle.wait_coverage.proofs.waits.begin_of.Goals as goal
 

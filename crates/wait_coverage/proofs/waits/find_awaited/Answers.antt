@@ -1,6 +1,5 @@
-use Rattle.std.proofs.Common.{◌≡◌, ◌∙◌, ◌<◌, length, get_or, Some, sym, ap, arith, rules}
+use Rattle.std.proofs.Common.{◌<◌, length, get_or, arith, rules}
 use Rattle.std.proofs.lemmas.Option.{slice_get-get_or}
-use Rattle.std.specs.Prelude.{slice_get}
 use Rattle.wait_coverage.proofs.WaitLemmas.{marked_above, marked_more, marked_all}
 use Rattle.wait_coverage.proofs.waits.find_awaited.Goals as goal
 

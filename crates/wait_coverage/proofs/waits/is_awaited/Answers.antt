@@ -1,7 +1,7 @@
-use Rattle.std.proofs.Common.{◌≡◌, ◌∙◌, ℕ, ◌<◌, false, length, get_or, Some, sym, ap, subst, arith, inl, inr}
+use Rattle.std.proofs.Common.{◌∙◌, ℕ, false, get_or, sym, subst, arith, inl, inr}
 use Rattle.std.proofs.lemmas.Bool.{false≢true}
 use Rattle.std.proofs.lemmas.Option.{none-some, same_Some, slice_get-get_or}
-use Rattle.std.specs.Prelude.{IsTrue, slice_get, slice_index_or}
+use Rattle.std.specs.Prelude.{IsTrue, slice_index_or}
 use Rattle.task_tree.proofs.LineageLemmas.{parent_within}
 use Rattle.wait_coverage.proofs.WaitLemmas.{awaited_cases, below_awaited}
 use Rattle.wait_coverage.proofs.waits.is_awaited.Goals as goal

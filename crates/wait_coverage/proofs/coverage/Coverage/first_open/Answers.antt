@@ -1,6 +1,6 @@
-use Rattle.std.proofs.Common.{◌≡◌, ◌∙◌, ℕ, ◌<◌, length, get_or, sym, ap, subst, arith}
+use Rattle.std.proofs.Common.{◌∙◌, ℕ, get_or, sym, ap, subst, arith}
 use Rattle.std.proofs.lemmas.Option.{same_Some}
-use Rattle.std.specs.Prelude.{slice_get, MatchOption}
+use Rattle.std.specs.Prelude.{MatchOption}
 use Rattle.ompt_events.specs.Places.{seen_at}
 use Rattle.wait_coverage.specs.Spans.{IsCoverComplete}
 use Rattle.wait_coverage.specs.Waits.{IsWaitAt, IsFirstOpen}
@@ -34,25 +34,25 @@ returns-then-branch c =
     let below = rw (← c.self.view_is) at c.requires.below in
     let spans = rw (← c.self.view_is) at c.in_ok-span.ensures in
     rw (← c.self.view_is) (λ end here.
-        let inside = c.self.inside in
-        let wait = c.index-wait.result.now in
-        let is = has_wait _ c.args.number wait c.self.invariant below c.index-wait.ensures in
-        let at_end = same_Some c.index-at.result.now end (sym (read_at inside.ends.items c.args.number c.index-at.result.now below c.index-at.ensures) ∙ here) in
-        let same = same_Some is.end end (sym is.here ∙ here) in
-        let all = c.self.invariant.waits.all in
-        let there = read_at inside.waits.items c.args.number wait (omega (arith, below, all)) c.index-wait.ensures in
-        let seen = (get_or inside.records.now c.index-at.result.now c.index-self-at.result).seen in
-        let low = is.within.inside in
-        let names = ap (seen_at inside.records.now) (sym at_end) ∙ seen_index inside.records.now c.index-at.result.now c.index-self-at.result (omega (arith, same, at_end, low)) in
-        held_complete _ c.args.ledger.now end seen wait.cover c.in_ok-span.span c.self.invariant free ledger (spans end wait here there) names (c.in_ok-is_held.ensures c.if-branch.true)
+    let inside = c.self.inside in
+    let wait = c.index-wait.result.now in
+    let is = has_wait _ c.args.number wait c.self.invariant below c.index-wait.ensures in
+    let at_end = same_Some c.index-at.result.now end (sym (read_at inside.ends.items c.args.number c.index-at.result.now below c.index-at.ensures) ∙ here) in
+    let same = same_Some is.end end (sym is.here ∙ here) in
+    let all = c.self.invariant.waits.all in
+    let there = read_at inside.waits.items c.args.number wait (omega (arith, below, all)) c.index-wait.ensures in
+    let seen = (get_or inside.records.now c.index-at.result.now c.index-self-at.result).seen in
+    let low = is.within.inside in
+    let names = ap (seen_at inside.records.now) (sym at_end) ∙ seen_index inside.records.now c.index-at.result.now c.index-self-at.result (omega (arith, same, at_end, low)) in
+    held_complete _ c.args.ledger.now end seen wait.cover c.in_ok-span.span c.self.invariant free ledger (spans end wait here there) names (c.in_ok-is_held.ensures c.if-branch.true)
     )
 
 pub returns : goal.returns
 returns c =
     let below = rw (← c.self.view_is) at c.requires.below in
     rw (← c.self.view_is) (λ end here.
-        let inside = c.self.inside in
-        let at_end = same_Some c.index-at.result.now end (sym (read_at inside.ends.items c.args.number c.index-at.result.now below c.index-at.ensures) ∙ here) in
-        let P : ℕ → Type 0 = λ e. MatchOption c.in_ok-open_of.field-0 (IsCoverComplete inside.records.now e) (IsFirstOpen inside.records.now e) in
-        subst P at_end c.in_ok-open_of.ensures
+    let inside = c.self.inside in
+    let at_end = same_Some c.index-at.result.now end (sym (read_at inside.ends.items c.args.number c.index-at.result.now below c.index-at.ensures) ∙ here) in
+    let P : ℕ → Type 0 = λ e. MatchOption c.in_ok-open_of.field-0 (IsCoverComplete inside.records.now e) (IsFirstOpen inside.records.now e) in
+    subst P at_end c.in_ok-open_of.ensures
     )

@@ -1,8 +1,4 @@
-use Rattle.std.proofs.Common.{◌≡◌, ◌∙◌, [], ◌∷◌, ◌++◌, ℕ, length, get_or, Some, sym, ap, arith}
-use Rattle.std.proofs.lemmas.Option.{slice_get_within, slice_get-get_or}
-use Rattle.credit_ledger.specs.declared.entry.Cover.TheVariants.{Children}
-use Rattle.wait_coverage.specs.declared.waits.Wait.{Wait}
-use Rattle.wait_coverage.specs.Coverage.{IsCoverage}
+use Rattle.std.proofs.Common.{◌∙◌, [], ◌∷◌, ◌++◌, ap}
 use Rattle.wait_coverage.proofs.CoverageLemmas.{coverage_of, any_wait}
 use Rattle.wait_coverage.proofs.coverage.Coverage.spans.Goals as goal
 
