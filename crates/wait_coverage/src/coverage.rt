@@ -120,13 +120,12 @@ impl<'a> Coverage<'a> {
 
     /// Of the tasks that the end with this number among the ends covers the first created one that is not
     /// finished by the entries of the ledger below the length that the end names: none where these hold the
-    /// credit that it waits for (F. Mattern, 1989). The ledger must be that of the trace, and no cause up to
-    /// NoOrder but these may occur in it: EntryTwice to LengthBack. `Memory` is the only refusal.
+    /// credit that it waits for (F. Mattern, 1989). That is promised where the ledger is that of the trace and
+    /// none of the causes 1 to 13 occurs in it. `Memory` is the only refusal.
     pub fn first_open(&self, number: usize, ledger: &Ledger) -> Result<Option<u64>, CoverFault>
-        requires below { number < length self.now.ends }
-        requires ledger { IsLedgerOf self.now.records ledger.now }
-        requires free { IsFreeUpTo self.now.records 13 }
-        ensures { IfOk result (λ found. (end : ℕ) → slice_get self.now.ends number ≡ Some end
+        requires { number < length self.now.ends }
+        ensures { IsLedgerOf self.now.records ledger.now → IsFreeUpTo self.now.records 13
+            → IfOk result (λ found. (end : ℕ) → slice_get self.now.ends number ≡ Some end
             → MatchOption found (IsCoverComplete self.now.records end) (IsFirstOpen self.now.records end)) }
     {
         let at = self.ends[number];
@@ -152,10 +151,9 @@ impl<'a> Coverage<'a> {
         of: &[usize],
         ledger: &Ledger,
     ) -> Result<Vec<Option<u64>>, CoverFault>
-        requires below { All (λ number. number < length self.now.ends) of.now }
-        requires ledger { IsLedgerOf self.now.records ledger.now }
-        requires free { IsFreeUpTo self.now.records 13 }
-        ensures { IfOk result (λ found. AreFirstOpen self.now.records self.now.ends of.now (length of.now) found.items) }
+        requires { All (λ number. number < length self.now.ends) of.now }
+        ensures { IsLedgerOf self.now.records ledger.now → IsFreeUpTo self.now.records 13
+            → IfOk result (λ found. AreFirstOpen self.now.records self.now.ends of.now (length of.now) found.items) }
     {
         let mut found = Vec::with_capacity(*self.ends.allocator(), of.len())?;
         for index in 0..of.len() {

@@ -12,7 +12,7 @@ use Rattle.wait_coverage.proofs.coverage.Coverage.first_open.Goals as goal
 pub open_of-requires-clause-within : goal.open_of-requires-clause-within
 open_of-requires-clause-within c =
     let inside = c.self.inside in
-    let below = rw (← c.self.view_is) at c.requires.below in
+    let below = rw (← c.self.view_is) at c.requires in
     let is = has_wait _ c.args.number c.index-wait.result.now c.self.invariant below c.index-wait.ensures in
     let same = same_Some is.end c.index-at.result.now (sym is.here ∙ read_at inside.ends.items c.args.number c.index-at.result.now below c.index-at.ensures) in
     let low = is.within.inside in
@@ -21,7 +21,7 @@ open_of-requires-clause-within c =
 pub open_of-requires-clause-wait : goal.open_of-requires-clause-wait
 open_of-requires-clause-wait c =
     let inside = c.self.inside in
-    let below = rw (← c.self.view_is) at c.requires.below in
+    let below = rw (← c.self.view_is) at c.requires in
     let is = has_wait _ c.args.number c.index-wait.result.now c.self.invariant below c.index-wait.ensures in
     let same = same_Some is.end c.index-at.result.now (sym is.here ∙ read_at inside.ends.items c.args.number c.index-at.result.now below c.index-at.ensures) in
     let P : ℕ → Type 0 = λ e. IsWaitAt inside.records.now inside.tree.now.family.tasks e c.index-wait.result.now in
@@ -29,11 +29,9 @@ open_of-requires-clause-wait c =
 
 pub returns-then-branch : goal.returns-then-branch
 returns-then-branch c =
-    let free = rw (← c.self.view_is) at c.requires.free in
-    let ledger = rw (← c.self.view_is) at c.requires.ledger in
-    let below = rw (← c.self.view_is) at c.requires.below in
+    let below = rw (← c.self.view_is) at c.requires in
     let spans = rw (← c.self.view_is) at c.in_ok-span.ensures in
-    rw (← c.self.view_is) (λ end here.
+    rw (← c.self.view_is) (λ ledger free end here.
     let inside = c.self.inside in
     let wait = c.index-wait.result.now in
     let is = has_wait _ c.args.number wait c.self.invariant below c.index-wait.ensures in
@@ -49,8 +47,8 @@ returns-then-branch c =
 
 pub returns : goal.returns
 returns c =
-    let below = rw (← c.self.view_is) at c.requires.below in
-    rw (← c.self.view_is) (λ end here.
+    let below = rw (← c.self.view_is) at c.requires in
+    rw (← c.self.view_is) (λ ledger free end here.
     let inside = c.self.inside in
     let at_end = same_Some c.index-at.result.now end (sym (read_at inside.ends.items c.args.number c.index-at.result.now below c.index-at.ensures) ∙ here) in
     let P : ℕ → Type 0 = λ e. MatchOption c.in_ok-open_of.field-0 (IsCoverComplete inside.records.now e) (IsFirstOpen inside.records.now e) in
