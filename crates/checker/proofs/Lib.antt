@@ -1,4 +1,4 @@
-mod AuditedLemmas
+pub mod AuditedLemmas
 mod ClaimLemmas
 mod LengthLemmas
 mod RepeatLemmas

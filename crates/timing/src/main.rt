@@ -15,13 +15,14 @@ mod tables;
 mod tree;
 mod turns;
 mod verdict;
+mod waits;
 
 use anyhow::{Result, bail};
 use std::env;
 
 const WORDS: &str =
     "values, read, write, lines, names, tables, shares, states, ledger, devices, refusals, tree, verdict, \
-     shared or turns";
+     waits, shared or turns";
 
 /// Does what the word asks for.
 fn run(rt: &HostRuntime, word: &str) -> Result<()> {
@@ -39,6 +40,7 @@ fn run(rt: &HostRuntime, word: &str) -> Result<()> {
         "refusals" => refusals::all(rt),
         "tree" => tree::of_input(rt),
         "verdict" => verdict::of_input(rt),
+        "waits" => waits::each(rt),
         _ => bail!("the word must be {WORDS}"),
     }
 }

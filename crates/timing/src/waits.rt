@@ -1,0 +1,120 @@
+//! The waits of traces, with the credit that each waits for and what of it is unfinished.
+ghost use Rattle.std.specs.Prelude.{◌<◌, length};
+ghost use Rattle.task_tree.specs.Paths.{IsTreeOf};
+ghost use Rattle.task_states.specs.States.{AreStatesOf};
+ghost use Rattle.wait_coverage.specs.Limits.{HaveNoBarriers};
+
+use crate::lines::{HEADER, input, lines_of, told};
+use anyhow::{Result, bail};
+use certificate::{FromRead, read};
+use checker::unaudited;
+use credit_ledger::{Entry, Ledger};
+use ompt_events::{Path, Record, Trace, finish};
+use std::alloc::Global;
+use task_states::{States, run};
+use task_tree::Tree;
+use wait_coverage::Coverage;
+
+/// For each of the trace files that stand one after another on standard input: each end of a wait, whether it
+/// waits for children or for descendants, its spans, and the task that is unfinished there.
+pub fn each(rt: &HostRuntime) -> Result<()> {
+    let bytes = input(rt)?;
+    let mut file: Vec<u8> = Vec::new(rt.alloc());
+    for line in lines_of(rt.alloc(), &bytes)?.iter() {
+        if *line == HEADER.trim_ascii_end().as_bytes() && !file.is_empty() {
+            of_file(rt, file.as_slice())?;
+            file.clear();
+        }
+        file.extend_from_slice(*line)?;
+        file.push(b'\n')?;
+    }
+    of_file(rt, file.as_slice())
+}
+
+fn of_file(rt: &HostRuntime, file: &[u8]) -> Result<()> {
+    match read(rt.alloc(), &mut FromRead::new(file)) {
+        Ok(trace) => of_trace(rt, &trace),
+        Err(fault) => bail!("{}", told(rt.alloc(), fault)?),
+    }
+}
+
+fn of_trace(rt: &HostRuntime, trace: &Trace) -> Result<()> {
+    if unaudited(trace).is_some() {
+        bail!("a record of a form that is not checked");
+    }
+    match Tree::build(rt.alloc(), trace) {
+        Ok(tree) => of_tree(rt, trace, &tree),
+        Err(_) => bail!("no tree"),
+    }
+}
+
+fn of_tree(rt: &HostRuntime, trace: &Trace, tree: &Tree) -> Result<()>
+    requires tree { IsTreeOf trace.now.records tree.now }
+    requires no_barriers { HaveNoBarriers trace.now.records }
+{
+    match run(rt.alloc(), trace, tree.family()) {
+        Ok(states) => of_states(rt, trace, tree, &states),
+        Err(_) => bail!("no states"),
+    }
+}
+
+fn of_states(rt: &HostRuntime, trace: &Trace, tree: &Tree, states: &States) -> Result<()>
+    requires tree { IsTreeOf trace.now.records tree.now }
+    requires states { AreStatesOf trace.now.records states.now }
+    requires no_barriers { HaveNoBarriers trace.now.records }
+{
+    let coverage = Coverage::build(rt.alloc(), trace, tree, states)?;
+    let ledger = ledger_of(rt.alloc(), trace.records())?;
+    for number in 0..coverage.ends().len() {
+        of_end(rt, &coverage, &ledger, number)?;
+    }
+    Ok(())
+}
+
+fn of_end(rt: &HostRuntime, coverage: &Coverage, ledger: &Ledger, number: usize) -> Result<()>
+    requires { number < length coverage.now.ends }
+{
+    let end = coverage.ends()[number];
+    let cover = coverage.cover(number);
+    let spans = coverage.spans(number)?;
+    let open = coverage.first_open(number, ledger)?;
+    let again = coverage.first_open_all(&[number, number], ledger)?;
+    println!(rt; "{end}: {cover:?} {spans:?} open {open:?}, twice {again:?}")?;
+    Ok(())
+}
+
+/// The ledger of the finishing records, each with the entry that it names.
+fn ledger_of(alloc: Global, records: &[Record]) -> Result<Ledger> {
+    let mut ledger = Ledger::new(alloc);
+    for index in 0..records.len() {
+        for event in records {
+            if event.seen as usize == index && finish(event).is_some() {
+                enter(alloc, &mut ledger, event)?;
+            }
+        }
+    }
+    Ok(ledger)
+}
+
+fn enter(alloc: Global, ledger: &mut Ledger, event: &Record) -> Result<()> {
+    let (Some((task, part)), Some(claim)) = (finish(event), event.body.claim()) else {
+        bail!("no claim");
+    };
+    let mut path = Vec::new(alloc);
+    path.extend_from_slice(claim.path.as_slice())?;
+    if path.len() > 1_024 {
+        bail!("the path has more than 1,024 numbers");
+    }
+    let entry = Entry {
+        thread: event.thread,
+        part,
+        kept: claim.kept,
+        task,
+        root: claim.root,
+        path: Path::from_vec(path),
+    };
+    match ledger.enter(entry) {
+        Ok(_) => Ok(()),
+        Err((_, fault)) => bail!("{fault}"),
+    }
+}
