@@ -17,7 +17,7 @@ use Rattle.credit_ledger.specs.declared.view.Stage.{Stage}
 use Rattle.credit_ledger.specs.declared.view.Stage.TheVariants.{Fresh, Idle, Waiting, Turn, Spent}
 use Rattle.credit_ledger.specs.declared.view.View.{View}
 use Rattle.credit_ledger.specs.Histories.{after_call, IsPossible, IsLegalFrom, IsLegal, entries_after}
-use Rattle.credit_ledger.specs.Seats.{Slot, calls_of, StartsWith, with_number, with_ticket, with_turn, with_call, step_of, has_ticket, Knows, FitsAt, Fits, IsHome, IsKept, Kept, Settled, Drawn, HasTurn, Served, Looked, Entered, Extends, Sat, Told, newcomer, copied, told_of, spent, with_claim}
+use Rattle.credit_ledger.specs.Seats.{Slot, calls_of, StartsWith, with_number, with_ticket, with_turn, with_call, step_of, has_ticket, Knows, FitsAt, Fits, IsHome, IsKept, IsLater, Kept, Settled, Drawn, HasTurn, Served, Looked, Entered, Extends, Sat, Told, newcomer, copied, told_of, spent, with_claim}
 
 -- ---- histories
 
@@ -66,7 +66,7 @@ knows-more : (h : List Step) (n : ℕ) (u : View) (s : Step) → s.seat ≢ n �
 knows-more h n u s other k = record { number = k.number; seen = starts-more h u.seen s k.seen; told = starts-more h u.told s k.told; own = calls-other n h s other ∙ k.own }
 
 fits-call : (st : Stage) (h : List Step) (next serving n : ℕ) (u : View) (s : Step) → s.seat ≢ n → (has_ticket st ≡ true → u.ticket ≢ serving) → FitsAt st h next serving n u → FitsAt st (h ++ s ∷ []) next (serving + 1) n u
-fits-call Fresh h next serving n u s other apart f = (starts-more h u.seen s f.0, starts-more h u.told s f.1, f.2, calls-other n h s other ∙ f.3)
+fits-call Fresh h next serving n u s other apart f = (starts-more h u.seen s f.0, starts-more h u.told s f.1, f.2, calls-other n h s other ∙ f.3, f.4)
 fits-call Idle h next serving n u s other apart f = knows-more h n u s other f
 fits-call Waiting h next serving n u s other apart f = (knows-more h n u s other f.0, (let ne = apart refl in omega (arith, f.1, ne)), f.2)
 fits-call Turn h next serving n u s other apart f = absurd (apart refl f.1)
@@ -129,6 +129,12 @@ fresh_turn e = false_true (ap is_turn e)
 no_left : (xs ys : List Step) → xs ++ ys ≡ [] → xs ≡ []
 no_left [] ys e = refl
 no_left (x ∷ xs) ys e = absurd (omega (arith, ap length e))
+
+-- a number of no call is that of no call in what a seat has seen
+no_calls : (n : ℕ) (h first : List Step) → StartsWith h first → calls_of n h ≡ [] → calls_of n first ≡ []
+no_calls n h first starts free =
+    no_left (calls_of n first) (calls_of n starts.0)
+    (sym (filter-append (λ (x : Step). x.seat == n) first starts.0) ∙ sym (ap (calls_of n) starts.1) ∙ free)
 
 -- what a seat holds
 abbrev ledger_of : List (ℕ × Slot) → List Entry
@@ -510,9 +516,15 @@ copies id v idle s kept at = (
     knows : Knows kept.0 id v
     knows = subst (λ st. FitsAt st kept.0 kept.1 kept.2 id v) idle (kept.3.seats id v at)
 
+    later : (n : ℕ) → n ≡ length s.views → IsLater (copied v) n
+    later n is = record {
+      than_seat = omega (arith, is, knows.number, below s.views id v at);
+      than_callers = λ m far. no_calls m kept.0 v.seen knows.seen (kept.3.strangers m (omega (arith, far, is)));
+    }
+
     seats : (n : ℕ) (u : View) → (get_elem? s.views n ≡ some u) ⊎ ((copied v ≡ u) × (n ≡ length s.views)) → Fits kept.0 kept.1 kept.2 n u
     seats n u (inl e) = kept.3.seats n u e
-    seats n u (inr new) = subst (Fits kept.0 kept.1 kept.2 n) new.0 (knows.seen, knows.seen, refl, kept.3.strangers n (omega (arith, new.1)))
+    seats n u (inr new) = subst (Fits kept.0 kept.1 kept.2 n) new.0 (knows.seen, knows.seen, refl, kept.3.strangers n (omega (arith, new.1)), later n new.1)
 
     home : IsHome kept.0 s → IsHome kept.0 (record { words = s.words; homes = s.homes; views = set s.views id v ++ copied v ∷ [] })
     home (inl there) = inl there
@@ -536,14 +548,11 @@ settles slots id me fresh empty s kept count at small = (
         (λ has. absurd (false_true has))
         (home-kept kept.0 s id me.0 (with_number me.0 id) (set s.words 0 (slice_index s.words 0)) at (λ turn. absurd (fresh_turn (sym fresh ∙ turn))) kept.3.home),
   ),
-  (id, no_calls kept.0 me.0.seen fits.0 fits.3, refl),
+  (id, no_calls id kept.0 me.0.seen fits.0 fits.3, fits.4, refl),
 )
   where
     fits : FitsAt Fresh kept.0 kept.1 kept.2 id me.0
     fits = subst (λ st. FitsAt st kept.0 kept.1 kept.2 id me.0) fresh (kept.3.seats id me.0 at)
-
-    no_calls : (h first : List Step) → StartsWith h first → calls_of id h ≡ [] → calls_of id first ≡ []
-    no_calls h first starts free = no_left (calls_of id first) (calls_of id starts.0) (sym (filter-append (λ (x : Step). x.seat == id) first starts.0) ∙ sym (ap (calls_of id) starts.1) ∙ free)
 
 -- a seat is joined into another one
 pub tells : (id other : ℕ) (v w : View) → v.stage ≡ Idle → w.stage ≡ Idle → Joins Kept id v other w (told_of v w) spent

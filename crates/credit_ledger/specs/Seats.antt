@@ -31,9 +31,9 @@ StartsWith history first = (more : List Step) × (history ≡ first ++ more)
 abbrev pub newcomer : View
 newcomer = record { number = 0; seen = []; told = []; own = []; stage = Idle; ticket = 0; claims = [] }
 
--- a new seat, which knows the same history
+-- a new seat, which knows the same history, and has the other seat's number until it learns its own
 abbrev pub copied : View → View
-copied v = record { number = 0; seen = v.seen; told = v.seen; own = []; stage = Fresh; ticket = 0; claims = [] }
+copied v = record { number = v.number; seen = v.seen; told = v.seen; own = []; stage = Fresh; ticket = 0; claims = [] }
 
 -- the seat, told of what the other one has seen
 abbrev pub told_of : View → View → View
@@ -89,10 +89,15 @@ pub record Knows (history : List Step) (n : ℕ) (v : View) : Type 0 where
   pub told : StartsWith history v.told
   pub own : calls_of n history ≡ v.own
 
+-- the number is greater than that of the seat, and than that of each seat whose calls it has seen
+pub record IsLater (v : View) (n : ℕ) : Type 0 where
+  pub than_seat : v.number < n
+  pub than_callers : (m : ℕ) → n ≤ m → calls_of m v.seen ≡ []
+
 -- what the rule says of the seat with this number, by its stage
 abbrev pub FitsAt : Stage → List Step → ℕ → ℕ → ℕ → View → Type 0
 FitsAt Fresh history next serving n v =
-    StartsWith history v.seen × StartsWith history v.told × (v.own ≡ []) × (calls_of n history ≡ [])
+    StartsWith history v.seen × StartsWith history v.told × (v.own ≡ []) × (calls_of n history ≡ []) × IsLater v n
 FitsAt Idle history next serving n v = Knows history n v
 FitsAt Waiting history next serving n v = Knows history n v × (serving ≤ v.ticket) × (v.ticket < next)
 FitsAt Turn history next serving n v =
@@ -126,13 +131,15 @@ Kept s = (history : List Step) × (next : ℕ) × (serving : ℕ) × IsKept hist
 -- a new seat has learned its number, which no call so far has
 abbrev pub Settled : Me Slot View → Me Slot View → Type 0
 Settled before after =
-    (n : ℕ) × (calls_of n before.0.seen ≡ []) × (after ≡ (with_number before.0 n, before.1))
+    (n : ℕ) × (calls_of n before.0.seen ≡ []) × IsLater before.0 n × (after ≡ (with_number before.0 n, before.1))
 
--- a new seat, which has seen what this one has, and has made no call
+-- a new seat, which has seen what this one has, has made no call, and has a number that is later than this
+-- one's and than each that stands in what it has seen
 pub record IsCopy (v w : View) : Type 0 where
   pub seen : w.seen ≡ v.seen
   pub own : w.own ≡ []
   pub alone : calls_of w.number v.seen ≡ []
+  pub later : IsLater v w.number
 
 -- the seat has a ticket, or nothing was changed
 abbrev pub Drawn : ℕ → Me Slot View → ℕ → Me Slot View → Type 0

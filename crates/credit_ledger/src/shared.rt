@@ -28,7 +28,8 @@ type Board = Table<Option<Ledger>, View, (), Lock, Global>;
 
 type Place = atomic_table::Seat<Option<Ledger>, View>;
 
-/// A ledger that several threads share. Each call on it takes the turn, which its seats have one after another.
+/// A ledger that several threads share. Each call on it takes the turn, which its seats have one after
+/// another.
 #[derive(Drop)]
 pub struct SharedLedger {
     board: Board,
@@ -105,9 +106,9 @@ impl SharedLedger {
         }
     }
 
-    /// How many entries there are, and whether these hold each child of the span, with all its descendants. If
-    /// so, no later entry is of one of these. `Memory` is the only refusal. It takes the turn, and gives it back also where it refuses. The span's
-    /// path has at most 1,024 numbers.
+    /// How many entries there are, and whether these hold each child of the span, with all its descendants.
+    /// If so, no later entry is of one of these. `Memory` is the only refusal. It takes the turn, and gives
+    /// it back also where it refuses. The span's path has at most 1,024 numbers.
     pub fn whole<R: Wait>(
         &self,
         wait: &R,
@@ -135,7 +136,8 @@ impl SharedLedger {
         whole
     }
 
-    /// A new seat, which has seen the same history, and of which no call is in it.
+    /// A new seat, which has seen the same history, and of which no call is in it. Its number is greater than
+    /// that of the seat, and than that of each seat that has made a call in this history.
     pub fn split(&self, seat: &mut Seat) -> Seat
         requires seat { seat.old.place.table_id ≡ self.now.board.shared.table_id }
         ensures seat { (seat.new.place.table_id ≡ seat.old.place.table_id) × (seat.new.place.me ≡ seat.old.place.me) }
@@ -147,8 +149,8 @@ impl SharedLedger {
         Seat { place }
     }
 
-    /// Takes in what another seat has seen, which is spent then, and tells how many entries there are. It takes
-    /// the turn.
+    /// Takes in what another seat has seen, which is spent then, and tells how many entries there are. It
+    /// takes the turn.
     pub fn join<R: Wait>(&self, wait: &R, seat: &mut Seat, other: Seat) -> u32
         requires seat { seat.old.place.table_id ≡ self.now.board.shared.table_id }
         requires other { other.place.table_id ≡ self.now.board.shared.table_id }
@@ -160,8 +162,8 @@ impl SharedLedger {
         self.look(wait, seat)
     }
 
-    /// The ledger, after a history that begins with what each of these seats had seen, and in which just those
-    /// calls of it stand that it made. It takes the turn a last time.
+    /// The ledger, after a history that begins with what each of these seats had seen, and in which just
+    /// those calls of it stand that it made. It takes the turn a last time.
     pub fn close<R: Wait>(self, wait: &R, seats: Vec<Seat>) -> Ledger
         requires seats { All (λ seat. seat.place.table_id ≡ self.board.shared.table_id) seats.items }
         ensures { (history : List Step) × IsLegal history × (result ≡ entries_after history)
