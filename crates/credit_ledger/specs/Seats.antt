@@ -66,6 +66,25 @@ AreClaims history [] = Unit {0}
 AreClaims history (c ∷ claims) =
     (StartsWith history c.seen × (calls_of c.number history ≡ c.own)) × AreClaims history claims
 
+-- none of these is of the seat with this number
+abbrev pub AreOfOthers : ℕ → List Claim → Type 0
+AreOfOthers n [] = Unit {0}
+AreOfOthers n (c ∷ claims) = (c.number ≢ n) × AreOfOthers n claims
+
+-- no two of these are of one seat
+abbrev pub AreApart : List Claim → Type 0
+AreApart [] = Unit {0}
+AreApart (c ∷ claims) = AreOfOthers c.number claims × AreApart claims
+
+-- the seat with this number was joined into another one
+abbrev pub IsSpentAt : List View → ℕ → Type 0
+IsSpentAt views n = (v : View) × (get_elem? views n ≡ some v) × (v.stage ≡ Spent)
+
+-- each of these is of a seat that was joined into another one
+abbrev pub AreSpent : List View → List Claim → Type 0
+AreSpent views [] = Unit {0}
+AreSpent views (c ∷ claims) = IsSpentAt views c.number × AreSpent views claims
+
 -- the call that the seat makes where it has the turn
 abbrev pub step_of : View → Call → Step
 step_of v call = record { seat = v.number; call = call; reply = length (entries_after v.seen) }
@@ -102,6 +121,7 @@ FitsAt Idle history next serving n v = Knows history n v
 FitsAt Waiting history next serving n v = Knows history n v × (serving ≤ v.ticket) × (v.ticket < next)
 FitsAt Turn history next serving n v =
     Knows history n v × (v.ticket ≡ serving) × (serving < next) × (v.seen ≡ history) × AreClaims v.seen v.claims
+    × AreApart v.claims
 FitsAt Spent history next serving n v = Unit {0}
 
 abbrev pub Fits : List Step → ℕ → ℕ → ℕ → View → Type 0
@@ -122,6 +142,7 @@ pub record IsKept (history : List Step) (next serving : ℕ) (s : State Slot Vie
   pub strangers : (n : ℕ) → length s.views ≤ n → calls_of n history ≡ []
   pub apart : (m n : ℕ) (v w : View) → get_elem? s.views m ≡ some v → get_elem? s.views n ≡ some w
       → has_ticket v.stage ≡ true → has_ticket w.stage ≡ true → v.ticket ≡ w.ticket → m ≡ n
+  pub gone : (n : ℕ) (v : View) → get_elem? s.views n ≡ some v → AreSpent s.views v.claims
   pub home : IsHome history s
 
 -- there is one legal history; the ledger at home is what it leaves, or one seat has the turn
@@ -185,6 +206,6 @@ pub record Extends (v : View) (call : Call) (reply : ℕ) (w : View) : Type 0 wh
 abbrev pub Sat : Me Slot View → Type 0
 Sat after = after.0.stage ≡ Idle
 
--- what the seat has taken in is in the history that it has seen
+-- what the seat has taken in is in the history that it has seen, and of one seat each
 abbrev pub Told : Me Slot View → Me Slot View → Type 0
-Told before after = (after ≡ before) × AreClaims before.0.seen before.0.claims
+Told before after = (after ≡ before) × AreClaims before.0.seen before.0.claims × AreApart before.0.claims

@@ -8,7 +8,7 @@ ghost use Rattle.credit_ledger.specs.declared.view.View.{View};
 ghost use Rattle.credit_ledger.specs.declared.entry.Cover.{Cover};
 ghost use Rattle.credit_ledger.specs.Entries.{fault_of, IsSpanHeld};
 ghost use Rattle.credit_ledger.specs.Histories.{entries_after, IsPossible, IsLegal, IsOver};
-ghost use Rattle.credit_ledger.specs.Seats.{newcomer, told_of, with_ticket, with_turn, HasTurn, IsCopy, Extends, AreClaims, claim_of};
+ghost use Rattle.credit_ledger.specs.Seats.{newcomer, told_of, with_ticket, with_turn, HasTurn, IsCopy, Extends, AreClaims, AreApart, claim_of};
 
 use crate::entry::{Cover, Entry, Span};
 use crate::fault::LedgerFault;
@@ -163,11 +163,13 @@ impl SharedLedger {
     }
 
     /// The ledger, after a history that begins with what each of these seats had seen, and in which just
-    /// those calls of it stand that it made. It takes the turn a last time.
+    /// those calls of it stand that it made. No two of the seats have one number. It takes the turn a last
+    /// time.
     pub fn close<R: Wait>(self, wait: &R, seats: Vec<Seat>) -> Ledger
         requires seats { All (λ seat. seat.place.table_id ≡ self.board.shared.table_id) seats.items }
         ensures { (history : List Step) × IsLegal history × (result ≡ entries_after history)
-            × AreClaims history (map (λ seat. claim_of seat.place.me.0) seats.items) }
+            × AreClaims history (map (λ seat. claim_of seat.place.me.0) seats.items)
+            × AreApart (map (λ seat. claim_of seat.place.me.0) seats.items) }
     {
         let (_, mut place) = self.board.shared.load_new_seat::<Sit>(0);
         let ticket = draw(&self.board, wait, &mut place);
@@ -315,6 +317,7 @@ fn gather(board: &Board, place: &mut Place, seats: Vec<Seat>)
     ensures slots { place.new.me.1 ≡ place.old.me.1 }
     ensures seen { place.new.me.0.seen ≡ place.old.me.0.seen }
     ensures claims { AreClaims place.old.me.0.seen (map (λ seat. claim_of seat.place.me.0) seats.items) }
+    ensures apart { AreApart (map (λ seat. claim_of seat.place.me.0) seats.items) }
 {
     let mut seats = seats;
     'seats: while let Some(seat) = seats.pop() {
