@@ -1,9 +1,10 @@
 #!/usr/bin/env python3
 """turns.py [CALLS [RUNS]]: nanoseconds a call of a ledger that threads share, beside a list behind a mutex.
 
-`timing calls` makes CALLS calls (200,000), split among 1, 2, 4 or 8 threads, and prints the time of the whole over the
-number of calls. `alone` is what the same entries take in a ledger of one thread, so it is the part of `enter` that is
-done in the turn; its share is of `enter`. An entry is made before each call that takes one. The least of RUNS runs (5).
+`timing calls` makes CALLS calls (200,000), or ten times as many of `look` and `len`, split among 1, 2, 4 or 8 threads, and
+prints the time of the whole over the number of calls. `alone` is what the same entries take in a ledger of one thread: about
+what an `enter` does in its turn; its share is of `enter`. An entry is made before each call that takes one. The least of RUNS
+runs (5).
 """
 
 import os
@@ -13,7 +14,7 @@ import sys
 from bench import TOP
 
 COMMAND = [os.path.join(TOP, "crates", "timing", "out", "timing"), "calls"]
-KINDS = ("enter", "one-enter", "look", "push", "len")
+KINDS = (("enter", 1), ("one-enter", 1), ("look", 10), ("push", 1), ("len", 10))
 
 
 def least(kind, calls, threads, runs):
@@ -28,7 +29,7 @@ def main():
     print("| Threads | `enter` | alone | its share | `look` | mutex: `push` | mutex: `len` |")
     print("|---|---|---|---|---|---|---|")
     for threads in (1, 2, 4, 8):
-        enter, alone, look, push, count = (least(kind, calls, threads, runs) for kind in KINDS)
+        enter, alone, look, push, count = (least(kind, times * calls, threads, runs) for kind, times in KINDS)
         share = f"{100 * alone / enter:.0f} %"
         print(f"| {threads} | {enter:,} | {alone:,} | {share} | {look:,} | {push:,} | {count:,} |", flush=True)
 
