@@ -1,12 +1,14 @@
 #!/usr/bin/env python3
-"""Measures a ledger: entering finished tasks in a scrambled order, and asking whether all entries hold the start of each.
+"""Measures a ledger: entering finished tasks in a scrambled order, and asking whether all entries hold the
+start of each.
 
 ledger.py                seconds of the processor and peak memory, the least of five runs
-ledger.py instructions   instructions inside the calls, which Valgrind counts, of fewer entries: the same on a busy machine
+ledger.py instructions   instructions inside the calls, which Valgrind counts, of fewer entries
 
-`timing ledger` does what the lines of its input say. From the seconds and the memory, what reading and printing a line take
-is subtracted: lines with the same path that ask for an empty span. Each shape has two sizes, the second twice the first;
-growth is that of entering and of asking. The last shape is a chain of 1,000 tasks, and so many children of the last of them.
+`timing ledger` does what the lines of its input say. From the seconds and the memory, what reading and
+printing a line take is subtracted: lines with the same path that ask for an empty span. Each shape has two
+sizes, the second twice the first; growth is that of entering and of asking. The last shape is a chain of 1,000
+tasks, and so many children of the last of them.
 """
 
 import os
@@ -79,7 +81,8 @@ def seconds_and_bytes(path):
 
 def seconds(folder):
     """The seconds of entering and of asking, and the memory of the entries."""
-    reading, entering, asking = (seconds_and_bytes(os.path.join(folder, name)) for name in ("read", "enter", "ask"))
+    files = (os.path.join(folder, name) for name in ("read", "enter", "ask"))
+    reading, entering, asking = (seconds_and_bytes(path) for path in files)
     return entering[0] - reading[0], asking[0] - entering[0] - reading[0], entering[1] - reading[1]
 
 
@@ -87,16 +90,17 @@ def instructions(folder):
     """The instructions of all calls of `enter` and of `holds`."""
     counts = os.path.join(folder, "counts")
     with open(os.path.join(folder, "ask"), "rb") as source:
-        subprocess.run(["valgrind", "--tool=callgrind", f"--callgrind-out-file={counts}"] + COMMAND, stdin=source,
-                       stdout=subprocess.DEVNULL, stderr=subprocess.DEVNULL, check=True)
-    table = subprocess.run(["callgrind_annotate", "--inclusive=yes", counts], capture_output=True, check=True, text=True).stdout
-    found = (re.search(rf"([0-9,]+) .*credit_ledger::ledger::Ledger::{name} ", table) for name in ("enter", "holds"))
+        subprocess.run(["valgrind", "--tool=callgrind", f"--callgrind-out-file={counts}"] + COMMAND,
+                       stdin=source, stdout=subprocess.DEVNULL, stderr=subprocess.DEVNULL, check=True)
+    command = ["callgrind_annotate", "--inclusive=yes", counts]
+    text = subprocess.run(command, capture_output=True, check=True, text=True).stdout
+    found = (re.search(rf"([0-9,]+) .*::ledger::Ledger::{name} ", text) for name in ("enter", "holds"))
     return tuple(int(match[1].replace(",", "")) for match in found)
 
 
 def figures(shape, size, measure):
-    """How many entries there are, and what entering and asking take. Another process writes the lines, since what this
-    one holds would count as the ledger's memory."""
+    """How many entries there are, and what entering and asking take. Another process writes the lines, since
+    what this one holds would count as the ledger's memory."""
     with tempfile.TemporaryDirectory() as folder:
         writer = Process(target=write_lines, args=(shape, size, folder))
         writer.start()
@@ -127,10 +131,12 @@ def main():
     if sys.argv[1:] not in ([], ["instructions"]):
         sys.exit(__doc__)
     if sys.argv[1:]:
-        table("| Tree | Entries | An `enter`, instructions | A `holds`, instructions | Growth |", (2**15, 2**15, 2**9), instructions,
+        head = "| Tree | Entries | An `enter`, instructions | A `holds`, instructions | Growth |"
+        table(head, (2**15, 2**15, 2**9), instructions,
               lambda count, now: f"{now[0] / count:,.0f} | {now[1] / count:,.0f}")
     else:
-        table("| Tree | Entries | Enter, s | Ask, s | Bytes an entry | Growth |", (2**19, 2**19, 2**9), seconds,
+        head = "| Tree | Entries | Enter, s | Ask, s | Bytes an entry | Growth |"
+        table(head, (2**19, 2**19, 2**9), seconds,
               lambda count, now: f"{now[0]:.2f} | {now[1]:.2f} | {now[2] / count:,.0f}")
 
 

@@ -1,10 +1,10 @@
 #!/usr/bin/env python3
 """turns.py [CALLS [RUNS]]: nanoseconds a call of a ledger that threads share, beside a list behind a mutex.
 
-`timing calls` makes CALLS calls (200,000), or ten times as many of `look` and `len`, split among 1, 2, 4 or 8 threads, and
-prints the time of the whole over the number of calls. `alone` is what the same entries take in a ledger of one thread: about
-what an `enter` does in its turn; its share is of `enter`. An entry is made before each call that takes one. The least of RUNS
-runs (5).
+`timing calls` makes CALLS calls (200,000), or ten times as many of `look` and `len`, split among 1, 2, 4 or 8
+threads, and prints the time of the whole over the number of calls. `alone` is what the same entries take in a
+ledger of one thread: about what an `enter` does in its turn; its share is of `enter`. An entry is made before
+each call that takes one. The least of RUNS runs (5).
 """
 
 import os
@@ -29,9 +29,10 @@ def main():
     print("| Threads | `enter` | alone | its share | `look` | mutex: `push` | mutex: `len` |")
     print("|---|---|---|---|---|---|---|")
     for threads in (1, 2, 4, 8):
-        enter, alone, look, push, count = (least(kind, times * calls, threads, runs) for kind, times in KINDS)
-        share = f"{100 * alone / enter:.0f} %"
-        print(f"| {threads} | {enter:,} | {alone:,} | {share} | {look:,} | {push:,} | {count:,} |", flush=True)
+        times = (least(kind, factor * calls, threads, runs) for kind, factor in KINDS)
+        enter, alone, look, push, count = times
+        share = 100 * alone / enter
+        print(f"| {threads} | {enter:,} | {alone:,} | {share:.0f} % | {look:,} | {push:,} | {count:,} |", flush=True)
 
 
 if __name__ == "__main__":

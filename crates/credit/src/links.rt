@@ -6,8 +6,8 @@
 ghost use Rattle.std.specs.Prelude.{◌≡◌};
 ghost use Rattle.credit.specs.Links.{leaf_link, link_at, behind, is_link_of, side_of as side_at, spot_of, with_link};
 
-/// A node among its parent's children. A 0 leads nowhere, since the root is no child. The numbers of nodes have
-/// 32 bits, so that a link takes half a cache line.
+/// A node among its parent's children. A 0 leads nowhere, since the root is no child. Nodes are named by 32
+/// bits, so a link takes 32 bytes.
 #[derive(Clone, Copy, Debug)]
 pub(crate) struct Link {
     pub number: u64,

@@ -136,8 +136,8 @@ impl SharedLedger {
         whole
     }
 
-    /// A new seat, which has seen the same history, and of which no call is in it. Its number is greater than
-    /// that of the seat, and than that of each seat that has made a call in this history.
+    /// A new seat, which has seen the same history, and of which no call is in it. Its number is greater
+    /// than that of the seat, and than that of each seat that has made a call in this history.
     pub fn split(&self, seat: &mut Seat) -> Seat
         requires seat { seat.old.place.table_id ≡ self.now.board.shared.table_id }
         ensures seat { (seat.new.place.table_id ≡ seat.old.place.table_id) × (seat.new.place.me ≡ seat.old.place.me) }

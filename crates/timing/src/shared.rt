@@ -86,13 +86,13 @@ fn meet<R: Wait>(
     Ok((entered?, looked))
 }
 
-/// Eight threads that enter 1,000 entries each, and look after each.
+/// Eight threads that enter 1,000 entries each, and look after each of the first 100.
 fn in_eight_threads<R: Threads + Wait + Sync + Print + AllocGlobal>(rt: &R) -> Result<()> {
     let alloc = rt.alloc();
     let (ledger, seat) = SharedLedger::new(alloc)?;
     let plan = Plan {
         entries: 1_000,
-        looks: 1_000,
+        looks: 100,
     };
     let turns = all_turns(rt, alloc, &ledger, seat, 1, 8, plan)?;
     let closed = ledger.close(rt, turns.seats);

@@ -15,7 +15,7 @@ pub struct Turns {
     pub indices: Vec<u32>,
 }
 
-/// How often each thread calls: a look comes after each of the first entries, and the other looks at the end.
+/// How often each thread calls: a look comes after each of the first entries, and the other looks come last.
 #[derive(Clone, Copy)]
 pub struct Plan {
     pub entries: u32,
@@ -93,8 +93,8 @@ fn own_turns<R: Wait>(
     Ok(Turns { seats, indices })
 }
 
-/// The calls of as many threads, with entries of the roots from `root` on. Half of the threads are started by another
-/// thread.
+/// The calls of as many threads, with entries of the roots from `root` on. Half of the threads are started by
+/// another thread.
 pub fn all_turns<R: Threads + Wait + Sync>(
     rt: &R,
     alloc: Global,
