@@ -1,19 +1,28 @@
 #!/usr/bin/env python3
-"""Times a ledger: entering finished tasks in a scrambled order, and asking from which length on each one is held.
+"""Measures a ledger: entering finished tasks in a scrambled order, and asking whether all entries hold the
+start of each.
 
-`timing ledger` does what the lines of its input say. What reading and printing a line take is subtracted: lines with
-the same path that ask for an empty span. Each shape at two sizes, of which the second is twice the first; seconds of
-the processor, the least of three runs."""
+ledger.py                seconds of the processor and peak memory, the least of five runs
+ledger.py instructions   instructions inside the calls, which Valgrind counts, of fewer entries
+
+`timing ledger` does what the lines of its input say. From the seconds and the memory, what reading and
+printing a line take is subtracted: lines with the same path that ask for an empty span. Each shape has two
+sizes, the second twice the first; growth is that of entering and of asking. The last shape is a chain of 1,000
+tasks, and so many children of the last of them.
+"""
 
 import os
 import random
-import resource
+import re
 import subprocess
 import sys
+import tempfile
+from multiprocessing import Process
 
-from bench import TOP
+from phases import TIMING
 
-TIMING = os.path.join(TOP, "crates", "timing", "out", "timing")
+COMMAND = [TIMING, "ledger"]
+RUNS = 5
 
 
 def random_tree(size):
@@ -38,42 +47,98 @@ def chain(size):
     return links + [([0] * 1000 + [number], 0) for number in range(size)]
 
 
-def seconds(lines):
-    """The processor seconds of a run on these lines, the least of three."""
-    text = "".join(line + "\n" for line in lines).encode()
-    least = None
-    for _ in range(3):
-        before = resource.getrusage(resource.RUSAGE_CHILDREN)
-        subprocess.run([TIMING, "ledger"], input=text, stdout=subprocess.DEVNULL, check=True)
-        after = resource.getrusage(resource.RUSAGE_CHILDREN)
-        took = after.ru_utime + after.ru_stime - before.ru_utime - before.ru_stime
-        least = took if least is None else min(least, took)
-    return least
+def joined(path):
+    return ",".join(map(str, path))
 
 
-def row(shape, size):
-    """The seconds of entering and of asking."""
+def write_lines(shape, size, folder):
+    """Writes lines that are read alone, that enter each task, and that ask for each besides."""
     random.seed(1)
     tasks = shape(size)
     random.shuffle(tasks)
-    text = [(",".join(map(str, path)), kept) for path, kept in tasks]
-    reading = seconds([f"holds 0 1 {path} 0 0 children" for path, _ in text])
-    enters = [f"enter 1 {path} {kept} whole" for path, kept in text]
-    asks = [f"from 1 {','.join(map(str, path[:-1]))} {path[-1]} descendants" for path, _ in tasks]
-    entering = seconds(enters)
-    asking = seconds(enters + asks)
-    return entering - reading, asking - entering - reading
+    read = [f"holds 0 1 {joined(path)} 0 0 children\n" for path, _ in tasks]
+    enter = [f"enter 1 {joined(path)} {kept} whole\n" for path, kept in tasks]
+    ask = [f"holds {len(tasks)} 1 {joined(path[:-1])} {path[-1]} {path[-1] + 1} descendants\n" for path, _ in tasks]
+    for name, lines in (("read", read), ("enter", enter), ("ask", enter + ask)):
+        with open(os.path.join(folder, name), "w", encoding="utf-8") as file:
+            file.writelines(lines)
+
+
+def run_once(path):
+    """The processor seconds and the peak memory, in bytes, of a run on this file."""
+    with open(path, "rb") as source:
+        process = subprocess.Popen(COMMAND, stdin=source, stdout=subprocess.DEVNULL)
+        _, status, usage = os.wait4(process.pid, 0)
+        process.returncode = os.waitstatus_to_exitcode(status)
+    return usage.ru_utime + usage.ru_stime, 1024 * usage.ru_maxrss
+
+
+def seconds_and_bytes(path):
+    """The least of each of a few runs."""
+    runs = [run_once(path) for _ in range(RUNS)]
+    return min(seconds for seconds, _ in runs), min(memory for _, memory in runs)
+
+
+def seconds(folder):
+    """The seconds of entering and of asking, and the memory of the entries."""
+    files = (os.path.join(folder, name) for name in ("read", "enter", "ask"))
+    reading, entering, asking = (seconds_and_bytes(path) for path in files)
+    return entering[0] - reading[0], asking[0] - entering[0] - reading[0], entering[1] - reading[1]
+
+
+def instructions(folder):
+    """The instructions of all calls of `enter` and of `holds`."""
+    counts = os.path.join(folder, "counts")
+    with open(os.path.join(folder, "ask"), "rb") as source:
+        subprocess.run(["valgrind", "--tool=callgrind", f"--callgrind-out-file={counts}"] + COMMAND,
+                       stdin=source, stdout=subprocess.DEVNULL, stderr=subprocess.DEVNULL, check=True)
+    command = ["callgrind_annotate", "--inclusive=yes", counts]
+    text = subprocess.run(command, capture_output=True, check=True, text=True).stdout
+    found = (re.search(rf"([0-9,]+) .*::ledger::Ledger::{name} ", text) for name in ("enter", "holds"))
+    return tuple(int(match[1].replace(",", "")) for match in found)
+
+
+def figures(shape, size, measure):
+    """How many entries there are, and what entering and asking take. Another process writes the lines, since
+    what this one holds would count as the ledger's memory."""
+    with tempfile.TemporaryDirectory() as folder:
+        writer = Process(target=write_lines, args=(shape, size, folder))
+        writer.start()
+        writer.join()
+        with open(os.path.join(folder, "read"), encoding="utf-8") as file:
+            count = sum(1 for _ in file)
+        return count, measure(folder)
+
+
+def growth_of(now, earlier):
+    return ", ".join(f"{now[place] / earlier[place]:.2f}" for place in (0, 1)) if earlier else ""
+
+
+def table(head, sizes, measure, cells):
+    """Prints a row for each shape and size."""
+    print(head)
+    print("|---" * (head.count("|") - 1) + "|")
+    titles = ("random", "children of one task", "leaves below a chain of 1,000")
+    for title, shape, size in zip(titles, (random_tree, children, chain), sizes):
+        earlier = None
+        for leaves in (size, 2 * size):
+            count, now = figures(shape, leaves, measure)
+            print(f"| {title} | {count:,} | {cells(count, now)} | {growth_of(now, earlier)} |", flush=True)
+            earlier = now
+
+
+def main():
+    if sys.argv[1:] not in ([], ["instructions"]):
+        sys.exit(__doc__)
+    if sys.argv[1:]:
+        head = "| Tree | Entries | An `enter`, instructions | A `holds`, instructions | Growth |"
+        table(head, (2**15, 2**15, 2**9), instructions,
+              lambda count, now: f"{now[0] / count:,.0f} | {now[1] / count:,.0f}")
+    else:
+        head = "| Tree | Entries | Enter, s | Ask, s | Bytes an entry | Growth |"
+        table(head, (2**19, 2**19, 2**9), seconds,
+              lambda count, now: f"{now[0]:.2f} | {now[1]:.2f} | {now[2] / count:,.0f}")
 
 
 if __name__ == "__main__":
-    if sys.argv[1:]:
-        sys.exit(__doc__)
-    print("| Tree | Entries | Enter, s | Ask, s | Growth |")
-    print("|---|---|---|---|---|")
-    for title, shape, size in (("random", random_tree, 2**19), ("children of one task", children, 2**19), ("leaves below a chain of 1,000", chain, 2**9)):
-        earlier = None
-        for count in (size, 2 * size):
-            now = row(shape, count)
-            growth = ", ".join(f"{b / a:.1f}" for a, b in zip(earlier, now)) if earlier else ""
-            print(f"| {title} | {count:,} | {now[0]:.2f} | {now[1]:.2f} | {growth} |", flush=True)
-            earlier = now
+    main()

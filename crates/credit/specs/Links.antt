@@ -9,7 +9,7 @@ use Rattle.credit.specs.declared.links.Spot.TheVariants.{Found, Missing}
 
 -- it leads nowhere yet
 abbrev pub leaf_link : ℕ → ℕ → Link
-leaf_link parent number = record { parent = parent; number = number; first = 0; zero = 0; one = 0; two = 0; three = 0 }
+leaf_link parent number = record { number = number; parent = parent; first = 0; zero = 0; one = 0; two = 0; three = 0 }
 
 abbrev pub link_at : List Link → ℕ → Link
 link_at links index = unwrap_or (slice_get links index) (leaf_link 0 0)

@@ -6,18 +6,19 @@
 ghost use Rattle.std.specs.Prelude.{◌≡◌};
 ghost use Rattle.credit.specs.Links.{leaf_link, link_at, behind, is_link_of, side_of as side_at, spot_of, with_link};
 
-/// A node among its parent's children. A 0 leads nowhere, since the root is no child.
+/// A node among its parent's children. A 0 leads nowhere, since the root is no child. Nodes are named by 32
+/// bits, so a link takes 32 bytes.
 #[derive(Clone, Copy, Debug)]
 pub(crate) struct Link {
-    pub parent: usize,
     pub number: u64,
+    pub parent: u32,
     /// The child at which a search among the node's own children begins.
-    pub first: usize,
+    pub first: u32,
     /// The siblings at which a search goes on, by the next digit.
-    pub zero: usize,
-    pub one: usize,
-    pub two: usize,
-    pub three: usize,
+    pub zero: u32,
+    pub one: u32,
+    pub two: u32,
+    pub three: u32,
 }
 
 /// Which way leads on from a node.
@@ -39,12 +40,12 @@ pub(crate) enum Spot {
 
 impl Link {
     /// A node with no children, behind which no sibling stands.
-    pub fn leaf(parent: usize, number: u64) -> Link
+    pub fn leaf(parent: u32, number: u64) -> Link
         ensures { result ≡ leaf_link parent number }
     {
         Link {
-            parent,
             number,
+            parent,
             first: 0,
             zero: 0,
             one: 0,
@@ -58,16 +59,16 @@ impl Link {
         ensures { result ≡ behind self.now side }
     {
         match side {
-            Side::First => self.first,
-            Side::Zero => self.zero,
-            Side::One => self.one,
-            Side::Two => self.two,
-            Side::Three => self.three,
+            Side::First => self.first as usize,
+            Side::Zero => self.zero as usize,
+            Side::One => self.one as usize,
+            Side::Two => self.two as usize,
+            Side::Three => self.three as usize,
         }
     }
 
     /// The link, with this side leading to a child.
-    pub fn leading(self, side: Side, child: usize) -> Link
+    pub fn leading(self, side: Side, child: u32) -> Link
         ensures { result ≡ with_link self side child }
     {
         match side {
@@ -92,7 +93,7 @@ impl Link {
     fn is_of(&self, parent: usize, number: u64) -> bool
         ensures { result ≡ is_link_of parent number self.now }
     {
-        self.parent == parent && self.number == number
+        self.parent as usize == parent && self.number == number
     }
 }
 

@@ -8,6 +8,9 @@ ghost use Rattle.credit.specs.Trees.{no_progress, empty_node, node_at, child, pl
 use crate::links::{Link, Side, Spot, search};
 use std::alloc::{AllocError, Global};
 
+/// The most nodes of a tree, which take 384 GiB.
+const MOST_NODES: usize = 1 << 32;
+
 /// A share that was entered: that of a node, and then so many Keep halves.
 #[derive(Clone, Copy, Debug)]
 pub(crate) struct Run {
@@ -219,13 +222,17 @@ impl Tree {
         }
     }
 
-    /// Takes the memory for one more node.
+    /// Takes the memory for one more node. A tree with 2^32 nodes counts as one for which there is no more.
     fn reserve(&mut self) -> Result<(), AllocError>
         ensures nodes { self.new.nodes.items ≡ self.old.nodes.items }
         ensures links { self.new.links.items ≡ self.old.links.items }
         ensures room_for_node { OnOk result (vec_len self.new.nodes < vec_capacity self.new.nodes) }
         ensures room_for_link { OnOk result (vec_len self.new.links < vec_capacity self.new.links) }
+        ensures few { OnOk result (length self.old.nodes.items < 2 ^ 32) }
     {
+        if self.nodes.len() >= MOST_NODES {
+            return Err(AllocError);
+        }
         self.nodes.reserve(1)?;
         self.links.reserve(1)?;
         Ok(())
@@ -235,11 +242,12 @@ impl Tree {
     fn push(&mut self, parent: usize, number: u64)
         requires room_for_node { vec_len self.old.nodes < vec_capacity self.old.nodes }
         requires room_for_link { vec_len self.old.links < vec_capacity self.old.links }
+        requires few { parent < 2 ^ 32 }
         ensures nodes { self.new.nodes.items ≡ self.old.nodes.items ++ empty_node parent ∷ [] }
         ensures links { self.new.links.items ≡ self.old.links.items ++ leaf_link parent number ∷ [] }
     {
         let _ = self.nodes.push(Node::new(parent));
-        let _ = self.links.push(Link::leaf(parent, number));
+        let _ = self.links.push(Link::leaf(parent as u32, number));
     }
 
     /// Adds the child of a node where a search for its number ended.
@@ -250,6 +258,7 @@ impl Tree {
         requires missing { spot_of self.old.links.items index number ≡ Spot.Missing at side }
         requires room_for_node { vec_len self.old.nodes < vec_capacity self.old.nodes }
         requires room_for_link { vec_len self.old.links < vec_capacity self.old.links }
+        requires few { length self.old.nodes.items < 2 ^ 32 }
         ensures grown { IsGrown self.old self.new }
         ensures made { child self.new index number ≡ Some (length self.old.nodes.items) }
     {
@@ -261,12 +270,13 @@ impl Tree {
 
     /// Lets a link lead to a node.
     fn put_link(&mut self, at: usize, side: Side, child: usize)
-        requires { at < length self.old.links.items }
+        requires within { at < length self.old.links.items }
+        requires few { child < 2 ^ 32 }
         ensures nodes { self.new.nodes ≡ self.old.nodes }
         ensures links { self.new.links.items ≡ slice_set self.old.links.items at (with_link
             (link_at self.old.links.items at) side child) }
     {
-        self.links[at] = self.links[at].leading(side, child);
+        self.links[at] = self.links[at].leading(side, child as u32);
     }
 
     /// Notes that a node has a child with this number.

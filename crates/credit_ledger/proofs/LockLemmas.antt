@@ -2,7 +2,7 @@
 use Rattle.std.proofs.Common.{◌≡◌, ◌≢◌, ◌⊎◌, ℕ, zero, suc, ◌+◌, ◌<◌, ◌≤◌, List, [], ◌∷◌, ◌++◌, length, set, Some, None, Bool, true, false, refl, sym, ap, ◌∙◌, subst, inl, inr, ⊎_elim, arith, length-append}
 use Rattle.std.specs.Prelude.{Result, Ok, Err, IfOk, ◌==◌, slice_index, fold}
 use Rattle.std.proofs.lemmas.Bool.{cases_Bool, cases_eq, false≢true, eqb-true, eq-eqb, cond-true, cond-false}
-use Rattle.std.proofs.lemmas.List.{append_assoc, append-nil, length-set, append_cancel_left}
+use Rattle.std.proofs.lemmas.List.{append_assoc, append-nil, length-set, append_cancel_left, set_comm}
 use Rattle.std.proofs.lemmas.List.Elements.{filter-append}
 use mathlib.Core.Option.{Option as Maybe, some, none, some-ne-none, some-injective}
 use lib.ListN.{get_elem?}
@@ -16,8 +16,9 @@ use Rattle.credit_ledger.specs.declared.view.Step.{Step}
 use Rattle.credit_ledger.specs.declared.view.Stage.{Stage}
 use Rattle.credit_ledger.specs.declared.view.Stage.TheVariants.{Fresh, Idle, Waiting, Turn, Spent}
 use Rattle.credit_ledger.specs.declared.view.View.{View}
+use Rattle.credit_ledger.specs.declared.view.Claim.{Claim}
 use Rattle.credit_ledger.specs.Histories.{after_call, IsPossible, IsLegalFrom, IsLegal, entries_after}
-use Rattle.credit_ledger.specs.Seats.{Slot, calls_of, StartsWith, with_number, with_ticket, with_turn, with_call, step_of, has_ticket, Knows, FitsAt, Fits, IsHome, IsKept, Kept, Settled, Drawn, HasTurn, Served, Looked, Entered, Extends, Sat, Told, newcomer, copied, told_of, spent, with_claim}
+use Rattle.credit_ledger.specs.Seats.{Slot, calls_of, StartsWith, with_number, with_ticket, with_turn, with_call, step_of, has_ticket, Knows, FitsAt, Fits, IsHome, IsKept, IsLater, Kept, Settled, Drawn, HasTurn, Served, Looked, Entered, Extends, Sat, Told, newcomer, copied, told_of, spent, claim_of, with_claim, AreOfOthers, IsSpentAt, AreSpent}
 
 -- ---- histories
 
@@ -59,18 +60,58 @@ fits-next : (st : Stage) (h : List Step) (next serving n : ℕ) (u : View) → F
 fits-next Fresh h next serving n u f = f
 fits-next Idle h next serving n u f = f
 fits-next Waiting h next serving n u f = (f.0, f.1, omega (arith, f.2))
-fits-next Turn h next serving n u f = (f.0, f.1, omega (arith, f.2), f.3, f.4)
+fits-next Turn h next serving n u f = (f.0, f.1, omega (arith, f.2), f.3, f.4, f.5)
 fits-next Spent h next serving n u f = f
 
 knows-more : (h : List Step) (n : ℕ) (u : View) (s : Step) → s.seat ≢ n → Knows h n u → Knows (h ++ s ∷ []) n u
 knows-more h n u s other k = record { number = k.number; seen = starts-more h u.seen s k.seen; told = starts-more h u.told s k.told; own = calls-other n h s other ∙ k.own }
 
 fits-call : (st : Stage) (h : List Step) (next serving n : ℕ) (u : View) (s : Step) → s.seat ≢ n → (has_ticket st ≡ true → u.ticket ≢ serving) → FitsAt st h next serving n u → FitsAt st (h ++ s ∷ []) next (serving + 1) n u
-fits-call Fresh h next serving n u s other apart f = (starts-more h u.seen s f.0, starts-more h u.told s f.1, f.2, calls-other n h s other ∙ f.3)
+fits-call Fresh h next serving n u s other apart f = (starts-more h u.seen s f.0, starts-more h u.told s f.1, f.2, calls-other n h s other ∙ f.3, f.4)
 fits-call Idle h next serving n u s other apart f = knows-more h n u s other f
 fits-call Waiting h next serving n u s other apart f = (knows-more h n u s other f.0, (let ne = apart refl in omega (arith, f.1, ne)), f.2)
 fits-call Turn h next serving n u s other apart f = absurd (apart refl f.1)
 fits-call Spent h next serving n u s other apart f = f
+
+-- ---- seats that were joined into others
+
+below : (views : List View) (id : ℕ) (v : View) → get_elem? views id ≡ some v → id < length views
+below [] id v e = absurd (some-ne-none v (sym e))
+below (x ∷ xs) zero v e = omega arith
+below (x ∷ xs) (suc id) v e = omega (arith, below xs id v e)
+
+abbrev is_spent : Stage → Bool
+is_spent Fresh = false
+is_spent Idle = false
+is_spent Waiting = false
+is_spent Turn = false
+is_spent Spent = true
+
+-- a stage that is another one's is not Spent
+not_spent : (st other : Stage) → st ≡ other → is_spent other ≡ false → st ≡ Spent → ⊥
+not_spent st other is isnt gone = false≢true (sym isnt ∙ ap is_spent (sym is ∙ gone))
+
+-- they stay so where one view changes, if that seat stays so
+spent-set : (views : List View) (id : ℕ) (v w : View) → get_elem? views id ≡ some v → (v.stage ≡ Spent → w.stage ≡ Spent) → (claims : List Claim) → AreSpent views claims → AreSpent (set views id w) claims
+spent-set views id v w at stays [] f = tt
+spent-set views id v w at stays (c ∷ claims) f = (here (cases_eq c.number id), spent-set views id v w at stays claims f.1)
+  where
+    here : (c.number ≡ id) ⊎ (c.number ≢ id) → IsSpentAt (set views id w) c.number
+    here (inl is) =
+        let same : v ≡ f.0.0 = some-injective v f.0.0 (sym at ∙ ap (get_elem? views) (sym is) ∙ f.0.1) in
+        (w, ap (get_elem? (set views id w)) is ∙ set_here views id w (below views id v at), stays (ap (λ (z : View). z.stage) same ∙ f.0.2))
+    here (inr other) = (f.0.0, set_else views id c.number w other ∙ f.0.1, f.0.2)
+
+-- and where a seat comes
+spent-longer : (views more : List View) (claims : List Claim) → AreSpent views claims → AreSpent (views ++ more) claims
+spent-longer views more [] f = tt
+spent-longer views more (c ∷ claims) f = ((f.0.0, at_longer views more c.number f.0.0 f.0.1, f.0.2), spent-longer views more claims f.1)
+
+-- so they are of other seats than one that was joined into none
+spent-others : (views : List View) (n : ℕ) (w : View) → get_elem? views n ≡ some w → (w.stage ≡ Spent → ⊥) → (claims : List Claim) → AreSpent views claims → AreOfOthers n claims
+spent-others views n w at live [] f = tt
+spent-others views n w at live (c ∷ claims) f =
+    ((λ is. live (ap (λ (z : View). z.stage) (some-injective w f.0.0 (sym at ∙ ap (get_elem? views) (sym is) ∙ f.0.1)) ∙ f.0.2)), spent-others views n w at live claims f.1)
 
 -- ---- one view changes
 
@@ -80,9 +121,10 @@ pub kept-changed : (h : List Step) (next serving : ℕ) (s : State Slot View) �
     → ((n : ℕ) (u : View) → n ≢ id → get_elem? s.views n ≡ some u → Fits h2 next2 serving2 n u) → Fits h2 next2 serving2 id w
     → ((n : ℕ) → length s.views ≤ n → calls_of n h2 ≡ [])
     → (has_ticket w.stage ≡ true → (n : ℕ) (u : View) → n ≢ id → get_elem? s.views n ≡ some u → has_ticket u.stage ≡ true → w.ticket ≡ u.ticket → ⊥)
+    → (v.stage ≡ Spent → w.stage ≡ Spent) → AreSpent (set s.views id w) w.claims
     → IsHome h2 (record { words = words; homes = homes; views = set s.views id w })
     → IsKept h2 next2 serving2 (record { words = words; homes = homes; views = set s.views id w })
-kept-changed h next serving s k id v at h2 next2 serving2 words homes w words_are served legal others mine strangers tickets home = record {
+kept-changed h next serving s k id v at h2 next2 serving2 words homes w words_are served legal others mine strangers tickets stays claims home = record {
   words = words_are;
   served = served;
   legal = legal;
@@ -107,6 +149,11 @@ kept-changed h next serving s k id v at h2 next2 serving2 words homes w words_ar
       (λ (no : (n ≢ id) × (get_elem? s.views n ≡ some y)). k.apart m n x y mo.1 no.1 tx ty same)
       (at_set s.views id n w y en))
       (at_set s.views id m w x em);
+  gone = λ n u e.
+      ⊎_elim
+      (λ (is : (n ≡ id) × (w ≡ u)). subst (λ (z : View). AreSpent (set s.views id w) z.claims) is.1 claims)
+      (λ (other : (n ≢ id) × (get_elem? s.views n ≡ some u)). spent-set s.views id v w at stays u.claims (k.gone n u other.1))
+      (at_set s.views id n w u e);
   home = home;
 }
 
@@ -130,6 +177,12 @@ no_left : (xs ys : List Step) → xs ++ ys ≡ [] → xs ≡ []
 no_left [] ys e = refl
 no_left (x ∷ xs) ys e = absurd (omega (arith, ap length e))
 
+-- a number of no call is that of no call in what a seat has seen
+no_calls : (n : ℕ) (h first : List Step) → StartsWith h first → calls_of n h ≡ [] → calls_of n first ≡ []
+no_calls n h first starts free =
+    no_left (calls_of n first) (calls_of n starts.0)
+    (sym (filter-append (λ (x : Step). x.seat == n) first starts.0) ∙ sym (ap (calls_of n) starts.1) ∙ free)
+
 -- what a seat holds
 abbrev ledger_of : List (ℕ × Slot) → List Entry
 ledger_of [] = []
@@ -149,11 +202,6 @@ snoc_at (x ∷ xs) a (suc n) b e =
 
 waiting_turn : Waiting ≡ Turn → ⊥
 waiting_turn e = false_true (ap is_turn e)
-
-below : (views : List View) (id : ℕ) (v : View) → get_elem? views id ≡ some v → id < length views
-below [] id v e = absurd (some-ne-none v (sym e))
-below (x ∷ xs) zero v e = omega arith
-below (x ∷ xs) (suc id) v e = omega (arith, below xs id v e)
 
 -- the ledger is at home or out as before, where the views change at a seat that has the turn after it if it had before
 home-kept : (h : List Step) (s : State Slot View) (id : ℕ) (v w : View) (words : List ℕ) → get_elem? s.views id ≡ some v → (v.stage ≡ Turn → w.stage ≡ Turn) → IsHome h s → IsHome h (record { words = words; homes = s.homes; views = set s.views id w })
@@ -181,6 +229,7 @@ kept-same : (h : List Step) (next serving : ℕ) (s : State Slot View) → IsKep
 kept-same h next serving s k id v at words same =
     kept-changed h next serving s k id v at h next serving words s.homes v same k.served k.legal (λ n u other e. k.seats n u e) (k.seats id v at) k.strangers
     (λ has n u other e tu ticket. other (sym (k.apart id n v u at e has tu ticket)))
+    (λ gone. gone) (spent-set s.views id v v at (λ gone. gone) v.claims (k.gone id v at))
     (home-kept h s id v v words at (λ turn. turn) k.home)
 
 -- the rule, at words that are read
@@ -234,6 +283,8 @@ draws id old v idle s kept slots at small = by_case (cases_eq (slice_index s.wor
                 (record { number = knows.number; seen = knows.seen; told = knows.told; own = knows.own }, omega (arith, k.served, is_next), omega (arith, is_next))
                 k.strangers
                 (λ _ n u other e has same. below_next h next serving u.stage n u has (k.seats n u e) (sym same ∙ sym is_next))
+                (λ gone. absurd (not_spent v.stage Idle idle refl gone))
+                (spent-set s.views id v w at (λ gone. absurd (not_spent v.stage Idle idle refl gone)) v.claims (k.gone id v at))
                 (home-kept h s id v w (set s.words 0 (either (slice_index s.words 0 == old) (old + 1) (slice_index s.words 0))) at (λ turn. absurd (idle_turn (sym idle ∙ turn))) k.home),
           ),
           inl (is, refl),
@@ -293,9 +344,10 @@ serves id v waiting s kept slots at small = by_case (cases_eq (slice_index s.wor
             serving,
             kept-changed h next serving s k id v at h next serving (set s.words 1 (slice_index s.words 1)) (set s.homes 0 none) w words k.served k.legal
                 (λ n u other e. k.seats n u e)
-                (record { number = fits.0.number; seen = ([], sym (append-nil h)); told = fits.0.told; own = fits.0.own }, mine, omega (arith, fits.1, fits.2), refl, tt)
+                (record { number = fits.0.number; seen = ([], sym (append-nil h)); told = fits.0.told; own = fits.0.own }, mine, omega (arith, fits.1, fits.2), refl, tt, tt)
                 k.strangers
                 (λ _ n u other e has same. other (sym (k.apart id n v u at e (ap has_ticket waiting) has same)))
+                (λ gone. absurd (not_spent v.stage Waiting waiting refl gone)) tt
                 (inr (homes, id, w, set_here s.views id w (below s.views id v at), refl)),
           ),
           inl (is, h, record { legal = k.legal; seen = fits.0.seen; told = fits.0.told; own = ap (λ n. calls_of n h) fits.0.number ∙ fits.0.own }, refl),
@@ -324,6 +376,8 @@ calls id v call es turn after possible s kept slots at small = (
         })
         (λ n far. calls-other n h x (λ same. below_far n far (sym same ∙ fits.0.number)) ∙ k.strangers n far)
         (λ has. absurd (false_true has))
+        (λ gone. absurd (not_spent v.stage Turn turn refl gone))
+        (spent-set s.views id v w at (λ gone. absurd (not_spent v.stage Turn turn refl gone)) v.claims (k.gone id v at))
         (inl (homes k.home)),
   ),
   refl,
@@ -457,6 +511,7 @@ begins = (
     seats = one;
     strangers = λ n far. refl;
     apart = alone;
+    gone = none_gone;
     home = inl refl;
   },
 )
@@ -469,6 +524,10 @@ begins = (
     alone zero zero v w em en tv tw same = refl
     alone zero (suc n) v w em en tv tw same = absurd (some-ne-none w (sym en))
     alone (suc m) n v w em en tv tw same = absurd (some-ne-none v (sym em))
+
+    none_gone : (n : ℕ) (v : View) → get_elem? (newcomer ∷ []) n ≡ some v → AreSpent (newcomer ∷ []) v.claims
+    none_gone zero v e = subst (λ (z : View). AreSpent (newcomer ∷ []) z.claims) (some-injective newcomer v e) tt
+    none_gone (suc n) v e = absurd (some-ne-none v (sym e))
 
 -- a seat is split
 pub copies : (id : ℕ) (v : View) → v.stage ≡ Idle → Splits Kept id v v (copied v)
@@ -491,6 +550,11 @@ copies id v idle s kept at = (
         (split_at n y en))
         (λ (new : (copied v ≡ x) × (m ≡ length s.views)). absurd (false_true (ap (λ (z : View). has_ticket z.stage) new.0 ∙ tx)))
         (split_at m x em);
+    gone = λ n u e.
+        ⊎_elim
+        (λ (old : get_elem? s.views n ≡ some u). subst (λ l. AreSpent (l ++ copied v ∷ []) u.claims) (sym again) (spent-longer s.views (copied v ∷ []) u.claims (kept.3.gone n u old)))
+        (λ (new : (copied v ≡ u) × (n ≡ length s.views)). subst (λ (z : View). AreSpent (set s.views id v ++ copied v ∷ []) z.claims) new.0 tt)
+        (split_at n u e);
     home = home kept.3.home;
   },
 )
@@ -510,9 +574,15 @@ copies id v idle s kept at = (
     knows : Knows kept.0 id v
     knows = subst (λ st. FitsAt st kept.0 kept.1 kept.2 id v) idle (kept.3.seats id v at)
 
+    later : (n : ℕ) → n ≡ length s.views → IsLater (copied v) n
+    later n is = record {
+      than_seat = omega (arith, is, knows.number, below s.views id v at);
+      than_callers = λ m far. no_calls m kept.0 v.seen knows.seen (kept.3.strangers m (omega (arith, far, is)));
+    }
+
     seats : (n : ℕ) (u : View) → (get_elem? s.views n ≡ some u) ⊎ ((copied v ≡ u) × (n ≡ length s.views)) → Fits kept.0 kept.1 kept.2 n u
     seats n u (inl e) = kept.3.seats n u e
-    seats n u (inr new) = subst (Fits kept.0 kept.1 kept.2 n) new.0 (knows.seen, knows.seen, refl, kept.3.strangers n (omega (arith, new.1)))
+    seats n u (inr new) = subst (Fits kept.0 kept.1 kept.2 n) new.0 (knows.seen, knows.seen, refl, kept.3.strangers n (omega (arith, new.1)), later n new.1)
 
     home : IsHome kept.0 s → IsHome kept.0 (record { words = s.words; homes = s.homes; views = set s.views id v ++ copied v ∷ [] })
     home (inl there) = inl there
@@ -534,16 +604,15 @@ settles slots id me fresh empty s kept count at small = (
         (record { number = refl; seen = fits.0; told = fits.1; own = fits.3 ∙ sym fits.2 })
         kept.3.strangers
         (λ has. absurd (false_true has))
+        (λ gone. absurd (not_spent me.0.stage Fresh fresh refl gone))
+        (spent-set s.views id me.0 (with_number me.0 id) at (λ gone. absurd (not_spent me.0.stage Fresh fresh refl gone)) me.0.claims (kept.3.gone id me.0 at))
         (home-kept kept.0 s id me.0 (with_number me.0 id) (set s.words 0 (slice_index s.words 0)) at (λ turn. absurd (fresh_turn (sym fresh ∙ turn))) kept.3.home),
   ),
-  (id, no_calls kept.0 me.0.seen fits.0 fits.3, refl),
+  (id, no_calls id kept.0 me.0.seen fits.0 fits.3, fits.4, refl),
 )
   where
     fits : FitsAt Fresh kept.0 kept.1 kept.2 id me.0
     fits = subst (λ st. FitsAt st kept.0 kept.1 kept.2 id me.0) fresh (kept.3.seats id me.0 at)
-
-    no_calls : (h first : List Step) → StartsWith h first → calls_of id h ≡ [] → calls_of id first ≡ []
-    no_calls h first starts free = no_left (calls_of id first) (calls_of id starts.0) (sym (filter-append (λ (x : Step). x.seat == id) first starts.0) ∙ sym (ap (calls_of id) starts.1) ∙ free)
 
 -- a seat is joined into another one
 pub tells : (id other : ℕ) (v w : View) → v.stage ≡ Idle → w.stage ≡ Idle → Joins Kept id v other w (told_of v w) spent
@@ -552,7 +621,7 @@ tells id other v w idle idle_too s kept at apart there = (
   kept.1,
   kept.2,
   kept-changed kept.0 kept.1 kept.2 mid mid_kept other w there kept.0 kept.1 kept.2 s.words s.homes spent kept.3.words kept.3.served kept.3.legal (λ n u _ e. mid_kept.seats n u e) tt
-      mid_kept.strangers (λ has. absurd (false_true has))
+      mid_kept.strangers (λ has. absurd (false_true has)) (λ _. refl) tt
       (home-kept kept.0 mid other w spent s.words there (λ turn. absurd (idle_turn (sym idle_too ∙ turn))) mid_kept.home),
 )
   where
@@ -570,6 +639,8 @@ tells id other v w idle idle_too s kept at apart there = (
         kept-changed kept.0 kept.1 kept.2 s kept.3 id v at kept.0 kept.1 kept.2 s.words s.homes (told_of v w) kept.3.words kept.3.served kept.3.legal (λ n u _ e. kept.3.seats n u e)
         (subst (λ st. FitsAt st kept.0 kept.1 kept.2 id (told_of v w)) (sym idle) (record { number = knows.number; seen = knows.seen; told = knows_too.seen; own = knows.own }))
         kept.3.strangers (λ has. absurd (false_true (sym (ap has_ticket idle) ∙ has)))
+        (λ is. absurd (not_spent v.stage Idle idle refl is))
+        (spent-set s.views id v (told_of v w) at (λ is. absurd (not_spent v.stage Idle idle refl is)) v.claims (kept.3.gone id v at))
         (home-kept kept.0 s id v (told_of v w) s.words at (λ turn. turn) kept.3.home)
 
 -- a new seat comes
@@ -595,6 +666,11 @@ sits slots s kept count small = (
           (snoc_at s.views new n y en))
           (λ (is : (new ≡ x) × (m ≡ length s.views)). absurd (false_true (ap (λ (z : View). has_ticket z.stage) is.0 ∙ tx)))
           (snoc_at s.views new m x em);
+      gone = λ n u e.
+          ⊎_elim
+          (λ (old : get_elem? s.views n ≡ some u). spent-longer s.views (new ∷ []) u.claims (kept.3.gone n u old))
+          (λ (is : (new ≡ u) × (n ≡ length s.views)). subst (λ (z : View). AreSpent (s.views ++ new ∷ []) z.claims) is.0 tt)
+          (snoc_at s.views new n u e);
       home = home kept.3.home;
     },
   ),
@@ -618,31 +694,52 @@ gathers id other v w turn idle s kept at apart there = (
   kept.0,
   kept.1,
   kept.2,
-  kept-changed kept.0 kept.1 kept.2 mid mid_kept other w there kept.0 kept.1 kept.2 s.words s.homes spent kept.3.words kept.3.served kept.3.legal (λ n u _ e. mid_kept.seats n u e) tt
-      mid_kept.strangers (λ has. absurd (false_true has))
-      (home-kept kept.0 mid other w spent s.words there (λ stays. absurd (idle_turn (sym idle ∙ stays))) mid_kept.home),
+  subst (λ vs. IsKept kept.0 kept.1 kept.2 (record { words = s.words; homes = s.homes; views = vs })) (set_comm s.views other id spent (with_claim v w) apart) both_kept,
 )
   where
     mid : State Slot View
-    mid = record { words = s.words; homes = s.homes; views = set s.views id (with_claim v w) }
+    mid = record { words = s.words; homes = s.homes; views = set s.views other spent }
 
     fits : FitsAt Turn kept.0 kept.1 kept.2 id v
     fits = subst (λ st. FitsAt st kept.0 kept.1 kept.2 id v) turn (kept.3.seats id v at)
 
+    there_too : get_elem? s.views other ≡ some w
+    there_too = sym (set_else s.views id other (with_claim v w) apart) ∙ there
+
+    at_too : get_elem? (set s.views other spent) id ≡ some v
+    at_too = set_else s.views other id spent (λ same. apart (sym same)) ∙ at
+
     knows : Knows kept.0 other w
-    knows = subst (λ st. FitsAt st kept.0 kept.1 kept.2 other w) idle (kept.3.seats other w (sym (set_else s.views id other (with_claim v w) apart) ∙ there))
+    knows = subst (λ st. FitsAt st kept.0 kept.1 kept.2 other w) idle (kept.3.seats other w there_too)
 
     claim : StartsWith v.seen w.seen × (calls_of w.number v.seen ≡ w.own)
     claim = subst (λ h. StartsWith h w.seen × (calls_of w.number h ≡ w.own)) (sym fits.3) (knows.seen, ap (λ n. calls_of n kept.0) knows.number ∙ knows.own)
 
-    mid_kept : IsKept kept.0 kept.1 kept.2 (record { words = s.words; homes = s.homes; views = set s.views id (with_claim v w) })
+    others : AreOfOthers w.number v.claims
+    others = spent-others s.views w.number w (ap (get_elem? s.views) knows.number ∙ there_too) (not_spent w.stage Idle idle refl) v.claims (kept.3.gone id v at)
+
+    mid_kept : IsKept kept.0 kept.1 kept.2 (record { words = s.words; homes = s.homes; views = set s.views other spent })
     mid_kept =
-        kept-changed kept.0 kept.1 kept.2 s kept.3 id v at kept.0 kept.1 kept.2 s.words s.homes (with_claim v w) kept.3.words kept.3.served kept.3.legal (λ n u _ e. kept.3.seats n u e)
+        kept-changed kept.0 kept.1 kept.2 s kept.3 other w there_too kept.0 kept.1 kept.2 s.words s.homes spent kept.3.words kept.3.served kept.3.legal (λ n u _ e. kept.3.seats n u e) tt
+        kept.3.strangers (λ has. absurd (false_true has)) (λ _. refl) tt
+        (home-kept kept.0 s other w spent s.words there_too (λ stays. absurd (idle_turn (sym idle ∙ stays))) kept.3.home)
+
+    now_spent : AreSpent (set s.views other spent) (claim_of w ∷ v.claims)
+    now_spent = (
+      (spent, ap (get_elem? (set s.views other spent)) knows.number ∙ set_here s.views other spent (below s.views other w there_too), refl),
+      spent-set s.views other w spent there_too (λ _. refl) v.claims (kept.3.gone id v at),
+    )
+
+    both_kept : IsKept kept.0 kept.1 kept.2 (record { words = s.words; homes = s.homes; views = set (set s.views other spent) id (with_claim v w) })
+    both_kept =
+        kept-changed kept.0 kept.1 kept.2 mid mid_kept id v at_too kept.0 kept.1 kept.2 s.words s.homes (with_claim v w) kept.3.words kept.3.served kept.3.legal (λ n u _ e. mid_kept.seats n u e)
         (subst (λ st. FitsAt st kept.0 kept.1 kept.2 id (with_claim v w)) (sym turn)
-        (record { number = fits.0.number; seen = fits.0.seen; told = fits.0.told; own = fits.0.own }, fits.1, fits.2, fits.3, (claim, fits.4)))
-        kept.3.strangers
-        (λ _ n u apart_too e has same. apart_too (sym (kept.3.apart id n v u at e (ap has_ticket turn) has same)))
-        (home-kept kept.0 s id v (with_claim v w) s.words at (λ stays. stays) kept.3.home)
+        (record { number = fits.0.number; seen = fits.0.seen; told = fits.0.told; own = fits.0.own }, fits.1, fits.2, fits.3, (claim, fits.4), (others, fits.5)))
+        mid_kept.strangers
+        (λ _ n u apart_too e has same. apart_too (sym (mid_kept.apart id n v u at_too e (ap has_ticket turn) has same)))
+        (λ is. absurd (not_spent v.stage Turn turn refl is))
+        (spent-set (set s.views other spent) id v (with_claim v w) at_too (λ is. absurd (not_spent v.stage Turn turn refl is)) (claim_of w ∷ v.claims) now_spent)
+        (home-kept kept.0 mid id v (with_claim v w) s.words at_too (λ stays. stays) mid_kept.home)
 
 -- and is told of what it took in
 pub told_claims : (slots id : ℕ) (me : Me Slot View) → me.0.stage ≡ Turn → Allows Kept slots id me 0 (λ n. n) (λ _ m. Told me m)
@@ -657,7 +754,7 @@ told_claims slots id me turn s kept count at small = (
     kept-same kept.0 kept.1 kept.2 s kept.3 id me.0 at (set s.words 0 (slice_index s.words 0))
         (ap (λ ws. set ws 0 (slice_index s.words 0)) kept.3.words ∙ ap (λ n. n ∷ kept.2 ∷ []) (at_words s.words kept.1 kept.2 kept.3.words).0),
   ),
-  (refl, fits.4),
+  (refl, fits.4, fits.5),
 )
   where
     fits : FitsAt Turn kept.0 kept.1 kept.2 id me.0

@@ -31,9 +31,9 @@ StartsWith history first = (more : List Step) × (history ≡ first ++ more)
 abbrev pub newcomer : View
 newcomer = record { number = 0; seen = []; told = []; own = []; stage = Idle; ticket = 0; claims = [] }
 
--- a new seat, which knows the same history
+-- a new seat, which knows the same history, and has the other seat's number until it learns its own
 abbrev pub copied : View → View
-copied v = record { number = 0; seen = v.seen; told = v.seen; own = []; stage = Fresh; ticket = 0; claims = [] }
+copied v = record { number = v.number; seen = v.seen; told = v.seen; own = []; stage = Fresh; ticket = 0; claims = [] }
 
 -- the seat, told of what the other one has seen
 abbrev pub told_of : View → View → View
@@ -66,6 +66,25 @@ AreClaims history [] = Unit {0}
 AreClaims history (c ∷ claims) =
     (StartsWith history c.seen × (calls_of c.number history ≡ c.own)) × AreClaims history claims
 
+-- none of these is of the seat with this number
+abbrev pub AreOfOthers : ℕ → List Claim → Type 0
+AreOfOthers n [] = Unit {0}
+AreOfOthers n (c ∷ claims) = (c.number ≢ n) × AreOfOthers n claims
+
+-- no two of these are of one seat
+abbrev pub AreApart : List Claim → Type 0
+AreApart [] = Unit {0}
+AreApart (c ∷ claims) = AreOfOthers c.number claims × AreApart claims
+
+-- the seat with this number was joined into another one
+abbrev pub IsSpentAt : List View → ℕ → Type 0
+IsSpentAt views n = (v : View) × (get_elem? views n ≡ some v) × (v.stage ≡ Spent)
+
+-- each of these is of a seat that was joined into another one
+abbrev pub AreSpent : List View → List Claim → Type 0
+AreSpent views [] = Unit {0}
+AreSpent views (c ∷ claims) = IsSpentAt views c.number × AreSpent views claims
+
 -- the call that the seat makes where it has the turn
 abbrev pub step_of : View → Call → Step
 step_of v call = record { seat = v.number; call = call; reply = length (entries_after v.seen) }
@@ -89,14 +108,20 @@ pub record Knows (history : List Step) (n : ℕ) (v : View) : Type 0 where
   pub told : StartsWith history v.told
   pub own : calls_of n history ≡ v.own
 
+-- the number is greater than that of the seat, and than that of each seat whose calls it has seen
+pub record IsLater (v : View) (n : ℕ) : Type 0 where
+  pub than_seat : v.number < n
+  pub than_callers : (m : ℕ) → n ≤ m → calls_of m v.seen ≡ []
+
 -- what the rule says of the seat with this number, by its stage
 abbrev pub FitsAt : Stage → List Step → ℕ → ℕ → ℕ → View → Type 0
 FitsAt Fresh history next serving n v =
-    StartsWith history v.seen × StartsWith history v.told × (v.own ≡ []) × (calls_of n history ≡ [])
+    StartsWith history v.seen × StartsWith history v.told × (v.own ≡ []) × (calls_of n history ≡ []) × IsLater v n
 FitsAt Idle history next serving n v = Knows history n v
 FitsAt Waiting history next serving n v = Knows history n v × (serving ≤ v.ticket) × (v.ticket < next)
 FitsAt Turn history next serving n v =
     Knows history n v × (v.ticket ≡ serving) × (serving < next) × (v.seen ≡ history) × AreClaims v.seen v.claims
+    × AreApart v.claims
 FitsAt Spent history next serving n v = Unit {0}
 
 abbrev pub Fits : List Step → ℕ → ℕ → ℕ → View → Type 0
@@ -117,6 +142,7 @@ pub record IsKept (history : List Step) (next serving : ℕ) (s : State Slot Vie
   pub strangers : (n : ℕ) → length s.views ≤ n → calls_of n history ≡ []
   pub apart : (m n : ℕ) (v w : View) → get_elem? s.views m ≡ some v → get_elem? s.views n ≡ some w
       → has_ticket v.stage ≡ true → has_ticket w.stage ≡ true → v.ticket ≡ w.ticket → m ≡ n
+  pub gone : (n : ℕ) (v : View) → get_elem? s.views n ≡ some v → AreSpent s.views v.claims
   pub home : IsHome history s
 
 -- there is one legal history; the ledger at home is what it leaves, or one seat has the turn
@@ -126,13 +152,15 @@ Kept s = (history : List Step) × (next : ℕ) × (serving : ℕ) × IsKept hist
 -- a new seat has learned its number, which no call so far has
 abbrev pub Settled : Me Slot View → Me Slot View → Type 0
 Settled before after =
-    (n : ℕ) × (calls_of n before.0.seen ≡ []) × (after ≡ (with_number before.0 n, before.1))
+    (n : ℕ) × (calls_of n before.0.seen ≡ []) × IsLater before.0 n × (after ≡ (with_number before.0 n, before.1))
 
--- a new seat, which has seen what this one has, and has made no call
+-- a new seat, which has seen what this one has, has made no call, and has a number that is later than this
+-- one's and than each that stands in what it has seen
 pub record IsCopy (v w : View) : Type 0 where
   pub seen : w.seen ≡ v.seen
   pub own : w.own ≡ []
   pub alone : calls_of w.number v.seen ≡ []
+  pub later : IsLater v w.number
 
 -- the seat has a ticket, or nothing was changed
 abbrev pub Drawn : ℕ → Me Slot View → ℕ → Me Slot View → Type 0
@@ -178,6 +206,6 @@ pub record Extends (v : View) (call : Call) (reply : ℕ) (w : View) : Type 0 wh
 abbrev pub Sat : Me Slot View → Type 0
 Sat after = after.0.stage ≡ Idle
 
--- what the seat has taken in is in the history that it has seen
+-- what the seat has taken in is in the history that it has seen, and of one seat each
 abbrev pub Told : Me Slot View → Me Slot View → Type 0
-Told before after = (after ≡ before) × AreClaims before.0.seen before.0.claims
+Told before after = (after ≡ before) × AreClaims before.0.seen before.0.claims × AreApart before.0.claims

@@ -17,7 +17,7 @@ pub(crate) fn tree_code(alloc: Global, entry: &Entry) -> Result<Share, AllocErro
     requires { length entry.now.path ≤ 1024 }
     ensures { IfOk result (λ share. share ≡ code_in_tree entry.now.root (tree_share entry.now)) }
 {
-    let mut runs = region_runs(alloc, 0, entry.root)?;
+    let mut runs = region_runs(alloc, 0, entry.root, entry.path.as_slice().len())?;
     push_path(&mut runs, entry.path.as_slice())?;
     close(runs, entry.kept, entry.part)
 }
@@ -31,7 +31,7 @@ pub(crate) fn second_code(alloc: Global, entry: &Entry) -> Result<Share, AllocEr
     match entry.path.as_slice().split_last() {
         Some((number, parent)) => pool_code(alloc, entry.root, parent, *number, entry.part),
         None => {
-            let runs = region_runs(alloc, 2, entry.root)?;
+            let runs = region_runs(alloc, 2, entry.root, 0)?;
             close(runs, entry.kept, entry.part)
         }
     }
@@ -47,7 +47,7 @@ pub(crate) fn child_code(
     requires { length parent.now ≤ 1024 }
     ensures { IfOk result (λ share. share ≡ code_in_tree root (start_share (parent.now ++ number ∷ []))) }
 {
-    let mut runs = region_runs(alloc, 0, root)?;
+    let mut runs = region_runs(alloc, 0, root, parent.len() + 1)?;
     push_path(&mut runs, parent)?;
     runs.push(u64::from(number))?;
     close(runs, 0, Part::Whole)
@@ -65,19 +65,20 @@ pub(crate) fn pool_code(
     ensures { IfOk result (λ share. share ≡ start_share (pool_runs root parent.now number)
         ++ part_halves part) }
 {
-    let mut runs = region_runs(alloc, 1, root)?;
+    let mut runs = region_runs(alloc, 1, root, parent.len() + 1)?;
     push_odd_path(&mut runs, parent)?;
     runs.push(2 * u64::from(number))?;
     close(runs, 0, part)
 }
 
-/// The runs of a region.
-fn region_runs(alloc: Global, kind: u64, root: u64) -> Result<Vec<u64>, AllocError>
-    requires { kind < 3 }
+/// The runs of a region, with the memory for so many more.
+fn region_runs(alloc: Global, kind: u64, root: u64, more: usize) -> Result<Vec<u64>, AllocError>
+    requires kind { kind < 3 }
+    requires more { more ≤ 1025 }
     ensures runs { IfOk result (λ runs. runs.items ≡ region kind root) }
     ensures small { length (start_share (region kind root)) ≤ 2 ^ 35 }
 {
-    let mut runs = Vec::new(alloc);
+    let mut runs = Vec::with_capacity(alloc, 2 + more)?;
     runs.push(3 * (root / LOWER) + kind)?;
     runs.push(root % LOWER)?;
     Ok(runs)

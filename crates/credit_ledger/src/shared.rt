@@ -8,7 +8,7 @@ ghost use Rattle.credit_ledger.specs.declared.view.View.{View};
 ghost use Rattle.credit_ledger.specs.declared.entry.Cover.{Cover};
 ghost use Rattle.credit_ledger.specs.Entries.{fault_of, IsSpanHeld};
 ghost use Rattle.credit_ledger.specs.Histories.{entries_after, IsPossible, IsLegal, IsOver};
-ghost use Rattle.credit_ledger.specs.Seats.{newcomer, told_of, with_ticket, with_turn, HasTurn, IsCopy, Extends, AreClaims, claim_of};
+ghost use Rattle.credit_ledger.specs.Seats.{newcomer, told_of, with_ticket, with_turn, HasTurn, IsCopy, Extends, AreClaims, AreApart, claim_of};
 
 use crate::entry::{Cover, Entry, Span};
 use crate::fault::LedgerFault;
@@ -28,7 +28,8 @@ type Board = Table<Option<Ledger>, View, (), Lock, Global>;
 
 type Place = atomic_table::Seat<Option<Ledger>, View>;
 
-/// A ledger that several threads share. Each call on it takes the turn, which its seats have one after another.
+/// A ledger that several threads share. Each call on it takes the turn, which its seats have one after
+/// another.
 #[derive(Drop)]
 pub struct SharedLedger {
     board: Board,
@@ -105,9 +106,9 @@ impl SharedLedger {
         }
     }
 
-    /// How many entries there are, and whether these hold each child of the span, with all its descendants. If
-    /// so, no later entry is of one of these. `Memory` is the only refusal. It takes the turn, and gives it back also where it refuses. The span's
-    /// path has at most 1,024 numbers.
+    /// How many entries there are, and whether these hold each child of the span, with all its descendants.
+    /// If so, no later entry is of one of these. `Memory` is the only refusal. It takes the turn, and gives
+    /// it back also where it refuses. The span's path has at most 1,024 numbers.
     pub fn whole<R: Wait>(
         &self,
         wait: &R,
@@ -135,7 +136,8 @@ impl SharedLedger {
         whole
     }
 
-    /// A new seat, which has seen the same history, and of which no call is in it.
+    /// A new seat, which has seen the same history, and of which no call is in it. Its number is greater
+    /// than that of the seat, and than that of each seat that has made a call in this history.
     pub fn split(&self, seat: &mut Seat) -> Seat
         requires seat { seat.old.place.table_id ≡ self.now.board.shared.table_id }
         ensures seat { (seat.new.place.table_id ≡ seat.old.place.table_id) × (seat.new.place.me ≡ seat.old.place.me) }
@@ -147,8 +149,8 @@ impl SharedLedger {
         Seat { place }
     }
 
-    /// Takes in what another seat has seen, which is spent then, and tells how many entries there are. It takes
-    /// the turn.
+    /// Takes in what another seat has seen, which is spent then, and tells how many entries there are. It
+    /// takes the turn.
     pub fn join<R: Wait>(&self, wait: &R, seat: &mut Seat, other: Seat) -> u32
         requires seat { seat.old.place.table_id ≡ self.now.board.shared.table_id }
         requires other { other.place.table_id ≡ self.now.board.shared.table_id }
@@ -160,12 +162,14 @@ impl SharedLedger {
         self.look(wait, seat)
     }
 
-    /// The ledger, after a history that begins with what each of these seats had seen, and in which just those
-    /// calls of it stand that it made. It takes the turn a last time.
+    /// The ledger, after a history that begins with what each of these seats had seen, and in which just
+    /// those calls of it stand that it made. No two of the seats have one number. It takes the turn a last
+    /// time.
     pub fn close<R: Wait>(self, wait: &R, seats: Vec<Seat>) -> Ledger
         requires seats { All (λ seat. seat.place.table_id ≡ self.board.shared.table_id) seats.items }
         ensures { (history : List Step) × IsLegal history × (result ≡ entries_after history)
-            × AreClaims history (map (λ seat. claim_of seat.place.me.0) seats.items) }
+            × AreClaims history (map (λ seat. claim_of seat.place.me.0) seats.items)
+            × AreApart (map (λ seat. claim_of seat.place.me.0) seats.items) }
     {
         let (_, mut place) = self.board.shared.load_new_seat::<Sit>(0);
         let ticket = draw(&self.board, wait, &mut place);
@@ -313,6 +317,7 @@ fn gather(board: &Board, place: &mut Place, seats: Vec<Seat>)
     ensures slots { place.new.me.1 ≡ place.old.me.1 }
     ensures seen { place.new.me.0.seen ≡ place.old.me.0.seen }
     ensures claims { AreClaims place.old.me.0.seen (map (λ seat. claim_of seat.place.me.0) seats.items) }
+    ensures apart { AreApart (map (λ seat. claim_of seat.place.me.0) seats.items) }
 {
     let mut seats = seats;
     'seats: while let Some(seat) = seats.pop() {

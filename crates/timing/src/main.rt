@@ -1,7 +1,8 @@
-//! Runs one layer alone on standard input. `bench/` times the words `values`, `read` and `write`; `tests/`
+//! Runs one layer alone. `bench/` times the words `values`, `read`, `write`, `ledger` and `calls`; `tests/`
 //! compares what the other words print. Nothing is promised but safety. Begin at `run`.
 #![tactic(auto)]
 
+mod calls;
 mod devices;
 mod layers;
 mod ledger;
@@ -22,7 +23,7 @@ use std::env;
 
 const WORDS: &str =
     "values, read, write, lines, names, tables, shares, states, ledger, devices, refusals, tree, verdict, \
-     waits, shared or turns";
+     waits, shared or calls";
 
 /// Does what the word asks for.
 fn run(rt: &HostRuntime, word: &str) -> Result<()> {
@@ -53,11 +54,17 @@ fn main(rt: HostRuntime) -> Result<()> {
     };
     match word.as_str() {
         "shared" => shared::each(&rt),
-        "turns" => {
-            let (Some(calls), Some(threads)) = (words.next(), words.next()) else {
-                bail!("turns takes the entries of each thread and the number of threads");
+        "calls" => {
+            let (Some(kind), Some(count), Some(threads)) = (
+                words.next(),
+                words.next(),
+                words.next(),
+            ) else {
+                bail!(
+                    "calls takes what is called, how often by each thread, and the number of threads"
+                );
             };
-            turns::timed(&rt, calls.parse()?, threads.parse()?)
+            calls::timed(&rt, kind.as_str(), count.parse()?, threads.parse()?)
         }
         word => run(&rt, word),
     }

@@ -2,7 +2,7 @@
 ghost use Rattle.std.specs.Prelude.{◌≡◌, IfOk};
 ghost use Rattle.std.specs.Thread.{IsSync};
 
-use crate::turns::{all_turns, are_each_once, are_in_order, enter_one};
+use crate::turns::{Plan, all_turns, are_each_once, are_in_order, enter_one};
 use anyhow::{Result, bail};
 use credit_ledger::{LedgerFault, Seat, SharedLedger, Span};
 use ompt_events::Path;
@@ -86,11 +86,15 @@ fn meet<R: Wait>(
     Ok((entered?, looked))
 }
 
-/// Eight threads that enter 1,000 entries each.
+/// Eight threads that enter 1,000 entries each, and look after each of the first 100.
 fn in_eight_threads<R: Threads + Wait + Sync + Print + AllocGlobal>(rt: &R) -> Result<()> {
     let alloc = rt.alloc();
     let (ledger, seat) = SharedLedger::new(alloc)?;
-    let turns = all_turns(rt, alloc, &ledger, seat, 1, 8, 1_000)?;
+    let plan = Plan {
+        entries: 1_000,
+        looks: 100,
+    };
+    let turns = all_turns(rt, alloc, &ledger, seat, 1, 8, plan)?;
     let closed = ledger.close(rt, turns.seats);
     let count = closed.len();
     if !are_in_order(alloc, &closed, 8)? {

@@ -15,8 +15,15 @@ pub struct Turns {
     pub indices: Vec<u32>,
 }
 
+/// How often each thread calls: a look comes after each of the first entries, and the other looks come last.
+#[derive(Clone, Copy)]
+pub struct Plan {
+    pub entries: u32,
+    pub looks: u32,
+}
+
 /// The entry of a whole task of a root, in which one number is its path.
-fn entry_of(alloc: Global, root: u64, number: u32) -> Result<Entry, LedgerFault>
+pub fn entry_of(alloc: Global, root: u64, number: u32) -> Result<Entry, LedgerFault>
     ensures { IfOk result (λ entry. length entry.path ≡ 1) }
 {
     let mut numbers = Vec::new(alloc);
@@ -52,14 +59,14 @@ pub fn enter_one<R: Wait>(
     }
 }
 
-/// The entries of one thread, with a look after each tenth.
+/// The calls of one thread.
 fn own_turns<R: Wait>(
     rt: &R,
     alloc: Global,
     ledger: &SharedLedger,
     seat: Seat,
     root: u64,
-    calls: u32,
+    plan: Plan,
 ) -> Result<Turns, LedgerFault>
     requires { seat.place.table_id ≡ ledger.now.board.shared.table_id }
     ensures { IfOk result (λ turns.
@@ -67,14 +74,17 @@ fn own_turns<R: Wait>(
 {
     let mut seat = seat;
     let mut indices = Vec::new(alloc);
-    'calls: for number in 0..calls {
+    'entries: for number in 0..plan.entries {
         let index = enter_one(rt, alloc, ledger, &mut seat, root, number)?;
         let Ok(()) = indices.push(index) else {
             return Err(LedgerFault::Memory);
         };
-        if number % 10 == 9 {
+        if number < plan.looks {
             ledger.look(rt, &mut seat);
         }
+    }
+    'looks: for _ in plan.entries..plan.looks {
+        ledger.look(rt, &mut seat);
     }
     let mut seats = Vec::new(alloc);
     let Ok(()) = seats.push(seat) else {
@@ -83,8 +93,8 @@ fn own_turns<R: Wait>(
     Ok(Turns { seats, indices })
 }
 
-/// The entries of as many threads, of the roots from `root` on. Half of the threads are started by another
-/// thread.
+/// The calls of as many threads, with entries of the roots from `root` on. Half of the threads are started by
+/// another thread.
 pub fn all_turns<R: Threads + Wait + Sync>(
     rt: &R,
     alloc: Global,
@@ -92,14 +102,14 @@ pub fn all_turns<R: Threads + Wait + Sync>(
     seat: Seat,
     root: u64,
     threads: u64,
-    calls: u32,
+    plan: Plan,
 ) -> Result<Turns, LedgerFault>
     requires { seat.place.table_id ≡ ledger.now.board.shared.table_id }
     ensures { IfOk result (λ turns.
         All (λ seat. seat.place.table_id ≡ ledger.now.board.shared.table_id) turns.seats.items) }
 {
     if threads <= 1 {
-        return own_turns(rt, alloc, ledger, seat, root, calls);
+        return own_turns(rt, alloc, ledger, seat, root, plan);
     }
     let mut seat = seat;
     let other = ledger.split(&mut seat);
@@ -111,7 +121,7 @@ pub fn all_turns<R: Threads + Wait + Sync>(
             requires { IsSync R.row × (seat.place.table_id ≡ ledger.now.board.shared.table_id) }
             ensures { IfOk result (λ turns.
                 All (λ seat. seat.place.table_id ≡ ledger.entry.now.board.shared.table_id) turns.seats.items) }
-        { all_turns(rt, alloc, ledger, seat, root, half, calls) },
+        { all_turns(rt, alloc, ledger, seat, root, half, plan) },
         || -> Result<Turns, LedgerFault>
             requires { IsSync R.row × (other.place.table_id ≡ ledger.now.board.shared.table_id) }
             ensures { IfOk result (λ turns.
@@ -124,7 +134,7 @@ pub fn all_turns<R: Threads + Wait + Sync>(
                 other,
                 root.saturating_add(half),
                 rest,
-                calls,
+                plan,
             )
         },
     );
@@ -186,18 +196,4 @@ pub fn are_each_once(alloc: Global, indices: &[u32], len: u32) -> Result<bool, L
         *place = true;
     }
     Ok(indices.len() == len as usize)
-}
-
-/// Lets threads enter entries and look, and prints how many entries there are then.
-pub fn timed<R: Threads + Wait + Sync + Print + AllocGlobal>(
-    rt: &R,
-    calls: u32,
-    threads: u64,
-) -> anyhow::Result<()> {
-    let alloc = rt.alloc();
-    let (ledger, seat) = SharedLedger::new(alloc)?;
-    let turns = all_turns(rt, alloc, &ledger, seat, 1, threads, calls)?;
-    let count = ledger.close(rt, turns.seats).len();
-    println!(rt; "{count} entries")?;
-    Ok(())
 }

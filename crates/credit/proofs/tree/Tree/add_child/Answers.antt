@@ -5,8 +5,8 @@ use Rattle.credit.proofs.LinkLemmas.{missing-at}
 use Rattle.credit.proofs.GrowLemmas.{IsGrown-made}
 use Rattle.credit.proofs.tree.Tree.add_child.Goals as goal
 
-pub put_link-requires : goal.put_link-requires
-put_link-requires c =
+pub put_link-requires-clause-within : goal.put_link-requires-clause-within
+put_link-requires-clause-within c =
     let ended = missing-at c.args.self.now.links.items c.requires.linked.rising (length c.args.self.now.links.items) c.args.index c.args.number c.args.number c.args.index First c.args.at c.args.side
     (omega (arith, c.requires.within, c.requires.linked.aligned)) (omega arith) c.requires.missing in
     let long : length c.push.new.self.links.items ≡ _ = ap length c.push.ensures.links ∙ length-append c.args.self.now.links.items (leaf_link c.args.index c.args.number ∷ []) in
