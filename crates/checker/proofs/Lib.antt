@@ -3,7 +3,6 @@ mod ClaimLemmas
 mod LengthLemmas
 mod RepeatLemmas
 mod MergeLemmas
-mod EntryLemmas
 mod MakerLemmas
 mod MergingLemmas
 mod ScheduleLemmas

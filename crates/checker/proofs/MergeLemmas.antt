@@ -9,7 +9,7 @@ use Rattle.ompt_events.specs.declared.cause.Cause.TheVariants.{Moved}
 use Rattle.ompt_events.specs.Causes.{IsFreeOf}
 use Rattle.ompt_events.specs.HappensBefore.{thread_order, creation, discard, fulfilment, IsStep, program, ledger, HappensBefore, step, chain}
 use Rattle.checker.proofs.ScheduleLemmas.{step_awaits, awaits_before}
-use Rattle.checker.specs.Merge.{HaveCreations, AreClosed, StartsOrFulfils, Stands, MayFollow, AreHeads, IsLeastEntry, IsReadyHead}
+use Rattle.checker.specs.Merge.{HaveCreations, AreClosed, StartsOrFulfils, Stands, MayFollow, AreHeads, IsLow, IsReadyHead}
 
 pub stands_same : (placed : List Bool) (a b : ℕ) → a ≡ b → Stands placed a → Stands placed b
 stands_same placed a b same stands = ap (slice_get placed) (sym same) ∙ stands
@@ -24,28 +24,22 @@ stands_or_not placed i = stands (slice_get placed i)
     stands (Some false) = inr (λ e. let b : false ≡ true = same_Some false true e in cc)
 
 -- the head of a thread that passes the test may stand next
-pub may_follow : (rs : List Record) → StartsOrFulfils rs → (awaited : List (Option ℕ)) (placed : List Bool) (heads : List ℕ) (least : Option ℕ) (thread head : ℕ) → HaveCreations rs (length rs) awaited → AreHeads rs placed heads → IsLeastEntry rs placed least → thread < length heads → slice_index heads thread ≡ head → IsReadyHead rs awaited placed least head → MayFollow rs placed head
-may_follow rs apart awaited placed heads least thread head awaits are is_least low is ready = record {
+pub may_follow : (rs : List Record) → StartsOrFulfils rs → (awaited : List (Option ℕ)) (placed : List Bool) (heads : List ℕ) (low : ℕ) (thread head : ℕ) → HaveCreations rs (length rs) awaited → AreHeads rs placed heads → IsLow rs placed low → thread < length heads → slice_index heads thread ≡ head → IsReadyHead rs awaited placed low head → MayFollow rs placed head
+may_follow rs apart awaited placed heads low thread head awaits are is_low inside is ready = record {
   within = ready.within;
-  missing = λ standing. are.missing thread low (stands_same placed head (slice_index heads thread) (sym is) standing);
+  missing = λ standing. are.missing thread inside (stands_same placed head (slice_index heads thread) (sym is) standing);
   steps = λ a step. stands_before a step;
 }
   where
     runs : thread_at rs head ≡ Some thread
-    runs = ap (thread_at rs) (sym is) ∙ are.head thread low (rw is ready.within)
+    runs = ap (thread_at rs) (sym is) ∙ are.head thread inside (rw is ready.within)
 
     stands_before : (a : ℕ) → IsStep rs a head → Stands placed a
-    stands_before a (program (thread_order earlier inside same)) = are.below thread a (same ∙ runs) (rw is earlier)
+    stands_before a (program (thread_order earlier within same)) = are.below thread a (same ∙ runs) (rw is earlier)
     stands_before a (program (creation task creates starts)) = ready.is_created a (awaits.each head a ready.within (step_awaits rs apart a head (inr (inl (task, creates, starts.starts)))))
     stands_before a (program (discard task creates gone)) = ready.is_created a (awaits.each head a ready.within (step_awaits rs apart a head (inr (inr (task, creates, gone)))))
     stands_before a (program (fulfilment task creates done)) = ready.is_created a (awaits.each head a ready.within (step_awaits rs apart a head (inl (task, creates, done))))
-    stands_before a (ledger finishes less) = elim (stands_or_not placed a) [
-      | inl standing ↦ standing
-      | inr missing ↦
-          let entry = is_least.below a finishes missing in
-          let bound = ready.is_entered entry.0 entry.1 in
-          absurd (omega (arith, entry.2, bound, less))
-    ]
+    stands_before a (ledger finishes less) = is_low.below a finishes (let bound = ready.is_entered in omega (arith, bound, less))
 
 -- where each step leads from a record that stands, all that happens before stands
 all_before : (rs : List Record) (placed : List Bool) (a i : ℕ) → AreClosed rs placed → ((c : ℕ) → IsStep rs c i → Stands placed c) → HappensBefore rs a i → Stands placed a
@@ -53,14 +47,14 @@ all_before rs placed a i closed steps (step s) = steps a s
 all_before rs placed a i closed steps (chain {b = mid} first second) = closed a mid first (all_before rs placed mid i closed steps second)
 
 -- a record that may stand next passes the test
-pub ready_head : (rs : List Record) (awaited : List (Option ℕ)) (placed : List Bool) (least : Option ℕ) (i : ℕ) → IsFreeOf rs Moved → AreClosed rs placed → HaveCreations rs (length rs) awaited → IsLeastEntry rs placed least → MayFollow rs placed i → IsReadyHead rs awaited placed least i
-ready_head rs awaited placed least i at_home closed awaits is_least may = record {
+pub ready_head : (rs : List Record) (awaited : List (Option ℕ)) (placed : List Bool) (low : ℕ) (i : ℕ) → IsFreeOf rs Moved → AreClosed rs placed → HaveCreations rs (length rs) awaited → IsLow rs placed low → MayFollow rs placed i → IsReadyHead rs awaited placed low i
+ready_head rs awaited placed low i at_home closed awaits is_low may = record {
   within = may.within;
   is_created = λ c found. all_before rs placed c i closed may.steps (awaits_before rs i c at_home (awaits.only i c found));
-  is_entered = λ entry found. elim (cases_lt entry (seen_at rs i)) [
+  is_entered = elim (cases_lt low (seen_at rs i)) [
     | inl less ↦
-        let reached = is_least.reached entry found in
-        absurd (reached.2 (may.steps reached.0 (ledger reached.1 (omega (arith, reached.3, less)))))
+        let next = is_low.next i less in
+        absurd (next.3 (may.steps next.0 (ledger next.1 (let is = next.2 in omega (arith, is, less)))))
     | inr bound ↦ bound
   ];
 }
@@ -93,8 +87,8 @@ thread_of rs i within = found (slice_get rs i) refl
     found (Some r) e = (r.thread, ap (option_map (λ (q : Record). q.thread)) e)
 
 -- where no head before a place passes the test no record before it may stand next
-pub none_found : (rs : List Record) (awaited : List (Option ℕ)) (placed : List Bool) (heads : List ℕ) (least : Option ℕ) (first n : ℕ) → IsFreeOf rs Moved → AreClosed rs placed → HaveCreations rs (length rs) awaited → AreHeads rs placed heads → IsLeastEntry rs placed least → length heads ≤ n → ((t : ℕ) → t < n → slice_index heads t < first → IsReadyHead rs awaited placed least (slice_index heads t) → ⊥) → (i : ℕ) → i < first → MayFollow rs placed i → ⊥
-none_found rs awaited placed heads least first n at_home closed awaits are is_least all none i before may =
+pub none_found : (rs : List Record) (awaited : List (Option ℕ)) (placed : List Bool) (heads : List ℕ) (low first n : ℕ) → IsFreeOf rs Moved → AreClosed rs placed → HaveCreations rs (length rs) awaited → AreHeads rs placed heads → IsLow rs placed low → length heads ≤ n → ((t : ℕ) → t < n → slice_index heads t < first → IsReadyHead rs awaited placed low (slice_index heads t) → ⊥) → (i : ℕ) → i < first → MayFollow rs placed i → ⊥
+none_found rs awaited placed heads low first n at_home closed awaits are is_low all none i before may =
     let thread = thread_of rs i may.within in
     let same = is_head rs placed heads i thread.0 are thread.1 may in
-    none thread.0 (let low = are.all i thread.0 thread.1 in omega arith) (rw same before) (rw same (ready_head rs awaited placed least i at_home closed awaits is_least may))
+    none thread.0 (let inside = are.all i thread.0 thread.1 in omega arith) (rw same before) (rw same (ready_head rs awaited placed low i at_home closed awaits is_low may))

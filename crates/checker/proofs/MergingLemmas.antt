@@ -12,12 +12,12 @@ use Rattle.std.proofs.Math.ListN.{set}
 use Rattle.std.specs.Prelude.{IfSome, slice_get, slice_index, Contains, ⊤, replicate, sum_by}
 use Rattle.std.proofs.lemmas.List.Sums.{sum_by-set}
 use Rattle.ompt_events.specs.declared.records.Record.{Record}
-use Rattle.ompt_events.specs.Places.{places, thread_at}
+use Rattle.ompt_events.specs.Places.{places, thread_at, seen_at}
 use Rattle.ompt_events.specs.HappensBefore.{thread_order, creation, discard, fulfilment, IsStep, program, ledger, step}
 use Rattle.ompt_events.specs.declared.cause.Cause.TheVariants.{NoOrder}
 use Rattle.ompt_events.specs.Causes.{HasCause, no_order, HasNoOrder, IsFirstWith}
 use Rattle.ompt_events.specs.Linearization.{IsDue, IsReady, IsFirstReady, IsGreedy, IsGrounded, IsLinearization}
-use Rattle.checker.specs.Merge.{HaveCreations, StartsOrFulfils, IsLeastEntry, Awaits, AreEarly, IsHint, HintsAt, AreClosed, Stands, MayFollow, AreHeads, IsNextOf, AreHeadsFrom, AreLinks}
+use Rattle.checker.specs.Merge.{HaveCreations, StartsOrFulfils, IsLow, Awaits, AreEarly, IsHint, HintsAt, AreClosed, Stands, MayFollow, AreHeads, IsNextOf, AreHeadsFrom, AreLinks}
 use Rattle.checker.proofs.ScheduleLemmas.{step_awaits}
 use Rattle.checker.proofs.MergeLemmas.{stands_same, stands_or_not, is_head}
 use Rattle.ompt_events.proofs.LinearizationLemmas.{IsClosed, due_from_steps, closed_more, greedy_more, greedy_grounded, grounded_rising}
@@ -320,11 +320,11 @@ missing_less placed place within missing =
     let one : is_missing (get_or placed place false) ≡ 1 = ap is_missing (not_standing placed place within missing) in
     omega (arith, change, one)
 
--- the entries before a place stand after one more record does
-pub passed_more : (placed : List Bool) (entries : List (ℕ × ℕ)) (low next place : ℕ) → ((j : ℕ) (d : ℕ × ℕ) → j < low → Stands placed (get_or entries j d).1) → ((j : ℕ) (d : ℕ × ℕ) → low ≤ j → j < next → Stands (set placed place true) (get_or entries j d).1) → (j : ℕ) (d : ℕ × ℕ) → j < next → Stands (set placed place true) (get_or entries j d).1
-passed_more placed entries low next place old new j d below = elim (cases_lt j low) [
-  | inl before ↦ stands_still placed place (get_or entries j d).1 (old j d before)
-  | inr after ↦ new j d after below
+-- the makers of the entries before one stand after one more record does
+pub passed_more : (placed : List Bool) (makers : List ℕ) (low next place : ℕ) → ((k : ℕ) → k < low → slice_index makers k < length placed → Stands placed (slice_index makers k)) → ((k : ℕ) → low ≤ k → k < next → slice_index makers k < length (set placed place true) → Stands (set placed place true) (slice_index makers k)) → (k : ℕ) → k < next → slice_index makers k < length (set placed place true) → Stands (set placed place true) (slice_index makers k)
+passed_more placed makers low next place old new k below real = elim (cases_lt k low) [
+  | inl before ↦ stands_still placed place (slice_index makers k) (old k before (rw (length-set placed place true) at real))
+  | inr after ↦ new k after below real
 ]
 
 -- the first place that isn't filled
@@ -357,8 +357,8 @@ pub early_other : (creations : List (Option ℕ)) (n : ℕ) (early : List Bool) 
 early_other creations n early are none = early_cases creations n early early are refl (λ c marked. marked) (λ c before inside there. absurd (none c before inside there))
 
 -- a step from the record to one before it in the file, which may stand once the record does
-no_step : (rs : List Record) → StartsOrFulfils rs → (creations : List (Option ℕ)) (early placed after : List Bool) (least : Option ℕ) (place i : ℕ) → HaveCreations rs (length rs) creations → AreEarly creations (length creations) early → place < length rs → (Stands early place → ⊥) → (Stands placed place → ⊥) → IsLeastEntry rs placed least → IsLeastEntry rs after least → i < place → MayFollow rs after i → IsStep rs place i → ⊥
-no_step rs apart creations early placed after least place i awaits are_early within not_early missing is_least is_least' before may s = by s
+no_step : (rs : List Record) → StartsOrFulfils rs → (creations : List (Option ℕ)) (early placed after : List Bool) (low place i : ℕ) → HaveCreations rs (length rs) creations → AreEarly creations (length creations) early → place < length rs → (Stands early place → ⊥) → (Stands placed place → ⊥) → IsLow rs placed low → IsLow rs after low → i < place → MayFollow rs after i → IsStep rs place i → ⊥
+no_step rs apart creations early placed after low place i awaits are_early within not_early missing is_low is_low' before may s = by s
   where
     awaited_behind : Awaits rs i place → ⊥
     awaited_behind waits = not_early (are_early.each i place (rw awaits.all may.within) before (rw awaits.all within) (awaits.each i place may.within waits))
@@ -368,26 +368,26 @@ no_step rs apart creations early placed after least place i awaits are_early wit
     by (program (creation task creates start)) = awaited_behind (step_awaits rs apart place i (inr (inl (task, creates, start.starts))))
     by (program (discard task creates gone)) = awaited_behind (step_awaits rs apart place i (inr (inr (task, creates, gone))))
     by (program (fulfilment task creates done)) = awaited_behind (step_awaits rs apart place i (inl (task, creates, done)))
-    by (ledger finishes less) =
-        let entry = is_least.below place finishes missing in
-        let reached = is_least'.reached entry.0 entry.1 in
-        let bound = entry.2 in
-        let is = reached.3 in
-        reached.2 (may.steps reached.0 (ledger reached.1 (omega (arith, bound, is, less))))
+    by (ledger finishes less) = elim (cases_lt (seen_at rs place) low) [
+      | inl below ↦ missing (is_low.below place finishes below)
+      | inr above ↦
+          let next = is_low'.next i (omega (arith, above, less)) in
+          next.3 (may.steps next.0 (ledger next.1 (let is = next.2 in omega (arith, is, above, less))))
+    ]
 
-pub hint_more : (rs : List Record) → StartsOrFulfils rs → (creations : List (Option ℕ)) (early placed : List Bool) (heads : List ℕ) (low now_low place thread next : ℕ) (entry : ℕ → Option ℕ) (found : Option ℕ) → HaveCreations rs (length rs) creations → AreEarly creations (length creations) early → place < length placed → MayFollow rs placed place → ((i : ℕ) → i < place → MayFollow rs placed i → ⊥) → thread < length heads → IsLeastEntry rs placed (entry low) → IsLeastEntry rs (set placed place true) (entry now_low) → HintsAt early place next low now_low found → IfSome found (IsHint rs (set placed place true) (set heads thread next))
-hint_more rs apart creations early placed heads low now_low place thread next entry None awaits are_early inside here before in_heads is_least is_least' hints = tt
-hint_more rs apart creations early placed heads low now_low place thread next entry (Some hint) awaits are_early inside here before in_heads is_least is_least' hints =
+pub hint_more : (rs : List Record) → StartsOrFulfils rs → (creations : List (Option ℕ)) (early placed : List Bool) (heads : List ℕ) (low now_low place thread next : ℕ) (found : Option ℕ) → HaveCreations rs (length rs) creations → AreEarly creations (length creations) early → place < length placed → MayFollow rs placed place → ((i : ℕ) → i < place → MayFollow rs placed i → ⊥) → thread < length heads → IsLow rs placed low → IsLow rs (set placed place true) now_low → HintsAt early place next low now_low found → IfSome found (IsHint rs (set placed place true) (set heads thread next))
+hint_more rs apart creations early placed heads low now_low place thread next None awaits are_early inside here before in_heads is_low is_low' hints = tt
+hint_more rs apart creations early placed heads low now_low place thread next (Some hint) awaits are_early inside here before in_heads is_low is_low' hints =
     let h = hints hint refl in
     record {
       thread = thread;
       low = rw (length-set heads thread next) in_heads;
       head = get_or-set_same heads thread next 0 in_heads ∙ sym h.1;
-      none = λ i below. none_before (rw (← h.3) at is_least') h.2 i (omega (arith, below, h.0));
+      none = λ i below. none_before (rw (← h.3) at is_low') h.2 i (omega (arith, below, h.0));
     }
   where
-    none_before : IsLeastEntry rs (set placed place true) (entry low) → (Stands early place → ⊥) → (i : ℕ) → i < place + 1 → MayFollow rs (set placed place true) i → ⊥
-    none_before same_least not_early i below may = elim (cases_eq i place) [
+    none_before : IsLow rs (set placed place true) low → (Stands early place → ⊥) → (i : ℕ) → i < place + 1 → MayFollow rs (set placed place true) i → ⊥
+    none_before same_low not_early i below may = elim (cases_eq i place) [
       | inl same ↦ may.missing (let P : ℕ → Type 0 = λ j. Stands (set placed place true) j in subst P (sym same) (stands_here placed place inside))
       | inr apart' ↦ before i (omega arith) (record {
         within = may.within;
@@ -396,7 +396,7 @@ hint_more rs apart creations early placed heads low now_low place thread next en
           | inl old ↦ old
           | inr same ↦
               let P : ℕ → Type 0 = λ j. IsStep rs j i in
-              absurd (no_step rs apart creations early placed (set placed place true) (entry low) place i awaits are_early here.within not_early here.missing is_least same_least (omega arith) may (subst P same s))
+              absurd (no_step rs apart creations early placed (set placed place true) low place i awaits are_early here.within not_early here.missing is_low same_low (omega arith) may (subst P same s))
         ];
       })
     ]

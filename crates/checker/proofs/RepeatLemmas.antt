@@ -1,7 +1,10 @@
 -- Which entries are named, and which record is the first that names one again or one past the end.
-use Rattle.std.proofs.Common.{◌≡◌, ◌∙◌, ℕ, ◌<◌, ◌≤◌, ◌+◌, ◌==◌, Bool, true, false, List, length, get_or, Option, Some, None, refl, sym, ap, subst, arith, inl, inr, ◌⊎◌}
-use Rattle.std.specs.Prelude.{◌||◌, ◌↔◌, IsTrue, is_some}
-use Rattle.std.proofs.lemmas.Bool.{false≢true, cases_eq, eqb-true, eq-eqb, or_cases, or_left, or_right}
+use Rattle.std.proofs.Common.{◌≡◌, ◌∙◌, ℕ, ◌<◌, ◌≤◌, ◌+◌, ◌==◌, Bool, true, false, cond, ltb, List, [], length, get_or, replicate, Option, Some, None, Result, Ok, Err, refl, sym, ap, subst, arith, inl, inr, ◌⊎◌}
+use Rattle.std.specs.Prelude.{◌||◌, ◌↔◌, IsTrue, IfOk, OnOk, is_some, slice_index, slice_set}
+use Rattle.std.proofs.lemmas.List.{length-set, length-replicate, get_or-replicate}
+use Rattle.std.specs.Ordering.{nat_cmp}
+use Rattle.std.specs.BTreeSet.{contains}
+use Rattle.std.proofs.lemmas.Bool.{false≢true, cases_eq, cases_lt, lt-ltb, ltb-true, eqb-true, eq-eqb, or_cases, or_left, or_right}
 use Rattle.ompt_events.specs.declared.records.Record.{Record}
 use Rattle.ompt_events.specs.declared.records.Part.{Part}
 use Rattle.ompt_events.specs.declared.cause.Cause.TheVariants.{EntryTwice, LengthAhead}
@@ -11,7 +14,8 @@ use Rattle.ompt_events.specs.HappensBefore.{IsFinishing}
 use Rattle.ompt_events.specs.Causes.{HasCause, RepeatsEntry, entry_twice, entries_in, IsAhead, entry, ledger_length, length_ahead, IsFreeOf, IsFirstWith}
 use Rattle.ompt_events.proofs.PlaceLemmas.{at_within, at_read, seen_within}
 use Rattle.checker.specs.declared.repeats.Named.{Named}
-use Rattle.checker.specs.Repeats.{is_named, IsMadeBelow, AreNamed}
+use Rattle.checker.specs.Repeats.{is_named, IsMadeBelow, AreNamed, IsNaming}
+use Rattle.checker.proofs.MakerLemmas.{makers_start, makers_other, makers_more}
 
 finishing_within : (rs : List Record) (i : ℕ) → IsFinishing rs i → i < length rs
 finishing_within rs i finishes = there (at finish rs i) refl finishes
@@ -40,17 +44,67 @@ named_same rs n named none are e = (
 )
 
 -- one that does names its own
-pub named_more : (rs : List Record) (n own : ℕ) (old new : Named) → IsFinishing rs n → seen_at rs n ≡ own → ((e : ℕ) → is_named new e ≡ ((e == own) || is_named old e)) → AreNamed rs n old → AreNamed rs (n + 1) new
+pub named_more : (rs : List Record) (n own : ℕ) (old new : Named) → IsFinishing rs n → seen_at rs n ≡ own → ((e : ℕ) → is_named (length rs) new e ≡ ((e == own) || is_named (length rs) old e)) → AreNamed rs n old → AreNamed rs (n + 1) new
 named_more rs n own old new finishes seen more are e = (
-  λ is. elim (or_cases (e == own) (is_named old e) (sym (more e) ∙ is)) [
+  λ is. elim (or_cases (e == own) (is_named (length rs) old e) (sym (more e) ∙ is)) [
     | inl here ↦ (n, omega arith, finishes, seen ∙ sym (eqb-true e own here))
     | inr before ↦ later rs n e ((are e).0 before)
   ],
   λ (k, below, ends, is). elim (cases_eq k n) [
-    | inl same ↦ more e ∙ or_left (e == own) (is_named old e) (eq-eqb e own (sym is ∙ ap (seen_at rs) same ∙ seen))
-    | inr apart ↦ more e ∙ or_right (e == own) (is_named old e) ((are e).1 (k, omega (arith, below, apart), ends, is))
+    | inl same ↦ more e ∙ or_left (e == own) (is_named (length rs) old e) (eq-eqb e own (sym is ∙ ap (seen_at rs) same ∙ seen))
+    | inr apart ↦ more e ∙ or_right (e == own) (is_named (length rs) old e) ((are e).1 (k, omega (arith, below, apart), ends, is))
   ],
 )
+
+-- ---- the record that makes each
+
+-- an empty set and a table of no records name nothing
+pub naming_start : (rs : List Record) (told : Named) → told.makers.items ≡ replicate (entries_in rs) (length rs) → told.beyond.keys ≡ [] → IsNaming rs 0 told
+naming_start rs told empty none = record {
+  all = ap length empty ∙ length-replicate (entries_in rs) (length rs);
+  named = λ e. (λ is. absurd (false≢true (sym (unnamed e) ∙ is)), λ (k, below, finishes, seen). absurd (omega (arith, below)));
+  makers = makers_start rs (entries_in rs) told.makers.items empty;
+}
+  where
+    unnamed : (e : ℕ) → is_named (length rs) told e ≡ false
+    unnamed e = test (ltb e (length told.makers.items)) refl
+      where
+        value : e < length told.makers.items → slice_index told.makers.items e ≡ length rs
+        value low = ap (λ l. slice_index l e) empty ∙ get_or-replicate (entries_in rs) e (length rs) 0 (rw (empty, length-replicate (entries_in rs) (length rs)) at low)
+
+        above : (v : ℕ) → v ≡ length rs → (b : Bool) → ltb v (length rs) ≡ b → b ≡ false
+        above v same true is = absurd (let less = ltb-true v (length rs) is in omega (arith, less, same))
+        above v same false is = refl
+
+        test : (b : Bool) → ltb e (length told.makers.items) ≡ b → cond b (ltb (slice_index told.makers.items e) (length rs)) (contains nat_cmp told.beyond e) ≡ false
+        test true is = above (slice_index told.makers.items e) (value (ltb-true e (length told.makers.items) is)) (ltb (slice_index told.makers.items e) (length rs)) refl
+        test false is = ap (λ ks. contains nat_cmp (record { keys = ks }) e) none
+
+pub naming_same : (rs : List Record) (n : ℕ) (told : Named) → is_some (at finish rs n) ≡ false → IsNaming rs n told → IsNaming rs (n + 1) told
+naming_same rs n told none are = record {
+  all = are.all;
+  named = named_same rs n told none are.named;
+  makers = makers_other rs n told.makers.items are.makers none;
+}
+
+-- where the table has an entry that is not named, it has no record at it
+unnamed_free : (records : ℕ) (told : Named) (own : ℕ) → false ≡ is_named records told own → own < length told.makers.items → records ≤ slice_index told.makers.items own
+unnamed_free records told own is low = elim (cases_lt (slice_index told.makers.items own) records) [
+  | inl less ↦ absurd (false≢true (is ∙ inside (ltb own (length told.makers.items)) (lt-ltb own (length told.makers.items) low) ∙ lt-ltb (slice_index told.makers.items own) records less))
+  | inr more ↦ more
+]
+  where
+    inside : (test : Bool) → test ≡ true → cond test (ltb (slice_index told.makers.items own) records) (contains nat_cmp told.beyond own) ≡ ltb (slice_index told.makers.items own) records
+    inside true is' = refl
+    inside false is' = absurd (false≢true is')
+
+pub naming_more : {E : Type 0} (rs : List Record) (n own : ℕ) (old new : Named) (result : Result Bool E) → n < length rs → IsFinishing rs n → seen_at rs n ≡ own → IfOk result (λ known. known ≡ is_named (length rs) old own) → OnOk result ((e : ℕ) → is_named (length rs) new e ≡ ((e == own) || is_named (length rs) old e)) → OnOk result (new.makers.items ≡ slice_set old.makers.items own n) → IsNaming rs n old → IfOk result (λ known. known ≡ false → IsNaming rs (n + 1) new)
+naming_more rs n own old new (Err fault) within finishes seen known more makers are = tt
+naming_more rs n own old new (Ok told) within finishes seen known more makers are = λ is. record {
+  all = ap length makers ∙ length-set old.makers.items own n ∙ are.all;
+  named = named_more rs n own old new finishes seen more are.named;
+  makers = makers_more rs n own old.makers.items new.makers.items are.makers within finishes seen (unnamed_free (length rs) old own (sym is ∙ known)) makers;
+}
 
 -- ---- the first that repeats an entry
 
@@ -61,7 +115,7 @@ pub none_repeats : (rs : List Record) (n : ℕ) → is_some (at finish rs n) ≡
 none_repeats rs n none = (λ no. absurd (false≢true no), λ (k, below, earlier, own, same). absurd (false≢true (sym none ∙ own)))
 
 -- a record repeats an entry where it finishes a task and its own is named already
-pub repeats_own : (rs : List Record) (n own : ℕ) (named : Named) (known : Bool) → AreNamed rs n named → IsFinishing rs n → seen_at rs n ≡ own → known ≡ is_named named own → IsTrue known ↔ RepeatsEntry rs n
+pub repeats_own : (rs : List Record) (n own : ℕ) (named : Named) (known : Bool) → AreNamed rs n named → IsFinishing rs n → seen_at rs n ≡ own → known ≡ is_named (length rs) named own → IsTrue known ↔ RepeatsEntry rs n
 repeats_own rs n own named known are finishes seen told = (
   λ is. let found = (are own).0 (sym told ∙ is) in (found.0, found.1, found.2, finishes, found.3 ∙ sym seen),
   λ (k, below, earlier, here, same). told ∙ (are own).1 (k, below, earlier, same ∙ seen),

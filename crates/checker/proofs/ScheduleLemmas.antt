@@ -1,5 +1,5 @@
 -- Which creations are awaited, and when file order is an order.
-use Rattle.std.proofs.Common.{◌≡◌, ◌≢◌, ◌∙◌, ℕ, zero, suc, ◌<◌, ◌+◌, List, [], ◌∷◌, ◌++◌, length, get_or, Option, Some, None, Bool, true, false, cond, refl, sym, ap, subst, arith, inl, inr, ◌⊎◌}
+use Rattle.std.proofs.Common.{◌≡◌, ◌≢◌, ◌∙◌, ℕ, zero, suc, ◌<◌, ◌≤◌, ◌+◌, ◌^◌, List, [], ◌∷◌, ◌++◌, length, get_or, Option, Some, None, Bool, true, false, cond, refl, sym, ap, subst, arith, inl, inr, ◌⊎◌}
 use Rattle.std.proofs.lemmas.Bool.{cases_eq, false≢true}
 use Rattle.std.proofs.lemmas.Option.{none-some, same_Some, slice_get_within, slice_get-get_or}
 use Rattle.std.proofs.lemmas.List.{length_push}
@@ -163,6 +163,17 @@ creations_more rs n creations found are here = record {
   ];
 }
 
+-- what is awaited is one of the records
+pub awaited_low : (rs : List Record) (i c : ℕ) → length rs ≤ 2 ^ 22 → Awaits rs i c → c < 4294967295
+awaited_low rs i c few (task, waits, creates) = let within = at_within created rs c task creates in omega (arith, few, within)
+
+-- what the list has at a record is what that awaits
+pub creation_has : (rs : List Record) (creations : List (Option ℕ)) (i : ℕ) (found : Option ℕ) → HaveCreations rs (length rs) creations → i < length rs → slice_get creations i ≡ Some found → (c : ℕ) → (found ≡ Some c) ↔ Awaits rs i c
+creation_has rs creations i found are within reads c = (
+  λ is. are.only i c (reads ∙ ap Some is),
+  λ waits. same_Some found (Some c) (sym reads ∙ are.each i c within waits),
+)
+
 -- ---- by the family
 
 fulfilled_awaited : (b : Body) → is_some (fulfilled b) ≡ true → awaited b ≡ subject b
@@ -228,11 +239,10 @@ nothing_awaited rs family i slot calls is c = (
 -- ---- when file order is an order
 
 -- one more record that awaits only what stands before it
-pub awaits_more : (rs : List Record) (n : ℕ) → ((i c : ℕ) → i < n → Awaits rs i c → c < i) → ((c : ℕ) → Awaits rs n c → c < n) → (i c : ℕ) → i < n + 1 → Awaits rs i c → c < i
-awaits_more rs n before here i c below waits = elim (cases_eq i n) [
+pub awaits_more : (creations : List (Option ℕ)) (n : ℕ) → ((i c : ℕ) → i < n → slice_get creations i ≡ Some (Some c) → c < i) → ((c : ℕ) → slice_get creations n ≡ Some (Some c) → c < n) → (i c : ℕ) → i < n + 1 → slice_get creations i ≡ Some (Some c) → c < i
+awaits_more creations n before here i c below waits = elim (cases_eq i n) [
   | inl same ↦
-      let P : ℕ → Type 0 = λ j. Awaits rs j c in
-      let less = here c (subst P same waits) in
+      let less = here c (ap (slice_get creations) (sym same) ∙ waits) in
       omega (arith, less, same)
   | inr apart ↦ before i c (omega arith) waits
 ]

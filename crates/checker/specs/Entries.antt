@@ -1,18 +1,13 @@
 -- Which record makes each ledger entry, in a table by entry.
-use Rattle.std.specs.Prelude.{ℕ, ◌≡◌, ◌<◌, ◌≤◌, List, length, slice_index, slice_set}
+use Rattle.std.specs.Prelude.{ℕ, ◌≡◌, ◌<◌, List, length, slice_index}
 use Rattle.ompt_events.specs.declared.records.Record.{Record}
 use Rattle.ompt_events.specs.Places.{seen_at}
 use Rattle.ompt_events.specs.HappensBefore.{IsFinishing}
 
--- of the first n records each finishing one stands at its entry; where none does, the number of records does
+-- of the first n records each finishing one stands at its entry, where the table has it; where no record
+-- stands, the number of records does
 pub record AreMakers (rs : List Record) (n : ℕ) (makers : List ℕ) : Type 0 where
-  pub each : (i : ℕ) → i < n → IsFinishing rs i
-      → (seen_at rs i < length makers) × (slice_index makers (seen_at rs i) ≡ i)
+  pub each : (i : ℕ) → i < n → IsFinishing rs i → seen_at rs i < length makers
+      → slice_index makers (seen_at rs i) ≡ i
   pub only : (entry : ℕ) → entry < length makers → slice_index makers entry < length rs
       → IsFinishing rs (slice_index makers entry) × (seen_at rs (slice_index makers entry) ≡ entry)
-
--- no record was noted for the entry, and this one is
-pub record IsMakerNoted (records entry place : ℕ) (old new : List ℕ) : Type 0 where
-  pub within : entry < length old
-  pub free : records ≤ slice_index old entry
-  pub noted : new ≡ slice_set old entry place

@@ -1,7 +1,6 @@
 -- The records while they are put into an order.
-use Rattle.std.specs.Prelude.{ℕ, ◌≡◌, ◌<◌, ◌≤◌, ◌+◌, List, length, Bool, true, Option, Some, slice_get, slice_index, Contains}
+use Rattle.std.specs.Prelude.{ℕ, ◌≡◌, ◌<◌, ◌≤◌, ◌+◌, List, length, Bool, true, Option, Some, slice_get, slice_index}
 use Rattle.std.specs.Option.{option_or}
-use Rattle.std.specs.List.Sorted.{IsNonDecreasingBy}
 use Rattle.ompt_events.specs.declared.records.Record.{Record}
 use Rattle.ompt_events.specs.declared.records.Body.{Body}
 use Rattle.ompt_events.specs.Records.{created, started, discarded, fulfilled}
@@ -49,19 +48,24 @@ pub record AreHeads (rs : List Record) (placed : List Bool) (heads : List ℕ) :
       → thread_at rs (slice_index heads thread) ≡ Some thread
   pub missing : (thread : ℕ) → thread < length heads → Stands placed (slice_index heads thread) → ⊥
 
--- the least ledger entry that a record makes which doesn't stand
-pub record IsLeastEntry (rs : List Record) (placed : List Bool) (least : Option ℕ) : Type 0 where
-  pub below : (i : ℕ) → IsFinishing rs i → (Stands placed i → ⊥) → (entry : ℕ) × (least ≡ Some entry)
-      × (entry ≤ seen_at rs i)
-  pub reached : (entry : ℕ) → least ≡ Some entry → (i : ℕ) × IsFinishing rs i × (Stands placed i → ⊥)
-      × (seen_at rs i ≡ entry)
+-- there is such a record, and it doesn't stand
+pub record IsUnplaced (placed : List Bool) (i : ℕ) : Type 0 where
+  pub within : i < length placed
+  pub missing : Stands placed i → ⊥
+
+-- the ledger length that is reached: each entry below it is made by a record that stands; and where a record
+-- names a greater length, the record that makes the next entry doesn't stand
+pub record IsLow (rs : List Record) (placed : List Bool) (low : ℕ) : Type 0 where
+  pub below : (i : ℕ) → IsFinishing rs i → seen_at rs i < low → Stands placed i
+  pub next : (i : ℕ) → low < seen_at rs i → (m : ℕ) × IsFinishing rs m × (seen_at rs m ≡ low)
+      × (Stands placed m → ⊥)
 
 -- what is tested of the head of a thread
 pub record IsReadyHead (rs : List Record) (creations : List (Option ℕ)) (placed : List Bool)
-    (least : Option ℕ) (i : ℕ) : Type 0 where
+    (low : ℕ) (i : ℕ) : Type 0 where
   pub within : i < length rs
   pub is_created : (c : ℕ) → slice_get creations i ≡ Some (Some c) → Stands placed c
-  pub is_entered : (entry : ℕ) → least ≡ Some entry → seen_at rs i ≤ entry
+  pub is_entered : seen_at rs i ≤ low
 
 -- the head of a thread before which no record may stand next
 pub record IsHint (rs : List Record) (placed : List Bool) (heads : List ℕ) (hint : ℕ) : Type 0 where
@@ -100,10 +104,3 @@ pub record AreLinks (rs : List Record) (from : ℕ) (links : List ℕ) : Type 0 
   pub all : length links ≡ length rs
   pub each : (i thread : ℕ) → from ≤ i → thread_at rs i ≡ Some thread
       → IsNextOf rs thread (i + 1) (slice_index links i)
-
--- each finishing record with the entry that it makes, the least entry first
-pub record AreEntries (rs : List Record) (entries : List (ℕ × ℕ)) : Type 0 where
-  pub sorted : IsNonDecreasingBy (λ (entry : ℕ × ℕ). entry.0) entries
-  pub each : (i : ℕ) → IsFinishing rs i → Contains entries (seen_at rs i, i)
-  pub only : (entry : ℕ × ℕ) → Contains entries entry → IsFinishing rs entry.1
-      × (seen_at rs entry.1 ≡ entry.0)

@@ -1,5 +1,5 @@
 //! The check as a whole.
-ghost use Rattle.std.specs.Prelude.{◌≡◌, IfOk, IfErr, OnOk};
+ghost use Rattle.std.specs.Prelude.{◌≡◌, IfOk, IfErr, OnOk, length};
 ghost use Rattle.ompt_events.specs.declared.cause.Cause.TheVariants.{Moved};
 ghost use Rattle.ompt_events.specs.Places.{places};
 ghost use Rattle.ompt_events.specs.Linearization.{IsLinearization, IsGreedy};
@@ -7,26 +7,28 @@ ghost use Rattle.ompt_events.specs.Causes.{entries_in, IsFreeOf};
 ghost use Rattle.task_tree.specs.Family.{IsFamilyOf};
 ghost use Rattle.task_states.specs.States.{AreStatesOf};
 ghost use Rattle.checker.specs.Audited.{AreAudited};
+ghost use Rattle.checker.specs.Entries.{AreMakers};
+ghost use Rattle.checker.specs.Merge.{HaveCreations};
 ghost use Rattle.checker.specs.Search.{IsClear, IsLeastFound};
 ghost use Rattle.checker.specs.Verdicts.{IsVerdict};
 
 use crate::claims::find_wrong_claim;
 use crate::lengths::find_back;
 use crate::merge::find_order;
-use crate::repeats::{entry_count, find_ahead, find_repeated_entry};
+use crate::repeats::{find_ahead, find_makers};
 use crate::schedule::{creations_awaited, is_in_order};
 use crate::search::SearchFault;
 use crate::verdict::{CheckFault, Order, Verdict, Why};
 use ompt_events::{Cause, Record, Trace};
 use std::alloc::{AllocError, Global};
 use task_states::{States, gap, nested, run, target};
-use task_tree::Family;
+use task_tree::{Family, Slot};
 use wait_coverage::find_open;
 
 /// The verdict on the records: malformed with the lowest-numbered cause that occurs, at the first record that
 /// shows it; else no at the first end of a taskwait or taskgroup that covers an unfinished task; else yes
-/// with the greedy order. Fails only when out of memory. Every record must be of a supported form: `unaudited` finds no
-/// other.
+/// with the greedy order. Fails only when out of memory. Every record must be of a supported form:
+/// `unaudited` finds no other.
 pub fn check(alloc: Global, trace: &Trace) -> Result<Verdict, CheckFault>
     requires { AreAudited trace.now.records }
     ensures { IfOk result (IsVerdict trace.now.records) }
@@ -50,11 +52,11 @@ fn verdict_of(alloc: Global, trace: &Trace) -> Result<Verdict, SearchFault>
     let states = states_of(alloc, trace, &family)?;
     regions_are_not_nested(alloc, trace, &family)?;
     claims_are_right(trace, &family)?;
-    let entries = entry_count(trace.records());
-    entries_are_apart(alloc, trace, entries)?;
-    lengths_are_reached(trace, entries)?;
-    lengths_rise(trace, &family)?;
-    let order = order_of(alloc, trace, &family)?;
+    let makers = makers_of(alloc, trace)?;
+    lengths_are_reached(trace, makers.len())?;
+    let creations = creations_of(alloc, trace, &family)?;
+    lengths_rise(trace, &creations)?;
+    let order = order_of(alloc, trace, &creations, &makers)?;
     no_task_is_for_a_device(trace)?;
     match find_open(alloc, trace.records(), &family, &states)? {
         Some((at, task)) => Ok(Verdict::No {
@@ -139,19 +141,15 @@ fn claims_are_right(trace: &Trace, family: &Family) -> Result<(), SearchFault>
     }
 }
 
-/// Excludes EntryTwice.
-fn entries_are_apart(alloc: Global, trace: &Trace, entries: usize) -> Result<(), SearchFault>
+/// By entry of the ledger the record that makes it. Excludes EntryTwice.
+fn makers_of(alloc: Global, trace: &Trace) -> Result<Vec<usize>, SearchFault>
     requires { IsClear trace.now.records 9 }
+    ensures makers { IfOk result (λ makers. AreMakers trace.now.records (length trace.now.records) makers.items) }
+    ensures entries { IfOk result (λ makers. length makers.items ≡ entries_in trace.now.records) }
     ensures clear { OnOk result (IsClear trace.now.records 10) }
     ensures least { IfErr result (IsLeastFound trace.now.records) }
 {
-    match find_repeated_entry(alloc, trace.records(), entries)? {
-        Some(at) => Err(SearchFault::Malformed {
-            at,
-            cause: Cause::EntryTwice,
-        }),
-        None => Ok(()),
-    }
+    find_makers(alloc, trace.records())
 }
 
 /// Excludes LengthAhead.
@@ -170,15 +168,23 @@ fn lengths_are_reached(trace: &Trace, entries: usize) -> Result<(), SearchFault>
     }
 }
 
+/// For each record the creation that it awaits.
+fn creations_of(alloc: Global, trace: &Trace, family: &Family) -> Result<Vec<Slot>, AllocError>
+    requires { IsFamilyOf trace.now.records family.now }
+    ensures { IfOk result (λ creations. HaveCreations trace.now.records (length trace.now.records) creations.items) }
+{
+    creations_awaited(alloc, trace.records(), family)
+}
+
 /// Excludes LengthBack.
-fn lengths_rise(trace: &Trace, family: &Family) -> Result<(), SearchFault>
+fn lengths_rise(trace: &Trace, creations: &[Slot]) -> Result<(), SearchFault>
     requires clear { IsClear trace.now.records 11 }
-    requires family { IsFamilyOf trace.now.records family.now }
+    requires creations { HaveCreations trace.now.records (length trace.now.records) creations.now }
     requires at_home { IsFreeOf trace.now.records Moved }
     ensures clear { OnOk result (IsClear trace.now.records 12) }
     ensures least { IfErr result (IsLeastFound trace.now.records) }
 {
-    match find_back(trace.records(), family) {
+    match find_back(trace.records(), creations) {
         Some(at) => Err(SearchFault::Malformed {
             at,
             cause: Cause::LengthBack,
@@ -188,9 +194,16 @@ fn lengths_rise(trace: &Trace, family: &Family) -> Result<(), SearchFault>
 }
 
 /// The greedy order of all records. Excludes NoOrder.
-fn order_of(alloc: Global, trace: &Trace, family: &Family) -> Result<Vec<usize>, SearchFault>
+fn order_of(
+    alloc: Global,
+    trace: &Trace,
+    creations: &[Slot],
+    makers: &[usize],
+) -> Result<Vec<usize>, SearchFault>
     requires clear { IsClear trace.now.records 12 }
-    requires family { IsFamilyOf trace.now.records family.now }
+    requires creations { HaveCreations trace.now.records (length trace.now.records) creations.now }
+    requires makers { AreMakers trace.now.records (length trace.now.records) makers.now }
+    requires entries { length makers.now ≡ entries_in trace.now.records }
     requires at_home { IsFreeOf trace.now.records Moved }
     ensures linearization { IfOk result (λ order. IsLinearization trace.now.records order.items) }
     ensures greedy { IfOk result (λ order. IsGreedy trace.now.records order.items) }
@@ -199,11 +212,10 @@ fn order_of(alloc: Global, trace: &Trace, family: &Family) -> Result<Vec<usize>,
 {
     let records = trace.records();
     // A file in time order costs one pass.
-    if is_in_order(records, family) {
+    if is_in_order(records, creations) {
         return Ok(file_order(alloc, records)?);
     }
-    let awaited = creations_awaited(alloc, records, family)?;
-    find_order(alloc, records, &awaited)
+    find_order(alloc, records, creations, makers)
 }
 
 /// All places as they stand in the file.

@@ -7,7 +7,6 @@
 mod audited;
 mod checking;
 mod claims;
-mod entries;
 mod lengths;
 mod merge;
 mod repeats;

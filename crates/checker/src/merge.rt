@@ -1,25 +1,30 @@
 //! The greedy order of the records.
-ghost use Rattle.std.specs.Prelude.{false, IfNone, replicate, ℕ, ◌≡◌, ◌<◌, ◌≤◌, ◌↔◌, ⊤, Some, IsTrue, IfSome, IfOk, IfErr, OnOk, MatchOption, length, option_map, slice_get, slice_index_or};
-ghost use Rattle.ompt_events.specs.declared.cause.Cause.TheVariants.{Moved, NoOrder};
+ghost use Rattle.std.specs.Prelude.{false, IfNone, replicate, ℕ, ◌≡◌, ◌<◌, ◌≤◌, ◌↔◌, ⊤, Some, IsTrue, IfSome, IfOk, IfErr, OnOk, MatchOption, length, slice_get, slice_index};
+ghost use Rattle.ompt_events.specs.declared.cause.Cause.TheVariants.{Moved, LengthAhead, NoOrder};
 ghost use Rattle.ompt_events.specs.Places.{thread_at};
 ghost use Rattle.ompt_events.specs.Linearization.{IsLinearization, IsGreedy};
-ghost use Rattle.ompt_events.specs.Causes.{IsFreeOf};
+ghost use Rattle.ompt_events.specs.Causes.{entries_in, IsFreeOf};
+ghost use Rattle.checker.specs.Entries.{AreMakers};
 ghost use Rattle.checker.specs.Search.{IsFound};
-ghost use Rattle.checker.specs.Merge.{HaveCreations, AreClosed, StartsOrFulfils, Stands, MayFollow, AreHeads, IsLeastEntry, IsReadyHead, IsHint, HintsAt, AreHeadsFrom, AreLinks, AreEarly};
+ghost use Rattle.checker.specs.Merge.{HaveCreations, AreClosed, StartsOrFulfils, Stands, MayFollow, AreHeads, IsUnplaced, IsLow, IsReadyHead, IsHint, HintsAt, AreHeadsFrom, AreLinks, AreEarly};
 
-use crate::entries::find_entries;
 use crate::search::SearchFault;
 use ompt_events::{Cause, Record};
 use std::alloc::{AllocError, Global};
+use task_tree::Slot;
 
 /// The greedy order: again and again the first record in file order of which all that happens before it
 /// stands already. Searches for the first record that has no place in it.
 pub(crate) fn find_order(
     alloc: Global,
     records: &[Record],
-    creations: &[Option<usize>],
+    creations: &[Slot],
+    makers: &[usize],
 ) -> Result<Vec<usize>, SearchFault>
     requires creations { HaveCreations records.now (length records.now) creations.now }
+    requires makers { AreMakers records.now (length records.now) makers.now }
+    requires entries { length makers.now ≡ entries_in records.now }
+    requires reached { IsFreeOf records.now LengthAhead }
     requires apart { StartsOrFulfils records.now }
     requires at_home { IsFreeOf records.now Moved }
     ensures linearization { IfOk result (λ order. IsLinearization records.now order.items) }
@@ -29,25 +34,17 @@ pub(crate) fn find_order(
 {
     let mut placed = none_placed(alloc, records.len())?;
     let (mut heads, links) = threads_of(alloc, records)?;
-    let entries = find_entries(alloc, records)?;
     let early = awaited_early(alloc, creations)?;
-    let mut low = 0;
+    let mut low = first_missing(&placed, makers, 0);
     let mut hint = None;
     let mut order = Vec::with_capacity(alloc, records.len())?;
-    'merge: while let Some(place) = next_ready(
-        records,
-        creations,
-        &placed,
-        &heads,
-        entry_at(&entries, low),
-        hint,
-    ) {
+    'merge: while let Some(place) = next_ready(records, creations, &placed, &heads, low, hint) {
         let event = &records[place];
         order.push(place)?;
         placed[place] = true;
         let next = links[place];
         heads[event.thread as usize] = next;
-        let now_low = first_missing(&placed, &entries, low);
+        let now_low = first_missing(&placed, makers, low);
         hint = hint_after(&early, place, next, low, now_low);
         low = now_low;
     }
@@ -119,29 +116,18 @@ fn last_thread(records: &[Record]) -> u8
 }
 
 /// Which creations a record awaits that stands before them in the file.
-fn awaited_early(alloc: Global, creations: &[Option<usize>]) -> Result<Vec<bool>, AllocError>
+fn awaited_early(alloc: Global, creations: &[Slot]) -> Result<Vec<bool>, AllocError>
     ensures { IfOk result (λ early. AreEarly creations.now (length creations.now) early.items) }
 {
     let mut early = none_placed(alloc, creations.len())?;
     for at in 0..creations.len() {
-        if let Some(creation) = creations[at] {
+        if let Some(creation) = creations[at].get() {
             if at < creation && creation < creations.len() {
                 early[creation] = true;
             }
         }
     }
     Ok(early)
-}
-
-/// The entry at a place of the list.
-fn entry_at(entries: &[(u32, usize)], low: usize) -> Option<u32>
-    ensures { result ≡ option_map (λ (entry : ℕ × ℕ). entry.0) (slice_get entries.now low) }
-{
-    if low < entries.len() {
-        Some(entries[low].0)
-    } else {
-        None
-    }
 }
 
 /// Where no record before the next one in the file may stand next, and that one is the head of its thread,
@@ -166,10 +152,10 @@ fn hint_after(
 /// Of the heads of the threads the first in file order that may stand next; no head before the hint may.
 fn next_ready(
     records: &[Record],
-    creations: &[Option<usize>],
+    creations: &[Slot],
     placed: &[bool],
     heads: &[usize],
-    least: Option<u32>,
+    low: usize,
     hint: Option<usize>,
 ) -> Option<usize>
     requires creations { HaveCreations records.now (length records.now) creations.now }
@@ -177,41 +163,41 @@ fn next_ready(
     requires at_home { IsFreeOf records.now Moved }
     requires closed { AreClosed records.now placed.now }
     requires heads { AreHeads records.now placed.now heads.now }
-    requires least { IsLeastEntry records.now placed.now least }
+    requires low { IsLow records.now placed.now low }
     requires hint { IfSome hint (IsHint records.now placed.now heads.now) }
     ensures none { MatchOption result ((i : ℕ) → MayFollow records.now placed.now i → ⊥) (λ place. (i : ℕ)
         → i < place → MayFollow records.now placed.now i → ⊥) }
     ensures found { IfSome result (MayFollow records.now placed.now) }
 {
     if let Some(head) = hint {
-        if head < records.len() && is_ready(records, creations, placed, least, head) {
+        if head < records.len() && is_ready(records, creations, placed, low, head) {
             return Some(head);
         }
     }
-    first_ready(records, creations, placed, heads, least)
+    first_ready(records, creations, placed, heads, low)
 }
 
 /// Of the heads of the threads the first in file order that may stand next.
 fn first_ready(
     records: &[Record],
-    creations: &[Option<usize>],
+    creations: &[Slot],
     placed: &[bool],
     heads: &[usize],
-    least: Option<u32>,
+    low: usize,
 ) -> Option<usize>
     requires creations { HaveCreations records.now (length records.now) creations.now }
     requires apart { StartsOrFulfils records.now }
     requires at_home { IsFreeOf records.now Moved }
     requires closed { AreClosed records.now placed.now }
     requires heads { AreHeads records.now placed.now heads.now }
-    requires least { IsLeastEntry records.now placed.now least }
+    requires low { IsLow records.now placed.now low }
     ensures none { MatchOption result ((i : ℕ) → MayFollow records.now placed.now i → ⊥) (λ place. (i : ℕ)
         → i < place → MayFollow records.now placed.now i → ⊥) }
     ensures found { IfSome result (MayFollow records.now placed.now) }
 {
     let mut first = records.len();
     for head in heads {
-        if *head < first && is_ready(records, creations, placed, least, *head) {
+        if *head < first && is_ready(records, creations, placed, low, *head) {
             first = *head;
         }
     }
@@ -225,20 +211,20 @@ fn first_ready(
 /// Whether the creation that the head of a thread awaits stands, and each ledger entry that it names.
 fn is_ready(
     records: &[Record],
-    creations: &[Option<usize>],
+    creations: &[Slot],
     placed: &[bool],
-    least: Option<u32>,
+    low: usize,
     head: usize,
 ) -> bool
     requires within { head < length records.now }
     requires each { length creations.now ≡ length records.now }
-    ensures { IsTrue result ↔ IsReadyHead records.now creations.now placed.now least head }
+    ensures { IsTrue result ↔ IsReadyHead records.now creations.now placed.now low head }
 {
-    is_entered(records[head].seen, least) && is_created(creations, placed, head)
+    records[head].seen as usize <= low && is_created(creations, placed, head)
 }
 
 /// Whether the creation that the record awaits stands.
-fn is_created(creations: &[Option<usize>], placed: &[bool], head: usize) -> bool
+fn is_created(creations: &[Slot], placed: &[bool], head: usize) -> bool
     requires { head < length creations.now }
     ensures { IsTrue result ↔ ((c : ℕ) → slice_get creations.now head ≡ Some (Some c) → Stands placed.now c) }
 {
@@ -249,39 +235,35 @@ fn is_created(creations: &[Option<usize>], placed: &[bool], head: usize) -> bool
 }
 
 /// The creation that the record awaits, if it awaits one.
-fn creation_at(creations: &[Option<usize>], place: usize) -> Option<usize>
+fn creation_at(creations: &[Slot], place: usize) -> Option<usize>
     requires { place < length creations.now }
     ensures { (c : ℕ) → (result ≡ Some c) ↔ (slice_get creations.now place ≡ Some (Some c)) }
 {
-    creations[place]
+    creations[place].get()
 }
 
-/// Whether a length is not above the least entry that is missing.
-fn is_entered(seen: u32, least: Option<u32>) -> bool
-    ensures { IsTrue result ↔ ((entry : ℕ) → least ≡ Some entry → seen ≤ entry) }
-{
-    match least {
-        Some(entry) => seen <= entry,
-        None => true,
-    }
-}
-
-/// The first of the entries from a place on whose record does not stand.
-fn first_missing(placed: &[bool], entries: &[(u32, usize)], from: usize) -> usize
-    requires { from ≤ length entries.now }
+/// The first entry from one on whose record does not stand.
+fn first_missing(placed: &[bool], makers: &[usize], from: usize) -> usize
+    requires { from ≤ length makers.now }
     ensures from { from ≤ result }
-    ensures within { result ≤ length entries.now }
-    ensures passed { (j : ℕ) (d : ℕ × ℕ) → from ≤ j → j < result
-        → Stands placed.now (slice_index_or entries.now j d).1 }
-    ensures missing { (d : ℕ × ℕ) → result < length entries.now
-        → Stands placed.now (slice_index_or entries.now result d).1 → ⊥ }
+    ensures within { result ≤ length makers.now }
+    ensures passed { (k : ℕ) → from ≤ k → k < result → slice_index makers.now k < length placed.now
+        → Stands placed.now (slice_index makers.now k) }
+    ensures missing { result < length makers.now → IsUnplaced placed.now (slice_index makers.now result) }
 {
-    for at in from..entries.len() {
-        if !stands(placed, entries[at].1) {
-            return at;
+    for entry in from..makers.len() {
+        if is_unplaced(placed, makers[entry]) {
+            return entry;
         }
     }
-    entries.len()
+    makers.len()
+}
+
+/// Whether there is such a record, and it does not stand.
+fn is_unplaced(placed: &[bool], place: usize) -> bool
+    ensures { IsTrue result ↔ IsUnplaced placed.now place }
+{
+    place < placed.len() && !stands(placed, place)
 }
 
 /// Whether the record stands.

@@ -1,22 +1,28 @@
-//! Which entries of the ledger the finishing records name.
-ghost use Rattle.std.specs.Prelude.{ℕ, ◌≡◌, ◌<◌, ◌+◌, ◌==◌, ◌||◌, ◌↔◌, IfOk, OnOk, IsTrue, MatchOption, length};
+//! Which entries of the ledger the finishing records name, and which record makes each.
+ghost use Rattle.std.specs.Prelude.{ℕ, ◌≡◌, ◌<◌, ◌+◌, ◌==◌, ◌||◌, ◌↔◌, IfOk, IfErr, OnOk, IsTrue, MatchOption, false, length, slice_set};
 ghost use Rattle.ompt_events.specs.declared.cause.Cause.TheVariants.{EntryTwice, LengthAhead};
 ghost use Rattle.ompt_events.specs.Causes.{RepeatsEntry, entries_in, IsAhead, IsFreeOf, IsFirstWith};
-ghost use Rattle.checker.specs.Repeats.{is_named, AreNamed};
+ghost use Rattle.checker.specs.Entries.{AreMakers};
+ghost use Rattle.checker.specs.Repeats.{is_named, IsNaming};
+ghost use Rattle.checker.specs.Search.{IsFound};
 
-use ompt_events::{Record, finish};
+use crate::search::SearchFault;
+use ompt_events::{Cause, Record, finish};
 use std::alloc::{AllocError, Global};
 use std::collections::BTreeSet;
 
-/// The entries that are named so far: those that the ledger has room for, and any others.
+/// The entries that are named so far.
 #[derive(Debug, Drop)]
 struct Named {
-    inside: Vec<bool>,
+    /// By entry the place of the record that makes it, or the number of records; as many as there are
+    /// finishing records.
+    makers: Vec<usize>,
+    /// Any other entries.
     beyond: BTreeSet<u32>,
 }
 
 /// How many entries the records make.
-pub(crate) fn entry_count(records: &[Record]) -> usize
+fn entry_count(records: &[Record]) -> usize
     ensures { result ≡ entries_in records.now }
 {
     records
@@ -25,50 +31,56 @@ pub(crate) fn entry_count(records: &[Record]) -> usize
         .count()
 }
 
-/// The first finishing record that names the entry of an earlier one.
-pub(crate) fn find_repeated_entry(
-    alloc: Global,
-    records: &[Record],
-    entries: usize,
-) -> Result<Option<usize>, AllocError>
-    ensures { IfOk result (λ found. MatchOption found (IsFreeOf records.now EntryTwice)
-        (IsFirstWith records.now EntryTwice)) }
+/// By entry of the ledger the record that makes it. Searches for the first finishing record that names the
+/// entry of an earlier one.
+pub(crate) fn find_makers(alloc: Global, records: &[Record]) -> Result<Vec<usize>, SearchFault>
+    ensures makers { IfOk result (λ makers. AreMakers records.now (length records.now) makers.items) }
+    ensures entries { IfOk result (λ makers. length makers.items ≡ entries_in records.now) }
+    ensures free { OnOk result (IsFreeOf records.now EntryTwice) }
+    ensures found { IfErr result (IsFound records.now EntryTwice) }
 {
     let mut named = Named {
-        inside: vec![in alloc; false; entries]?,
+        makers: vec![in alloc; records.len(); entry_count(records)]?,
         beyond: BTreeSet::new(alloc),
     };
     for at in 0..records.len() {
         if repeats_entry(records, &mut named, at)? {
-            return Ok(Some(at));
+            return Err(SearchFault::Malformed {
+                at,
+                cause: Cause::EntryTwice,
+            });
         }
     }
-    Ok(None)
+    let Named { makers, .. } = named;
+    Ok(makers)
 }
 
-/// Whether the record at a place names the entry of an earlier one; afterwards its own is named.
+/// Whether the record at a place names the entry of an earlier one; if not, its own is named afterwards.
 fn repeats_entry(records: &[Record], named: &mut Named, at: usize) -> Result<bool, AllocError>
     requires within { at < length records.now }
-    requires named { AreNamed records.now at named.old }
+    requires named { IsNaming records.now at named.old }
     ensures repeats { IfOk result (λ repeats. IsTrue repeats ↔ RepeatsEntry records.now at) }
-    ensures named { OnOk result (AreNamed records.now (at + 1) named.new) }
+    ensures named { IfOk result (λ repeats. repeats ≡ false → IsNaming records.now (at + 1) named.new) }
 {
     let event = &records[at];
     if finish(event).is_none() {
         return Ok(false);
     }
-    name_entry(named, event.seen)
+    name_entry(named, records.len(), event.seen, at)
 }
 
-/// Whether the entry was named already; afterwards it is.
-fn name_entry(named: &mut Named, entry: u32) -> Result<bool, AllocError>
-    ensures known { IfOk result (λ known. known ≡ is_named named.old entry) }
-    ensures more { OnOk result ((e : ℕ) → is_named named.new e ≡ ((e == entry) || is_named named.old e)) }
+/// Whether the entry was named already; afterwards it is, by the record at a place.
+fn name_entry(named: &mut Named, records: usize, entry: u32, at: usize) -> Result<bool, AllocError>
+    requires { at < records }
+    ensures known { IfOk result (λ known. known ≡ is_named records named.old entry) }
+    ensures more { OnOk result ((e : ℕ) → is_named records named.new e
+        ≡ ((e == entry) || is_named records named.old e)) }
+    ensures makers { OnOk result (named.new.makers.items ≡ slice_set named.old.makers.items entry at) }
 {
     let index = entry as usize;
-    if index < named.inside.len() {
-        let known = named.inside[index];
-        named.inside[index] = true;
+    if index < named.makers.len() {
+        let known = named.makers[index] < records;
+        named.makers[index] = at;
         Ok(known)
     } else {
         Ok(!named.beyond.insert(entry)?)

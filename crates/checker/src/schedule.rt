@@ -1,5 +1,5 @@
 //! Which creation each record awaits, and whether file order is an order of the records.
-ghost use Rattle.std.specs.Prelude.{ℕ, ◌≡◌, ◌<◌, ◌↔◌, Some, IsTrue, IfOk, length};
+ghost use Rattle.std.specs.Prelude.{ℕ, ◌≡◌, ◌<◌, ◌≤◌, ◌^◌, ◌↔◌, Some, IsTrue, IfOk, length, slice_get};
 ghost use Rattle.ompt_events.specs.Places.{seen_at};
 ghost use Rattle.ompt_events.specs.Places.{at as says_at};
 ghost use Rattle.ompt_events.specs.HappensBefore.{IsFinishing, IsStep};
@@ -9,7 +9,7 @@ ghost use Rattle.checker.specs.Merge.{awaited, Awaits, StartsOrFulfils, HaveCrea
 
 use ompt_events::{Record, finish};
 use std::alloc::{AllocError, Global};
-use task_tree::Family;
+use task_tree::{Family, Slot};
 
 /// For each record the creation that it awaits: that of the explicit task that it starts, discards or
 /// fulfils.
@@ -17,19 +17,31 @@ pub(crate) fn creations_awaited(
     alloc: Global,
     records: &[Record],
     family: &Family,
-) -> Result<Vec<Option<usize>>, AllocError>
-    requires { IsFamilyOf records.now family.now }
+) -> Result<Vec<Slot>, AllocError>
+    requires family { IsFamilyOf records.now family.now }
+    requires few { length records.now ≤ 2 ^ 22 }
     ensures { IfOk result (λ creations. HaveCreations records.now (length records.now) creations.items) }
 {
-    let mut creations: Vec<Option<usize>> = Vec::with_capacity(alloc, records.len())?;
+    let mut creations: Vec<Slot> = Vec::with_capacity(alloc, records.len())?;
     for at in 0..records.len() {
-        creations.push(creation_awaited(records, family, at))?;
+        creations.push(slot_of(creation_awaited(records, family, at)))?;
     }
     Ok(creations)
 }
 
+/// The place in 32 bits.
+fn slot_of(place: Option<usize>) -> Slot
+    requires { (p : ℕ) → place ≡ Some p → p < 4294967295 }
+    ensures { result ≡ place }
+{
+    match place {
+        Some(at) => Slot::some(at),
+        None => Slot::none(),
+    }
+}
+
 /// The creation of the task that the record at a place starts, discards or fulfils, if it is explicit.
-pub(crate) fn creation_awaited(records: &[Record], family: &Family, at: usize) -> Option<usize>
+fn creation_awaited(records: &[Record], family: &Family, at: usize) -> Option<usize>
     requires within { at < length records.now }
     requires family { IsFamilyOf records.now family.now }
     ensures { (c : ℕ) → (result ≡ Some c) ↔ Awaits records.now at c }
@@ -57,21 +69,20 @@ fn awaited_index(records: &[Record], family: &Family, at: usize) -> Option<usize
 }
 
 /// Whether what happens before a record stands before it in the file.
-pub(crate) fn is_in_order(records: &[Record], family: &Family) -> bool
-    requires family { IsFamilyOf records.now family.now }
+pub(crate) fn is_in_order(records: &[Record], creations: &[Slot]) -> bool
+    requires creations { HaveCreations records.now (length records.now) creations.now }
     requires apart { StartsOrFulfils records.now }
     ensures { IsTrue result → (a b : ℕ) → IsStep records.now a b → a < b }
 {
-    are_created_before(records, family) && are_entered_before(records)
+    are_created_before(creations) && are_entered_before(records)
 }
 
 /// Whether each creation stands before the records that await it.
-fn are_created_before(records: &[Record], family: &Family) -> bool
-    requires { IsFamilyOf records.now family.now }
-    ensures { IsTrue result → (i c : ℕ) → Awaits records.now i c → c < i }
+fn are_created_before(creations: &[Slot]) -> bool
+    ensures { IsTrue result → (i c : ℕ) → slice_get creations.now i ≡ Some (Some c) → c < i }
 {
-    for at in 0..records.len() {
-        if let Some(place) = creation_awaited(records, family, at) {
+    for at in 0..creations.len() {
+        if let Some(place) = creations[at].get() {
             if place >= at {
                 return false;
             }

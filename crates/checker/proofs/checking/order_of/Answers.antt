@@ -1,6 +1,6 @@
-use Rattle.std.proofs.Common.{ℕ, ◌≡◌, ◌<◌}
+use Rattle.std.proofs.Common.{ℕ, ◌≡◌, ◌<◌, refl, arith}
 use Rattle.std.proofs.lemmas.Result.{IfErr-weaker, on_ok_weaker}
-use Rattle.ompt_events.specs.declared.cause.Cause.TheVariants.{NoOrder}
+use Rattle.ompt_events.specs.declared.cause.Cause.TheVariants.{LengthAhead, NoOrder}
 use Rattle.ompt_events.specs.Places.{places}
 use Rattle.ompt_events.specs.HappensBefore.{IsStep}
 use Rattle.checker.proofs.PhaseLemmas.{least_more, clear_more, only_least, only_clear}
@@ -31,6 +31,9 @@ is_in_order-requires-clause-apart c = trace_apart c.records-records.result.now c
 
 pub find_order-requires-clause-apart : goal.find_order-requires-clause-apart
 find_order-requires-clause-apart c = trace_apart c.records-records.result.now c.records-records.ensures.is_trace
+
+pub find_order-requires-clause-reached : goal.find_order-requires-clause-reached
+find_order-requires-clause-reached c = rw c.records-records.ensures.value (c.requires.clear LengthAhead (10, omega arith, refl))
 
 pub returns-clause-clear : goal.returns-clause-clear
 returns-clause-clear c =

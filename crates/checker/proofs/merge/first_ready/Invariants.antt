@@ -7,6 +7,6 @@ use Rattle.checker.proofs.merge.first_ready.Given as goal
 abbrev pub invariant-loop-head : goal.invariant-loop-head
 invariant-loop-head l = record {
   within : l.first ≤ length l.records;
-  none : (t : ℕ) → t < l.head-index → slice_index l.heads t < l.first → IsReadyHead l.records l.creations l.placed l.least (slice_index l.heads t) → ⊥;
-  found : l.first < length l.records → IsReadyHead l.records l.creations l.placed l.least l.first × ((t : ℕ) × (t < l.head-index) × (slice_index l.heads t ≡ l.first));
+  none : (t : ℕ) → t < l.head-index → slice_index l.heads t < l.first → IsReadyHead l.records l.creations l.placed l.low (slice_index l.heads t) → ⊥;
+  found : l.first < length l.records → IsReadyHead l.records l.creations l.placed l.low l.first × ((t : ℕ) × (t < l.head-index) × (slice_index l.heads t ≡ l.first));
 }
