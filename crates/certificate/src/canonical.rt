@@ -8,7 +8,7 @@ ghost use Rattle.serde_json.specs.View.{items_of};
 ghost use Rattle.serde_json.specs.Written.{compact_text, comma_if};
 ghost use Rattle.ompt_events.specs.Flags as flag;
 ghost use Rattle.ompt_events.specs.Names.{status_name, endpoint_name, sync_kind_name, dep_kind_name, thread_kind_name};
-ghost use Rattle.certificate.specs.Texts.{Takes, is_plain_text, line_of, dep_data, number_or_null, whole_number, names, flag_names};
+ghost use Rattle.certificate.specs.Texts.{Takes, is_plain_text, line_of, task_tail, status_tail, dep_data, number_or_null, whole_number, names, flag_names};
 
 use crate::callbacks::lines;
 use bitflags::Flags;
@@ -37,22 +37,20 @@ macro_rules! take_part {
     (deps $alloc:ident $rest:ident $text:literal) => { deps($alloc, $rest, $text)? };
 }
 
-// The parts of a line, its end, and then what they make.
-macro_rules! take_parts {
-    (($alloc:ident $rest:ident $made:tt) $($text:literal $kind:ident $value:ident),*) => {{
-        $(let ($value, $rest) = take_part!($kind $alloc $rest $text);)*
-        end($rest)?;
-        Some($made)
-    }};
+// What follows the parts of a line.
+macro_rules! take_rest {
+    (end $rest:ident) => { end($rest)?; };
+    ($tail:ident $rest:ident $first:ident $second:ident $third:ident $fourth:ident) => {
+        let ($first, $second, $third, $fourth) = $tail($rest)?;
+    };
 }
 
-// The first of these values whose name stands in front, and what is behind it.
-macro_rules! one_of {
-    ($rest:ident $kind:ident: $($value:ident),*) => {{
-        $(if let Some(behind) = name($rest, $kind::$value.name()) {
-            return Some(($kind::$value, behind));
-        })*
-        None
+// The parts of a line, what follows them, and then what they make.
+macro_rules! take_parts {
+    (($alloc:ident $rest:ident $made:tt) $($text:literal $kind:ident $value:ident),*; $tail:ident $($last:ident)*) => {{
+        $(let ($value, $rest) = take_part!($kind $alloc $rest $text);)*
+        take_rest!($tail $rest $($last)*);
+        Some($made)
     }};
 }
 
@@ -74,14 +72,20 @@ pub(crate) fn canonical(alloc: Global, line: &[u8]) -> Option<Record>
 fn parallel(line: &[u8]) -> Option<Record>
     ensures { IfSome result (λ event. line.now ≡ line_of event) }
 {
-    parallel_begin(line).or_else(|| parallel_end(line))
+    match line.get(16) {
+        Some(b'b') => parallel_begin(line),
+        _ => parallel_end(line),
+    }
 }
 
 /// A cancellation.
 fn cancel(alloc: Global, line: &[u8]) -> Option<Record>
     ensures { IfSome result (λ event. line.now ≡ line_of event) }
 {
-    discarding(alloc, line).or_else(|| cancelling(line))
+    match discarding(alloc, line) {
+        Some(event) => Some(event),
+        None => cancelling(line),
+    }
 }
 
 /// A record of a task that is created or scheduled, or of a thread.
@@ -99,14 +103,20 @@ fn task_or_thread(alloc: Global, line: &[u8]) -> Option<Record>
 fn task_schedule(alloc: Global, line: &[u8]) -> Option<Record>
     ensures { IfSome result (λ event. line.now ≡ line_of event) }
 {
-    finishing(alloc, line).or_else(|| switching(line))
+    match line.get(23) {
+        Some(b'k') => finishing(alloc, line),
+        _ => switching(line),
+    }
 }
 
 /// A thread begins or ends.
 fn thread(line: &[u8]) -> Option<Record>
     ensures { IfSome result (λ event. line.now ≡ line_of event) }
 {
-    thread_begin(line).or_else(|| thread_end(line))
+    match line.get(14) {
+        Some(b'b') => thread_begin(line),
+        _ => thread_end(line),
+    }
 }
 
 /// A thread begins.
@@ -233,6 +243,20 @@ fn discarding(alloc: Global, line: &[u8]) -> Option<Record>
             body: Body::Cancel { flags, task, share: Some(Claim { kept, root, path }) },
         }))
         flags kept path root seen seq task thread)
+}
+
+/// The last members of a line that names a task.
+fn task_tail(rest: &[u8]) -> Option<(u32, u32, u64, u8)>
+    ensures { IfSome result (λ last. Takes rest.now (task_tail last.0 last.1 last.2 last.3) []) }
+{
+    lines!(task_tail take_parts (_alloc rest (seen, seq, task, thread)) seen seq task thread)
+}
+
+/// The last members of a line that has a status.
+fn status_tail(rest: &[u8]) -> Option<(u32, u32, Status, u8)>
+    ensures { IfSome result (λ last. Takes rest.now (status_tail last.0 last.1 last.2 last.3) []) }
+{
+    lines!(status_tail take_parts (_alloc rest (seen, seq, status, thread)) seen seq status thread)
 }
 
 // Each part is a text, and a value behind it.
@@ -428,51 +452,138 @@ fn name<'l>(rest: &'l [u8], name: &str) -> Option<&'l [u8]>
     Some(behind)
 }
 
+// A name is guessed by letters in which the names of its table differ, and then compared.
+
 /// How a task stops running.
 fn status<'l>(rest: &'l [u8], text: &str) -> Option<(Status, &'l [u8])>
     ensures { IfSome result (λ taken. Takes rest.now (text.now ++ quoted (status_name taken.0)) taken.1.now) }
 {
     let rest = after(rest, text)?;
-    one_of!(rest Status:
-        Complete, Switch, Yield, Detach, TaskwaitComplete, Cancel, EarlyFulfill, LateFulfill)
+    let status = guess_status(rest);
+    let behind = name(rest, status.name())?;
+    Some((status, behind))
+}
+
+/// A guess at the status that is named.
+fn guess_status(rest: &[u8]) -> Status {
+    match rest.get(1) {
+        Some(b's') => Status::Switch,
+        Some(b'y') => Status::Yield,
+        Some(b'd') => Status::Detach,
+        Some(b't') => Status::TaskwaitComplete,
+        Some(b'e') => Status::EarlyFulfill,
+        Some(b'l') => Status::LateFulfill,
+        _ => match rest.get(2) {
+            Some(b'a') => Status::Cancel,
+            _ => Status::Complete,
+        },
+    }
 }
 
 /// Whether a region begins or ends.
 fn endpoint<'l>(rest: &'l [u8], text: &str) -> Option<(Endpoint, &'l [u8])>
-    ensures { IfSome result (λ taken. Takes rest.now (text.now ++ quoted
-        (endpoint_name taken.0)) taken.1.now) }
+    ensures { IfSome result (λ taken. Takes rest.now (text.now ++ quoted (endpoint_name taken.0)) taken.1.now) }
 {
     let rest = after(rest, text)?;
-    one_of!(rest Endpoint: Begin, End, BeginEnd)
+    let endpoint = guess_endpoint(rest);
+    let behind = name(rest, endpoint.name())?;
+    Some((endpoint, behind))
+}
+
+/// A guess at the endpoint that is named.
+fn guess_endpoint(rest: &[u8]) -> Endpoint {
+    match rest.get(1) {
+        Some(b'e') => Endpoint::End,
+        _ => match rest.get(6) {
+            Some(b'e') => Endpoint::BeginEnd,
+            _ => Endpoint::Begin,
+        },
+    }
 }
 
 /// Which construct a region belongs to.
 fn sync_kind<'l>(rest: &'l [u8], text: &str) -> Option<(SyncKind, &'l [u8])>
-    ensures { IfSome result (λ taken. Takes rest.now (text.now ++ quoted
-        (sync_kind_name taken.0)) taken.1.now) }
+    ensures { IfSome result (λ taken. Takes rest.now (text.now ++ quoted (sync_kind_name taken.0)) taken.1.now) }
 {
     let rest = after(rest, text)?;
-    one_of!(rest SyncKind:
-        Taskwait, Taskgroup, Barrier, BarrierImplicit, BarrierExplicit, BarrierImplementation,
-        Reduction, BarrierImplicitWorkshare, BarrierImplicitParallel, BarrierTeams)
+    let sync_kind = guess_sync_kind(rest);
+    let behind = name(rest, sync_kind.name())?;
+    Some((sync_kind, behind))
+}
+
+/// A guess at the construct that is named.
+fn guess_sync_kind(rest: &[u8]) -> SyncKind {
+    match rest.get(5) {
+        Some(b'w') => SyncKind::Taskwait,
+        Some(b'g') => SyncKind::Taskgroup,
+        Some(b'c') => SyncKind::Reduction,
+        _ => guess_barrier(rest),
+    }
+}
+
+/// A guess at the barrier that is named.
+fn guess_barrier(rest: &[u8]) -> SyncKind {
+    match rest.get(9) {
+        Some(b'e') => SyncKind::BarrierExplicit,
+        Some(b't') => SyncKind::BarrierTeams,
+        Some(b'i') => match rest.get(13) {
+            Some(b'e') => SyncKind::BarrierImplementation,
+            _ => guess_implicit_barrier(rest),
+        },
+        _ => SyncKind::Barrier,
+    }
+}
+
+/// A guess at the implicit barrier that is named.
+fn guess_implicit_barrier(rest: &[u8]) -> SyncKind {
+    match rest.get(18) {
+        Some(b'w') => SyncKind::BarrierImplicitWorkshare,
+        Some(b'p') => SyncKind::BarrierImplicitParallel,
+        _ => SyncKind::BarrierImplicit,
+    }
 }
 
 /// How a location is used.
 fn dep_kind<'l>(rest: &'l [u8], text: &str) -> Option<(DepKind, &'l [u8])>
-    ensures { IfSome result (λ taken. Takes rest.now (text.now ++ quoted
-        (dep_kind_name taken.0)) taken.1.now) }
+    ensures { IfSome result (λ taken. Takes rest.now (text.now ++ quoted (dep_kind_name taken.0)) taken.1.now) }
 {
     let rest = after(rest, text)?;
-    one_of!(rest DepKind: In, Out, Inout, Mutexinoutset, Inoutset)
+    let dep_kind = guess_dep_kind(rest);
+    let behind = name(rest, dep_kind.name())?;
+    Some((dep_kind, behind))
+}
+
+/// A guess at the use that is named.
+fn guess_dep_kind(rest: &[u8]) -> DepKind {
+    match rest.get(1) {
+        Some(b'o') => DepKind::Out,
+        Some(b'm') => DepKind::Mutexinoutset,
+        _ => match rest.get(6) {
+            Some(b'"') => DepKind::Inout,
+            Some(b's') => DepKind::Inoutset,
+            _ => DepKind::In,
+        },
+    }
 }
 
 /// What a thread is there for.
 fn thread_kind<'l>(rest: &'l [u8], text: &str) -> Option<(ThreadKind, &'l [u8])>
-    ensures { IfSome result (λ taken. Takes rest.now (text.now ++ quoted
-        (thread_kind_name taken.0)) taken.1.now) }
+    ensures { IfSome result (λ taken. Takes rest.now (text.now ++ quoted (thread_kind_name taken.0)) taken.1.now) }
 {
     let rest = after(rest, text)?;
-    one_of!(rest ThreadKind: Initial, Worker, Other, Unknown)
+    let thread_kind = guess_thread_kind(rest);
+    let behind = name(rest, thread_kind.name())?;
+    Some((thread_kind, behind))
+}
+
+/// A guess at the kind of thread that is named.
+fn guess_thread_kind(rest: &[u8]) -> ThreadKind {
+    match rest.get(1) {
+        Some(b'i') => ThreadKind::Initial,
+        Some(b'w') => ThreadKind::Worker,
+        Some(b'o') => ThreadKind::Other,
+        _ => ThreadKind::Unknown,
+    }
 }
 
 /// The names of a task's flags.
