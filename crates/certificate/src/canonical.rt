@@ -21,34 +21,36 @@ use std::alloc::Global;
 
 // A part of a line, by the kind of its value.
 macro_rules! take_part {
-    (byte $alloc:ident $rest:ident $text:literal) => { byte($rest, $text)? };
-    (short $alloc:ident $rest:ident $text:literal) => { short($rest, $text)? };
-    (id $alloc:ident $rest:ident $text:literal) => { id($rest, $text)? };
-    (id_or_null $alloc:ident $rest:ident $text:literal) => { id_or_null($rest, $text)? };
-    (truth $alloc:ident $rest:ident $text:literal) => { truth($rest, $text)? };
-    (status $alloc:ident $rest:ident $text:literal) => { status($rest, $text)? };
-    (endpoint $alloc:ident $rest:ident $text:literal) => { endpoint($rest, $text)? };
-    (sync_kind $alloc:ident $rest:ident $text:literal) => { sync_kind($rest, $text)? };
-    (dep_kind $alloc:ident $rest:ident $text:literal) => { dep_kind($rest, $text)? };
-    (thread_kind $alloc:ident $rest:ident $text:literal) => { thread_kind($rest, $text)? };
-    (task_flags $alloc:ident $rest:ident $text:literal) => { task_flags($rest, $text)? };
-    (cancel_flags $alloc:ident $rest:ident $text:literal) => { cancel_flags($rest, $text)? };
-    (path $alloc:ident $rest:ident $text:literal) => { path($alloc, $rest, $text)? };
-    (deps $alloc:ident $rest:ident $text:literal) => { deps($alloc, $rest, $text)? };
+    (byte $alloc:ident $rest:ident $text:literal) => { byte($rest, $text) };
+    (short $alloc:ident $rest:ident $text:literal) => { short($rest, $text) };
+    (id $alloc:ident $rest:ident $text:literal) => { id($rest, $text) };
+    (id_or_null $alloc:ident $rest:ident $text:literal) => { id_or_null($rest, $text) };
+    (truth $alloc:ident $rest:ident $text:literal) => { truth($rest, $text) };
+    (status $alloc:ident $rest:ident $text:literal) => { status($rest, $text) };
+    (endpoint $alloc:ident $rest:ident $text:literal) => { endpoint($rest, $text) };
+    (sync_kind $alloc:ident $rest:ident $text:literal) => { sync_kind($rest, $text) };
+    (dep_kind $alloc:ident $rest:ident $text:literal) => { dep_kind($rest, $text) };
+    (thread_kind $alloc:ident $rest:ident $text:literal) => { thread_kind($rest, $text) };
+    (task_flags $alloc:ident $rest:ident $text:literal) => { task_flags($rest, $text) };
+    (cancel_flags $alloc:ident $rest:ident $text:literal) => { cancel_flags($rest, $text) };
+    (path $alloc:ident $rest:ident $text:literal) => { path($alloc, $rest, $text) };
+    (deps $alloc:ident $rest:ident $text:literal) => { deps($alloc, $rest, $text) };
 }
 
 // What follows the parts of a line.
 macro_rules! take_rest {
-    (end $rest:ident) => { end($rest)?; };
+    (end $rest:ident) => { let Some(()) = end($rest) else { return None; }; };
     ($tail:ident $rest:ident $first:ident $second:ident $third:ident $fourth:ident) => {
-        let ($first, $second, $third, $fourth) = $tail($rest)?;
+        let Some(($first, $second, $third, $fourth)) = $tail($rest) else { return None; };
     };
 }
 
 // The parts of a line, what follows them, and then what they make.
 macro_rules! take_parts {
     (($alloc:ident $rest:ident $made:tt) $($text:literal $kind:ident $value:ident),*; $tail:ident $($last:ident)*) => {{
-        $(let ($value, $rest) = take_part!($kind $alloc $rest $text);)*
+        $(let Some(($value, $rest)) = take_part!($kind $alloc $rest $text) else {
+            return None;
+        };)*
         take_rest!($tail $rest $($last)*);
         Some($made)
     }};
@@ -609,14 +611,21 @@ fn cancel_flags<'l>(rest: &'l [u8], text: &str) -> Option<(CancelFlags, &'l [u8]
 // A guess at the flags that a list names, which `flags_in_order` makes sure of.
 macro_rules! guess {
     ($rest:ident $text:ident $kind:ident: $($name:literal $flag:ident),*) => {{
-        let mut rest = after(after($rest, $text)?, "[")?;
-        let mut flags = $kind::empty();
-        $(if let Some(behind) = after(rest, $name) {
-            flags.insert($kind::$flag);
-            rest = after(behind, ",").unwrap_or(behind);
-        })*
+        let rest = after(after($rest, $text)?, "[")?;
+        let flags = $kind::empty();
+        $(let (rest, flags) = guess_flag(rest, flags, $name, $kind::$flag);)*
+        let _ = rest;
         Some(flags)
     }};
+}
+
+/// The flag is put in where its name stands in front, which is then skipped with a comma.
+#[inline(always)]
+fn guess_flag<'l, F: Flags + Copy>(rest: &'l [u8], flags: F, name: &str, flag: F) -> (&'l [u8], F) {
+    match after(rest, name) {
+        Some(behind) => (after(behind, ",").unwrap_or(behind), flags.union(flag)),
+        None => (rest, flags),
+    }
 }
 
 /// A guess at the flags of a task that are named.
@@ -675,11 +684,15 @@ fn next_item(rest: &[u8], later: bool) -> Option<&[u8]>
 
 /// How many numbers a path has at most: each but the first has a comma before it.
 fn room_for_numbers(rest: &[u8]) -> usize {
-    rest.iter()
-        .take_while(|b| **b != b']')
-        .filter(|b| **b == b',')
-        .count()
-        .saturating_add(1)
+    let mut room = 1;
+    'bytes: for byte in rest {
+        match *byte {
+            b',' => room += 1,
+            b']' => break,
+            _ => {}
+        }
+    }
+    room
 }
 
 /// How many dependences a list has at most: each but the last has a brace and a comma behind it.

@@ -20,20 +20,20 @@ use std::alloc::AllocError;
 
 // A part of a line, by the kind of its value.
 macro_rules! put_part {
-    (byte $out:ident $text:literal $value:tt) => { put_byte($out, $text, $value)? };
-    (short $out:ident $text:literal $value:tt) => { put_short($out, $text, $value)? };
-    (id $out:ident $text:literal $value:tt) => { put_id($out, $text, $value)? };
-    (id_or_null $out:ident $text:literal $value:tt) => { put_id_or_null($out, $text, $value)? };
-    (truth $out:ident $text:literal $value:tt) => { put_truth($out, $text, $value)? };
-    (status $out:ident $text:literal $value:tt) => { put_status($out, $text, $value)? };
-    (endpoint $out:ident $text:literal $value:tt) => { put_endpoint($out, $text, $value)? };
-    (sync_kind $out:ident $text:literal $value:tt) => { put_sync_kind($out, $text, $value)? };
-    (dep_kind $out:ident $text:literal $value:tt) => { put_dep_kind($out, $text, $value)? };
-    (thread_kind $out:ident $text:literal $value:tt) => { put_thread_kind($out, $text, $value)? };
-    (task_flags $out:ident $text:literal $value:tt) => { put_task_flags($out, $text, $value)? };
-    (cancel_flags $out:ident $text:literal $value:tt) => { put_cancel_flags($out, $text, $value)? };
-    (path $out:ident $text:literal $value:tt) => { put_path($out, $text, $value)? };
-    (deps $out:ident $text:literal $value:tt) => { put_deps($out, $text, $value)? };
+    (byte $out:ident $text:literal $value:tt) => { put_byte($out, $text, $value) };
+    (short $out:ident $text:literal $value:tt) => { put_short($out, $text, $value) };
+    (id $out:ident $text:literal $value:tt) => { put_id($out, $text, $value) };
+    (id_or_null $out:ident $text:literal $value:tt) => { put_id_or_null($out, $text, $value) };
+    (truth $out:ident $text:literal $value:tt) => { put_truth($out, $text, $value) };
+    (status $out:ident $text:literal $value:tt) => { put_status($out, $text, $value) };
+    (endpoint $out:ident $text:literal $value:tt) => { put_endpoint($out, $text, $value) };
+    (sync_kind $out:ident $text:literal $value:tt) => { put_sync_kind($out, $text, $value) };
+    (dep_kind $out:ident $text:literal $value:tt) => { put_dep_kind($out, $text, $value) };
+    (thread_kind $out:ident $text:literal $value:tt) => { put_thread_kind($out, $text, $value) };
+    (task_flags $out:ident $text:literal $value:tt) => { put_task_flags($out, $text, $value) };
+    (cancel_flags $out:ident $text:literal $value:tt) => { put_cancel_flags($out, $text, $value) };
+    (path $out:ident $text:literal $value:tt) => { put_path($out, $text, $value) };
+    (deps $out:ident $text:literal $value:tt) => { put_deps($out, $text, $value) };
 }
 
 // What follows the parts of a line.
@@ -50,7 +50,9 @@ macro_rules! put_rest {
 // The parts of a line, and what follows them.
 macro_rules! put_parts {
     (($out:ident) $($text:literal $kind:ident $value:tt),*; $rest:ident $($last:tt)*) => {{
-        $(put_part!($kind $out $text $value);)*
+        $(let Ok(()) = put_part!($kind $out $text $value) else {
+            return Err(AllocError);
+        };)*
         put_rest!($rest $out $($last)*)
     }};
 }

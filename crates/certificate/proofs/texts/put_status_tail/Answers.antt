@@ -2,4 +2,4 @@ use Rattle.certificate.proofs.ItemLemmas.{Puts-both, on_ok}
 use Rattle.certificate.proofs.texts.put_status_tail.Goals as goal
 
 pub returns : goal.returns
-returns c = on_ok _ (λ last. Puts-both _ _ _ _ _ c.in_ok-put_short.ensures (Puts-both _ _ _ _ _ c.in_ok-put_short-2.ensures (Puts-both _ _ _ _ _ c.in_ok-put_status.ensures (Puts-both _ _ _ _ _ c.in_ok-put_byte.ensures last)))) c.put.ensures
+returns c = on_ok _ (λ last. Puts-both _ _ _ _ _ c.in-Ok.ensures (Puts-both _ _ _ _ _ c.in-Ok-put_short.ensures (Puts-both _ _ _ _ _ c.in-Ok-put_status.ensures (Puts-both _ _ _ _ _ c.in-Ok-put_byte.ensures last)))) c.put.ensures
