@@ -1,6 +1,6 @@
 //! Lines as they are written, read part by part. Any other line is left to the general way.
 ghost use Rattle.std.specs.Prelude.{◌≡◌, ◌++◌, ◌+◌, ◌*◌, ◌^◌, ◌<◌, ◌≤◌, true, [], IfSome, codes, decimal, drop, length, map, slice_index, take};
-ghost use Rattle.std.specs.Int.{from_le_bytes, w64};
+ghost use Rattle.std.specs.Int.{from_le_bytes, w32, w64};
 ghost use Rattle.std.specs.List.{AllByRecursion};
 ghost use Rattle.json.specs.Print.{quoted};
 ghost use Rattle.serde_json.specs.Data.{array, boolean};
@@ -263,7 +263,7 @@ fn status_tail(rest: &[u8]) -> Option<(u32, u32, Status, u8)>
 
 // Each part is a text, and a value behind it.
 
-/// What is behind the text. Eight bytes are compared at a time.
+/// What is behind the text. Eight bytes are compared at a time, and then four.
 #[inline(always)]
 fn after<'l>(rest: &'l [u8], text: &str) -> Option<&'l [u8]>
     ensures { IfSome result (λ behind. Takes rest.now text.now behind.now) }
@@ -278,6 +278,12 @@ fn after<'l>(rest: &'l [u8], text: &str) -> Option<&'l [u8]>
             return None;
         }
         at += 8;
+    }
+    'halves: while text.len() - at >= 4 {
+        if half(rest, at) != half(text, at) {
+            return None;
+        }
+        at += 4;
     }
     'bytes: while at < text.len() {
         if rest[at] != text[at] {
@@ -296,6 +302,18 @@ fn word(bytes: &[u8], at: usize) -> u64
 {
     match bytes[at..].first_chunk::<8>() {
         Some(chunk) => u64::from_le_bytes(*chunk),
+        None => unreachable!(),
+    }
+}
+
+/// The four bytes from this place on, as a number.
+#[inline(always)]
+fn half(bytes: &[u8], at: usize) -> u32
+    requires { at + 4 ≤ length bytes.now }
+    ensures { result ≡ from_le_bytes w32 (take 4 (drop at bytes.now)) }
+{
+    match bytes[at..].first_chunk::<4>() {
+        Some(chunk) => u32::from_le_bytes(*chunk),
         None => unreachable!(),
     }
 }
@@ -406,12 +424,8 @@ fn digit(rest: &[u8], at: usize) -> Option<u64>
     ensures { IfSome result (λ digit. (digit ≤ 9) × (at < length rest.now) ×
         (slice_index rest.now at ≡ 48 + digit)) }
 {
-    let digit = rest.get(at)?.wrapping_sub(b'0');
-    if digit <= 9 {
-        Some(u64::from(digit))
-    } else {
-        None
-    }
+    let digit = u64::from(*rest.get(at)?).wrapping_sub(48);
+    if digit <= 9 { Some(digit) } else { None }
 }
 
 /// A whole number, or `null`.

@@ -1,5 +1,5 @@
 use Rattle.std.proofs.Common.{◌+◌, ◌≤◌, length, arith, sym, ◌∙◌}
-use Rattle.certificate.proofs.TakeLemmas.{same-word, Takes-front}
+use Rattle.certificate.proofs.TakeLemmas.{same-word, same-half, Takes-front}
 use Rattle.certificate.proofs.canonical.after.Goals as goal
 
 pub words-preserved : goal.words-preserved
@@ -9,6 +9,15 @@ words-preserved c =
     record {
       within = fits;
       same = same-word c.args.rest.now c.as_bytes-text.result.now c.words.at (omega (arith, c.if-rest-text.false)) fits (λ i. omega (arith, c.type_inv.rest i)) (λ i. omega (arith, c.type_inv.text i)) (sym c.word.ensures ∙ c.if-word.false ∙ c.word-in-words.ensures) now.same;
+    }
+
+pub halves-preserved : goal.halves-preserved
+halves-preserved c =
+    let now = c.halves.invariant in
+    let fits : c.halves.at + 4 ≤ length c.as_bytes-text.result.now = omega (arith, c.halves-test.true, now.within) in
+    record {
+      within = fits;
+      same = same-half c.args.rest.now c.as_bytes-text.result.now c.halves.at (omega (arith, c.if-rest-text.false)) fits (λ i. omega (arith, c.type_inv.rest i)) (λ i. omega (arith, c.type_inv.text i)) (sym c.half.ensures ∙ c.if-half.false ∙ c.half-in-halves.ensures) now.same;
     }
 
 pub returns : goal.returns

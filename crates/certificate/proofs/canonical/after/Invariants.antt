@@ -8,6 +8,12 @@ invariant-words l = record { within : l.at ≤ length l.text; same : take l.at l
 abbrev pub decreases-words : goal.decreases-words
 decreases-words l = length l.text - l.at
 
+abbrev pub invariant-halves : goal.invariant-halves
+invariant-halves l = record { within : l.at ≤ length l.text; same : take l.at l.rest ≡ take l.at l.text }
+
+abbrev pub decreases-halves : goal.decreases-halves
+decreases-halves l = length l.text - l.at
+
 abbrev pub invariant-bytes : goal.invariant-bytes
 invariant-bytes l = record { within : l.at ≤ length l.text; same : take l.at l.rest ≡ take l.at l.text }
 
