@@ -265,7 +265,7 @@ fn status_tail(rest: &[u8]) -> Option<(u32, u32, Status, u8)>
 
 /// What is behind the text. Eight bytes are compared at a time, and then four.
 #[inline(always)]
-fn after<'l>(rest: &'l [u8], text: &str) -> Option<&'l [u8]>
+pub(crate) fn after<'l>(rest: &'l [u8], text: &str) -> Option<&'l [u8]>
     ensures { IfSome result (λ behind. Takes rest.now text.now behind.now) }
 {
     let text = text.as_bytes();
@@ -319,7 +319,7 @@ fn half(bytes: &[u8], at: usize) -> u32
 }
 
 /// The line ends here.
-fn end(rest: &[u8]) -> Option<()>
+pub(crate) fn end(rest: &[u8]) -> Option<()>
     ensures { IfSome result (λ _. Takes rest.now (codes "}") []) }
 {
     let behind = after(rest, "}")?;
@@ -328,7 +328,7 @@ fn end(rest: &[u8]) -> Option<()>
 
 /// A whole number.
 #[inline(always)]
-fn id<'l>(rest: &'l [u8], text: &str) -> Option<(u64, &'l [u8])>
+pub(crate) fn id<'l>(rest: &'l [u8], text: &str) -> Option<(u64, &'l [u8])>
     ensures { IfSome result (λ taken. Takes rest.now (text.now ++ decimal taken.0) taken.1.now) }
 {
     number(after(rest, text)?)
@@ -336,7 +336,7 @@ fn id<'l>(rest: &'l [u8], text: &str) -> Option<(u64, &'l [u8])>
 
 /// A whole number of 32 bits.
 #[inline(always)]
-fn short<'l>(rest: &'l [u8], text: &str) -> Option<(u32, &'l [u8])>
+pub(crate) fn short<'l>(rest: &'l [u8], text: &str) -> Option<(u32, &'l [u8])>
     ensures { IfSome result (λ taken. Takes rest.now (text.now ++ decimal taken.0) taken.1.now) }
 {
     short_number(after(rest, text)?)
@@ -353,7 +353,7 @@ fn short_number(rest: &[u8]) -> Option<(u32, &[u8])>
 
 /// A whole number of 8 bits.
 #[inline(always)]
-fn byte<'l>(rest: &'l [u8], text: &str) -> Option<(u8, &'l [u8])>
+pub(crate) fn byte<'l>(rest: &'l [u8], text: &str) -> Option<(u8, &'l [u8])>
     ensures { IfSome result (λ taken. Takes rest.now (text.now ++ decimal taken.0) taken.1.now) }
 {
     let (number, behind) = id(rest, text)?;
@@ -430,7 +430,7 @@ fn digit(rest: &[u8], at: usize) -> Option<u64>
 
 /// A whole number, or `null`.
 #[inline(always)]
-fn id_or_null<'l>(rest: &'l [u8], text: &str) -> Option<(Option<u64>, &'l [u8])>
+pub(crate) fn id_or_null<'l>(rest: &'l [u8], text: &str) -> Option<(Option<u64>, &'l [u8])>
     ensures { IfSome result (λ taken. Takes rest.now (text.now ++ compact_text
         (number_or_null taken.0)) taken.1.now) }
 {
@@ -444,7 +444,7 @@ fn id_or_null<'l>(rest: &'l [u8], text: &str) -> Option<(Option<u64>, &'l [u8])>
 
 /// A truth value.
 #[inline(always)]
-fn truth<'l>(rest: &'l [u8], text: &str) -> Option<(bool, &'l [u8])>
+pub(crate) fn truth<'l>(rest: &'l [u8], text: &str) -> Option<(bool, &'l [u8])>
     ensures { IfSome result (λ taken. Takes rest.now (text.now ++ compact_text
         (boolean taken.0)) taken.1.now) }
 {
@@ -458,7 +458,7 @@ fn truth<'l>(rest: &'l [u8], text: &str) -> Option<(bool, &'l [u8])>
 
 /// What is behind the name in quotation marks.
 #[inline(always)]
-fn name<'l>(rest: &'l [u8], name: &str) -> Option<&'l [u8]>
+pub(crate) fn name<'l>(rest: &'l [u8], name: &str) -> Option<&'l [u8]>
     requires { is_plain_text name.now ≡ true }
     ensures { IfSome result (λ behind. Takes rest.now (quoted name.now) behind.now) }
 {
@@ -471,7 +471,7 @@ fn name<'l>(rest: &'l [u8], name: &str) -> Option<&'l [u8]>
 // A name is guessed by letters in which the names of its table differ, and then compared.
 
 /// How a task stops running.
-fn status<'l>(rest: &'l [u8], text: &str) -> Option<(Status, &'l [u8])>
+pub(crate) fn status<'l>(rest: &'l [u8], text: &str) -> Option<(Status, &'l [u8])>
     ensures { IfSome result (λ taken. Takes rest.now (text.now ++ quoted (status_name taken.0)) taken.1.now) }
 {
     let rest = after(rest, text)?;
@@ -497,7 +497,7 @@ fn guess_status(rest: &[u8]) -> Status {
 }
 
 /// Whether a region begins or ends.
-fn endpoint<'l>(rest: &'l [u8], text: &str) -> Option<(Endpoint, &'l [u8])>
+pub(crate) fn endpoint<'l>(rest: &'l [u8], text: &str) -> Option<(Endpoint, &'l [u8])>
     ensures { IfSome result (λ taken. Takes rest.now (text.now ++ quoted (endpoint_name taken.0)) taken.1.now) }
 {
     let rest = after(rest, text)?;
@@ -518,7 +518,7 @@ fn guess_endpoint(rest: &[u8]) -> Endpoint {
 }
 
 /// Which construct a region belongs to.
-fn sync_kind<'l>(rest: &'l [u8], text: &str) -> Option<(SyncKind, &'l [u8])>
+pub(crate) fn sync_kind<'l>(rest: &'l [u8], text: &str) -> Option<(SyncKind, &'l [u8])>
     ensures { IfSome result (λ taken. Takes rest.now (text.now ++ quoted (sync_kind_name taken.0)) taken.1.now) }
 {
     let rest = after(rest, text)?;
@@ -603,7 +603,7 @@ fn guess_thread_kind(rest: &[u8]) -> ThreadKind {
 }
 
 /// The names of a task's flags.
-fn task_flags<'l>(rest: &'l [u8], text: &str) -> Option<(TaskFlags, &'l [u8])>
+pub(crate) fn task_flags<'l>(rest: &'l [u8], text: &str) -> Option<(TaskFlags, &'l [u8])>
     ensures { IfSome result (λ taken. Takes rest.now
         (text.now ++ compact_text (names (flag_names flag.task_flags taken.0.0))) taken.1.now) }
 {
@@ -690,7 +690,7 @@ fn flags_in_order<'l, F: Flags + Copy>(rest: &'l [u8], text: &str, flags: F) -> 
 
 /// Where the next item of a list begins.
 #[inline(always)]
-fn next_item(rest: &[u8], later: bool) -> Option<&[u8]>
+pub(crate) fn next_item(rest: &[u8], later: bool) -> Option<&[u8]>
     ensures { IfSome result (λ behind. Takes rest.now (comma_if later) behind.now) }
 {
     if later { after(rest, ",") } else { Some(rest) }
@@ -733,7 +733,7 @@ fn past_brace(list: &[u8]) -> Option<&[u8]> {
 }
 
 /// The numbers of a path.
-fn path<'l>(alloc: Global, rest: &'l [u8], text: &str) -> Option<(Path, &'l [u8])>
+pub(crate) fn path<'l>(alloc: Global, rest: &'l [u8], text: &str) -> Option<(Path, &'l [u8])>
     ensures { IfSome result (λ taken. Takes rest.now
         (text.now ++ compact_text (array (items_of (map whole_number taken.0)))) taken.1.now) }
 {

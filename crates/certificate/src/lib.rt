@@ -17,6 +17,7 @@ mod memory;
 mod reading;
 mod streams;
 mod texts;
+mod unordered;
 mod values;
 mod window;
 mod writing;

@@ -13,6 +13,7 @@ use crate::members::{
     begin_or_end, byte, endpoint, flags, id, id_or_null, next, short, status, sync_kind, text,
     thread_kind, truth,
 };
+use crate::unordered::unordered;
 use crate::values::tape_of;
 use bitflags::Flags;
 use json::{Element, Scratch};
@@ -155,6 +156,9 @@ pub(crate) fn record_of(
 fn other(alloc: Global, line: &[u8], scratch: &mut Scratch) -> Result<Record, ReadCause>
     ensures { IsSaid result (spec.line_says line.now) }
 {
+    if let Some(event) = unordered(alloc, line) {
+        return Ok(event);
+    }
     let tape = tape_of(alloc, line, scratch)?;
     record(alloc, &tape.root())
 }
