@@ -471,6 +471,7 @@ pub(crate) fn name<'l>(rest: &'l [u8], name: &str) -> Option<&'l [u8]>
 // A name is guessed by letters in which the names of its table differ, and then compared.
 
 /// How a task stops running.
+#[inline(always)]
 pub(crate) fn status<'l>(rest: &'l [u8], text: &str) -> Option<(Status, &'l [u8])>
     ensures { IfSome result (λ taken. Takes rest.now (text.now ++ quoted (status_name taken.0)) taken.1.now) }
 {
@@ -497,6 +498,7 @@ fn guess_status(rest: &[u8]) -> Status {
 }
 
 /// Whether a region begins or ends.
+#[inline(always)]
 pub(crate) fn endpoint<'l>(rest: &'l [u8], text: &str) -> Option<(Endpoint, &'l [u8])>
     ensures { IfSome result (λ taken. Takes rest.now (text.now ++ quoted (endpoint_name taken.0)) taken.1.now) }
 {
@@ -518,6 +520,7 @@ fn guess_endpoint(rest: &[u8]) -> Endpoint {
 }
 
 /// Which construct a region belongs to.
+#[inline(always)]
 pub(crate) fn sync_kind<'l>(rest: &'l [u8], text: &str) -> Option<(SyncKind, &'l [u8])>
     ensures { IfSome result (λ taken. Takes rest.now (text.now ++ quoted (sync_kind_name taken.0)) taken.1.now) }
 {
@@ -560,6 +563,7 @@ fn guess_implicit_barrier(rest: &[u8]) -> SyncKind {
 }
 
 /// How a location is used.
+#[inline(always)]
 fn dep_kind<'l>(rest: &'l [u8], text: &str) -> Option<(DepKind, &'l [u8])>
     ensures { IfSome result (λ taken. Takes rest.now (text.now ++ quoted (dep_kind_name taken.0)) taken.1.now) }
 {
@@ -583,6 +587,7 @@ fn guess_dep_kind(rest: &[u8]) -> DepKind {
 }
 
 /// What a thread is there for.
+#[inline(always)]
 fn thread_kind<'l>(rest: &'l [u8], text: &str) -> Option<(ThreadKind, &'l [u8])>
     ensures { IfSome result (λ taken. Takes rest.now (text.now ++ quoted (thread_kind_name taken.0)) taken.1.now) }
 {
@@ -603,29 +608,47 @@ fn guess_thread_kind(rest: &[u8]) -> ThreadKind {
 }
 
 /// The names of a task's flags.
+#[inline(always)]
 pub(crate) fn task_flags<'l>(rest: &'l [u8], text: &str) -> Option<(TaskFlags, &'l [u8])>
     ensures { IfSome result (λ taken. Takes rest.now
         (text.now ++ compact_text (names (flag_names flag.task_flags taken.0.0))) taken.1.now) }
 {
-    let flags = guess_task_flags(rest, text)?;
-    let behind = flags_in_order(rest, text, flags)?;
+    task_flags_alone(after(rest, text)?)
+}
+
+/// The same alone.
+fn task_flags_alone(rest: &[u8]) -> Option<(TaskFlags, &[u8])>
+    ensures { IfSome result (λ taken. Takes rest.now
+        (compact_text (names (flag_names flag.task_flags taken.0.0))) taken.1.now) }
+{
+    let flags = guess_task_flags(rest)?;
+    let behind = flags_in_order(rest, flags)?;
     Some((flags, behind))
 }
 
 /// The names of a cancellation's flags.
+#[inline(always)]
 fn cancel_flags<'l>(rest: &'l [u8], text: &str) -> Option<(CancelFlags, &'l [u8])>
     ensures { IfSome result (λ taken. Takes rest.now
         (text.now ++ compact_text (names (flag_names flag.cancel_flags taken.0.0))) taken.1.now) }
 {
-    let flags = guess_cancel_flags(rest, text)?;
-    let behind = flags_in_order(rest, text, flags)?;
+    cancel_flags_alone(after(rest, text)?)
+}
+
+/// The same alone.
+fn cancel_flags_alone(rest: &[u8]) -> Option<(CancelFlags, &[u8])>
+    ensures { IfSome result (λ taken. Takes rest.now
+        (compact_text (names (flag_names flag.cancel_flags taken.0.0))) taken.1.now) }
+{
+    let flags = guess_cancel_flags(rest)?;
+    let behind = flags_in_order(rest, flags)?;
     Some((flags, behind))
 }
 
 // A guess at the flags that a list names, which `flags_in_order` makes sure of.
 macro_rules! guess {
-    ($rest:ident $text:ident $kind:ident: $($name:literal $flag:ident),*) => {{
-        let rest = after(after($rest, $text)?, "[")?;
+    ($rest:ident $kind:ident: $($name:literal $flag:ident),*) => {{
+        let rest = after($rest, "[")?;
         let flags = $kind::empty();
         $(let (rest, flags) = guess_flag(rest, flags, $name, $kind::$flag);)*
         let _ = rest;
@@ -643,8 +666,8 @@ fn guess_flag<'l, F: Flags + Copy>(rest: &'l [u8], flags: F, name: &str, flag: F
 }
 
 /// A guess at the flags of a task that are named.
-fn guess_task_flags(rest: &[u8], text: &str) -> Option<TaskFlags> {
-    guess!(rest text TaskFlags:
+fn guess_task_flags(rest: &[u8]) -> Option<TaskFlags> {
+    guess!(rest TaskFlags:
         "\"initial\"" INITIAL,
         "\"implicit\"" IMPLICIT,
         "\"explicit\"" EXPLICIT,
@@ -658,8 +681,8 @@ fn guess_task_flags(rest: &[u8], text: &str) -> Option<TaskFlags> {
 }
 
 /// A guess at the flags of a cancellation that are named.
-fn guess_cancel_flags(rest: &[u8], text: &str) -> Option<CancelFlags> {
-    guess!(rest text CancelFlags:
+fn guess_cancel_flags(rest: &[u8]) -> Option<CancelFlags> {
+    guess!(rest CancelFlags:
         "\"parallel\"" PARALLEL,
         "\"sections\"" SECTIONS,
         "\"loop\"" LOOP,
@@ -670,13 +693,13 @@ fn guess_cancel_flags(rest: &[u8], text: &str) -> Option<CancelFlags> {
 }
 
 /// What is behind the names of these flags, which stand in the order of their table.
-fn flags_in_order<'l, F: Flags + Copy>(rest: &'l [u8], text: &str, flags: F) -> Option<&'l [u8]>
+fn flags_in_order<F: Flags + Copy>(rest: &[u8], flags: F) -> Option<&[u8]>
     requires exact { F.exact }
     requires plain { AllByRecursion (λ row. is_plain_text row.0 ≡ true) F.table }
     ensures { IfSome result (λ behind. Takes rest.now
-        (text.now ++ compact_text (names (flag_names F.table (F.set_of flags)))) behind.now) }
+        (compact_text (names (flag_names F.table (F.set_of flags)))) behind.now) }
 {
-    let mut rest = after(after(rest, text)?, "[")?;
+    let mut rest = after(rest, "[")?;
     let mut later = false;
     'named: for flag in F::flags() {
         if flags.contains(flag.value) {
@@ -733,11 +756,20 @@ fn past_brace(list: &[u8]) -> Option<&[u8]> {
 }
 
 /// The numbers of a path.
+#[inline(always)]
 pub(crate) fn path<'l>(alloc: Global, rest: &'l [u8], text: &str) -> Option<(Path, &'l [u8])>
     ensures { IfSome result (λ taken. Takes rest.now
         (text.now ++ compact_text (array (items_of (map whole_number taken.0)))) taken.1.now) }
 {
-    let mut rest = after(after(rest, text)?, "[")?;
+    path_alone(alloc, after(rest, text)?)
+}
+
+/// The same alone.
+fn path_alone(alloc: Global, rest: &[u8]) -> Option<(Path, &[u8])>
+    ensures { IfSome result (λ taken. Takes rest.now
+        (compact_text (array (items_of (map whole_number taken.0)))) taken.1.now) }
+{
+    let mut rest = after(rest, "[")?;
     let mut numbers = Vec::with_capacity(alloc, room_for_numbers(rest)).ok()?;
     let mut later = false;
     'numbers: for _ in 0..MAX_DEPTH {
@@ -763,11 +795,20 @@ fn next_number(rest: &[u8], later: bool) -> Option<(u32, &[u8])>
 }
 
 /// What a task depends on.
-fn deps<'l>(alloc: Global, rest: &'l [u8], text: &str) -> Option<(Deps, &'l [u8])>
+#[inline(always)]
+pub(crate) fn deps<'l>(alloc: Global, rest: &'l [u8], text: &str) -> Option<(Deps, &'l [u8])>
     ensures { IfSome result (λ taken. Takes rest.now
         (text.now ++ compact_text (array (items_of (map dep_data taken.0)))) taken.1.now) }
 {
-    let mut rest = after(after(rest, text)?, "[")?;
+    deps_alone(alloc, after(rest, text)?)
+}
+
+/// The same alone.
+fn deps_alone(alloc: Global, rest: &[u8]) -> Option<(Deps, &[u8])>
+    ensures { IfSome result (λ taken. Takes rest.now
+        (compact_text (array (items_of (map dep_data taken.0)))) taken.1.now) }
+{
+    let mut rest = after(rest, "[")?;
     let mut items = Vec::with_capacity(alloc, room_for_dependences(rest)).ok()?;
     let mut later = false;
     'items: for _ in 0..MAX_DEPENDENCES {

@@ -1,4 +1,4 @@
-use Rattle.std.proofs.Common.{◌≡◌, ◌≤◌, ◌++◌, Bool, true, false, List, ℕ, length, sym, ap, ◌∙◌, arith}
+use Rattle.std.proofs.Common.{◌≡◌, ◌≤◌, [], ◌++◌, Bool, true, false, List, ℕ, length, sym, ap, ◌∙◌, arith}
 use Rattle.std.proofs.lemmas.List.{length-map}
 use Rattle.json.specs.Print.{quoted}
 use Rattle.serde_json.specs.Written.{comma_if}
@@ -14,7 +14,7 @@ name-requires g c =
     row-plain (λ f. (f.name.now, g.F.Flags.set_of f.value)) c.flags-flag-items.result.now g.F.Flags.table c.named.flag-index c.flag-item.result (c.flags-flag-items.ensures c.requires.exact) c.named-test.true c.flag-item.is c.requires.plain
 
 pub named-init : goal.named-init
-named-init g c = IsRead-none (flag_names g.F.Flags.table (g.F.Flags.set_of c.args.flags)) c.args.rest.now c.in_ok-rest.rest.now c.args.text.now (Takes-both _ _ _ _ _ c.in_ok-after.ensures c.in_ok-rest.ensures)
+named-init g c = IsRead-none (flag_names g.F.Flags.table (g.F.Flags.set_of c.args.flags)) c.args.rest.now c.in_ok-rest.rest.now [] c.in_ok-rest.ensures
 
 pub named-preserved : goal.named-preserved
 named-preserved g c =
