@@ -14,6 +14,7 @@ mod lines;
 mod lists;
 mod members;
 mod memory;
+mod parts;
 mod reading;
 mod streams;
 mod texts;

@@ -7,7 +7,7 @@ ghost use Rattle.certificate.specs.RecordLines as spec;
 ghost use Rattle.certificate.specs.Texts.{Takes};
 ghost use Rattle.certificate.specs.Unordered.{AreRows, IsFound, IsMember, Makes, callback_name, rows};
 
-use crate::canonical::{
+use crate::parts::{
     after, byte, end, endpoint, id, id_or_null, name, next_item, path, short, status, sync_kind,
     task_flags, truth,
 };

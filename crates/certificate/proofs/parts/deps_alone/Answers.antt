@@ -3,7 +3,7 @@ use Rattle.std.specs.Result.{is_ok}
 use Rattle.serde_json.specs.Written.{compact_text, comma_if}
 use Rattle.certificate.specs.Texts.{Takes, dep_data}
 use Rattle.certificate.proofs.TakeLemmas.{IsTaken-none, IsTaken-more, Takes-items}
-use Rattle.certificate.proofs.canonical.deps_alone.Goals as goal
+use Rattle.certificate.proofs.parts.deps_alone.Goals as goal
 
 pub items-init : goal.items-init
 items-init c =

@@ -1,6 +1,6 @@
 use Rattle.std.proofs.Common.{◌+◌, ◌≤◌, length, arith, sym, ◌∙◌}
 use Rattle.certificate.proofs.TakeLemmas.{same-word, same-half, Takes-front}
-use Rattle.certificate.proofs.canonical.after.Goals as goal
+use Rattle.certificate.proofs.parts.after.Goals as goal
 
 pub words-preserved : goal.words-preserved
 words-preserved c =

@@ -3,7 +3,7 @@ use Rattle.std.specs.Result.{is_ok}
 use Rattle.serde_json.specs.Written.{compact_text, comma_if}
 use Rattle.certificate.specs.Texts.{Takes, whole_number}
 use Rattle.certificate.proofs.TakeLemmas.{IsTaken-none, IsTaken-more, Takes-items}
-use Rattle.certificate.proofs.canonical.path_alone.Goals as goal
+use Rattle.certificate.proofs.parts.path_alone.Goals as goal
 
 pub numbers-init : goal.numbers-init
 numbers-init c =

@@ -1,7 +1,7 @@
 use Rattle.std.proofs.Common.{[]}
 use Rattle.certificate.specs.Texts.{whole_number}
 use Rattle.certificate.proofs.TakeLemmas.{IsTaken}
-use Rattle.certificate.proofs.canonical.path_alone.Given as goal
+use Rattle.certificate.proofs.parts.path_alone.Given as goal
 
 -- the items so far
 abbrev pub invariant-numbers : goal.invariant-numbers

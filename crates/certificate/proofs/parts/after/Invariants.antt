@@ -1,5 +1,5 @@
 use Rattle.std.proofs.Common.{◌≡◌, ◌≤◌, ◌-◌, length, take}
-use Rattle.certificate.proofs.canonical.after.Given as goal
+use Rattle.certificate.proofs.parts.after.Given as goal
 
 -- the bytes so far are the same
 abbrev pub invariant-words : goal.invariant-words

@@ -1,6 +1,6 @@
 use Rattle.certificate.proofs.PartLemmas.{text-dep}
 use Rattle.certificate.proofs.TakeLemmas.{Takes-both, Takes-same}
-use Rattle.certificate.proofs.canonical.dep.Goals as goal
+use Rattle.certificate.proofs.parts.dep.Goals as goal
 
 pub returns : goal.returns
 returns c =

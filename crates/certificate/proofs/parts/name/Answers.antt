@@ -1,7 +1,7 @@
 use Rattle.std.proofs.Common.{[]}
 use Rattle.certificate.proofs.ItemLemmas.{quoted-plain}
 use Rattle.certificate.proofs.TakeLemmas.{Takes-both, Takes-same}
-use Rattle.certificate.proofs.canonical.name.Goals as goal
+use Rattle.certificate.proofs.parts.name.Goals as goal
 
 pub returns : goal.returns
 returns c =

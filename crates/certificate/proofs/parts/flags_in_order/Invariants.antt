@@ -2,7 +2,7 @@ use Rattle.std.proofs.Common.{drop}
 use Rattle.serde_json.specs.Written.{compact_text}
 use Rattle.certificate.specs.Texts.{names, flag_names}
 use Rattle.certificate.proofs.TakeLemmas.{IsRead}
-use Rattle.certificate.proofs.canonical.flags_in_order.Given as goal
+use Rattle.certificate.proofs.parts.flags_in_order.Given as goal
 
 -- the names of the flags so far, and those that are left
 abbrev pub invariant-named : goal.invariant-named

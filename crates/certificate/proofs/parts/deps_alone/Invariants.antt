@@ -1,7 +1,7 @@
 use Rattle.std.proofs.Common.{[]}
 use Rattle.certificate.specs.Texts.{dep_data}
 use Rattle.certificate.proofs.TakeLemmas.{IsTaken}
-use Rattle.certificate.proofs.canonical.deps_alone.Given as goal
+use Rattle.certificate.proofs.parts.deps_alone.Given as goal
 
 -- the items so far
 abbrev pub invariant-items : goal.invariant-items

@@ -6,8 +6,8 @@ use Rattle.certificate.specs.Texts.{Takes, flag_names}
 use Rattle.ompt_events.specs.Flags.{has_flag}
 use Rattle.certificate.proofs.ItemLemmas.{row-plain, no_flag_left}
 use Rattle.certificate.proofs.TakeLemmas.{Takes-both, Takes-names, IsRead-none, IsRead-with, IsRead-without}
-use Rattle.certificate.proofs.canonical.flags_in_order.Goals as goal
-use Rattle.certificate.proofs.canonical.flags_in_order.Goals.{then-contains+in_ok-next_item+in_ok-rest-2, else-contains}
+use Rattle.certificate.proofs.parts.flags_in_order.Goals as goal
+use Rattle.certificate.proofs.parts.flags_in_order.Goals.{then-contains+in_ok-next_item+in_ok-rest-2, else-contains}
 
 pub name-requires : goal.name-requires
 name-requires g c =

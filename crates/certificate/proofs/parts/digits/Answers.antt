@@ -1,7 +1,7 @@
 use Rattle.std.proofs.Common.{◌≡◌, ◌+◌, ◌<◌, length, get_or, arith, sym, ◌∙◌, length-take}
 use Rattle.std.proofs.lemmas.List.{get_or-take}
 use Rattle.certificate.proofs.TakeLemmas.{digits-first, digits-more, digits-few}
-use Rattle.certificate.proofs.canonical.digits.Goals as goal
+use Rattle.certificate.proofs.parts.digits.Goals as goal
 
 pub digits-init : goal.digits-init
 digits-init c = record {

@@ -1,6 +1,6 @@
 use Rattle.std.proofs.Common.{◌+◌}
 use Rattle.certificate.proofs.TakeLemmas.{digits-more, Takes-digits}
-use Rattle.certificate.proofs.canonical.with_last_digit.Goals as goal
+use Rattle.certificate.proofs.parts.with_last_digit.Goals as goal
 
 pub returns-in_ok-one_more-in-Some : goal.returns-in_ok-one_more-in-Some
 returns-in_ok-one_more-in-Some c =

@@ -1,6 +1,6 @@
 use Rattle.std.proofs.Common.{◌∙◌, ap, arith, ◌+◌}
 use Rattle.certificate.proofs.TakeLemmas.{digits-first, Takes-digits}
-use Rattle.certificate.proofs.canonical.number.Goals as goal
+use Rattle.certificate.proofs.parts.number.Goals as goal
 
 pub returns-then-first-eq0 : goal.returns-then-first-eq0
 returns-then-first-eq0 c =

@@ -1,5 +1,5 @@
 use Rattle.std.proofs.Common.{◌≡◌, ◌<◌, ◌≤◌, ◌-◌, ◌^◌, length, take, decimal}
-use Rattle.certificate.proofs.canonical.digits.Given as goal
+use Rattle.certificate.proofs.parts.digits.Given as goal
 
 -- the digits so far are those of the number
 abbrev pub invariant-digits : goal.invariant-digits
