@@ -106,7 +106,7 @@ plain-claim (Some c) h = ((refl, omega (arith, h.0)), ((refl, h.1), ((refl, AreP
 plain-dep : (d : Dep) → d.var < 2 ^ 64 → IsPlain (dep_data d) 1
 plain-dep d h = IsPlain-object_of ((member.type, string (dep_kind_name d.kind)) ∷ (member.var, whole_number d.var) ∷ []) 0 ((refl, plain-dep_kind d.kind), ((refl, h), tt))
 
-plain-deps : (ds : List Dep) → All (λ d. d.var < 2 ^ 64) ds → ArePlain (items_of (map dep_data ds)) 1
+pub plain-deps : (ds : List Dep) → All (λ d. d.var < 2 ^ 64) ds → ArePlain (items_of (map dep_data ds)) 1
 plain-deps ds h = ArePlain-items_of dep_data ds 1 (AllByRecursion-from (λ d. IsPlain (dep_data d) 1) ds (λ k d l. plain-dep (get_or ds k d) (h k d l)))
 
 plain-body : (b : Body) → BodyInRange b → AllByRecursion (IsPlainMember 2) (body_members b)

@@ -97,7 +97,7 @@ dep-read : (d : Dep) → dep_of (dep_data d) ≡ Some d
 unfolding with_member
 dep-read d = rw (named-dep_kind d.kind) refl
 
-deps-read : (ds : List Dep) → each dep_of (items_of (map dep_data ds)) ≡ Some ds
+pub deps-read : (ds : List Dep) → each dep_of (items_of (map dep_data ds)) ≡ Some ds
 deps-read ds = each-items_of dep_of dep_data dep-read ds
 
 -- ---- what each record's object says

@@ -13,26 +13,29 @@ use Rattle.ompt_events.specs.declared.records.Body.TheVariants as body
 use Rattle.ompt_events.specs.declared.flags.TaskFlags.{TaskFlags}
 use Rattle.ompt_events.specs.declared.names.Status.{Status}
 use Rattle.ompt_events.specs.declared.names.Endpoint.{Endpoint}
+use Rattle.ompt_events.specs.declared.names.Endpoint.TheVariants.{Begin, End, BeginEnd}
+use Rattle.ompt_events.specs.declared.deps.Dep.{Dep}
+use Rattle.certificate.specs.Members.{not_both}
 use Rattle.ompt_events.specs.declared.names.SyncKind.{SyncKind}
 use Rattle.ompt_events.specs.Names.{status_name, endpoint_name, sync_kind_name, status_part, demands_next}
 use Rattle.ompt_events.specs.Flags as table
 use Rattle.ompt_events.specs.Traces.{IsSound, IsInRange}
 use Rattle.certificate.specs.declared.faults.ReadCause.TheVariants.{Limit}
 use Rattle.certificate.specs.declared.unordered.Callback.{Callback}
-use Rattle.certificate.specs.declared.unordered.Callback.TheVariants.{TaskCreate, TaskSchedule, SyncRegion}
+use Rattle.certificate.specs.declared.unordered.Callback.TheVariants.{ParallelBegin, ParallelEnd, ImplicitTask, TaskCreate, Dependences, TaskSchedule, SyncRegion}
 use Rattle.certificate.specs.declared.unordered.Found.{Found}
-use Rattle.certificate.specs.RecordLines.{unbounded, body_named, task_create, task_schedule, sync_region, share, claim, bounded, record_fits, said_of, line_says, value_of}
+use Rattle.certificate.specs.RecordLines.{unbounded, body_named, parallel_begin, parallel_end, implicit_task, dependences, task_create, task_schedule, sync_region, share, claim, bounded, record_fits, said_of, line_says, value_of}
 use Rattle.certificate.specs.MemberNames as name
 use Rattle.certificate.specs.CallbackNames as callback
 use Rattle.certificate.specs.PlainData.{puts, IsPlain, MembersArePlain}
-use Rattle.certificate.specs.Texts.{Takes, is_plain_text, whole_number, number_or_null, names, flag_names}
+use Rattle.certificate.specs.Texts.{Takes, is_plain_text, whole_number, number_or_null, names, flag_names, dep_data}
 use Rattle.certificate.specs.Unordered.{callback_name, rows, with_row, AreRows, IsMember, IsFound, Makes}
 use Rattle.certificate.proofs.FlagLemmas.{task_flags-read}
 use Rattle.certificate.proofs.JsonLemmas.{value_of-members}
 use Rattle.certificate.proofs.LineLemmas.{fits}
 use Rattle.certificate.proofs.MeaningLemmas.{get_member-put_either}
 use Rattle.certificate.proofs.ObjectLemmas.{followed, followed-none, followed-more}
-use Rattle.certificate.proofs.SaysLemmas.{named-status, named-endpoint, named-sync_kind, nullable-number_or_null, next-read}
+use Rattle.certificate.proofs.SaysLemmas.{named-status, named-endpoint, named-sync_kind, nullable-number_or_null, next-read, deps-read}
 use Rattle.certificate.proofs.SoundLemmas.{is_some-map}
 use Rattle.certificate.proofs.TakeLemmas.{Takes-both}
 use Rattle.certificate.proofs.TextLemmas.{wholes-items_of}
@@ -160,7 +163,69 @@ makes-sync_region f thread seq seen kind endpoint parallel task is_callback is_t
     let g_task : get_member name.task ms ≡ Some (whole_number task) = are.1.1.1.1.0 ∙ ap (option_map whole_number) is_task in
     rw (g_thread, g_seq, g_seen, g_callback, g_kind, g_endpoint, g_parallel, g_task, named-sync_kind kind, named-endpoint endpoint, nullable-number_or_null parallel) refl
 
+one-end : (e : Endpoint) (actual index : ℕ) (flags : TaskFlags) (parallel task : ℕ) → IsSound (body.ImplicitTask e actual index flags parallel task) → not_both e ≡ Some e
+one-end Begin actual index flags parallel task sound = refl
+one-end End actual index flags parallel task sound = refl
+one-end BeginEnd actual index flags parallel task sound = absurd sound.begins_or_ends
+
+pub makes-parallel_begin : (f : Found) (thread : ℕ) (seq : ℕ) (seen : ℕ) (requested : ℕ) (task : ℕ) (parallel : ℕ) → f.callback ≡ Some ParallelBegin → f.thread ≡ Some thread → f.seq ≡ Some seq → f.seen ≡ Some seen → f.requested ≡ Some requested → f.task ≡ Some task → f.parallel ≡ Some (Some parallel)
+    → Makes (rows f) (record { thread = thread; seq = seq; seen = seen; body = body.ParallelBegin requested task parallel })
+unfolding unbounded body_named parallel_begin
+makes-parallel_begin f thread seq seen requested task parallel is_callback is_thread is_seq is_seen is_requested is_task is_parallel = λ ms are sound.
+    let g_thread : get_member name.thread ms ≡ Some (whole_number thread) = are.1.0 ∙ ap (option_map whole_number) is_thread in
+    let g_seq : get_member name.seq ms ≡ Some (whole_number seq) = are.1.1.0 ∙ ap (option_map whole_number) is_seq in
+    let g_seen : get_member name.seen ms ≡ Some (whole_number seen) = are.1.1.1.0 ∙ ap (option_map whole_number) is_seen in
+    let g_callback : get_member name.cb ms ≡ Some (string callback.parallel_begin) = are.0 ∙ ap (option_map (λ (c : Callback). string (callback_name c))) is_callback in
+    let g_requested : get_member name.requested ms ≡ Some (whole_number requested) = are.1.1.1.1.1.1.1.1.1.1.1.1.1.1.1.1.1.0 ∙ ap (option_map whole_number) is_requested in
+    let g_task : get_member name.task ms ≡ Some (whole_number task) = are.1.1.1.1.0 ∙ ap (option_map whole_number) is_task in
+    let g_parallel : get_member name.parallel ms ≡ Some (whole_number parallel) = are.1.1.1.1.1.1.1.1.1.1.1.1.1.1.1.1.0 ∙ ap (option_map number_or_null) is_parallel in
+    rw (g_thread, g_seq, g_seen, g_callback, g_requested, g_task, g_parallel) refl
+
+pub makes-parallel_end : (f : Found) (thread : ℕ) (seq : ℕ) (seen : ℕ) (task : ℕ) (parallel : ℕ) → f.callback ≡ Some ParallelEnd → f.thread ≡ Some thread → f.seq ≡ Some seq → f.seen ≡ Some seen → f.task ≡ Some task → f.parallel ≡ Some (Some parallel)
+    → Makes (rows f) (record { thread = thread; seq = seq; seen = seen; body = body.ParallelEnd task parallel })
+unfolding unbounded body_named parallel_end
+makes-parallel_end f thread seq seen task parallel is_callback is_thread is_seq is_seen is_task is_parallel = λ ms are sound.
+    let g_thread : get_member name.thread ms ≡ Some (whole_number thread) = are.1.0 ∙ ap (option_map whole_number) is_thread in
+    let g_seq : get_member name.seq ms ≡ Some (whole_number seq) = are.1.1.0 ∙ ap (option_map whole_number) is_seq in
+    let g_seen : get_member name.seen ms ≡ Some (whole_number seen) = are.1.1.1.0 ∙ ap (option_map whole_number) is_seen in
+    let g_callback : get_member name.cb ms ≡ Some (string callback.parallel_end) = are.0 ∙ ap (option_map (λ (c : Callback). string (callback_name c))) is_callback in
+    let g_task : get_member name.task ms ≡ Some (whole_number task) = are.1.1.1.1.0 ∙ ap (option_map whole_number) is_task in
+    let g_parallel : get_member name.parallel ms ≡ Some (whole_number parallel) = are.1.1.1.1.1.1.1.1.1.1.1.1.1.1.1.1.0 ∙ ap (option_map number_or_null) is_parallel in
+    rw (g_thread, g_seq, g_seen, g_callback, g_task, g_parallel) refl
+
+pub makes-implicit_task : (f : Found) (thread : ℕ) (seq : ℕ) (seen : ℕ) (endpoint : Endpoint) (actual : ℕ) (index : ℕ) (flags : TaskFlags) (parallel : ℕ) (task : ℕ) → f.callback ≡ Some ImplicitTask → f.thread ≡ Some thread → f.seq ≡ Some seq → f.seen ≡ Some seen → f.endpoint ≡ Some endpoint → f.actual ≡ Some actual → f.index ≡ Some index → f.flags ≡ Some flags → f.parallel ≡ Some (Some parallel) → f.task ≡ Some task
+    → Makes (rows f) (record { thread = thread; seq = seq; seen = seen; body = body.ImplicitTask endpoint actual index flags parallel task })
+unfolding unbounded body_named implicit_task
+makes-implicit_task f thread seq seen endpoint actual index flags parallel task is_callback is_thread is_seq is_seen is_endpoint is_actual is_index is_flags is_parallel is_task = λ ms are sound.
+    let g_thread : get_member name.thread ms ≡ Some (whole_number thread) = are.1.0 ∙ ap (option_map whole_number) is_thread in
+    let g_seq : get_member name.seq ms ≡ Some (whole_number seq) = are.1.1.0 ∙ ap (option_map whole_number) is_seq in
+    let g_seen : get_member name.seen ms ≡ Some (whole_number seen) = are.1.1.1.0 ∙ ap (option_map whole_number) is_seen in
+    let g_callback : get_member name.cb ms ≡ Some (string callback.implicit_task) = are.0 ∙ ap (option_map (λ (c : Callback). string (callback_name c))) is_callback in
+    let g_endpoint : get_member name.endpoint ms ≡ Some (string (endpoint_name endpoint)) = are.1.1.1.1.1.1.1.1.1.1.1.1.1.1.1.0 ∙ ap (option_map (λ (e : Endpoint). string (endpoint_name e))) is_endpoint in
+    let g_actual : get_member name.actual ms ≡ Some (whole_number actual) = are.1.1.1.1.1.1.1.1.1.1.1.1.1.1.1.1.1.1.0 ∙ ap (option_map whole_number) is_actual in
+    let g_index : get_member name.index ms ≡ Some (whole_number index) = are.1.1.1.1.1.1.1.1.1.1.1.1.1.1.1.1.1.1.1.0 ∙ ap (option_map whole_number) is_index in
+    let g_flags : get_member name.flags ms ≡ Some (names (flag_names table.task_flags flags.0)) = are.1.1.1.1.1.1.1.0 ∙ ap (option_map (λ (bits : TaskFlags). names (flag_names table.task_flags bits.0))) is_flags in
+    let g_parallel : get_member name.parallel ms ≡ Some (whole_number parallel) = are.1.1.1.1.1.1.1.1.1.1.1.1.1.1.1.1.0 ∙ ap (option_map number_or_null) is_parallel in
+    let g_task : get_member name.task ms ≡ Some (whole_number task) = are.1.1.1.1.0 ∙ ap (option_map whole_number) is_task in
+    rw (g_thread, g_seq, g_seen, g_callback, g_endpoint, g_actual, g_index, g_flags, g_parallel, g_task, named-endpoint endpoint, one-end endpoint actual index flags parallel task sound, task_flags-read flags.0 sound.named_flags) refl
+
+pub makes-dependences : (f : Found) (thread : ℕ) (seq : ℕ) (seen : ℕ) (task : ℕ) (list : List Dep) → f.callback ≡ Some Dependences → f.thread ≡ Some thread → f.seq ≡ Some seq → f.seen ≡ Some seen → f.task ≡ Some task → f.list ≡ Some list
+    → Makes (rows f) (record { thread = thread; seq = seq; seen = seen; body = body.Dependences task list })
+unfolding unbounded body_named dependences
+makes-dependences f thread seq seen task list is_callback is_thread is_seq is_seen is_task is_list = λ ms are sound.
+    let g_thread : get_member name.thread ms ≡ Some (whole_number thread) = are.1.0 ∙ ap (option_map whole_number) is_thread in
+    let g_seq : get_member name.seq ms ≡ Some (whole_number seq) = are.1.1.0 ∙ ap (option_map whole_number) is_seq in
+    let g_seen : get_member name.seen ms ≡ Some (whole_number seen) = are.1.1.1.0 ∙ ap (option_map whole_number) is_seen in
+    let g_callback : get_member name.cb ms ≡ Some (string callback.dependences) = are.0 ∙ ap (option_map (λ (c : Callback). string (callback_name c))) is_callback in
+    let g_task : get_member name.task ms ≡ Some (whole_number task) = are.1.1.1.1.0 ∙ ap (option_map whole_number) is_task in
+    let g_list : get_member name.list ms ≡ Some (array (items_of (map dep_data list))) = are.1.1.1.1.1.1.1.1.1.1.1.1.1.1.1.1.1.1.1.1.0 ∙ ap (option_map (λ (ds : List Dep). array (items_of (map dep_data ds)))) is_list in
+    rw (g_thread, g_seq, g_seen, g_callback, g_task, g_list, deps-read list) refl
+
 pub plain-callback : (c : Callback) → is_plain_text (callback_name c) ≡ true
+plain-callback ParallelBegin = refl
+plain-callback ParallelEnd = refl
+plain-callback ImplicitTask = refl
 plain-callback TaskCreate = refl
+plain-callback Dependences = refl
 plain-callback TaskSchedule = refl
 plain-callback SyncRegion = refl

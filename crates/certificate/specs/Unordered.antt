@@ -12,16 +12,20 @@ use Rattle.ompt_events.specs.Flags.{task_flags}
 use Rattle.ompt_events.specs.Names.{status_name, endpoint_name, sync_kind_name}
 use Rattle.ompt_events.specs.Traces.{IsSound}
 use Rattle.certificate.specs.declared.unordered.Callback.{Callback}
-use Rattle.certificate.specs.declared.unordered.Callback.TheVariants.{TaskCreate, TaskSchedule, SyncRegion}
+use Rattle.certificate.specs.declared.unordered.Callback.TheVariants.{ParallelBegin, ParallelEnd, ImplicitTask, TaskCreate, Dependences, TaskSchedule, SyncRegion}
 use Rattle.certificate.specs.declared.unordered.Found.{Found}
 use Rattle.certificate.specs.MemberNames as member
 use Rattle.certificate.specs.CallbackNames as callback
 use Rattle.certificate.specs.RecordLines.{unbounded, value_of}
 use Rattle.certificate.specs.PlainData.{IsPlain}
-use Rattle.certificate.specs.Texts.{Takes, is_plain_text, whole_number, number_or_null, names, flag_names}
+use Rattle.certificate.specs.Texts.{Takes, is_plain_text, whole_number, number_or_null, names, flag_names, dep_data}
 
 abbrev pub callback_name : Callback → List ℕ
+callback_name ParallelBegin = callback.parallel_begin
+callback_name ParallelEnd = callback.parallel_end
+callback_name ImplicitTask = callback.implicit_task
 callback_name TaskCreate = callback.task_create
+callback_name Dependences = callback.dependences
 callback_name TaskSchedule = callback.task_schedule
 callback_name SyncRegion = callback.sync_region
 
@@ -44,7 +48,11 @@ rows f =
     (member.path, option_map (λ ns. array (items_of (map whole_number ns))) f.path) ∷
     (member.kind, option_map (λ k. string (sync_kind_name k)) f.kind) ∷
     (member.endpoint, option_map (λ e. string (endpoint_name e)) f.endpoint) ∷
-    (member.parallel, option_map number_or_null f.parallel) ∷ []
+    (member.parallel, option_map number_or_null f.parallel) ∷
+    (member.requested, option_map whole_number f.requested) ∷
+    (member.actual, option_map whole_number f.actual) ∷
+    (member.index, option_map whole_number f.index) ∷
+    (member.list, option_map (λ ds. array (items_of (map dep_data ds))) f.list) ∷ []
 
 -- the rows, with this value at this name
 abbrev pub with_row : List ℕ → Data → List (List ℕ × Option Data) → List (List ℕ × Option Data)

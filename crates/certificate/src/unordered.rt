@@ -1,5 +1,5 @@
-//! Lines whose members stand in any order, each as it is written. Of the members only those of tasks and
-//! regions are known here; any other line is left to the general way.
+//! Lines whose members stand in any order, each as it is written. Cancellations and
+//! records of threads are left to the general way, like any other line.
 ghost use Rattle.std.specs.Prelude.{◌≡◌, ◌++◌, IfSome, Ok, Some};
 ghost use Rattle.json.specs.Print.{quoted};
 ghost use Rattle.serde_json.specs.Data.{no_members};
@@ -8,10 +8,10 @@ ghost use Rattle.certificate.specs.Texts.{Takes};
 ghost use Rattle.certificate.specs.Unordered.{AreRows, IsFound, IsMember, Makes, callback_name, rows};
 
 use crate::parts::{
-    after, byte, end, endpoint, id, id_or_null, name, next_item, path, short, status, sync_kind,
-    task_flags, truth,
+    after, byte, deps, end, endpoint, id, id_or_null, name, next_item, path, short, status,
+    sync_kind, task_flags, truth,
 };
-use ompt_events::{Body, Claim, Endpoint, Path, Record, Status, SyncKind, TaskFlags};
+use ompt_events::{Body, Claim, Deps, Endpoint, Path, Record, Status, SyncKind, TaskFlags};
 use std::alloc::Global;
 
 /// No line that is read so has more members.
@@ -20,7 +20,11 @@ const MAX_MEMBERS: usize = 32;
 /// The callbacks whose lines are read so.
 #[derive(Clone, Copy)]
 pub(crate) enum Callback {
+    ParallelBegin,
+    ParallelEnd,
+    ImplicitTask,
     TaskCreate,
+    Dependences,
     TaskSchedule,
     SyncRegion,
 }
@@ -45,9 +49,14 @@ pub(crate) struct Found {
     kind: Option<SyncKind>,
     endpoint: Option<Endpoint>,
     parallel: Option<Option<u64>>,
+    requested: Option<u32>,
+    actual: Option<u32>,
+    index: Option<u32>,
+    list: Option<Deps>,
 }
 
-/// The record that a line stands for whose members stand in any order, if it is one of a task or a region.
+/// The record that a line stands for whose members stand in any order, if it is one that is known
+/// here.
 pub(crate) fn unordered(alloc: Global, line: &[u8]) -> Option<Record>
     ensures { IfSome result (λ event. spec.line_says line.now ≡ Ok event) }
 {
@@ -106,6 +115,10 @@ fn none() -> Found
         kind: None,
         endpoint: None,
         parallel: None,
+        requested: None,
+        actual: None,
+        index: None,
+        list: None,
     }
 }
 
@@ -120,10 +133,13 @@ fn member<'l>(alloc: Global, rest: &'l [u8], found: &mut Found) -> Option<&'l [u
         Some(b'c') => member_c(rest, found),
         Some(b'k') => member_k(rest, found),
         Some(b'n') => next_member(rest, found),
-        Some(b'r') => root_member(rest, found),
+        Some(b'r') => member_r(rest, found),
         Some(b'd') => deps_member(rest, found),
         Some(b'f') => flags_member(rest, found),
         Some(b'e') => endpoint_member(rest, found),
+        Some(b'l') => list_member(alloc, rest, found),
+        Some(b'i') => index_member(rest, found),
+        Some(b'a') => actual_member(rest, found),
         _ => None,
     }
 }
@@ -177,6 +193,16 @@ fn member_k<'l>(rest: &'l [u8], found: &mut Found) -> Option<&'l [u8]>
     match rest.get(2) {
         Some(b'e') => kept_member(rest, found),
         _ => kind_member(rest, found),
+    }
+}
+
+/// A member whose name begins with `r`.
+fn member_r<'l>(rest: &'l [u8], found: &mut Found) -> Option<&'l [u8]>
+    ensures { IfSome result (λ behind. IsMember (rows found.old) (rows found.new) rest.now behind.now) }
+{
+    match rest.get(2) {
+        Some(b'o') => root_member(rest, found),
+        _ => requested_member(rest, found),
     }
 }
 
@@ -334,24 +360,82 @@ fn parallel_member<'l>(rest: &'l [u8], found: &mut Found) -> Option<&'l [u8]>
     Some(behind)
 }
 
+/// The member `requested`.
+fn requested_member<'l>(rest: &'l [u8], found: &mut Found) -> Option<&'l [u8]>
+    ensures { IfSome result (λ behind. IsMember (rows found.old) (rows found.new) rest.now behind.now) }
+{
+    let (requested, behind) = short(rest, "\"requested\":")?;
+    found.requested = Some(requested);
+    Some(behind)
+}
+
+/// The member `actual`.
+fn actual_member<'l>(rest: &'l [u8], found: &mut Found) -> Option<&'l [u8]>
+    ensures { IfSome result (λ behind. IsMember (rows found.old) (rows found.new) rest.now behind.now) }
+{
+    let (actual, behind) = short(rest, "\"actual\":")?;
+    found.actual = Some(actual);
+    Some(behind)
+}
+
+/// The member `index`.
+fn index_member<'l>(rest: &'l [u8], found: &mut Found) -> Option<&'l [u8]>
+    ensures { IfSome result (λ behind. IsMember (rows found.old) (rows found.new) rest.now behind.now) }
+{
+    let (index, behind) = short(rest, "\"index\":")?;
+    found.index = Some(index);
+    Some(behind)
+}
+
+/// The member `list`.
+fn list_member<'l>(alloc: Global, rest: &'l [u8], found: &mut Found) -> Option<&'l [u8]>
+    ensures { IfSome result (λ behind. IsMember (rows found.old) (rows found.new) rest.now behind.now) }
+{
+    let (list, behind) = deps(alloc, rest, "\"list\":")?;
+    let items = list.as_slice();
+    found.list = Some(list);
+    Some(behind)
+}
+
 /// The name of a callback.
 fn callback_named<'l>(rest: &'l [u8], text: &str) -> Option<(Callback, &'l [u8])>
     ensures { IfSome result (λ taken. Takes rest.now (text.now ++ quoted (callback_name taken.0)) taken.1.now) }
 {
     let rest = after(rest, text)?;
-    match rest.get(6) {
-        Some(b's') => {
-            let behind = name(rest, "task_schedule")?;
-            Some((Callback::TaskSchedule, behind))
-        }
-        Some(b'c') => {
-            let behind = name(rest, "task_create")?;
-            Some((Callback::TaskCreate, behind))
-        }
-        _ => {
-            let behind = name(rest, "sync_region")?;
-            Some((Callback::SyncRegion, behind))
-        }
+    let callback = guess_callback(rest);
+    let behind = name(rest, name_of(callback))?;
+    Some((callback, behind))
+}
+
+/// A guess at the callback that is named.
+fn guess_callback(rest: &[u8]) -> Callback {
+    match rest.get(1) {
+        Some(b't') => match rest.get(6) {
+            Some(b's') => Callback::TaskSchedule,
+            _ => Callback::TaskCreate,
+        },
+        Some(b's') => Callback::SyncRegion,
+        Some(b'd') => Callback::Dependences,
+        Some(b'i') => Callback::ImplicitTask,
+        _ => match rest.get(10) {
+            Some(b'b') => Callback::ParallelBegin,
+            _ => Callback::ParallelEnd,
+        },
+    }
+}
+
+/// What a callback is called.
+fn name_of(callback: Callback) -> &'static str
+    ensures { result.now ≡ callback_name callback }
+{
+    match callback {
+        Callback::ParallelBegin => "parallel_begin",
+        Callback::ParallelEnd => "parallel_end",
+        Callback::ImplicitTask => "implicit_task",
+        Callback::TaskCreate => "task_create",
+        Callback::Dependences => "dependences",
+        Callback::TaskSchedule => "task_schedule",
+        Callback::SyncRegion => "sync_region",
     }
 }
 
@@ -360,7 +444,11 @@ fn made(found: Found) -> Option<Record>
     ensures { IfSome result (λ event. Makes (rows found) event) }
 {
     match found.callback {
+        Some(Callback::ParallelBegin) => parallel_begin(&found),
+        Some(Callback::ParallelEnd) => parallel_end(&found),
+        Some(Callback::ImplicitTask) => implicit_task(&found),
         Some(Callback::TaskCreate) => task_create(&found),
+        Some(Callback::Dependences) => dependences(found),
         Some(Callback::TaskSchedule) => task_schedule(found),
         Some(Callback::SyncRegion) => sync_region(&found),
         None => None,
@@ -376,6 +464,16 @@ fn numbers(found: &Found) -> Option<(u8, u32, u32)>
     let seq = found.seq?;
     let seen = found.seen?;
     Some((thread, seq, seen))
+}
+
+/// The parallel region, where one is named.
+fn parallel_of(found: &Found) -> Option<u64>
+    ensures { IfSome result (λ parallel. found.now.parallel ≡ Some (Some parallel)) }
+{
+    match found.parallel {
+        Some(parallel) => parallel,
+        None => None,
+    }
 }
 
 /// A task stops running or is fulfilled.
@@ -462,22 +560,31 @@ fn finishing(found: Found) -> Option<Record>
     let Some((thread, seq, seen)) = numbers(&found) else {
         return None;
     };
-    let Some(status) = found.status else {
+    let Found {
+        status,
+        prior,
+        next,
+        kept,
+        root,
+        path,
+        ..
+    } = found;
+    let Some(status) = status else {
         return None;
     };
-    let Some(prior) = found.prior else {
+    let Some(prior) = prior else {
         return None;
     };
-    let Some(next) = found.next else {
+    let Some(next) = next else {
         return None;
     };
-    let Some(kept) = found.kept else {
+    let Some(kept) = kept else {
         return None;
     };
-    let Some(root) = found.root else {
+    let Some(root) = root else {
         return None;
     };
-    let Some(path) = found.path else {
+    let Some(path) = path else {
         return None;
     };
     Some(Record {
@@ -523,5 +630,120 @@ fn sync_region(found: &Found) -> Option<Record>
             parallel,
             task,
         },
+    })
+}
+
+/// A task begins a parallel region.
+fn parallel_begin(found: &Found) -> Option<Record>
+    requires { found.now.callback ≡ Some Callback.ParallelBegin }
+    ensures { IfSome result (λ event. Makes (rows found.now) event) }
+{
+    let Some((thread, seq, seen)) = numbers(found) else {
+        return None;
+    };
+    let Some(requested) = found.requested else {
+        return None;
+    };
+    let Some(task) = found.task else {
+        return None;
+    };
+    let Some(parallel) = parallel_of(found) else {
+        return None;
+    };
+    Some(Record {
+        thread,
+        seq,
+        seen,
+        body: Body::ParallelBegin {
+            requested,
+            task,
+            parallel,
+        },
+    })
+}
+
+/// A task ends a parallel region.
+fn parallel_end(found: &Found) -> Option<Record>
+    requires { found.now.callback ≡ Some Callback.ParallelEnd }
+    ensures { IfSome result (λ event. Makes (rows found.now) event) }
+{
+    let Some((thread, seq, seen)) = numbers(found) else {
+        return None;
+    };
+    let Some(task) = found.task else {
+        return None;
+    };
+    let Some(parallel) = parallel_of(found) else {
+        return None;
+    };
+    Some(Record {
+        thread,
+        seq,
+        seen,
+        body: Body::ParallelEnd { task, parallel },
+    })
+}
+
+/// An initial or implicit task begins or ends.
+fn implicit_task(found: &Found) -> Option<Record>
+    requires { found.now.callback ≡ Some Callback.ImplicitTask }
+    ensures { IfSome result (λ event. Makes (rows found.now) event) }
+{
+    let Some((thread, seq, seen)) = numbers(found) else {
+        return None;
+    };
+    let Some(endpoint) = found.endpoint else {
+        return None;
+    };
+    let Some(actual) = found.actual else {
+        return None;
+    };
+    let Some(index) = found.index else {
+        return None;
+    };
+    let Some(flags) = found.flags else {
+        return None;
+    };
+    let Some(parallel) = parallel_of(found) else {
+        return None;
+    };
+    let Some(task) = found.task else {
+        return None;
+    };
+    Some(Record {
+        thread,
+        seq,
+        seen,
+        body: Body::ImplicitTask {
+            endpoint,
+            actual,
+            index,
+            flags,
+            parallel,
+            task,
+        },
+    })
+}
+
+/// What a task depends on.
+fn dependences(found: Found) -> Option<Record>
+    requires { found.callback ≡ Some Callback.Dependences }
+    ensures { IfSome result (λ event. Makes (rows found) event) }
+{
+    let Some((thread, seq, seen)) = numbers(&found) else {
+        return None;
+    };
+    let Found { task, list, .. } = found;
+    let Some(task) = task else {
+        return None;
+    };
+    let Some(list) = list else {
+        return None;
+    };
+    Some(Record {
+        thread,
+        seq,
+        seen,
+        body: Body::Dependences { task, list },
     })
 }
