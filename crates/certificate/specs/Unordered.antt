@@ -1,5 +1,5 @@
 -- A line whose members stand in any order: what was found of each member, by its name.
-use Rattle.std.specs.Prelude.{ℕ, ◌≡◌, Bool, true, List, [], ◌∷◌, ◌++◌, map, Option, Some, option_map, if◌then◌else◌}
+use Rattle.std.specs.Prelude.{ℕ, ◌≡◌, true, List, [], ◌∷◌, ◌++◌, map, Option, Some, option_map, if◌then◌else◌}
 use Rattle.std.specs.List.{AllByRecursion}
 use Rattle.std.specs.Str.{bytes_eq}
 use Rattle.json.specs.Print.{quoted}

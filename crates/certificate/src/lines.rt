@@ -24,19 +24,29 @@ use std::alloc::Global;
 // number is brought within its bounds: a member that is missing or of the wrong kind is told before a
 // limit.
 
+// What was found. A bare match is cheaper to prove than `?`.
+macro_rules! found {
+    ($result:expr) => {
+        match $result {
+            Ok(found) => found,
+            Err(cause) => return Err(cause),
+        }
+    };
+}
+
 // A member of this kind, looked up.
 macro_rules! look_up {
-    (thread $name:literal ($value:ident $($alloc:ident)?)) => { id($value, $name)? };
-    (short $name:literal ($value:ident $($alloc:ident)?)) => { id($value, $name)? };
-    (path $name:literal ($value:ident $alloc:ident)) => { path($alloc, $value, $name)? };
-    (deps $name:literal ($value:ident $alloc:ident)) => { deps($alloc, $value, $name)? };
-    ($kind:ident $name:literal ($value:ident $($alloc:ident)?)) => { $kind($value, $name)? };
+    (thread $name:literal ($value:ident $($alloc:ident)?)) => { found!(id($value, $name)) };
+    (short $name:literal ($value:ident $($alloc:ident)?)) => { found!(id($value, $name)) };
+    (path $name:literal ($value:ident $alloc:ident)) => { found!(path($alloc, $value, $name)) };
+    (deps $name:literal ($value:ident $alloc:ident)) => { found!(deps($alloc, $value, $name)) };
+    ($kind:ident $name:literal ($value:ident $($alloc:ident)?)) => { found!($kind($value, $name)) };
 }
 
 // What was looked up, within its bounds.
 macro_rules! bring_within {
-    (thread $found:ident) => { byte($found)? };
-    (short $found:ident) => { short($found)? };
+    (thread $found:ident) => { found!(byte($found)) };
+    (short $found:ident) => { found!(short($found)) };
     ($kind:ident $found:ident) => { $found };
 }
 
