@@ -1,5 +1,5 @@
-//! Lines whose members stand in any order, each as it is written. Cancellations and
-//! records of threads are left to the general way, like any other line.
+//! Lines whose members stand in any order, each as it is written. Cancellations and records of threads are
+//! left to the general way, like any other line.
 ghost use Rattle.std.specs.Prelude.{◌≡◌, ◌++◌, IfSome, Ok, Some};
 ghost use Rattle.json.specs.Print.{quoted};
 ghost use Rattle.serde_json.specs.Data.{no_members};
@@ -328,7 +328,8 @@ fn path_member<'l>(alloc: Global, rest: &'l [u8], found: &mut Found) -> Option<&
     ensures { IfSome result (λ behind. IsMember (rows found.old) (rows found.new) rest.now behind.now) }
 {
     let (path, behind) = path(alloc, rest, "\"path\":")?;
-    let numbers = path.as_slice();
+    // Tells that each number is in range. Compiled, it is nothing.
+    let _numbers = path.as_slice();
     found.path = Some(path);
     Some(behind)
 }
@@ -392,7 +393,8 @@ fn list_member<'l>(alloc: Global, rest: &'l [u8], found: &mut Found) -> Option<&
     ensures { IfSome result (λ behind. IsMember (rows found.old) (rows found.new) rest.now behind.now) }
 {
     let (list, behind) = deps(alloc, rest, "\"list\":")?;
-    let items = list.as_slice();
+    // Tells that each location is in range. Compiled, it is nothing.
+    let _items = list.as_slice();
     found.list = Some(list);
     Some(behind)
 }
