@@ -53,7 +53,10 @@ macro_rules! bring_within {
 // Whether each of the header's members says what it must.
 macro_rules! has_header {
     (($value:ident) $($kind:ident $name:literal = $said:literal),*) => {
-        $($kind($value, $name).is_ok_and(|found| found == $said))&&*
+        $((match $kind($value, $name) {
+            Ok(found) => found == $said,
+            Err(_) => false,
+        }))&&*
     };
 }
 
