@@ -1,5 +1,6 @@
 -- The items of a list, written one after another.
 use Rattle.std.proofs.Common.{◌≡◌, ℕ, zero, suc, ◌+◌, ◌<◌, ◌≤◌, Bool, true, false, cond, List, [], ◌∷◌, ◌++◌, length, map, drop, get_or, arith, sym, ap, ◌∙◌, append_assoc}
+use Rattle.std.specs.Prelude.{Result, Ok, Err, OnOk}
 use Rattle.std.specs.List.{AllByRecursion}
 use Rattle.std.proofs.lemmas.List.{drop_more, drop_all}
 use Rattle.bitflags.proofs.Tables.{row-at}
@@ -15,6 +16,15 @@ use Rattle.certificate.proofs.JsonLemmas.{escape-plain}
 -- a text needs no escape
 pub quoted-plain : (text name : List ℕ) → is_plain_text name ≡ true → text ++ quoted name ≡ text ++ ((34 ∷ []) ++ (name ++ (34 ∷ [])))
 quoted-plain text name plain = ap (λ (s : List ℕ). text ++ (34 ∷ (s ++ 34 ∷ []))) (escape-plain name plain)
+
+-- the same, written as a text and a quotation mark, twice
+pub quoted-parts : (text name : List ℕ) → is_plain_text name ≡ true → text ++ quoted name ≡ (text ++ (34 ∷ [])) ++ (name ++ (34 ∷ []))
+quoted-parts text name plain = quoted-plain text name plain ∙ sym (append_assoc text (34 ∷ []) (name ++ (34 ∷ [])))
+
+-- a step more where an answer is `Ok`
+pub on_ok : {X E P Q : Type 0} (r : Result X E) → (P → Q) → OnOk r P → OnOk r Q
+on_ok (Ok x) more before = more before
+on_ok (Err e) more before = before
 
 -- what was put and what is left to put are the whole
 pub record IsPut {X : Type 0} (f : X → Data) (left : List X) (later : Bool) (start now whole : List ℕ) : Type 0 where

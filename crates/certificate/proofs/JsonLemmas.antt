@@ -1,6 +1,5 @@
 -- Plain JSON, such as the lines of a trace: its text reads back as the same value, in a bounded number of bytes of ASCII without a line feed.
-use Rattle.std.proofs.Common.{◌≡◌, ℕ, zero, suc, ◌+◌, ◌^◌, ◌≤◌, ◌<◌, Bool, true, false, ◌==◌, List, [], ◌∷◌, ◌++◌, length, get_or, Some, option_map, option_and_then, decimal, arith, refl, sym, ap, ◌∙◌, append-nil, length-append}
-use Rattle.std.specs.Prelude.{⊤}
+use Rattle.std.proofs.Common.{◌≡◌, ℕ, zero, suc, ◌+◌, ◌≤◌, ◌<◌, Bool, true, false, ◌==◌, List, [], ◌∷◌, ◌++◌, length, get_or, Some, option_map, option_and_then, decimal, arith, refl, sym, ap, ◌∙◌, append-nil, length-append}
 use Rattle.std.specs.List.{AllByRecursion}
 use Rattle.std.specs.Str.{is_utf8}
 use Rattle.std.proofs.lemmas.Bool.{and_parts, lt-ltb}
@@ -15,47 +14,15 @@ use Rattle.json.proofs.Printed.Decimals.{IsNumber-decimal}
 use Rattle.json.proofs.Printed.Trees.{value-json_tokens, ArePrintable-json_tokens}
 use Rattle.json.proofs.Printed.Utf8.{are_ascii, IsUtf8-are_ascii}
 use Rattle.json.proofs.Printed.Strings.{escape_byte_plain}
-use Rattle.serde_json.specs.Data.{Num, unsigned, negative, float, Data, null, boolean, number, string, array, object, Items, no_items, item, Members, no_members, member, put}
+use Rattle.serde_json.specs.Data.{unsigned, negative, float, Data, null, boolean, number, string, array, object, Items, no_items, item, Members, no_members, member, put}
 use Rattle.serde_json.specs.Read.{read, max_depth, of_json, of_items, of_members}
 use Rattle.serde_json.specs.Written.{outline, items_outline, members_outline, compact_text, items_text, members_text, comma_if}
 use Rattle.serde_json.proofs.Texts.{print-outline}
 use Rattle.serde_json.proofs.Numbers.{number_of-decimal}
 use Rattle.certificate.specs.RecordLines.{value_of}
 pub use Rattle.certificate.specs.Texts.{is_plain_byte, is_plain_text}
+pub use Rattle.certificate.specs.PlainData.{puts, IsWhole, IsPlain, ArePlain, MembersArePlain}
 use Rattle.certificate.proofs.FileLemmas.{IsUnbroken}
-
--- ---- the class
-
--- the members, put one after another among those that were found
-abbrev pub puts : Members → Members → Members
-puts no_members found = found
-puts (member k d ms) found = puts ms (put k d found)
-
--- a whole number from 0 to 2^64 - 1
-abbrev pub IsWhole : Num → Type 0
-IsWhole (unsigned n) = n < 2 ^ 64
-IsWhole (negative z) = ⊥
-IsWhole (float x) = ⊥
-
--- plain JSON that nests at most n deep, the members of its objects in order
-abbrev mutual
-  pub IsPlain : Data → ℕ → Type 0
-  IsPlain null n = ⊤
-  IsPlain (boolean b) n = ⊤
-  IsPlain (number m) n = IsWhole m
-  IsPlain (string s) n = is_plain_text s ≡ true
-  IsPlain (array ds) zero = ⊥
-  IsPlain (array ds) (suc n) = ArePlain ds n
-  IsPlain (object ms) zero = ⊥
-  IsPlain (object ms) (suc n) = (puts ms no_members ≡ ms) × MembersArePlain ms n
-
-  pub ArePlain : Items → ℕ → Type 0
-  ArePlain no_items n = ⊤
-  ArePlain (item d ds) n = IsPlain d n × ArePlain ds n
-
-  pub MembersArePlain : Members → ℕ → Type 0
-  MembersArePlain no_members n = ⊤
-  MembersArePlain (member k d ms) n = (is_plain_text k ≡ true) × IsPlain d n × MembersArePlain ms n
 
 -- ---- the value is read back
 
@@ -128,6 +95,15 @@ read-compact_text d n h low =
     ∙ ap (λ ts. option_and_then of_json (option_and_then (λ p. json.if_last p.0 p.1) (json.value max_depth ts))) (tokens-print (tree.json_tokens o) (ArePrintable-json_tokens o (has_numbers d n h)) ∙ sym (append-nil (tree.json_tokens o)))
     ∙ ap (λ r. option_and_then of_json (option_and_then (λ p. json.if_last p.0 p.1) r)) (value-json_tokens o max_depth [] (omega (arith, shallow d n h)))
     ∙ of_json-outline d n h
+
+-- an object whose members stand in any order
+read-members : (ms : Members) (n : ℕ) → MembersArePlain ms n → n < max_depth → read (compact_text (object ms)) ≡ Some (object (puts ms no_members))
+read-members ms n h low =
+    let o = outline (object ms) in
+    ap (λ text. read text) (sym (print-outline (object ms)))
+    ∙ ap (λ ts. option_and_then of_json (option_and_then (λ p. json.if_last p.0 p.1) (json.value max_depth ts))) (tokens-print (tree.json_tokens o) (ArePrintable-json_tokens o (members_have_numbers ms n h)) ∙ sym (append-nil (tree.json_tokens o)))
+    ∙ ap (λ r. option_and_then of_json (option_and_then (λ p. json.if_last p.0 p.1) r)) (value-json_tokens o max_depth [] (omega (arith, members_shallow ms n h)))
+    ∙ ap (option_map object) (of_members-outline ms no_members n h)
 
 -- ---- its bytes
 
@@ -209,6 +185,12 @@ unbroken-compact_text d n h = unbroken-printed _ (printed-compact_text d n h)
 -- the value of the line
 pub value_of-compact_text : (d : Data) (n : ℕ) → IsPlain d n → n ≤ max_depth → value_of (compact_text d) ≡ Some d
 value_of-compact_text d n h low = rw (is_utf8-compact_text d n h) (read-compact_text d n h low)
+
+pub value_of-members : (ms : Members) (n : ℕ) → MembersArePlain ms n → n < max_depth → value_of (compact_text (object ms)) ≡ Some (object (puts ms no_members))
+value_of-members ms n h low =
+    let printed : ArePrinted (compact_text (object ms)) = ((omega arith, omega arith), printed-members_text false ms n h) in
+    let utf8 : is_utf8 (compact_text (object ms)) ≡ true = is_utf8-from_IsUtf8 _ (IsUtf8-are_ascii (compact_text (object ms)) (ascii-printed (compact_text (object ms)) printed)) in
+    rw utf8 (read-members ms n h low)
 
 -- ---- how many bytes there are
 

@@ -20,3 +20,4 @@ mod FlagLemmas
 mod TextLemmas
 mod SaysLemmas
 mod LineLemmas
+mod UnorderedLemmas

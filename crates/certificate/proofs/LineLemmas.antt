@@ -49,17 +49,17 @@ plain-flag_names (row ∷ rows) bits each = by_flag (has_flag bits row.1) each.0
     by_flag true first rest = (first, rest)
     by_flag false first rest = rest
 
-plain-task_flags : (bits n : ℕ) → ArePlain (items_of (map string (flag_names task_flags bits))) n
+pub plain-task_flags : (bits n : ℕ) → ArePlain (items_of (map string (flag_names task_flags bits))) n
 plain-task_flags bits n = ArePlain-items_of string (flag_names task_flags bits) n (plain-flag_names task_flags bits (refl, (refl, (refl, (refl, (refl, (refl, (refl, (refl, (refl, (refl, tt)))))))))))
 
 plain-cancel_flags : (bits n : ℕ) → ArePlain (items_of (map string (flag_names cancel_flags bits))) n
 plain-cancel_flags bits n = ArePlain-items_of string (flag_names cancel_flags bits) n (plain-flag_names cancel_flags bits (refl, (refl, (refl, (refl, (refl, (refl, (refl, tt))))))))
 
-plain-number_or_null : (o : Option ℕ) (n : ℕ) → IfSome o (λ m. m < 2 ^ 64) → IsPlain (number_or_null o) n
+pub plain-number_or_null : (o : Option ℕ) (n : ℕ) → IfSome o (λ m. m < 2 ^ 64) → IsPlain (number_or_null o) n
 plain-number_or_null None n h = tt
 plain-number_or_null (Some m) n h = h
 
-plain-status : (x : Status) → is_plain_text (status_name x) ≡ true
+pub plain-status : (x : Status) → is_plain_text (status_name x) ≡ true
 plain-status Complete = refl
 plain-status Yield = refl
 plain-status Cancel = refl
@@ -69,12 +69,12 @@ plain-status LateFulfill = refl
 plain-status Switch = refl
 plain-status TaskwaitComplete = refl
 
-plain-endpoint : (x : Endpoint) → is_plain_text (endpoint_name x) ≡ true
+pub plain-endpoint : (x : Endpoint) → is_plain_text (endpoint_name x) ≡ true
 plain-endpoint Begin = refl
 plain-endpoint End = refl
 plain-endpoint BeginEnd = refl
 
-plain-sync_kind : (x : SyncKind) → is_plain_text (sync_kind_name x) ≡ true
+pub plain-sync_kind : (x : SyncKind) → is_plain_text (sync_kind_name x) ≡ true
 plain-sync_kind Barrier = refl
 plain-sync_kind BarrierImplicit = refl
 plain-sync_kind BarrierExplicit = refl
@@ -106,7 +106,7 @@ plain-claim (Some c) h = ((refl, omega (arith, h.0)), ((refl, h.1), ((refl, AreP
 plain-dep : (d : Dep) → d.var < 2 ^ 64 → IsPlain (dep_data d) 1
 plain-dep d h = IsPlain-object_of ((member.type, string (dep_kind_name d.kind)) ∷ (member.var, whole_number d.var) ∷ []) 0 ((refl, plain-dep_kind d.kind), ((refl, h), tt))
 
-plain-deps : (ds : List Dep) → All (λ d. d.var < 2 ^ 64) ds → ArePlain (items_of (map dep_data ds)) 1
+pub plain-deps : (ds : List Dep) → All (λ d. d.var < 2 ^ 64) ds → ArePlain (items_of (map dep_data ds)) 1
 plain-deps ds h = ArePlain-items_of dep_data ds 1 (AllByRecursion-from (λ d. IsPlain (dep_data d) 1) ds (λ k d l. plain-dep (get_or ds k d) (h k d l)))
 
 plain-body : (b : Body) → BodyInRange b → AllByRecursion (IsPlainMember 2) (body_members b)
@@ -261,7 +261,7 @@ fits-body (TaskSchedule status prior next share) range sound = fits-claim share 
 fits-body (SyncRegion kind endpoint parallel task) range sound = refl
 fits-body (body.Cancel flags task share) range sound = fits-claim share range.1 sound.short_path
 
-fits : (r : Record) → IsInRange r → IsSound r.body → record_fits r ≡ true
+pub fits : (r : Record) → IsInRange r → IsSound r.body → record_fits r ≡ true
 fits r range sound = rw (fits-body r.body range.body sound, lt-ltb r.thread max_threads range.thread, short r.seq range.seq) (short r.seen range.seen)
 
 -- a record of a trace

@@ -207,7 +207,7 @@ with_later None true j o = refl
 with_later None false j o = refl
 with_later (Some g) here j o = refl
 
-get_member-put_either : (name k : List ℕ) (d : Data) (found : Members) → get_member name (put k d found) ≡ cond (bytes_eq k name) (Some d) (get_member name found)
+pub get_member-put_either : (name k : List ℕ) (d : Data) (found : Members) → get_member name (put k d found) ≡ cond (bytes_eq k name) (Some d) (get_member name found)
 get_member-put_either name k d found =
     let decides = bytes_eq-Decides k name in
     elim (bytes_eq k name) as (λ b. (b ≡ true → k ≡ name) → (k ≡ name → b ≡ true) → get_member name (put k d found) ≡ cond b (Some d) (get_member name found)) [

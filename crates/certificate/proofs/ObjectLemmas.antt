@@ -45,15 +45,15 @@ IsRising-put k d (member l e ms) rising = by_order rising.0 rising.1 (IsRising-p
     by_order below rest more Greater is = (IsBelowEach-put l k d ms (nat_list_cmp_total.antisymm l k ∙ ap ordering_reverse is) below, more)
 
 -- these members, and then those
-abbrev followed : Members → Members → Members
+abbrev pub followed : Members → Members → Members
 followed no_members more = more
 followed (member k d ms) more = member k d (followed ms more)
 
-followed-none : (ms : Members) → followed ms no_members ≡ ms
+pub followed-none : (ms : Members) → followed ms no_members ≡ ms
 followed-none no_members = refl
 followed-none (member k d ms) = ap (member k d) (followed-none ms)
 
-followed-more : (ms : Members) (k : List ℕ) (d : Data) (more : Members) → followed (followed ms (member k d no_members)) more ≡ followed ms (member k d more)
+pub followed-more : (ms : Members) (k : List ℕ) (d : Data) (more : Members) → followed (followed ms (member k d no_members)) more ≡ followed ms (member k d more)
 followed-more no_members k d more = refl
 followed-more (member l e ms) k d more = ap (member l e) (followed-more ms k d more)
 

@@ -35,7 +35,7 @@ use Rattle.certificate.proofs.TextLemmas.{each-items_of, wholes-items_of}
 
 -- ---- names are read back
 
-named-status : (s : Status) → named status_name (Complete ∷ Yield ∷ Cancel ∷ Detach ∷ EarlyFulfill ∷ LateFulfill ∷ Switch ∷ TaskwaitComplete ∷ []) (status_name s) ≡ Some s
+pub named-status : (s : Status) → named status_name (Complete ∷ Yield ∷ Cancel ∷ Detach ∷ EarlyFulfill ∷ LateFulfill ∷ Switch ∷ TaskwaitComplete ∷ []) (status_name s) ≡ Some s
 unfolding named
 named-status Complete = refl
 named-status Yield = refl
@@ -46,13 +46,13 @@ named-status LateFulfill = refl
 named-status Switch = refl
 named-status TaskwaitComplete = refl
 
-named-endpoint : (e : Endpoint) → named endpoint_name (Begin ∷ End ∷ BeginEnd ∷ []) (endpoint_name e) ≡ Some e
+pub named-endpoint : (e : Endpoint) → named endpoint_name (Begin ∷ End ∷ BeginEnd ∷ []) (endpoint_name e) ≡ Some e
 unfolding named
 named-endpoint Begin = refl
 named-endpoint End = refl
 named-endpoint BeginEnd = refl
 
-named-sync_kind : (k : SyncKind)
+pub named-sync_kind : (k : SyncKind)
     → named sync_kind_name (Barrier ∷ BarrierImplicit ∷ BarrierExplicit ∷ BarrierImplementation ∷ Taskwait ∷ Taskgroup ∷ Reduction ∷ BarrierImplicitWorkshare ∷ BarrierImplicitParallel ∷ BarrierTeams ∷ []) (sync_kind_name k) ≡ Some k
 unfolding named
 named-sync_kind Barrier = refl
@@ -83,11 +83,11 @@ named-thread_kind Unknown = refl
 
 -- ---- so are the other parts
 
-nullable-number_or_null : (o : Option ℕ) → nullable (Some (number_or_null o)) ≡ Some o
+pub nullable-number_or_null : (o : Option ℕ) → nullable (Some (number_or_null o)) ≡ Some o
 nullable-number_or_null None = refl
 nullable-number_or_null (Some n) = refl
 
-next-read : (demanded : Bool) (o : Option ℕ) → is_some o ≡ demanded → cond demanded (option_map Some o) (no_id o) ≡ Some o
+pub next-read : (demanded : Bool) (o : Option ℕ) → is_some o ≡ demanded → cond demanded (option_map Some o) (no_id o) ≡ Some o
 next-read true None is = absurd (let h : false ≡ true = is in cc)
 next-read true (Some n) is = refl
 next-read false None is = refl
@@ -97,7 +97,7 @@ dep-read : (d : Dep) → dep_of (dep_data d) ≡ Some d
 unfolding with_member
 dep-read d = rw (named-dep_kind d.kind) refl
 
-deps-read : (ds : List Dep) → each dep_of (items_of (map dep_data ds)) ≡ Some ds
+pub deps-read : (ds : List Dep) → each dep_of (items_of (map dep_data ds)) ≡ Some ds
 deps-read ds = each-items_of dep_of dep_data dep-read ds
 
 -- ---- what each record's object says

@@ -1,7 +1,7 @@
 -- The parts of a line, taken one after another.
 use Rattle.std.proofs.Common.{◌≡◌, ℕ, ◌+◌, ◌-◌, ◌*◌, ◌/◌, ◌%◌, ◌^◌, ◌<◌, ◌≤◌, Bool, true, false, cond, List, [], ◌∷◌, ◌++◌, length, map, take, drop, get_or, decimal, arith, sym, ap, ◌∙◌, append_assoc, append-nil, zero, suc, length-take, length-drop, refl}
-use Rattle.std.specs.Int.{from_le_bytes, w64}
-use Rattle.std.proofs.lemmas.Nat.{le_bytes_8}
+use Rattle.std.specs.Int.{from_le_bytes, w32, w64}
+use Rattle.std.proofs.lemmas.Nat.{le_bytes_4, le_bytes_8}
 use Rattle.std.proofs.Math.Nat.{pow-succ', pow-le-pow_right}
 use Rattle.std.proofs.Math.Seq.{take-add}
 use Rattle.std.proofs.lemmas.Fmt.{decimal_step, decimal_digit}
@@ -40,15 +40,30 @@ low-drop zero xs low i = low i
 low-drop (suc n) [] low i = low i
 low-drop (suc n) (x ∷ xs) low i = low-drop n xs (λ k. low (suc k)) i
 
+-- the next k bytes are the same too
+same-more : (rest text : List ℕ) (at k : ℕ) → take k (drop at rest) ≡ take k (drop at text) → take at rest ≡ take at text → take (at + k) rest ≡ take (at + k) text
+same-more rest text at k bytes same =
+    take-add at k rest ∙ ap (λ front. front ++ take k (drop at rest)) same ∙ ap (λ bytes. take at text ++ bytes) bytes ∙ sym (take-add at k text)
+
 same_word : (xs ys : List ℕ) → length xs ≡ 8 → length ys ≡ 8 → ((i : ℕ) → get_or xs i 0 < 256) → ((i : ℕ) → get_or ys i 0 < 256) → from_le_bytes w64 xs ≡ from_le_bytes w64 ys → xs ≡ ys
 same_word xs ys eight_x eight_y low_x low_y same = sym (le_bytes_8 xs (from_le_bytes w64 xs) eight_x low_x refl) ∙ le_bytes_8 ys (from_le_bytes w64 xs) eight_y low_y same
 
 pub same-word : (rest text : List ℕ) (at : ℕ) → at + 8 ≤ length rest → at + 8 ≤ length text → ((i : ℕ) → get_or rest i 0 < 256) → ((i : ℕ) → get_or text i 0 < 256)
     → from_le_bytes w64 (take 8 (drop at rest)) ≡ from_le_bytes w64 (take 8 (drop at text)) → take at rest ≡ take at text → take (at + 8) rest ≡ take (at + 8) text
 same-word rest text at within_rest within_text low_rest low_text word same =
-    let bytes : take 8 (drop at rest) ≡ take 8 (drop at text) =
-    same_word (take 8 (drop at rest)) (take 8 (drop at text)) (omega (arith, length-take 8 (drop at rest), length-drop at rest)) (omega (arith, length-take 8 (drop at text), length-drop at text)) (low-take 8 (drop at rest) (low-drop at rest low_rest)) (low-take 8 (drop at text) (low-drop at text low_text)) word in
-    take-add at 8 rest ∙ ap (λ front. front ++ take 8 (drop at rest)) same ∙ ap (λ bytes. take at text ++ bytes) bytes ∙ sym (take-add at 8 text)
+    same-more rest text at 8
+    (same_word (take 8 (drop at rest)) (take 8 (drop at text)) (omega (arith, length-take 8 (drop at rest), length-drop at rest)) (omega (arith, length-take 8 (drop at text), length-drop at text)) (low-take 8 (drop at rest) (low-drop at rest low_rest)) (low-take 8 (drop at text) (low-drop at text low_text)) word)
+    same
+
+same_half : (xs ys : List ℕ) → length xs ≡ 4 → length ys ≡ 4 → ((i : ℕ) → get_or xs i 0 < 256) → ((i : ℕ) → get_or ys i 0 < 256) → from_le_bytes w32 xs ≡ from_le_bytes w32 ys → xs ≡ ys
+same_half xs ys four_x four_y low_x low_y same = sym (le_bytes_4 xs (from_le_bytes w32 xs) four_x low_x refl) ∙ le_bytes_4 ys (from_le_bytes w32 xs) four_y low_y same
+
+pub same-half : (rest text : List ℕ) (at : ℕ) → at + 4 ≤ length rest → at + 4 ≤ length text → ((i : ℕ) → get_or rest i 0 < 256) → ((i : ℕ) → get_or text i 0 < 256)
+    → from_le_bytes w32 (take 4 (drop at rest)) ≡ from_le_bytes w32 (take 4 (drop at text)) → take at rest ≡ take at text → take (at + 4) rest ≡ take (at + 4) text
+same-half rest text at within_rest within_text low_rest low_text half same =
+    same-more rest text at 4
+    (same_half (take 4 (drop at rest)) (take 4 (drop at text)) (omega (arith, length-take 4 (drop at rest), length-drop at rest)) (omega (arith, length-take 4 (drop at text), length-drop at text)) (low-take 4 (drop at rest) (low-drop at rest low_rest)) (low-take 4 (drop at text) (low-drop at text low_text)) half)
+    same
 
 pub same-byte : (rest text : List ℕ) (at : ℕ) → at < length rest → at < length text → get_or rest at 0 ≡ get_or text at 0 → take at rest ≡ take at text → take (at + 1) rest ≡ take (at + 1) text
 same-byte rest text at within_rest within_text byte same =

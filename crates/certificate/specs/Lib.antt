@@ -11,6 +11,8 @@ pub mod Members
 pub mod Meanings
 pub mod RecordLines
 pub mod Texts
+pub mod PlainData
+pub mod Unordered
 pub mod Files
 pub mod Keeping
 pub mod Reading

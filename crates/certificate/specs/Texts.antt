@@ -1,5 +1,6 @@
 -- The text of a trace: a header, and then a line for each record.
-use Rattle.std.specs.Prelude.{ℕ, ◌≡◌, Bool, true, not, ◌&&◌, ◌==◌, nat_lt, nat_le, List, [], ◌∷◌, ◌++◌, map, flat_map, Option, Some, None, if◌then◌else◌}
+use Rattle.std.specs.Prelude.{codes, decimal, ℕ, ◌≡◌, Bool, true, not, ◌&&◌, ◌==◌, nat_lt, nat_le, List, [], ◌∷◌, ◌++◌, map, flat_map, Option, Some, None, if◌then◌else◌}
+use Rattle.json.specs.Print.{quoted}
 use Rattle.serde_json.specs.Data.{Data, null, boolean, number, string, array, object, unsigned, Members, no_members, put}
 use Rattle.serde_json.specs.View.{items_of}
 use Rattle.serde_json.specs.Written.{compact_text}
@@ -8,6 +9,7 @@ use Rattle.ompt_events.specs.declared.records.Claim.{Claim}
 use Rattle.ompt_events.specs.declared.records.Body.{Body}
 use Rattle.ompt_events.specs.declared.records.Body.TheVariants.{ThreadBegin, ThreadEnd, ParallelBegin, ParallelEnd, ImplicitTask, TaskCreate, Dependences, TaskSchedule, SyncRegion, Cancel}
 use Rattle.ompt_events.specs.declared.deps.Dep.{Dep}
+use Rattle.ompt_events.specs.declared.names.Status.{Status}
 use Rattle.ompt_events.specs.Flags.{task_flags, cancel_flags, has_flag}
 use Rattle.ompt_events.specs.Traces.{TraceView}
 use Rattle.ompt_events.specs.Names.{status_name, endpoint_name, sync_kind_name, dep_kind_name, thread_kind_name}
@@ -116,6 +118,16 @@ ended lines = flat_map (λ line. line ++ 10 ∷ []) lines
 -- the text of a trace
 abbrev pub trace_text : TraceView → List ℕ
 trace_text trace = ended (header_line ∷ map line_of trace.records)
+
+-- ---- the last members of a line, which several callbacks share
+
+abbrev pub task_tail : ℕ → ℕ → ℕ → ℕ → List ℕ
+task_tail seen seq task thread = (codes ",\"seen\":" ++ decimal seen) ++ ((codes ",\"seq\":" ++ decimal seq)
+    ++ ((codes ",\"task\":" ++ decimal task) ++ ((codes ",\"thread\":" ++ decimal thread) ++ codes "}")))
+
+abbrev pub status_tail : ℕ → ℕ → Status → ℕ → List ℕ
+status_tail seen seq status thread = (codes ",\"seen\":" ++ decimal seen) ++ ((codes ",\"seq\":" ++ decimal seq)
+    ++ ((codes ",\"status\":" ++ quoted (status_name status)) ++ ((codes ",\"thread\":" ++ decimal thread) ++ codes "}")))
 
 -- what a thread records with the numbers of this record
 abbrev pub with_body : Record → Body → Record

@@ -111,8 +111,8 @@ macro_rules! members {
 }
 
 // The line of each record as it is written, part by part: a text that is the same for all, and then a
-// value. The members stand in the order of their names (`finishing` and `discarding` have a claim). Reading
-// and writing share it.
+// value. The members stand in the order of their names (`finishing` and `discarding` have a claim). What
+// follows the parts is the end of the line, or a tail that several lines share. Reading and writing share it.
 macro_rules! lines {
     (thread_begin $shape:ident $given:tt $kind:tt $seen:tt $seq:tt $thread:tt) => {
         $shape! {
@@ -120,7 +120,8 @@ macro_rules! lines {
             "{\"cb\":\"thread_begin\",\"kind\":" thread_kind $kind,
             ",\"seen\":" short $seen,
             ",\"seq\":" short $seq,
-            ",\"thread\":" byte $thread
+            ",\"thread\":" byte $thread;
+            end
         }
     };
     (thread_end $shape:ident $given:tt $seen:tt $seq:tt $thread:tt) => {
@@ -128,7 +129,8 @@ macro_rules! lines {
             $given
             "{\"cb\":\"thread_end\",\"seen\":" short $seen,
             ",\"seq\":" short $seq,
-            ",\"thread\":" byte $thread
+            ",\"thread\":" byte $thread;
+            end
         }
     };
     (parallel_begin $shape:ident $given:tt
@@ -137,21 +139,15 @@ macro_rules! lines {
         $shape! {
             $given
             "{\"cb\":\"parallel_begin\",\"parallel\":" id $parallel,
-            ",\"requested\":" short $requested,
-            ",\"seen\":" short $seen,
-            ",\"seq\":" short $seq,
-            ",\"task\":" id $task,
-            ",\"thread\":" byte $thread
+            ",\"requested\":" short $requested;
+            task_tail $seen $seq $task $thread
         }
     };
     (parallel_end $shape:ident $given:tt $parallel:tt $seen:tt $seq:tt $task:tt $thread:tt) => {
         $shape! {
             $given
-            "{\"cb\":\"parallel_end\",\"parallel\":" id $parallel,
-            ",\"seen\":" short $seen,
-            ",\"seq\":" short $seq,
-            ",\"task\":" id $task,
-            ",\"thread\":" byte $thread
+            "{\"cb\":\"parallel_end\",\"parallel\":" id $parallel;
+            task_tail $seen $seq $task $thread
         }
     };
     (implicit_task $shape:ident $given:tt
@@ -163,11 +159,8 @@ macro_rules! lines {
             ",\"cb\":\"implicit_task\",\"endpoint\":" endpoint $endpoint,
             ",\"flags\":" task_flags $flags,
             ",\"index\":" short $index,
-            ",\"parallel\":" id $parallel,
-            ",\"seen\":" short $seen,
-            ",\"seq\":" short $seq,
-            ",\"task\":" id $task,
-            ",\"thread\":" byte $thread
+            ",\"parallel\":" id $parallel;
+            task_tail $seen $seq $task $thread
         }
     };
     (task_create $shape:ident $given:tt
@@ -177,32 +170,23 @@ macro_rules! lines {
             $given
             "{\"cb\":\"task_create\",\"child\":" id $child,
             ",\"deps\":" truth $deps,
-            ",\"flags\":" task_flags $flags,
-            ",\"seen\":" short $seen,
-            ",\"seq\":" short $seq,
-            ",\"task\":" id $task,
-            ",\"thread\":" byte $thread
+            ",\"flags\":" task_flags $flags;
+            task_tail $seen $seq $task $thread
         }
     };
     (dependences $shape:ident $given:tt $list:tt $seen:tt $seq:tt $task:tt $thread:tt) => {
         $shape! {
             $given
-            "{\"cb\":\"dependences\",\"list\":" deps $list,
-            ",\"seen\":" short $seen,
-            ",\"seq\":" short $seq,
-            ",\"task\":" id $task,
-            ",\"thread\":" byte $thread
+            "{\"cb\":\"dependences\",\"list\":" deps $list;
+            task_tail $seen $seq $task $thread
         }
     };
     (switching $shape:ident $given:tt $next:tt $prior:tt $seen:tt $seq:tt $status:tt $thread:tt) => {
         $shape! {
             $given
             "{\"cb\":\"task_schedule\",\"next\":" id_or_null $next,
-            ",\"prior\":" id $prior,
-            ",\"seen\":" short $seen,
-            ",\"seq\":" short $seq,
-            ",\"status\":" status $status,
-            ",\"thread\":" byte $thread
+            ",\"prior\":" id $prior;
+            status_tail $seen $seq $status $thread
         }
     };
     (finishing $shape:ident $given:tt
@@ -214,11 +198,8 @@ macro_rules! lines {
             ",\"next\":" id_or_null $next,
             ",\"path\":" path $path,
             ",\"prior\":" id $prior,
-            ",\"root\":" id $root,
-            ",\"seen\":" short $seen,
-            ",\"seq\":" short $seq,
-            ",\"status\":" status $status,
-            ",\"thread\":" byte $thread
+            ",\"root\":" id $root;
+            status_tail $seen $seq $status $thread
         }
     };
     (sync_region $shape:ident $given:tt
@@ -228,21 +209,15 @@ macro_rules! lines {
             $given
             "{\"cb\":\"sync_region\",\"endpoint\":" endpoint $endpoint,
             ",\"kind\":" sync_kind $kind,
-            ",\"parallel\":" id_or_null $parallel,
-            ",\"seen\":" short $seen,
-            ",\"seq\":" short $seq,
-            ",\"task\":" id $task,
-            ",\"thread\":" byte $thread
+            ",\"parallel\":" id_or_null $parallel;
+            task_tail $seen $seq $task $thread
         }
     };
     (cancelling $shape:ident $given:tt $flags:tt $seen:tt $seq:tt $task:tt $thread:tt) => {
         $shape! {
             $given
-            "{\"cb\":\"cancel\",\"flags\":" cancel_flags $flags,
-            ",\"seen\":" short $seen,
-            ",\"seq\":" short $seq,
-            ",\"task\":" id $task,
-            ",\"thread\":" byte $thread
+            "{\"cb\":\"cancel\",\"flags\":" cancel_flags $flags;
+            task_tail $seen $seq $task $thread
         }
     };
     (discarding $shape:ident $given:tt
@@ -253,18 +228,36 @@ macro_rules! lines {
             "{\"cb\":\"cancel\",\"flags\":" cancel_flags $flags,
             ",\"kept\":" short $kept,
             ",\"path\":" path $path,
-            ",\"root\":" id $root,
+            ",\"root\":" id $root;
+            task_tail $seen $seq $task $thread
+        }
+    };
+    (task_tail $shape:ident $given:tt $seen:tt $seq:tt $task:tt $thread:tt) => {
+        $shape! {
+            $given
             ",\"seen\":" short $seen,
             ",\"seq\":" short $seq,
             ",\"task\":" id $task,
-            ",\"thread\":" byte $thread
+            ",\"thread\":" byte $thread;
+            end
+        }
+    };
+    (status_tail $shape:ident $given:tt $seen:tt $seq:tt $status:tt $thread:tt) => {
+        $shape! {
+            $given
+            ",\"seen\":" short $seen,
+            ",\"seq\":" short $seq,
+            ",\"status\":" status $status,
+            ",\"thread\":" byte $thread;
+            end
         }
     };
     (dep $shape:ident $given:tt $kind:tt $var:tt) => {
         $shape! {
             $given
             "{\"type\":" dep_kind $kind,
-            ",\"var\":" id $var
+            ",\"var\":" id $var;
+            end
         }
     };
 }

@@ -1,58 +1,48 @@
 //! Lines as they are written, read part by part. Any other line is left to the general way.
-ghost use Rattle.std.specs.Prelude.{◌≡◌, ◌++◌, ◌+◌, ◌*◌, ◌^◌, ◌<◌, ◌≤◌, true, [], IfSome, codes, decimal, drop, length, map, slice_index, take};
-ghost use Rattle.std.specs.Int.{from_le_bytes, w64};
-ghost use Rattle.std.specs.List.{AllByRecursion};
-ghost use Rattle.json.specs.Print.{quoted};
-ghost use Rattle.serde_json.specs.Data.{array, boolean};
-ghost use Rattle.serde_json.specs.View.{items_of};
-ghost use Rattle.serde_json.specs.Written.{compact_text, comma_if};
-ghost use Rattle.ompt_events.specs.Flags as flag;
-ghost use Rattle.ompt_events.specs.Names.{status_name, endpoint_name, sync_kind_name, dep_kind_name, thread_kind_name};
-ghost use Rattle.certificate.specs.Texts.{Takes, is_plain_text, line_of, dep_data, number_or_null, whole_number, names, flag_names};
+ghost use Rattle.std.specs.Prelude.{◌≡◌, [], IfSome};
+ghost use Rattle.certificate.specs.Texts.{Takes, line_of, task_tail, status_tail};
 
 use crate::callbacks::lines;
-use bitflags::Flags;
-use memchr::memchr;
-use ompt_events::{
-    Body, CancelFlags, Claim, Dep, DepKind, Deps, Endpoint, MAX_DEPENDENCES, MAX_DEPTH, Path,
-    Record, Status, SyncKind, TaskFlags, ThreadKind,
+use crate::parts::{
+    byte, cancel_flags, deps, end, endpoint, id, id_or_null, path, short, status, sync_kind,
+    task_flags, thread_kind, truth,
 };
+use ompt_events::{Body, Claim, Record, Status};
 use std::alloc::Global;
 
 // A part of a line, by the kind of its value.
 macro_rules! take_part {
-    (byte $alloc:ident $rest:ident $text:literal) => { byte($rest, $text)? };
-    (short $alloc:ident $rest:ident $text:literal) => { short($rest, $text)? };
-    (id $alloc:ident $rest:ident $text:literal) => { id($rest, $text)? };
-    (id_or_null $alloc:ident $rest:ident $text:literal) => { id_or_null($rest, $text)? };
-    (truth $alloc:ident $rest:ident $text:literal) => { truth($rest, $text)? };
-    (status $alloc:ident $rest:ident $text:literal) => { status($rest, $text)? };
-    (endpoint $alloc:ident $rest:ident $text:literal) => { endpoint($rest, $text)? };
-    (sync_kind $alloc:ident $rest:ident $text:literal) => { sync_kind($rest, $text)? };
-    (dep_kind $alloc:ident $rest:ident $text:literal) => { dep_kind($rest, $text)? };
-    (thread_kind $alloc:ident $rest:ident $text:literal) => { thread_kind($rest, $text)? };
-    (task_flags $alloc:ident $rest:ident $text:literal) => { task_flags($rest, $text)? };
-    (cancel_flags $alloc:ident $rest:ident $text:literal) => { cancel_flags($rest, $text)? };
-    (path $alloc:ident $rest:ident $text:literal) => { path($alloc, $rest, $text)? };
-    (deps $alloc:ident $rest:ident $text:literal) => { deps($alloc, $rest, $text)? };
+    (byte $alloc:ident $rest:ident $text:literal) => { byte($rest, $text) };
+    (short $alloc:ident $rest:ident $text:literal) => { short($rest, $text) };
+    (id $alloc:ident $rest:ident $text:literal) => { id($rest, $text) };
+    (id_or_null $alloc:ident $rest:ident $text:literal) => { id_or_null($rest, $text) };
+    (truth $alloc:ident $rest:ident $text:literal) => { truth($rest, $text) };
+    (status $alloc:ident $rest:ident $text:literal) => { status($rest, $text) };
+    (endpoint $alloc:ident $rest:ident $text:literal) => { endpoint($rest, $text) };
+    (sync_kind $alloc:ident $rest:ident $text:literal) => { sync_kind($rest, $text) };
+    (thread_kind $alloc:ident $rest:ident $text:literal) => { thread_kind($rest, $text) };
+    (task_flags $alloc:ident $rest:ident $text:literal) => { task_flags($rest, $text) };
+    (cancel_flags $alloc:ident $rest:ident $text:literal) => { cancel_flags($rest, $text) };
+    (path $alloc:ident $rest:ident $text:literal) => { path($alloc, $rest, $text) };
+    (deps $alloc:ident $rest:ident $text:literal) => { deps($alloc, $rest, $text) };
 }
 
-// The parts of a line, its end, and then what they make.
+// What follows the parts of a line.
+macro_rules! take_rest {
+    (end $rest:ident) => { let Some(()) = end($rest) else { return None; }; };
+    ($tail:ident $rest:ident $first:ident $second:ident $third:ident $fourth:ident) => {
+        let Some(($first, $second, $third, $fourth)) = $tail($rest) else { return None; };
+    };
+}
+
+// The parts of a line, what follows them, and then what they make.
 macro_rules! take_parts {
-    (($alloc:ident $rest:ident $made:tt) $($text:literal $kind:ident $value:ident),*) => {{
-        $(let ($value, $rest) = take_part!($kind $alloc $rest $text);)*
-        end($rest)?;
+    (($alloc:ident $rest:ident $made:tt) $($text:literal $kind:ident $value:ident),*; $tail:ident $($last:ident)*) => {{
+        $(let Some(($value, $rest)) = take_part!($kind $alloc $rest $text) else {
+            return None;
+        };)*
+        take_rest!($tail $rest $($last)*);
         Some($made)
-    }};
-}
-
-// The first of these values whose name stands in front, and what is behind it.
-macro_rules! one_of {
-    ($rest:ident $kind:ident: $($value:ident),*) => {{
-        $(if let Some(behind) = name($rest, $kind::$value.name()) {
-            return Some(($kind::$value, behind));
-        })*
-        None
     }};
 }
 
@@ -74,14 +64,20 @@ pub(crate) fn canonical(alloc: Global, line: &[u8]) -> Option<Record>
 fn parallel(line: &[u8]) -> Option<Record>
     ensures { IfSome result (λ event. line.now ≡ line_of event) }
 {
-    parallel_begin(line).or_else(|| parallel_end(line))
+    match line.get(16) {
+        Some(b'b') => parallel_begin(line),
+        _ => parallel_end(line),
+    }
 }
 
 /// A cancellation.
 fn cancel(alloc: Global, line: &[u8]) -> Option<Record>
     ensures { IfSome result (λ event. line.now ≡ line_of event) }
 {
-    discarding(alloc, line).or_else(|| cancelling(line))
+    match discarding(alloc, line) {
+        Some(event) => Some(event),
+        None => cancelling(line),
+    }
 }
 
 /// A record of a task that is created or scheduled, or of a thread.
@@ -99,14 +95,20 @@ fn task_or_thread(alloc: Global, line: &[u8]) -> Option<Record>
 fn task_schedule(alloc: Global, line: &[u8]) -> Option<Record>
     ensures { IfSome result (λ event. line.now ≡ line_of event) }
 {
-    finishing(alloc, line).or_else(|| switching(line))
+    match line.get(23) {
+        Some(b'k') => finishing(alloc, line),
+        _ => switching(line),
+    }
 }
 
 /// A thread begins or ends.
 fn thread(line: &[u8]) -> Option<Record>
     ensures { IfSome result (λ event. line.now ≡ line_of event) }
 {
-    thread_begin(line).or_else(|| thread_end(line))
+    match line.get(14) {
+        Some(b'b') => thread_begin(line),
+        _ => thread_end(line),
+    }
 }
 
 /// A thread begins.
@@ -235,432 +237,16 @@ fn discarding(alloc: Global, line: &[u8]) -> Option<Record>
         flags kept path root seen seq task thread)
 }
 
-// Each part is a text, and a value behind it.
-
-/// What is behind the text. Eight bytes are compared at a time.
-#[inline(always)]
-fn after<'l>(rest: &'l [u8], text: &str) -> Option<&'l [u8]>
-    ensures { IfSome result (λ behind. Takes rest.now text.now behind.now) }
+/// The last members of a line that names a task.
+fn task_tail(rest: &[u8]) -> Option<(u32, u32, u64, u8)>
+    ensures { IfSome result (λ last. Takes rest.now (task_tail last.0 last.1 last.2 last.3) []) }
 {
-    let text = text.as_bytes();
-    if rest.len() < text.len() {
-        return None;
-    }
-    let mut at = 0;
-    'words: while text.len() - at >= 8 {
-        if word(rest, at) != word(text, at) {
-            return None;
-        }
-        at += 8;
-    }
-    'bytes: while at < text.len() {
-        if rest[at] != text[at] {
-            return None;
-        }
-        at += 1;
-    }
-    Some(&rest[at..])
+    lines!(task_tail take_parts (_alloc rest (seen, seq, task, thread)) seen seq task thread)
 }
 
-/// The eight bytes from this place on, as a number.
-#[inline(always)]
-fn word(bytes: &[u8], at: usize) -> u64
-    requires { at + 8 ≤ length bytes.now }
-    ensures { result ≡ from_le_bytes w64 (take 8 (drop at bytes.now)) }
+/// The last members of a line that has a status.
+fn status_tail(rest: &[u8]) -> Option<(u32, u32, Status, u8)>
+    ensures { IfSome result (λ last. Takes rest.now (status_tail last.0 last.1 last.2 last.3) []) }
 {
-    match bytes[at..].first_chunk::<8>() {
-        Some(chunk) => u64::from_le_bytes(*chunk),
-        None => unreachable!(),
-    }
-}
-
-/// The line ends here.
-fn end(rest: &[u8]) -> Option<()>
-    ensures { IfSome result (λ _. Takes rest.now (codes "}") []) }
-{
-    let behind = after(rest, "}")?;
-    if behind.is_empty() { Some(()) } else { None }
-}
-
-/// A whole number.
-#[inline(always)]
-fn id<'l>(rest: &'l [u8], text: &str) -> Option<(u64, &'l [u8])>
-    ensures { IfSome result (λ taken. Takes rest.now (text.now ++ decimal taken.0) taken.1.now) }
-{
-    number(after(rest, text)?)
-}
-
-/// A whole number of 32 bits.
-#[inline(always)]
-fn short<'l>(rest: &'l [u8], text: &str) -> Option<(u32, &'l [u8])>
-    ensures { IfSome result (λ taken. Takes rest.now (text.now ++ decimal taken.0) taken.1.now) }
-{
-    short_number(after(rest, text)?)
-}
-
-/// A whole number of 32 bits alone.
-#[inline(always)]
-fn short_number(rest: &[u8]) -> Option<(u32, &[u8])>
-    ensures { IfSome result (λ taken. Takes rest.now (decimal taken.0) taken.1.now) }
-{
-    let (number, behind) = number(rest)?;
-    Some((u32::try_from(number).ok()?, behind))
-}
-
-/// A whole number of 8 bits.
-#[inline(always)]
-fn byte<'l>(rest: &'l [u8], text: &str) -> Option<(u8, &'l [u8])>
-    ensures { IfSome result (λ taken. Takes rest.now (text.now ++ decimal taken.0) taken.1.now) }
-{
-    let (number, behind) = id(rest, text)?;
-    Some((u8::try_from(number).ok()?, behind))
-}
-
-/// So many digits are always a number of 64 bits.
-const SAFE_DIGITS: usize = 19;
-
-/// The digits in front as a number of 64 bits. It begins with 0 only where it is 0.
-#[inline(always)]
-pub(crate) fn number(rest: &[u8]) -> Option<(u64, &[u8])>
-    ensures { IfSome result (λ taken. Takes rest.now (decimal taken.0) taken.1.now) }
-{
-    let first = digit(rest, 0)?;
-    if first == 0 {
-        return Some((0, &rest[1..]));
-    }
-    digits(rest, first)
-}
-
-/// The same where the first digit is known, and is not 0.
-#[inline(always)]
-fn digits(rest: &[u8], first: u64) -> Option<(u64, &[u8])>
-    requires some { 0 < first }
-    requires digit { first ≤ 9 }
-    requires within { 0 < length rest.now }
-    requires front { slice_index rest.now 0 ≡ 48 + first }
-    ensures { IfSome result (λ taken. Takes rest.now (decimal taken.0) taken.1.now) }
-{
-    let front = &rest[..rest.len().min(SAFE_DIGITS)];
-    let mut number = first;
-    let mut len = 1;
-    'digits: while let Some(next) = digit(front, len) {
-        number = 10 * number + next;
-        len += 1;
-    }
-    if len < SAFE_DIGITS {
-        return Some((number, &rest[len..]));
-    }
-    with_last_digit(rest, number, len)
-}
-
-/// The number of the first digits, with one digit more where there is one.
-fn with_last_digit(rest: &[u8], number: u64, len: usize) -> Option<(u64, &[u8])>
-    requires some { 0 < number }
-    requires within { len ≤ length rest.now }
-    requires taken { take len rest.now ≡ decimal number }
-    ensures { IfSome result (λ taken. Takes rest.now (decimal taken.0) taken.1.now) }
-{
-    match digit(rest, len) {
-        Some(next) => Some((one_more(number, next)?, &rest[len + 1..])),
-        None => Some((number, &rest[len..])),
-    }
-}
-
-/// The number with one digit more.
-#[inline(always)]
-fn one_more(number: u64, digit: u64) -> Option<u64>
-    ensures { IfSome result (λ more. (more ≡ 10 * number + digit) × (more < 2 ^ 64)) }
-{
-    number.checked_mul(10)?.checked_add(digit)
-}
-
-/// The digit at this place.
-#[inline(always)]
-fn digit(rest: &[u8], at: usize) -> Option<u64>
-    ensures { IfSome result (λ digit. (digit ≤ 9) × (at < length rest.now) ×
-        (slice_index rest.now at ≡ 48 + digit)) }
-{
-    let digit = rest.get(at)?.wrapping_sub(b'0');
-    if digit <= 9 {
-        Some(u64::from(digit))
-    } else {
-        None
-    }
-}
-
-/// A whole number, or `null`.
-#[inline(always)]
-fn id_or_null<'l>(rest: &'l [u8], text: &str) -> Option<(Option<u64>, &'l [u8])>
-    ensures { IfSome result (λ taken. Takes rest.now (text.now ++ compact_text
-        (number_or_null taken.0)) taken.1.now) }
-{
-    let rest = after(rest, text)?;
-    if let Some(behind) = after(rest, "null") {
-        return Some((None, behind));
-    }
-    let (number, behind) = number(rest)?;
-    Some((Some(number), behind))
-}
-
-/// A truth value.
-#[inline(always)]
-fn truth<'l>(rest: &'l [u8], text: &str) -> Option<(bool, &'l [u8])>
-    ensures { IfSome result (λ taken. Takes rest.now (text.now ++ compact_text
-        (boolean taken.0)) taken.1.now) }
-{
-    let rest = after(rest, text)?;
-    if let Some(behind) = after(rest, "true") {
-        return Some((true, behind));
-    }
-    let behind = after(rest, "false")?;
-    Some((false, behind))
-}
-
-/// What is behind the name in quotation marks.
-#[inline(always)]
-fn name<'l>(rest: &'l [u8], name: &str) -> Option<&'l [u8]>
-    requires { is_plain_text name.now ≡ true }
-    ensures { IfSome result (λ behind. Takes rest.now (quoted name.now) behind.now) }
-{
-    let rest = after(rest, "\"")?;
-    let rest = after(rest, name)?;
-    let behind = after(rest, "\"")?;
-    Some(behind)
-}
-
-/// How a task stops running.
-fn status<'l>(rest: &'l [u8], text: &str) -> Option<(Status, &'l [u8])>
-    ensures { IfSome result (λ taken. Takes rest.now (text.now ++ quoted (status_name taken.0)) taken.1.now) }
-{
-    let rest = after(rest, text)?;
-    one_of!(rest Status:
-        Complete, Switch, Yield, Detach, TaskwaitComplete, Cancel, EarlyFulfill, LateFulfill)
-}
-
-/// Whether a region begins or ends.
-fn endpoint<'l>(rest: &'l [u8], text: &str) -> Option<(Endpoint, &'l [u8])>
-    ensures { IfSome result (λ taken. Takes rest.now (text.now ++ quoted
-        (endpoint_name taken.0)) taken.1.now) }
-{
-    let rest = after(rest, text)?;
-    one_of!(rest Endpoint: Begin, End, BeginEnd)
-}
-
-/// Which construct a region belongs to.
-fn sync_kind<'l>(rest: &'l [u8], text: &str) -> Option<(SyncKind, &'l [u8])>
-    ensures { IfSome result (λ taken. Takes rest.now (text.now ++ quoted
-        (sync_kind_name taken.0)) taken.1.now) }
-{
-    let rest = after(rest, text)?;
-    one_of!(rest SyncKind:
-        Taskwait, Taskgroup, Barrier, BarrierImplicit, BarrierExplicit, BarrierImplementation,
-        Reduction, BarrierImplicitWorkshare, BarrierImplicitParallel, BarrierTeams)
-}
-
-/// How a location is used.
-fn dep_kind<'l>(rest: &'l [u8], text: &str) -> Option<(DepKind, &'l [u8])>
-    ensures { IfSome result (λ taken. Takes rest.now (text.now ++ quoted
-        (dep_kind_name taken.0)) taken.1.now) }
-{
-    let rest = after(rest, text)?;
-    one_of!(rest DepKind: In, Out, Inout, Mutexinoutset, Inoutset)
-}
-
-/// What a thread is there for.
-fn thread_kind<'l>(rest: &'l [u8], text: &str) -> Option<(ThreadKind, &'l [u8])>
-    ensures { IfSome result (λ taken. Takes rest.now (text.now ++ quoted
-        (thread_kind_name taken.0)) taken.1.now) }
-{
-    let rest = after(rest, text)?;
-    one_of!(rest ThreadKind: Initial, Worker, Other, Unknown)
-}
-
-/// The names of a task's flags.
-fn task_flags<'l>(rest: &'l [u8], text: &str) -> Option<(TaskFlags, &'l [u8])>
-    ensures { IfSome result (λ taken. Takes rest.now
-        (text.now ++ compact_text (names (flag_names flag.task_flags taken.0.0))) taken.1.now) }
-{
-    let flags = guess_task_flags(rest, text)?;
-    let behind = flags_in_order(rest, text, flags)?;
-    Some((flags, behind))
-}
-
-/// The names of a cancellation's flags.
-fn cancel_flags<'l>(rest: &'l [u8], text: &str) -> Option<(CancelFlags, &'l [u8])>
-    ensures { IfSome result (λ taken. Takes rest.now
-        (text.now ++ compact_text (names (flag_names flag.cancel_flags taken.0.0))) taken.1.now) }
-{
-    let flags = guess_cancel_flags(rest, text)?;
-    let behind = flags_in_order(rest, text, flags)?;
-    Some((flags, behind))
-}
-
-// A guess at the flags that a list names, which `flags_in_order` makes sure of.
-macro_rules! guess {
-    ($rest:ident $text:ident $kind:ident: $($name:literal $flag:ident),*) => {{
-        let mut rest = after(after($rest, $text)?, "[")?;
-        let mut flags = $kind::empty();
-        $(if let Some(behind) = after(rest, $name) {
-            flags.insert($kind::$flag);
-            rest = after(behind, ",").unwrap_or(behind);
-        })*
-        Some(flags)
-    }};
-}
-
-/// A guess at the flags of a task that are named.
-fn guess_task_flags(rest: &[u8], text: &str) -> Option<TaskFlags> {
-    guess!(rest text TaskFlags:
-        "\"initial\"" INITIAL,
-        "\"implicit\"" IMPLICIT,
-        "\"explicit\"" EXPLICIT,
-        "\"target\"" TARGET,
-        "\"taskwait\"" TASKWAIT,
-        "\"undeferred\"" UNDEFERRED,
-        "\"untied\"" UNTIED,
-        "\"final\"" FINAL,
-        "\"mergeable\"" MERGEABLE,
-        "\"merged\"" MERGED)
-}
-
-/// A guess at the flags of a cancellation that are named.
-fn guess_cancel_flags(rest: &[u8], text: &str) -> Option<CancelFlags> {
-    guess!(rest text CancelFlags:
-        "\"parallel\"" PARALLEL,
-        "\"sections\"" SECTIONS,
-        "\"loop\"" LOOP,
-        "\"taskgroup\"" TASKGROUP,
-        "\"activated\"" ACTIVATED,
-        "\"detected\"" DETECTED,
-        "\"discarded_task\"" DISCARDED_TASK)
-}
-
-/// What is behind the names of these flags, which stand in the order of their table.
-fn flags_in_order<'l, F: Flags + Copy>(rest: &'l [u8], text: &str, flags: F) -> Option<&'l [u8]>
-    requires exact { F.exact }
-    requires plain { AllByRecursion (λ row. is_plain_text row.0 ≡ true) F.table }
-    ensures { IfSome result (λ behind. Takes rest.now
-        (text.now ++ compact_text (names (flag_names F.table (F.set_of flags)))) behind.now) }
-{
-    let mut rest = after(after(rest, text)?, "[")?;
-    let mut later = false;
-    'named: for flag in F::flags() {
-        if flags.contains(flag.value) {
-            rest = name(next_item(rest, later)?, flag.name)?;
-            later = true;
-        }
-    }
-    let behind = after(rest, "]")?;
-    Some(behind)
-}
-
-/// Where the next item of a list begins.
-#[inline(always)]
-fn next_item(rest: &[u8], later: bool) -> Option<&[u8]>
-    ensures { IfSome result (λ behind. Takes rest.now (comma_if later) behind.now) }
-{
-    if later { after(rest, ",") } else { Some(rest) }
-}
-
-/// How many numbers a path has at most: each but the first has a comma before it.
-fn room_for_numbers(rest: &[u8]) -> usize {
-    rest.iter()
-        .take_while(|b| **b != b']')
-        .filter(|b| **b == b',')
-        .count()
-        .saturating_add(1)
-}
-
-/// How many dependences a list has at most: each but the last has a brace and a comma behind it.
-fn room_for_dependences(rest: &[u8]) -> usize {
-    let len = memchr(b']', rest).unwrap_or(0);
-    let mut list = &rest[..len];
-    'items: for count in 0..MAX_DEPENDENCES {
-        match past_brace(list) {
-            Some(behind) => list = behind,
-            None => return count,
-        }
-    }
-    MAX_DEPENDENCES
-}
-
-/// What is behind the first closing brace.
-fn past_brace(list: &[u8]) -> Option<&[u8]> {
-    let at = memchr(b'}', list)?;
-    if at < list.len() {
-        Some(&list[at + 1..])
-    } else {
-        None
-    }
-}
-
-/// The numbers of a path.
-fn path<'l>(alloc: Global, rest: &'l [u8], text: &str) -> Option<(Path, &'l [u8])>
-    ensures { IfSome result (λ taken. Takes rest.now
-        (text.now ++ compact_text (array (items_of (map whole_number taken.0)))) taken.1.now) }
-{
-    let mut rest = after(after(rest, text)?, "[")?;
-    let mut numbers = Vec::with_capacity(alloc, room_for_numbers(rest)).ok()?;
-    let mut later = false;
-    'numbers: for _ in 0..MAX_DEPTH {
-        let Some((number, behind)) = next_number(rest, later) else {
-            break;
-        };
-        if numbers.push(number).is_err() {
-            return None;
-        }
-        rest = behind;
-        later = true;
-    }
-    let behind = after(rest, "]")?;
-    Some((Path::from_vec(numbers), behind))
-}
-
-/// One number of a path.
-#[inline(always)]
-fn next_number(rest: &[u8], later: bool) -> Option<(u32, &[u8])>
-    ensures { IfSome result (λ taken. Takes rest.now (comma_if later ++ decimal taken.0) taken.1.now) }
-{
-    short_number(next_item(rest, later)?)
-}
-
-/// What a task depends on.
-fn deps<'l>(alloc: Global, rest: &'l [u8], text: &str) -> Option<(Deps, &'l [u8])>
-    ensures { IfSome result (λ taken. Takes rest.now
-        (text.now ++ compact_text (array (items_of (map dep_data taken.0)))) taken.1.now) }
-{
-    let mut rest = after(after(rest, text)?, "[")?;
-    let mut items = Vec::with_capacity(alloc, room_for_dependences(rest)).ok()?;
-    let mut later = false;
-    'items: for _ in 0..MAX_DEPENDENCES {
-        let Some((item, behind)) = next_dep(rest, later) else {
-            break;
-        };
-        if items.push(item).is_err() {
-            return None;
-        }
-        rest = behind;
-        later = true;
-    }
-    let behind = after(rest, "]")?;
-    Some((Deps::from_vec(items), behind))
-}
-
-/// One dependence.
-#[inline(always)]
-fn next_dep(rest: &[u8], later: bool) -> Option<(Dep, &[u8])>
-    ensures { IfSome result (λ taken. Takes rest.now
-        (comma_if later ++ compact_text (dep_data taken.0)) taken.1.now) }
-{
-    dep(next_item(rest, later)?)
-}
-
-/// One dependence alone.
-fn dep(rest: &[u8]) -> Option<(Dep, &[u8])>
-    ensures { IfSome result (λ taken. Takes rest.now (compact_text (dep_data taken.0)) taken.1.now) }
-{
-    let (kind, rest) = dep_kind(rest, "{\"type\":")?;
-    let (var, rest) = id(rest, ",\"var\":")?;
-    let behind = after(rest, "}")?;
-    Some((Dep { var, kind }, behind))
+    lines!(status_tail take_parts (_alloc rest (seen, seq, status, thread)) seen seq status thread)
 }

@@ -1,7 +1,7 @@
 //! The trace file: what its lines stand for, a reader of it from any source, and traces and plain bytes
 //! written to any sink. Read `device`, `faults`, `reading` and `writing` for what a caller sees, and `laws`
-//! for what follows of a file; `lines` is how a line is read (`canonical` as it is written), `texts` how it is
-//! written, and `callbacks` has the tables of both.
+//! for what follows of a file; `lines` is how a line is read (`canonical` as it is written, `unordered` with its
+//! members in another order, both by `parts`), `texts` how it is written, and `callbacks` has the tables.
 #![tactic(auto)]
 
 mod callbacks;
@@ -14,9 +14,11 @@ mod lines;
 mod lists;
 mod members;
 mod memory;
+mod parts;
 mod reading;
 mod streams;
 mod texts;
+mod unordered;
 mod values;
 mod window;
 mod writing;

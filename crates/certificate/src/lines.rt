@@ -13,6 +13,7 @@ use crate::members::{
     begin_or_end, byte, endpoint, flags, id, id_or_null, next, short, status, sync_kind, text,
     thread_kind, truth,
 };
+use crate::unordered::unordered;
 use crate::values::tape_of;
 use bitflags::Flags;
 use json::{Element, Scratch};
@@ -23,26 +24,39 @@ use std::alloc::Global;
 // number is brought within its bounds: a member that is missing or of the wrong kind is told before a
 // limit.
 
+// What was found. A bare match is cheaper to prove than `?`.
+macro_rules! found {
+    ($result:expr) => {
+        match $result {
+            Ok(found) => found,
+            Err(cause) => return Err(cause),
+        }
+    };
+}
+
 // A member of this kind, looked up.
 macro_rules! look_up {
-    (thread $name:literal ($value:ident $($alloc:ident)?)) => { id($value, $name)? };
-    (short $name:literal ($value:ident $($alloc:ident)?)) => { id($value, $name)? };
-    (path $name:literal ($value:ident $alloc:ident)) => { path($alloc, $value, $name)? };
-    (deps $name:literal ($value:ident $alloc:ident)) => { deps($alloc, $value, $name)? };
-    ($kind:ident $name:literal ($value:ident $($alloc:ident)?)) => { $kind($value, $name)? };
+    (thread $name:literal ($value:ident $($alloc:ident)?)) => { found!(id($value, $name)) };
+    (short $name:literal ($value:ident $($alloc:ident)?)) => { found!(id($value, $name)) };
+    (path $name:literal ($value:ident $alloc:ident)) => { found!(path($alloc, $value, $name)) };
+    (deps $name:literal ($value:ident $alloc:ident)) => { found!(deps($alloc, $value, $name)) };
+    ($kind:ident $name:literal ($value:ident $($alloc:ident)?)) => { found!($kind($value, $name)) };
 }
 
 // What was looked up, within its bounds.
 macro_rules! bring_within {
-    (thread $found:ident) => { byte($found)? };
-    (short $found:ident) => { short($found)? };
+    (thread $found:ident) => { found!(byte($found)) };
+    (short $found:ident) => { found!(short($found)) };
     ($kind:ident $found:ident) => { $found };
 }
 
 // Whether each of the header's members says what it must.
 macro_rules! has_header {
     (($value:ident) $($kind:ident $name:literal = $said:literal),*) => {
-        $($kind($value, $name).is_ok_and(|found| found == $said))&&*
+        $((match $kind($value, $name) {
+            Ok(found) => found == $said,
+            Err(_) => false,
+        }))&&*
     };
 }
 
@@ -155,6 +169,9 @@ pub(crate) fn record_of(
 fn other(alloc: Global, line: &[u8], scratch: &mut Scratch) -> Result<Record, ReadCause>
     ensures { IsSaid result (spec.line_says line.now) }
 {
+    if let Some(event) = unordered(alloc, line) {
+        return Ok(event);
+    }
     let tape = tape_of(alloc, line, scratch)?;
     record(alloc, &tape.root())
 }

@@ -7,7 +7,7 @@ ghost use Rattle.serde_json.specs.View.{items_of};
 ghost use Rattle.serde_json.specs.Written.{compact_text, comma_if};
 ghost use Rattle.ompt_events.specs.Flags.{task_flags, cancel_flags};
 ghost use Rattle.ompt_events.specs.Names.{status_name, endpoint_name, sync_kind_name, dep_kind_name, thread_kind_name};
-ghost use Rattle.certificate.specs.Texts.{Puts, is_plain_text, with_body, line_of, header_line, dep_data, number_or_null, whole_number, names, flag_names};
+ghost use Rattle.certificate.specs.Texts.{Puts, is_plain_text, with_body, line_of, task_tail, status_tail, header_line, dep_data, number_or_null, whole_number, names, flag_names};
 
 use crate::callbacks::lines;
 use bitflags::Flags;
@@ -20,28 +20,40 @@ use std::alloc::AllocError;
 
 // A part of a line, by the kind of its value.
 macro_rules! put_part {
-    (byte $out:ident $text:literal $value:tt) => { put_byte($out, $text, $value)? };
-    (short $out:ident $text:literal $value:tt) => { put_short($out, $text, $value)? };
-    (id $out:ident $text:literal $value:tt) => { put_id($out, $text, $value)? };
-    (id_or_null $out:ident $text:literal $value:tt) => { put_id_or_null($out, $text, $value)? };
-    (truth $out:ident $text:literal $value:tt) => { put_truth($out, $text, $value)? };
-    (status $out:ident $text:literal $value:tt) => { put_status($out, $text, $value)? };
-    (endpoint $out:ident $text:literal $value:tt) => { put_endpoint($out, $text, $value)? };
-    (sync_kind $out:ident $text:literal $value:tt) => { put_sync_kind($out, $text, $value)? };
-    (dep_kind $out:ident $text:literal $value:tt) => { put_dep_kind($out, $text, $value)? };
-    (thread_kind $out:ident $text:literal $value:tt) => { put_thread_kind($out, $text, $value)? };
-    (task_flags $out:ident $text:literal $value:tt) => { put_task_flags($out, $text, $value)? };
-    (cancel_flags $out:ident $text:literal $value:tt) => { put_cancel_flags($out, $text, $value)? };
-    (path $out:ident $text:literal $value:tt) => { put_path($out, $text, $value)? };
-    (deps $out:ident $text:literal $value:tt) => { put_deps($out, $text, $value)? };
+    (byte $out:ident $text:literal $value:tt) => { put_byte($out, $text, $value) };
+    (short $out:ident $text:literal $value:tt) => { put_short($out, $text, $value) };
+    (id $out:ident $text:literal $value:tt) => { put_id($out, $text, $value) };
+    (id_or_null $out:ident $text:literal $value:tt) => { put_id_or_null($out, $text, $value) };
+    (truth $out:ident $text:literal $value:tt) => { put_truth($out, $text, $value) };
+    (status $out:ident $text:literal $value:tt) => { put_status($out, $text, $value) };
+    (endpoint $out:ident $text:literal $value:tt) => { put_endpoint($out, $text, $value) };
+    (sync_kind $out:ident $text:literal $value:tt) => { put_sync_kind($out, $text, $value) };
+    (dep_kind $out:ident $text:literal $value:tt) => { put_dep_kind($out, $text, $value) };
+    (thread_kind $out:ident $text:literal $value:tt) => { put_thread_kind($out, $text, $value) };
+    (task_flags $out:ident $text:literal $value:tt) => { put_task_flags($out, $text, $value) };
+    (cancel_flags $out:ident $text:literal $value:tt) => { put_cancel_flags($out, $text, $value) };
+    (path $out:ident $text:literal $value:tt) => { put_path($out, $text, $value) };
+    (deps $out:ident $text:literal $value:tt) => { put_deps($out, $text, $value) };
 }
 
-// The parts of a line, and its end.
+// What follows the parts of a line.
+macro_rules! put_rest {
+    (end $out:ident) => { put($out, "}") };
+    (task_tail $out:ident $seen:tt $seq:tt $task:tt $thread:tt) => {
+        put_task_tail($out, $seen, $seq, $task, $thread)
+    };
+    (status_tail $out:ident $seen:tt $seq:tt $status:tt $thread:tt) => {
+        put_status_tail($out, $seen, $seq, $status, $thread)
+    };
+}
+
+// The parts of a line, and what follows them.
 macro_rules! put_parts {
-    (($out:ident) $($text:literal $kind:ident $value:tt),*) => {{
-        $(put_part!($kind $out $text $value);)*
-        put($out, "}")?;
-        Ok(())
+    (($out:ident) $($text:literal $kind:ident $value:tt),*; $rest:ident $($last:tt)*) => {{
+        $(let Ok(()) = put_part!($kind $out $text $value) else {
+            return Err(AllocError);
+        };)*
+        put_rest!($rest $out $($last)*)
     }};
 }
 
@@ -102,8 +114,7 @@ pub(crate) fn put_header(out: &mut Vec<u8>) -> Result<(), AllocError>
     ensures { OnOk result (Puts out.old.items out.new.items header_line) }
 {
     put_id(out, "{\"format\":\"task-credit-audit\",\"version\":", 1)?;
-    put(out, "}")?;
-    Ok(())
+    put(out, "}")
 }
 
 /// A thread begins.
@@ -268,6 +279,32 @@ fn put_discarding(
         flags (claim.kept) (&claim.path) (claim.root) (event.seen) (event.seq) task (event.thread))
 }
 
+/// The last members of a line that names a task.
+fn put_task_tail(
+    out: &mut Vec<u8>,
+    seen: u32,
+    seq: u32,
+    task: u64,
+    thread: u8,
+) -> Result<(), AllocError>
+    ensures { OnOk result (Puts out.old.items out.new.items (task_tail seen seq task thread)) }
+{
+    lines!(task_tail put_parts (out) seen seq task thread)
+}
+
+/// The last members of a line that has a status.
+fn put_status_tail(
+    out: &mut Vec<u8>,
+    seen: u32,
+    seq: u32,
+    status: Status,
+    thread: u8,
+) -> Result<(), AllocError>
+    ensures { OnOk result (Puts out.old.items out.new.items (status_tail seen seq status thread)) }
+{
+    lines!(status_tail put_parts (out) seen seq status thread)
+}
+
 // Each part is a text, and a value behind it.
 
 /// A text alone.
@@ -335,11 +372,8 @@ fn put_name(out: &mut Vec<u8>, text: &str, name: &str) -> Result<(), AllocError>
     requires { is_plain_text name.now ≡ true }
     ensures { OnOk result (Puts out.old.items out.new.items (text.now ++ quoted name.now)) }
 {
-    put(out, text)?;
-    put(out, "\"")?;
-    put(out, name)?;
-    put(out, "\"")?;
-    Ok(())
+    put_both(out, text, "\"")?;
+    put_both(out, name, "\"")
 }
 
 /// How a task stops running.
@@ -408,8 +442,7 @@ fn put_flags<F: Flags + Copy>(out: &mut Vec<u8>, text: &str, flags: F) -> Result
             later = true;
         }
     }
-    put(out, "]")?;
-    Ok(())
+    put(out, "]")
 }
 
 /// What stands before an item: nothing at the first.
@@ -430,8 +463,7 @@ fn put_path(out: &mut Vec<u8>, text: &str, path: &Path) -> Result<(), AllocError
         put_short(out, comma(later), *number)?;
         later = true;
     }
-    put(out, "]")?;
-    Ok(())
+    put(out, "]")
 }
 
 /// What a task depends on.
@@ -446,8 +478,7 @@ fn put_deps(out: &mut Vec<u8>, text: &str, list: &Deps) -> Result<(), AllocError
         put_dep(out, item)?;
         later = true;
     }
-    put(out, "]")?;
-    Ok(())
+    put(out, "]")
 }
 
 /// One dependence.

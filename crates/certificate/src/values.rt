@@ -13,8 +13,8 @@ ghost use Rattle.certificate.specs.Meanings.{ArePlain, IsRanged, meant_at, numbe
 ghost use Rattle.certificate.specs.RecordLines as spec;
 ghost use Rattle.certificate.specs.RecordLines.{IsSaid};
 
-use crate::canonical::number;
 use crate::faults::ReadCause;
+use crate::parts::number;
 use fast_float::Numeral;
 use json::{Error, Node, Scratch, Tape};
 use serde_json::Value;

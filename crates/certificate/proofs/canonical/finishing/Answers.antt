@@ -5,5 +5,5 @@ use Rattle.certificate.proofs.canonical.finishing.Goals as goal
 
 pub returns : goal.returns
 returns c =
-    Takes-whole _ _ _ (line-finishing (record { thread = c.in_ok-thread.thread; seq = c.in_ok-seq.seq; seen = c.in_ok-seen.seen; body = ThreadEnd }) c.in_ok-status.status c.in_ok-prior.prior c.in_ok-next.next (record { kept = c.in_ok-kept.kept; root = c.in_ok-root.root; path = c.in_ok-path.path }))
-    (Takes-both _ _ _ _ _ c.in_ok-kept.ensures (Takes-both _ _ _ _ _ c.in_ok-next.ensures (Takes-both _ _ _ _ _ c.in_ok-path.ensures (Takes-both _ _ _ _ _ c.in_ok-prior.ensures (Takes-both _ _ _ _ _ c.in_ok-root.ensures (Takes-both _ _ _ _ _ c.in_ok-seen.ensures (Takes-both _ _ _ _ _ c.in_ok-seq.ensures (Takes-both _ _ _ _ _ c.in_ok-status.ensures (Takes-both _ _ _ _ _ c.in_ok-thread.ensures c.in_ok-end.ensures)))))))))
+    Takes-whole _ _ _ (line-finishing (record { thread = c.in-Some-status_tail.thread; seq = c.in-Some-status_tail.seq; seen = c.in-Some-status_tail.seen; body = ThreadEnd }) c.in-Some-status_tail.status c.in-Some-id.prior c.in-Some-id_or_null.next (record { kept = c.in-Some.kept; root = c.in-Some-id-2.root; path = c.in-Some-path.path }))
+    (Takes-both _ _ _ _ _ c.in-Some.ensures (Takes-both _ _ _ _ _ c.in-Some-id_or_null.ensures (Takes-both _ _ _ _ _ c.in-Some-path.ensures (Takes-both _ _ _ _ _ c.in-Some-id.ensures (Takes-both _ _ _ _ _ c.in-Some-id-2.ensures c.in-Some-status_tail.ensures)))))

@@ -5,5 +5,5 @@ use Rattle.certificate.proofs.canonical.implicit_task.Goals as goal
 
 pub returns : goal.returns
 returns c =
-    Takes-whole _ _ _ (line-implicit_task (record { thread = c.in_ok-thread.thread; seq = c.in_ok-seq.seq; seen = c.in_ok-seen.seen; body = ThreadEnd }) c.in_ok-endpoint.endpoint c.in_ok-actual.actual c.in_ok-index.index c.in_ok-flags.flags c.in_ok-parallel.parallel c.in_ok-task.task)
-    (Takes-both _ _ _ _ _ c.in_ok-actual.ensures (Takes-both _ _ _ _ _ c.in_ok-endpoint.ensures (Takes-both _ _ _ _ _ c.in_ok-flags.ensures (Takes-both _ _ _ _ _ c.in_ok-index.ensures (Takes-both _ _ _ _ _ c.in_ok-parallel.ensures (Takes-both _ _ _ _ _ c.in_ok-seen.ensures (Takes-both _ _ _ _ _ c.in_ok-seq.ensures (Takes-both _ _ _ _ _ c.in_ok-task.ensures (Takes-both _ _ _ _ _ c.in_ok-thread.ensures c.in_ok-end.ensures)))))))))
+    Takes-whole _ _ _ (line-implicit_task (record { thread = c.in-Some-task_tail.thread; seq = c.in-Some-task_tail.seq; seen = c.in-Some-task_tail.seen; body = ThreadEnd }) c.in-Some-endpoint.endpoint c.in-Some.actual c.in-Some-short.index c.in-Some-task_flags.flags c.in-Some-id.parallel c.in-Some-task_tail.task)
+    (Takes-both _ _ _ _ _ c.in-Some.ensures (Takes-both _ _ _ _ _ c.in-Some-endpoint.ensures (Takes-both _ _ _ _ _ c.in-Some-task_flags.ensures (Takes-both _ _ _ _ _ c.in-Some-short.ensures (Takes-both _ _ _ _ _ c.in-Some-id.ensures c.in-Some-task_tail.ensures)))))

@@ -5,5 +5,5 @@ use Rattle.certificate.proofs.canonical.parallel_begin.Goals as goal
 
 pub returns : goal.returns
 returns c =
-    Takes-whole _ _ _ (line-parallel_begin (record { thread = c.in_ok-thread.thread; seq = c.in_ok-seq.seq; seen = c.in_ok-seen.seen; body = ThreadEnd }) c.in_ok-requested.requested c.in_ok-task.task c.in_ok-parallel.parallel)
-    (Takes-both _ _ _ _ _ c.in_ok-parallel.ensures (Takes-both _ _ _ _ _ c.in_ok-requested.ensures (Takes-both _ _ _ _ _ c.in_ok-seen.ensures (Takes-both _ _ _ _ _ c.in_ok-seq.ensures (Takes-both _ _ _ _ _ c.in_ok-task.ensures (Takes-both _ _ _ _ _ c.in_ok-thread.ensures c.in_ok-end.ensures))))))
+    Takes-whole _ _ _ (line-parallel_begin (record { thread = c.in-Some-task_tail.thread; seq = c.in-Some-task_tail.seq; seen = c.in-Some-task_tail.seen; body = ThreadEnd }) c.in-Some-short.requested c.in-Some-task_tail.task c.in-Some.parallel)
+    (Takes-both _ _ _ _ _ c.in-Some.ensures (Takes-both _ _ _ _ _ c.in-Some-short.ensures c.in-Some-task_tail.ensures))

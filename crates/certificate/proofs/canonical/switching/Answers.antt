@@ -5,5 +5,5 @@ use Rattle.certificate.proofs.canonical.switching.Goals as goal
 
 pub returns : goal.returns
 returns c =
-    Takes-whole _ _ _ (line-switching (record { thread = c.in_ok-thread.thread; seq = c.in_ok-seq.seq; seen = c.in_ok-seen.seen; body = ThreadEnd }) c.in_ok-status.status c.in_ok-prior.prior c.in_ok-next.next)
-    (Takes-both _ _ _ _ _ c.in_ok-next.ensures (Takes-both _ _ _ _ _ c.in_ok-prior.ensures (Takes-both _ _ _ _ _ c.in_ok-seen.ensures (Takes-both _ _ _ _ _ c.in_ok-seq.ensures (Takes-both _ _ _ _ _ c.in_ok-status.ensures (Takes-both _ _ _ _ _ c.in_ok-thread.ensures c.in_ok-end.ensures))))))
+    Takes-whole _ _ _ (line-switching (record { thread = c.in-Some-status_tail.thread; seq = c.in-Some-status_tail.seq; seen = c.in-Some-status_tail.seen; body = ThreadEnd }) c.in-Some-status_tail.status c.in-Some-id.prior c.in-Some.next)
+    (Takes-both _ _ _ _ _ c.in-Some.ensures (Takes-both _ _ _ _ _ c.in-Some-id.ensures c.in-Some-status_tail.ensures))

@@ -5,5 +5,5 @@ use Rattle.certificate.proofs.canonical.sync_region.Goals as goal
 
 pub returns : goal.returns
 returns c =
-    Takes-whole _ _ _ (line-sync_region (record { thread = c.in_ok-thread.thread; seq = c.in_ok-seq.seq; seen = c.in_ok-seen.seen; body = ThreadEnd }) c.in_ok-kind.kind c.in_ok-endpoint.endpoint c.in_ok-parallel.parallel c.in_ok-task.task)
-    (Takes-both _ _ _ _ _ c.in_ok-endpoint.ensures (Takes-both _ _ _ _ _ c.in_ok-kind.ensures (Takes-both _ _ _ _ _ c.in_ok-parallel.ensures (Takes-both _ _ _ _ _ c.in_ok-seen.ensures (Takes-both _ _ _ _ _ c.in_ok-seq.ensures (Takes-both _ _ _ _ _ c.in_ok-task.ensures (Takes-both _ _ _ _ _ c.in_ok-thread.ensures c.in_ok-end.ensures)))))))
+    Takes-whole _ _ _ (line-sync_region (record { thread = c.in-Some-task_tail.thread; seq = c.in-Some-task_tail.seq; seen = c.in-Some-task_tail.seen; body = ThreadEnd }) c.in-Some-sync_kind.kind c.in-Some.endpoint c.in-Some-id_or_null.parallel c.in-Some-task_tail.task)
+    (Takes-both _ _ _ _ _ c.in-Some.ensures (Takes-both _ _ _ _ _ c.in-Some-sync_kind.ensures (Takes-both _ _ _ _ _ c.in-Some-id_or_null.ensures c.in-Some-task_tail.ensures)))

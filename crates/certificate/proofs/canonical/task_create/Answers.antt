@@ -5,5 +5,5 @@ use Rattle.certificate.proofs.canonical.task_create.Goals as goal
 
 pub returns : goal.returns
 returns c =
-    Takes-whole _ _ _ (line-task_create (record { thread = c.in_ok-thread.thread; seq = c.in_ok-seq.seq; seen = c.in_ok-seen.seen; body = ThreadEnd }) c.in_ok-deps.deps c.in_ok-flags.flags c.in_ok-task.task c.in_ok-child.child)
-    (Takes-both _ _ _ _ _ c.in_ok-child.ensures (Takes-both _ _ _ _ _ c.in_ok-deps.ensures (Takes-both _ _ _ _ _ c.in_ok-flags.ensures (Takes-both _ _ _ _ _ c.in_ok-seen.ensures (Takes-both _ _ _ _ _ c.in_ok-seq.ensures (Takes-both _ _ _ _ _ c.in_ok-task.ensures (Takes-both _ _ _ _ _ c.in_ok-thread.ensures c.in_ok-end.ensures)))))))
+    Takes-whole _ _ _ (line-task_create (record { thread = c.in-Some-task_tail.thread; seq = c.in-Some-task_tail.seq; seen = c.in-Some-task_tail.seen; body = ThreadEnd }) c.in-Some-truth.deps c.in-Some-task_flags.flags c.in-Some-task_tail.task c.in-Some.child)
+    (Takes-both _ _ _ _ _ c.in-Some.ensures (Takes-both _ _ _ _ _ c.in-Some-truth.ensures (Takes-both _ _ _ _ _ c.in-Some-task_flags.ensures c.in-Some-task_tail.ensures)))

@@ -38,9 +38,11 @@ returns-else-len-eq0-clause-turns g c =
 pub search-preserved : goal.search-preserved
 search-preserved g c =
     let turns = TakesTurns-more _ c.args.turns.now c.search.turns c.ask.new.turns (g.S.Source.agains c.args.source.now) (g.S.Source.agains c.search.source) (g.S.Source.agains c.ask.new.source) c.search.invariant.turns c.in_ok-ask.ensures.turns in
+    let asked : g.S.Source.breaks c.ask.new.source ≡ g.S.Source.breaks c.search.source = c.in_ok-ask.ensures.breaks in
+    let before : g.S.Source.breaks c.search.source ≡ g.S.Source.breaks c.args.source.now = c.search.invariant.breaks in
     record {
       bytes = Keeps-both _ _ _ c.search.invariant.bytes (rw c.line_feed.ensures.same at c.in_ok-ask.ensures.bytes);
       turns = turns;
       left = TakesTurns-left _ _ _ _ turns;
-      breaks = c.in_ok-ask.ensures.breaks ∙ c.search.invariant.breaks;
+      breaks = asked ∙ before;
     }

@@ -1,8 +1,8 @@
 use Rattle.certificate.proofs.PartLemmas.{text-dep}
-use Rattle.certificate.proofs.ItemLemmas.{Puts-both, Puts-same}
+use Rattle.certificate.proofs.ItemLemmas.{Puts-both, Puts-same, on_ok}
 use Rattle.certificate.proofs.texts.put_dep.Goals as goal
 
 pub returns : goal.returns
 returns c =
-    Puts-same _ _ _ _ (text-dep c.args.item.now)
-    (Puts-both _ _ _ _ _ c.in_ok-put_dep_kind.ensures (Puts-both _ _ _ _ _ c.in_ok-put_id.ensures c.in_ok-put.ensures))
+    on_ok _ (λ last. Puts-same _ _ _ _ (text-dep c.args.item.now) (Puts-both _ _ _ _ _ c.in-Ok.ensures (Puts-both _ _ _ _ _ c.in-Ok-put_id.ensures last)))
+    c.put.ensures

@@ -1,8 +1,8 @@
 use Rattle.certificate.proofs.PartLemmas.{line-implicit_task}
-use Rattle.certificate.proofs.ItemLemmas.{Puts-both, Puts-same}
+use Rattle.certificate.proofs.ItemLemmas.{Puts-both, Puts-same, on_ok}
 use Rattle.certificate.proofs.texts.put_implicit_task.Goals as goal
 
 pub returns : goal.returns
 returns c =
-    Puts-same _ _ _ _ (line-implicit_task c.args.event.now c.args.endpoint c.args.actual c.args.index c.args.flags c.args.parallel c.args.task)
-    (Puts-both _ _ _ _ _ c.in_ok-put_short.ensures (Puts-both _ _ _ _ _ c.in_ok-put_endpoint.ensures (Puts-both _ _ _ _ _ c.in_ok-put_task_flags.ensures (Puts-both _ _ _ _ _ c.in_ok-put_short-2.ensures (Puts-both _ _ _ _ _ c.in_ok-put_id.ensures (Puts-both _ _ _ _ _ c.in_ok-put_short-3.ensures (Puts-both _ _ _ _ _ c.in_ok-put_short-4.ensures (Puts-both _ _ _ _ _ c.in_ok-put_id-2.ensures (Puts-both _ _ _ _ _ c.in_ok-put_byte.ensures c.in_ok-put.ensures)))))))))
+    on_ok _ (λ last. Puts-same _ _ _ _ (line-implicit_task c.args.event.now c.args.endpoint c.args.actual c.args.index c.args.flags c.args.parallel c.args.task) (Puts-both _ _ _ _ _ c.in-Ok.ensures (Puts-both _ _ _ _ _ c.in-Ok-put_endpoint.ensures (Puts-both _ _ _ _ _ c.in-Ok-put_task_flags.ensures (Puts-both _ _ _ _ _ c.in-Ok-put_short.ensures (Puts-both _ _ _ _ _ c.in-Ok-put_id.ensures last))))))
+    c.put_task_tail.ensures

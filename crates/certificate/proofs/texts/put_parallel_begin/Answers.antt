@@ -1,8 +1,8 @@
 use Rattle.certificate.proofs.PartLemmas.{line-parallel_begin}
-use Rattle.certificate.proofs.ItemLemmas.{Puts-both, Puts-same}
+use Rattle.certificate.proofs.ItemLemmas.{Puts-both, Puts-same, on_ok}
 use Rattle.certificate.proofs.texts.put_parallel_begin.Goals as goal
 
 pub returns : goal.returns
 returns c =
-    Puts-same _ _ _ _ (line-parallel_begin c.args.event.now c.args.requested c.args.task c.args.parallel)
-    (Puts-both _ _ _ _ _ c.in_ok-put_id.ensures (Puts-both _ _ _ _ _ c.in_ok-put_short.ensures (Puts-both _ _ _ _ _ c.in_ok-put_short-2.ensures (Puts-both _ _ _ _ _ c.in_ok-put_short-3.ensures (Puts-both _ _ _ _ _ c.in_ok-put_id-2.ensures (Puts-both _ _ _ _ _ c.in_ok-put_byte.ensures c.in_ok-put.ensures))))))
+    on_ok _ (λ last. Puts-same _ _ _ _ (line-parallel_begin c.args.event.now c.args.requested c.args.task c.args.parallel) (Puts-both _ _ _ _ _ c.in-Ok.ensures (Puts-both _ _ _ _ _ c.in-Ok-put_short.ensures last)))
+    c.put_task_tail.ensures

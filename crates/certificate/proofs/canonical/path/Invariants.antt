@@ -1,7 +1,0 @@
-use Rattle.certificate.specs.Texts.{whole_number}
-use Rattle.certificate.proofs.TakeLemmas.{IsTaken}
-use Rattle.certificate.proofs.canonical.path.Given as goal
-
--- the items so far
-abbrev pub invariant-numbers : goal.invariant-numbers
-invariant-numbers l = IsTaken whole_number l.numbers.items l.later l.fn.rest l.rest l.text

@@ -1,0 +1,8 @@
+use Rattle.std.proofs.Common.{rules, refl}
+use Rattle.json.specs.Print.{escape_byte}
+use Rattle.certificate.specs.MemberNames as member
+use Rattle.certificate.proofs.unordered.index_member.Goals as goal
+
+pub returns : goal.returns
+unfolding escape_byte
+returns c = record { name = member.index; value = _; plain_name = refl; plain = search rules; takes = c.in_ok-index.ensures; added = refl }
