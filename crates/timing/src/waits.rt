@@ -2,6 +2,7 @@
 ghost use Rattle.std.specs.Prelude.{◌<◌, length};
 ghost use Rattle.task_tree.specs.Paths.{IsTreeOf};
 ghost use Rattle.task_states.specs.States.{AreStatesOf};
+ghost use Rattle.checker.specs.Audited.{AreAudited};
 ghost use Rattle.wait_coverage.specs.Limits.{HaveNoBarriers};
 
 use crate::lines::{HEADER, input, lines_of, told};
@@ -39,9 +40,15 @@ fn of_file(rt: &HostRuntime, file: &[u8]) -> Result<()> {
 }
 
 fn of_trace(rt: &HostRuntime, trace: &Trace) -> Result<()> {
-    if unaudited(trace).is_some() {
-        bail!("a record of a form that is not checked");
+    match unaudited(trace) {
+        Some(at) => bail!("the record at {at} is of a form that is not checked"),
+        None => of_audited(rt, trace),
     }
+}
+
+fn of_audited(rt: &HostRuntime, trace: &Trace) -> Result<()>
+    requires { AreAudited trace.now.records }
+{
     match Tree::build(rt.alloc(), trace) {
         Ok(tree) => of_tree(rt, trace, &tree),
         Err(_) => bail!("no tree"),
@@ -74,12 +81,12 @@ fn of_states(rt: &HostRuntime, trace: &Trace, tree: &Tree, states: &States) -> R
 fn of_end(rt: &HostRuntime, coverage: &Coverage, ledger: &Ledger, number: usize) -> Result<()>
     requires { number < length coverage.now.ends }
 {
-    let end = coverage.ends()[number];
+    let end = coverage.ends().get(number);
     let cover = coverage.cover(number);
     let spans = coverage.spans(number)?;
     let open = coverage.first_open(number, ledger)?;
     let again = coverage.first_open_all(&[number, number], ledger)?;
-    println!(rt; "{end}: {cover:?} {spans:?} open {open:?}, twice {again:?}")?;
+    println!(rt; "{end:?}: {cover:?} {spans:?} open {open:?}, twice {again:?}")?;
     Ok(())
 }
 

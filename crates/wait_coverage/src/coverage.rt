@@ -92,7 +92,8 @@ impl<'a> Coverage<'a> {
 
     /// The places of the records that end a wait, in file order.
     pub fn ends(&self) -> &[usize]
-        ensures { AreEnds self.now.records (length self.now.records) result.now }
+        ensures value { result.now ≡ self.now.ends }
+        ensures ends { AreEnds self.now.records (length self.now.records) result.now }
     {
         self.ends.as_slice()
     }
