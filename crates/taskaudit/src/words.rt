@@ -14,7 +14,7 @@ use std::convert::AsStr;
 const EXPLANATION: &str = r#"Answers, one line on standard output:
   yes: 6 records, 1 entries, 1 tasks, 1 waits
       in every order of the events that the file allows, each task that a
-      taskwait waits for is complete when the wait ends
+      taskwait or taskgroup waits for is complete when the wait ends
   no: line 5, thread 0, seq 3: task 2 unfinished
       the first wait in the file that ended before a task that it waits for
       was known to be finished, and that task
@@ -40,9 +40,8 @@ seen is how many finished tasks the thread knew of; for an event that finishes a
 task, how many were finished before it. docs/FORMAT.md has the whole format.
 
 Supported so far: all of these events, but no parallel regions and members of
-their teams, no dependences, and no synchronisation regions but taskwaits. A
-file with another event is answered 'unreadable: line L: 6 Field', where L is
-the first such line."#;
+their teams, no dependences and no barriers. A file with another event is
+answered 'unreadable: line L: 6 Field', where L is the first such line."#;
 
 /// What the command line asks for; its first word is the program's name.
 pub fn job<'a, S: AsStr>(alloc: Global, words: &'a [S]) -> Result<Job, Error>

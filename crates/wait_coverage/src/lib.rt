@@ -1,6 +1,11 @@
-//! Which tasks the end of a region waits for, and whether the ledger of finished tasks holds their credit.
+//! Which tasks the end of a region waits for, whether they are finished there, and whether the ledger of
+//! finished tasks holds their credit.
 //!
-//! `laws` says why held credit means finished tasks; the definitions stand in `specs/`.
+//! `find_open` looks at the ends of a whole trace, `Coverage` answers for single ones with their credit, and `laws`
+//! says why held credit means finished tasks. Read `unfinished` first, then what it stands on: `order` (tasks
+//! behind their parents), `done` (after `lengths`: from which ledger length on each task is finished, and its
+//! descendants), `limits` (the same of what each end covers), `waits` (the search where one is not); then
+//! `coverage`, after `numbers`.
 #![tactic(auto)]
 
 mod coverage;

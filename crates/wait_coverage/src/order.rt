@@ -32,7 +32,7 @@ fn by_depth(alloc: Global, family: &Family) -> Result<Vec<(usize, usize)>, Alloc
     for index in 0..family.tasks().as_slice().len() {
         ranked.push((family.depth_at(index), index))?;
     }
-    ranked.sort_by_key(|entry| entry.0)?;
+    ranked.sort_unstable_by_key(|entry| entry.0);
     Ok(ranked)
 }
 
