@@ -5,8 +5,8 @@ Valgrind counts them, so the same files give the same figures on a busy machine 
 
 The phases follow one another, so each is the difference between two runs that end one phase apart: `timing read`
 ends after reading; a file whose last record knows less than the one before it is malformed once all causes but the order
-were looked for; a file whose first wait is for a task that never runs is a no once the order was found; the file itself
-goes to the end.
+were looked for; a file whose first wait is for a task that never runs is a no once the order and the lengths of all ends
+were found; the file itself goes to the end.
 """
 
 import json
