@@ -1,6 +1,6 @@
 #!/usr/bin/env python3
-"""Measures a ledger: entering finished tasks in a scrambled order, and asking whether all entries hold the
-start of each.
+"""Measures a ledger: entering finished tasks, in a scrambled order but for one shape, and asking whether all
+entries hold the start of each.
 
 ledger.py                seconds of the processor and peak memory, the least of five runs
 ledger.py instructions   instructions inside the calls, which Valgrind counts, of fewer entries
@@ -41,6 +41,11 @@ def children(size):
     return [([number], 0) for number in range(size)]
 
 
+def in_order(size):
+    """The same, which are entered in the order of their numbers."""
+    return children(size)
+
+
 def chain(size):
     """A chain of 1,000 tasks, and so many children of the last of them."""
     links = [([0] * depth, 1) for depth in range(1, 1000)] + [([0] * 1000, size)]
@@ -55,7 +60,8 @@ def write_lines(shape, size, folder):
     """Writes lines that are read alone, that enter each task, and that ask for each besides."""
     random.seed(1)
     tasks = shape(size)
-    random.shuffle(tasks)
+    if shape is not in_order:
+        random.shuffle(tasks)
     read = [f"holds 0 1 {joined(path)} 0 0 children\n" for path, _ in tasks]
     enter = [f"enter 1 {joined(path)} {kept} whole\n" for path, kept in tasks]
     ask = [f"holds {len(tasks)} 1 {joined(path[:-1])} {path[-1]} {path[-1] + 1} descendants\n" for path, _ in tasks]
@@ -118,8 +124,8 @@ def table(head, sizes, measure, cells):
     """Prints a row for each shape and size."""
     print(head)
     print("|---" * (head.count("|") - 1) + "|")
-    titles = ("random", "children of one task", "leaves below a chain of 1,000")
-    for title, shape, size in zip(titles, (random_tree, children, chain), sizes):
+    titles = ("random", "children of one task", "the same, in order", "leaves below a chain of 1,000")
+    for title, shape, size in zip(titles, (random_tree, children, in_order, chain), sizes):
         earlier = None
         for leaves in (size, 2 * size):
             count, now = figures(shape, leaves, measure)
@@ -132,11 +138,11 @@ def main():
         sys.exit(__doc__)
     if sys.argv[1:]:
         head = "| Tree | Entries | An `enter`, instructions | A `holds`, instructions | Growth |"
-        table(head, (2**15, 2**15, 2**9), instructions,
+        table(head, (2**15, 2**15, 2**15, 2**9), instructions,
               lambda count, now: f"{now[0] / count:,.0f} | {now[1] / count:,.0f}")
     else:
         head = "| Tree | Entries | Enter, s | Ask, s | Bytes an entry | Growth |"
-        table(head, (2**19, 2**19, 2**9), seconds,
+        table(head, (2**19, 2**19, 2**19, 2**9), seconds,
               lambda count, now: f"{now[0]:.2f} | {now[1]:.2f} | {now[2] / count:,.0f}")
 
 
