@@ -1,0 +1,6 @@
+use Rattle.depend_edges.specs.Lists.{AreListed}
+use Rattle.depend_edges.proofs.lists.find_lists.Given as goal
+
+-- the lists so far
+abbrev pub invariant-loop-at : goal.invariant-loop-at
+invariant-loop-at l = AreListed l.records l.at l.family.tasks l.lists.items

@@ -1,0 +1,23 @@
+-- What tasks depend on, and which of their items conflict.
+use Rattle.std.specs.Prelude.{ℕ, ◌≡◌, true, List, Contains}
+use Rattle.ompt_events.specs.declared.records.Record.{Record}
+use Rattle.ompt_events.specs.declared.deps.Dep.{Dep}
+use Rattle.ompt_events.specs.Names.{conflict}
+use Rattle.ompt_events.specs.Dependences.{DependsOn}
+
+-- the item of the earlier task conflicts with the other at the same location
+abbrev pub Clash : Dep → Dep → Type 0
+Clash earlier item = (earlier.var ≡ item.var) × (conflict earlier.kind item.kind ≡ true)
+
+-- some earlier item does with the one
+abbrev pub HasClash : List Dep → Dep → Type 0
+HasClash earlier item = (other : Dep) × Contains earlier other × Clash other item
+
+-- or with one of these
+abbrev pub HaveClash : List Dep → List Dep → Type 0
+HaveClash earlier items = (item : Dep) × Contains items item × HasClash earlier item
+
+-- an item of the earlier task does with one of these
+abbrev pub ClashesWith : List Record → ℕ → List Dep → Type 0
+ClashesWith rs earlier items =
+    (item other : Dep) × Contains items item × DependsOn rs earlier other × Clash other item

@@ -1,0 +1,39 @@
+-- Which creations and lists of dependences belong together.
+use Rattle.std.specs.Prelude.{ℕ, ◌≡◌, ◌≢◌, ◌<◌, ◌↔◌, ◌⊎◌, List, length, Bool, true, Option, Some, slice_get, is_some}
+use Rattle.ompt_events.specs.declared.records.Record.{Record}
+use Rattle.ompt_events.specs.declared.records.Body.{Body}
+use Rattle.ompt_events.specs.declared.deps.Dep.{Dep}
+use Rattle.ompt_events.specs.Records.{created_with_deps, dependences}
+use Rattle.ompt_events.specs.Places.{thread_at}
+use Rattle.ompt_events.specs.Causes.{AreFollowed}
+
+-- of the first n records the one at a is the last of the thread
+pub record IsLast (rs : List Record) (n thread a : ℕ) : Type 0 where
+  pub before : a < n
+  pub runs : thread_at rs a ≡ Some thread
+  pub last : (k : ℕ) → a < k → k < n → thread_at rs k ≢ Some thread
+
+-- by thread the place of the last of its records among the first n
+pub record AreLast (rs : List Record) (n : ℕ) (last : List (Option ℕ)) : Type 0 where
+  pub all : length last ≡ 256
+  pub each : (thread a : ℕ) → thread < 256 → (slice_get last thread ≡ Some (Some a)) ↔ IsLast rs n thread a
+
+-- the one body creates a task with dependences, and the other lists those of that task
+abbrev pub BelongTogether : Body → Body → Type 0
+BelongTogether create list =
+    (task : ℕ) × (items : List Dep) × (created_with_deps create ≡ Some task)
+    × (dependences list ≡ Some (task, items))
+
+-- the record is marked
+abbrev pub IsMarked : List Bool → ℕ → Type 0
+IsMarked marks i = slice_get marks i ≡ Some true
+
+-- marked are the creations and their lists of which the list is one of the first n records
+pub record AreMarked (rs : List Record) (n : ℕ) (marks : List Bool) : Type 0 where
+  pub all : length marks ≡ length rs
+  pub each : (a b : ℕ) → b < n → AreFollowed rs a b → IsMarked marks a × IsMarked marks b
+  pub only : (i : ℕ) → IsMarked marks i → ((a : ℕ) × AreFollowed rs a i) ⊎ ((b : ℕ) × AreFollowed rs i b)
+
+-- the body creates a task with dependences, or lists them
+abbrev pub HasDependences : Body → Type 0
+HasDependences body = (is_some (created_with_deps body) ≡ true) ⊎ (is_some (dependences body) ≡ true)
