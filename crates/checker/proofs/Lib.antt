@@ -1,4 +1,3 @@
-pub mod AuditedLemmas
 mod ClaimLemmas
 mod LengthLemmas
 mod RepeatLemmas
@@ -6,5 +5,7 @@ mod MergeLemmas
 mod MakerLemmas
 mod MergingLemmas
 mod ScheduleLemmas
+mod StartLemmas
+mod LateLemmas
 mod PhaseLemmas
 mod VerdictLemmas

@@ -12,7 +12,7 @@ use Rattle.ompt_events.specs.CauseNames.{cause_number}
 use Rattle.ompt_events.specs.Causes.{IsFreeOf, IsMalformed, IsWellFormed}
 use Rattle.checker.specs.declared.search.SearchFault.{SearchFault}
 use Rattle.checker.specs.declared.search.SearchFault.TheVariants.{Memory, Malformed}
-use Rattle.checker.specs.Verdicts.{sought}
+use Rattle.checker.specs.Verdicts.{all_causes}
 use Rattle.checker.specs.Search.{IsClear, IsFound, IsLeastOf, IsLeastFound, fault_of_tree, fault_of_states}
 use Rattle.ompt_events.specs.declared.cause.Cause.TheVariants.{CreatedTwice, Rootless, NotCurrent, Moved, StatusOrder, RegionOrder}
 use Rattle.task_tree.specs.declared.fault.TreeFault.{TreeFault}
@@ -72,20 +72,20 @@ dropped {X} n xs x c = let P : List X → Type 0 = λ l. Contains l x in subst P
 
 -- a phase that looks for the n causes behind the first k, which do not occur: it finds the least of all, or the first
 -- k + n do not occur
-pub clear_more : (rs : List Record) (k n : ℕ) → IsClear rs k → IsWellFormed rs (take n (drop k sought)) → IsClear rs (k + n)
+pub clear_more : (rs : List Record) (k n : ℕ) → IsClear rs k → IsWellFormed rs (take n (drop k all_causes)) → IsClear rs (k + n)
 clear_more rs k n before here cause among =
     let P : List Cause → Type 0 = λ l. Contains l cause in
-    elim (Contains-append_cases (take k sought) (take n (drop k sought)) cause (subst P (take-add k n sought) among)) [
+    elim (Contains-append_cases (take k all_causes) (take n (drop k all_causes)) cause (subst P (take-add k n all_causes) among)) [
       | inl earlier ↦ before cause earlier
       | inr part ↦ here cause part
     ]
 
-pub least_more : (rs : List Record) (k n : ℕ) (fault : SearchFault) → IsClear rs k → IsLeastOf rs (take n (drop k sought)) fault → IsLeastFound rs fault
+pub least_more : (rs : List Record) (k n : ℕ) (fault : SearchFault) → IsClear rs k → IsLeastOf rs (take n (drop k all_causes)) fault → IsLeastFound rs fault
 least_more rs k n Memory before found = tt
 least_more rs k n (Malformed i cause) before found = record {
-  sought_for = dropped k sought cause (taken n (drop k sought) cause found.sought_for);
+  sought_for = dropped k all_causes cause (taken n (drop k all_causes) cause found.sought_for);
   found = found.found;
-  least = λ other has less. elim (in_part k n 0 sought other cause refl has found.sought_for less) [
+  least = λ other has less. elim (in_part k n 0 all_causes other cause refl has found.sought_for less) [
     | inl earlier ↦ before other earlier
     | inr part ↦ found.least other part less
   ];

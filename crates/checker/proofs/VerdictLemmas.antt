@@ -1,23 +1,34 @@
 -- From what the searches find to the verdict.
-use Rattle.std.proofs.Common.{zero-add, ◌≡◌, ◌∙◌, ℕ, ◌<◌, List, length, take, Some, sym, ap, subst, arith, inl, inr}
-use Rattle.std.specs.Prelude.{is_some, Contains, ⊤}
+use Rattle.std.proofs.Common.{zero-add, ◌≡◌, ◌∙◌, ℕ, ◌<◌, ◌≤◌, ◌⊎◌, List, length, take, Option, Some, None, sym, ap, subst, arith, inl, inr}
+use Rattle.std.specs.Prelude.{is_some, Contains, ⊤, slice_get, option_and_then}
+use Rattle.std.proofs.lemmas.Option.{none-some}
+use Rattle.std.proofs.lemmas.Bool.{cases_eq}
 use Rattle.ompt_events.specs.declared.records.Record.{Record}
 use Rattle.ompt_events.specs.declared.records.Part.{Part}
 use Rattle.ompt_events.specs.declared.records.Part.TheVariants as part
 use Rattle.ompt_events.specs.declared.cause.Cause.TheVariants.{NoOrder}
-use Rattle.ompt_events.specs.Records.{finish}
+use Rattle.ompt_events.specs.Records.{finish, region, started, wait_completed}
 use Rattle.ompt_events.specs.Places.{at, places}
 use Rattle.ompt_events.specs.HappensBefore.{IsStep, ledger, step}
 use Rattle.ompt_events.specs.Linearization.{IsLinearization, IsGreedy, IsFirstReady}
 use Rattle.ompt_events.specs.Completion.{IsPartFinished, CountsIn, CountsAt, IsCompleteIn, IsCompleteAt}
 use Rattle.ompt_events.specs.Coverage.{Covers}
-use Rattle.ompt_events.specs.Violations.{IsRequired, covered, preceding, awaited, IsFirstUnfinished}
+use Rattle.ompt_events.specs.Coverage as coverage
+use Rattle.ompt_events.specs.Regions.{IsRegion, ended, at_once}
+use Rattle.ompt_events.specs.declared.records.Body.{Body}
+use Rattle.ompt_events.specs.declared.records.Body.TheVariants.{SyncRegion}
+use Rattle.ompt_events.specs.declared.names.SyncKind.{SyncKind}
+use Rattle.ompt_events.specs.declared.names.SyncKind.TheVariants.{Taskwait, Taskgroup}
+use Rattle.ompt_events.specs.declared.names.Endpoint.{Endpoint}
+use Rattle.ompt_events.specs.declared.names.Endpoint.TheVariants.{End, BeginEnd}
+use Rattle.ompt_events.specs.Violations.{IsRequired, covered, preceding, awaited}
 use Rattle.ompt_events.specs.Causes.{IsFreeOf, no_order}
 use Rattle.wait_coverage.specs.Spans.{IsCoverComplete}
 use Rattle.wait_coverage.specs.Waits.{IsFirstOpenEnd}
-use Rattle.checker.specs.Audited.{HaveNoDependences}
-use Rattle.checker.specs.Verdicts.{sought, AreComplete, IsAlwaysComplete, IsApproved}
-use Rattle.checker.specs.Search.{IsClear}
+use Rattle.checker.specs.Verdicts.{all_causes, AreComplete, IsAlwaysComplete, IsApproved}
+use Rattle.checker.specs.Starts.{IsPreceded, AreReady, IsFirstLateStart}
+use Rattle.checker.specs.Search.{IsClear, AreAllCovered, AreAllReady, IsFirstViolation}
+use Rattle.checker.specs.declared.verdict.Why.TheVariants.{Unfinished, Predecessor}
 use Rattle.std.proofs.lemmas.List.{length-take, get_or-take}
 use Rattle.std.proofs.lemmas.List.FromFn.{length-range_with_len, get_or-range_with_len}
 use Rattle.std.proofs.lemmas.List.Sorted.{IsPermutation-refl}
@@ -39,25 +50,99 @@ pub complete_in : (rs : List Record) (order : List ℕ) (i task : ℕ) → IsLin
 complete_in rs order i task linear (inl whole) = inl (part_in rs order i task part.Whole linear whole)
 complete_in rs order i task linear (inr (body, event)) = inr (part_in rs order i task part.Body linear body, part_in rs order i task part.Event linear event)
 
--- ---- what is required where no record lists dependences
+-- ---- the first violation
 
--- it is what an end covers
-required_covered : (rs : List Record) (i task : ℕ) → HaveNoDependences rs → IsRequired rs i task → Covers rs i task
-required_covered rs i task none (covered covers) = covers
-required_covered rs i task none (preceding explicit start before) = absurd (none before.depends.0 (_, before.depends.1) before.depends.2)
-required_covered rs i task none (awaited completes before) = absurd (none before.depends.0 (_, before.depends.1) before.depends.2)
+-- what must be complete is covered, or precedes what starts
+required_cases : (rs : List Record) (i task : ℕ) → IsRequired rs i task → Covers rs i task ⊎ IsPreceded rs i task
+required_cases rs i task (covered covers) = inl covers
+required_cases rs i task (preceding {dependent = dependent} explicit start before) = inr (inl (dependent, explicit, start, before))
+required_cases rs i task (awaited {dependent = dependent} completes before) = inr (inr (dependent, completes, before))
 
-pub cover_complete : (rs : List Record) → HaveNoDependences rs → ((i : ℕ) → IsCoverComplete rs i) → (i : ℕ) → AreComplete rs i
-cover_complete rs none complete i task required = complete i task (required_covered rs i task none required)
+preceded_required : (rs : List Record) (i task : ℕ) → IsPreceded rs i task → IsRequired rs i task
+preceded_required rs i task (inl (dependent, explicit, start, before)) = preceding explicit start before
+preceded_required rs i task (inr (dependent, completes, before)) = awaited completes before
 
-pub open_unfinished : (rs : List Record) (i task : ℕ) → HaveNoDependences rs → IsFirstOpenEnd rs i task → IsFirstUnfinished rs i task
-open_unfinished rs i task none is = record {
-  unfinished = record { required = covered is.first_open.is_open.covered; incomplete = is.first_open.is_open.incomplete };
-  first = λ k other below unfinished. unfinished.incomplete (is.before k below other (required_covered rs k other none unfinished.required));
-  creation = is.first_open.creation;
-  is_created = is.first_open.is_created;
-  created_first = λ k other below creates unfinished. is.first_open.created_first k other below creates (record { covered = required_covered rs i other none unfinished.required; incomplete = unfinished.incomplete });
+pub all_complete : (rs : List Record) → AreAllCovered rs → AreAllReady rs → (i : ℕ) → AreComplete rs i
+all_complete rs ends starts i task required = elim (required_cases rs i task required) [
+  | inl covers ↦ ends i task covers
+  | inr precedes ↦ starts i task precedes
+]
+
+-- an end before which all is ready
+pub open_before : (rs : List Record) (i task : ℕ) → IsFirstOpenEnd rs i task → ((k : ℕ) → k ≤ i → AreReady rs k) → IsFirstViolation rs i (Unfinished task)
+open_before rs i task is ready = record {
+  unfinished = record {
+    unfinished = record { required = covered is.first_open.is_open.covered; incomplete = is.first_open.is_open.incomplete };
+    first = λ k other below unfinished. elim (required_cases rs k other unfinished.required) [
+      | inl covers ↦ unfinished.incomplete (is.before k below other covers)
+      | inr precedes ↦ unfinished.incomplete (ready k (omega (arith, below)) other precedes)
+    ];
+    creation = is.first_open.creation;
+    is_created = is.first_open.is_created;
+    created_first = λ k other below creates unfinished. elim (required_cases rs i other unfinished.required) [
+      | inl covers ↦ is.first_open.created_first k other below creates (record { covered = covers; incomplete = unfinished.incomplete })
+      | inr precedes ↦ unfinished.incomplete (ready i (omega arith) other precedes)
+    ];
+  };
+  reason = is.first_open.is_open.covered;
 }
+
+-- a start before which all that ends cover is complete
+pub late_before : (rs : List Record) (i task : ℕ) → IsFirstLateStart rs i task → ((k : ℕ) → k ≤ i → IsCoverComplete rs k) → IsFirstViolation rs i (Predecessor task)
+late_before rs i task is complete = record {
+  unfinished = record {
+    unfinished = record { required = preceded_required rs i task is.first_late.late.0; incomplete = is.first_late.late.1 };
+    first = λ k other below unfinished. elim (required_cases rs k other unfinished.required) [
+      | inl covers ↦ unfinished.incomplete (complete k (omega (arith, below)) other covers)
+      | inr precedes ↦ unfinished.incomplete (is.before k below other precedes)
+    ];
+    creation = is.first_late.creation;
+    is_created = is.first_late.is_created;
+    created_first = λ k other below creates unfinished. elim (required_cases rs i other unfinished.required) [
+      | inl covers ↦ unfinished.incomplete (complete i (omega arith) other covers)
+      | inr precedes ↦ is.first_late.created_first k other below creates (precedes, unfinished.incomplete)
+    ];
+  };
+  reason = is.first_late.late.0;
+}
+
+-- a record that ends a region starts nothing
+region_or_schedule : (b : Body) (own : ℕ × SyncKind × Endpoint) (task : ℕ) → region b ≡ Some own → (started b ≡ Some task) ⊎ (wait_completed b ≡ Some task) → ⊥
+region_or_schedule (SyncRegion kind endpoint parallel own) says task ends (inl starts) = none-some task starts
+region_or_schedule (SyncRegion kind endpoint parallel own) says task ends (inr completes) = none-some task completes
+region_or_schedule _ says task ends starts = none-some says ends
+
+at_cases : (rs : List Record) (i task : ℕ) (own : ℕ × SyncKind × Endpoint) → at region rs i ≡ Some own → (at started rs i ≡ Some task) ⊎ (at wait_completed rs i ≡ Some task) → ⊥
+at_cases rs i task own ends starts = of (slice_get rs i) ends starts
+  where
+    of : (o : Option Record) → option_and_then (λ (r : Record). region r.body) o ≡ Some own → (option_and_then (λ (r : Record). started r.body) o ≡ Some task) ⊎ (option_and_then (λ (r : Record). wait_completed r.body) o ≡ Some task) → ⊥
+    of None ends starts = none-some own ends
+    of (Some r) ends starts = region_or_schedule r.body own task ends starts
+
+region_ends : (rs : List Record) (i task begin : ℕ) (kind : SyncKind) → IsRegion rs i task kind begin → (own : ℕ × SyncKind × Endpoint) × (at region rs i ≡ Some own)
+region_ends rs i task begin kind (ended ends) = ((task, kind, End), ends.ends)
+region_ends rs i task begin kind (at_once says) = ((task, kind, BeginEnd), says)
+
+cover_ends : (rs : List Record) (i task : ℕ) → Covers rs i task → (own : ℕ × SyncKind × Endpoint) × (at region rs i ≡ Some own)
+cover_ends rs i task (coverage.waited {parent = parent} {begin = begin} is found) = region_ends rs i parent begin Taskwait is
+cover_ends rs i task (coverage.grouped {parent = parent} {begin = begin} is found of) = region_ends rs i parent begin Taskgroup is
+cover_ends rs i task (coverage.synchronised {own = own} {begin = begin} {kind = kind} number is barrier begins mate other found of) = region_ends rs i own begin kind is
+
+preceded_starts : (rs : List Record) (i task : ℕ) → IsPreceded rs i task → (own : ℕ) × ((at started rs i ≡ Some own) ⊎ (at wait_completed rs i ≡ Some own))
+preceded_starts rs i task (inl (dependent, explicit, start, before)) = (dependent, inl start.starts)
+preceded_starts rs i task (inr (dependent, completes, before)) = (dependent, inr completes)
+
+not_both : (rs : List Record) (i task other : ℕ) → Covers rs i task → IsPreceded rs i other → ⊥
+not_both rs i task other covers precedes =
+    let ends = cover_ends rs i task covers in
+    let starts = preceded_starts rs i other precedes in
+    at_cases rs i starts.0 ends.0 ends.1 starts.1
+
+-- what ends and what starts are at different records
+pub one_first : (rs : List Record) (end start task predecessor : ℕ) → IsFirstOpenEnd rs end task → IsFirstLateStart rs start predecessor → end ≡ start → ⊥
+one_first rs end start task predecessor unfinished late same =
+    let P : ℕ → Type 0 = λ k. Covers rs k task in
+    not_both rs start task predecessor (subst P same unfinished.first_open.is_open.covered) late.first_late.late.0
 
 -- ---- a yes
 
@@ -66,7 +151,7 @@ pub always_complete : (rs : List Record) → ((i : ℕ) → AreComplete rs i) �
 always_complete rs complete order linear i task required = complete_in rs order i task linear (complete i task required)
 
 -- a yes
-pub approved : (rs : List Record) (order : List ℕ) → IsClear rs (length sought) → IsLinearization rs order → IsGreedy rs order → ((i : ℕ) → AreComplete rs i) → IsApproved rs order
+pub approved : (rs : List Record) (order : List ℕ) → IsClear rs (length all_causes) → IsLinearization rs order → IsGreedy rs order → ((i : ℕ) → AreComplete rs i) → IsApproved rs order
 approved rs order clear linear greedy complete = record {
   well_formed = clear;
   linearization = linear;
@@ -118,3 +203,14 @@ file_greedy rs steps k below =
 -- then every record has an order
 pub file_orders : (rs : List Record) → ((a b : ℕ) → IsStep rs a b → a < b) → IsFreeOf rs NoOrder
 file_orders rs steps i (no_order h) = h.never (places rs) (greedy_grounded rs (places rs) (file_greedy rs steps)) (contains_place rs i h.within)
+
+-- ---- which of the two is first
+
+pub start_first : (rs : List Record) (end start task predecessor : ℕ) → IsFirstOpenEnd rs end task → IsFirstLateStart rs start predecessor → start < end → IsFirstViolation rs start (Predecessor predecessor)
+start_first rs end start task predecessor unfinished late less = late_before rs start predecessor late (λ k low. unfinished.before k (omega (arith, low, less)))
+
+pub end_first : (rs : List Record) (end start task predecessor : ℕ) → IsFirstOpenEnd rs end task → IsFirstLateStart rs start predecessor → end ≤ start → IsFirstViolation rs end (Unfinished task)
+end_first rs end start task predecessor unfinished late most = elim (cases_eq end start) [
+  | inl same ↦ absurd (one_first rs end start task predecessor unfinished late same)
+  | inr apart ↦ open_before rs end task unfinished (λ k low. late.before k (omega (arith, low, most, apart)))
+]

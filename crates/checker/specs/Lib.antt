@@ -1,9 +1,9 @@
--- What a check answers. Read Verdicts first: what a yes, a no and a malformed say; then Audited: which
--- records a check takes so far. The others say what the phases of the check know while they run.
+-- What a check answers. Read Verdicts first: what a yes, a no and a malformed say; then Starts: which tasks
+-- must be complete where a task starts. The others say what the phases of the check know while they run.
 pub mod Verdicts
-pub mod Audited
 pub mod Search
 pub mod Repeats
 pub mod Lengths
 pub mod Entries
 pub mod Merge
+pub mod Starts

@@ -2,20 +2,24 @@
 use Rattle.std.specs.Prelude.{ℕ, List, [], ◌∷◌}
 use Rattle.ompt_events.specs.declared.records.Record.{Record}
 use Rattle.ompt_events.specs.declared.cause.Cause.{Cause}
-use Rattle.ompt_events.specs.declared.cause.Cause.TheVariants.{SeqGap, CreatedTwice, Rootless, NotCurrent, Moved, StatusOrder, RegionOrder, NestedParallel, ShareWrong, EntryTwice, LengthAhead, LengthBack, NoOrder, TargetTask}
+use Rattle.ompt_events.specs.declared.cause.Cause.TheVariants.{SeqGap, CreatedTwice, Rootless, NotCurrent, Moved, StatusOrder, RegionOrder, TeamShort, NestedParallel, DepsPlace, ShareWrong, EntryTwice, LengthAhead, LengthBack, NoOrder, TargetTask}
 use Rattle.ompt_events.specs.Linearization.{IsLinearization, IsGreedy}
+use Rattle.ompt_events.specs.Coverage.{Covers}
 use Rattle.ompt_events.specs.Completion.{IsCompleteIn, IsCompleteAt}
 use Rattle.ompt_events.specs.Violations.{IsRequired, IsUnfinished, IsFirstUnfinished}
 use Rattle.ompt_events.specs.Causes.{IsMalformed, IsWellFormed}
 use Rattle.checker.specs.declared.verdict.Verdict.{Verdict}
 use Rattle.checker.specs.declared.verdict.Verdict.TheVariants.{Yes, No, Malformed}
-use Rattle.checker.specs.declared.verdict.Why.TheVariants.{Unfinished}
+use Rattle.checker.specs.declared.verdict.Why.{Why}
+use Rattle.checker.specs.declared.verdict.Why.TheVariants.{Unfinished, Predecessor}
+use Rattle.checker.specs.Starts.{IsPreceded}
 
--- the causes that are looked for
-abbrev pub sought : List Cause
-sought =
-    SeqGap ∷ CreatedTwice ∷ Rootless ∷ NotCurrent ∷ Moved ∷ StatusOrder ∷ RegionOrder ∷ NestedParallel
-    ∷ ShareWrong ∷ EntryTwice ∷ LengthAhead ∷ LengthBack ∷ NoOrder ∷ TargetTask ∷ []
+-- all causes in the order of their numbers
+abbrev pub all_causes : List Cause
+all_causes =
+    SeqGap ∷ CreatedTwice ∷ Rootless ∷ NotCurrent ∷ Moved ∷ StatusOrder ∷ RegionOrder ∷ TeamShort
+    ∷ NestedParallel ∷ DepsPlace ∷ ShareWrong ∷ EntryTwice ∷ LengthAhead ∷ LengthBack ∷ NoOrder ∷ TargetTask
+    ∷ []
 
 -- what must be complete at i is, by what the record there has seen
 abbrev pub AreComplete : List Record → ℕ → Type 0
@@ -29,19 +33,30 @@ IsAlwaysComplete rs =
 
 -- what a yes with this order says
 pub record IsApproved (rs : List Record) (order : List ℕ) : Type 0 where
-  pub well_formed : IsWellFormed rs sought
+  pub well_formed : IsWellFormed rs all_causes
   pub linearization : IsLinearization rs order
   pub greedy : IsGreedy rs order
   pub finished : (i task : ℕ) → IsUnfinished rs i task → ⊥
   pub always_complete : IsAlwaysComplete rs
 
+-- why the task must be complete at i: the wait that ends there covers it, or it is a predecessor of what
+-- starts there
+abbrev pub IsReason : List Record → ℕ → Why → Type 0
+IsReason rs i (Unfinished task) = Covers rs i task
+IsReason rs i (Predecessor task) = IsPreceded rs i task
+
+abbrev pub task_of : Why → ℕ
+task_of (Unfinished task) = task
+task_of (Predecessor task) = task
+
 -- what a no at a record says, with the task that is unfinished there
-pub record IsRejected (rs : List Record) (i task : ℕ) : Type 0 where
-  pub well_formed : IsWellFormed rs sought
-  pub unfinished : IsFirstUnfinished rs i task
+pub record IsRejected (rs : List Record) (i : ℕ) (why : Why) : Type 0 where
+  pub well_formed : IsWellFormed rs all_causes
+  pub unfinished : IsFirstUnfinished rs i (task_of why)
+  pub reason : IsReason rs i why
 
 -- the verdict is that of the records
 abbrev pub IsVerdict : List Record → Verdict → Type 0
 IsVerdict rs (Yes order) = IsApproved rs order
-IsVerdict rs (No i (Unfinished task)) = IsRejected rs i task
-IsVerdict rs (Malformed i cause) = IsMalformed rs sought i cause
+IsVerdict rs (No i why) = IsRejected rs i why
+IsVerdict rs (Malformed i cause) = IsMalformed rs all_causes i cause

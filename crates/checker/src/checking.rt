@@ -1,16 +1,20 @@
 //! The check as a whole.
-ghost use Rattle.std.specs.Prelude.{◌≡◌, IfOk, IfErr, OnOk, length};
+ghost use Rattle.std.specs.Prelude.{ℕ, ◌≡◌, List, MatchOption, IfOk, IfErr, OnOk, length};
 ghost use Rattle.ompt_events.specs.declared.cause.Cause.TheVariants.{Moved};
 ghost use Rattle.ompt_events.specs.Places.{places};
 ghost use Rattle.ompt_events.specs.Linearization.{IsLinearization, IsGreedy};
 ghost use Rattle.ompt_events.specs.Causes.{entries_in, IsFreeOf};
 ghost use Rattle.task_tree.specs.Family.{IsFamilyOf};
 ghost use Rattle.task_states.specs.States.{AreStatesOf};
-ghost use Rattle.checker.specs.Audited.{AreAudited};
 ghost use Rattle.checker.specs.Entries.{AreMakers};
 ghost use Rattle.checker.specs.Merge.{HaveCreations};
-ghost use Rattle.checker.specs.Search.{IsClear, IsLeastFound};
-ghost use Rattle.checker.specs.Verdicts.{IsVerdict};
+ghost use Rattle.checker.specs.Search.{IsClear, IsLeastFound, AreAllReady, AreAllCovered, IsFirstViolation};
+ghost use Rattle.checker.specs.Starts.{IsFirstLateStart};
+ghost use Rattle.checker.specs.Verdicts.{IsVerdict, AreComplete};
+ghost use Rattle.checker.specs.declared.search.SearchFault.TheVariants.{Memory};
+ghost use Rattle.wait_coverage.specs.Teams.{IsTeamsOf};
+ghost use Rattle.wait_coverage.specs.Waits.{IsFirstOpenEnd};
+ghost use Rattle.ompt_events.specs.declared.records.Record.{Record};
 
 use crate::claims::find_wrong_claim;
 use crate::lengths::find_back;
@@ -18,19 +22,20 @@ use crate::merge::find_order;
 use crate::repeats::{find_ahead, find_makers};
 use crate::schedule::{creations_awaited, is_in_order};
 use crate::search::SearchFault;
+use crate::starts::find_late_start;
 use crate::verdict::{CheckFault, Order, Verdict, Why};
+use depend_edges::{EdgeFault, Edges};
 use ompt_events::{Cause, Record, Trace};
 use std::alloc::{AllocError, Global};
 use task_states::{States, gap, nested, run, target};
 use task_tree::{Family, Slot};
-use wait_coverage::find_open;
+use wait_coverage::{TeamFault, Teams, find_known, find_open};
 
-/// The verdict on the records: malformed with the lowest-numbered cause that occurs, at the first record that
-/// shows it; else no at the first end of a taskwait or taskgroup that covers an unfinished task; else yes
-/// with the greedy order. Fails only when out of memory. Every record must be of a supported form:
-/// `unaudited` finds no other.
+/// The verdict on the records: malformed with the lowest-numbered cause that occurs, at the first record
+/// that shows it; else no at the first record that ends a region which covers an unfinished task, or that
+/// starts a task before a predecessor is finished; else yes with the greedy order. Fails only when out of
+/// memory.
 pub fn check(alloc: Global, trace: &Trace) -> Result<Verdict, CheckFault>
-    requires { AreAudited trace.now.records }
     ensures { IfOk result (IsVerdict trace.now.records) }
 {
     match verdict_of(alloc, trace) {
@@ -43,14 +48,15 @@ pub fn check(alloc: Global, trace: &Trace) -> Result<Verdict, CheckFault>
 /// The verdict, or the fault of the first phase that finds a cause. Each phase needs that the causes before
 /// its own do not occur.
 fn verdict_of(alloc: Global, trace: &Trace) -> Result<Verdict, SearchFault>
-    requires { AreAudited trace.now.records }
     ensures verdict { IfOk result (IsVerdict trace.now.records) }
     ensures malformed { IfErr result (IsLeastFound trace.now.records) }
 {
     numbers_have_no_gap(trace)?;
     let family = family_of(alloc, trace)?;
     let states = states_of(alloc, trace, &family)?;
+    let teams = teams_of(alloc, trace, &family, &states)?;
     regions_are_not_nested(alloc, trace, &family)?;
+    let edges = edges_of(alloc, trace, &family)?;
     claims_are_right(trace, &family)?;
     let makers = makers_of(alloc, trace)?;
     lengths_are_reached(trace, makers.len())?;
@@ -58,11 +64,8 @@ fn verdict_of(alloc: Global, trace: &Trace) -> Result<Verdict, SearchFault>
     lengths_rise(trace, &creations)?;
     let order = order_of(alloc, trace, &creations, &makers)?;
     no_task_is_for_a_device(trace)?;
-    match find_open(alloc, trace.records(), &family, &states)? {
-        Some((at, task)) => Ok(Verdict::No {
-            at,
-            why: Why::Unfinished(task),
-        }),
+    match violation_of(alloc, trace, &family, &states, &teams, &edges)? {
+        Some((at, why)) => Ok(Verdict::No { at, why }),
         None => Ok(Verdict::Yes {
             order: Order::from_vec(order),
         }),
@@ -108,11 +111,35 @@ fn states_of<'a>(
     Ok(run(alloc, trace, family)?)
 }
 
-/// Excludes NestedParallel.
-fn regions_are_not_nested(alloc: Global, trace: &Trace, family: &Family) -> Result<(), SearchFault>
+/// The teams and their barriers. Excludes TeamShort.
+fn teams_of(
+    alloc: Global,
+    trace: &Trace,
+    family: &Family,
+    states: &States,
+) -> Result<Teams, SearchFault>
     requires clear { IsClear trace.now.records 7 }
     requires family { IsFamilyOf trace.now.records family.now }
+    requires states { AreStatesOf trace.now.records states.now }
+    ensures teams { IfOk result (IsTeamsOf trace.now.records family.now.tasks) }
     ensures clear { OnOk result (IsClear trace.now.records 8) }
+    ensures least { IfErr result (IsLeastFound trace.now.records) }
+{
+    match Teams::build(alloc, trace.records(), family, states) {
+        Ok(teams) => Ok(teams),
+        Err(TeamFault::Memory) => Err(SearchFault::Memory),
+        Err(TeamFault::Short(at)) => Err(SearchFault::Malformed {
+            at,
+            cause: Cause::TeamShort,
+        }),
+    }
+}
+
+/// Excludes NestedParallel.
+fn regions_are_not_nested(alloc: Global, trace: &Trace, family: &Family) -> Result<(), SearchFault>
+    requires clear { IsClear trace.now.records 8 }
+    requires family { IsFamilyOf trace.now.records family.now }
+    ensures clear { OnOk result (IsClear trace.now.records 9) }
     ensures least { IfErr result (IsLeastFound trace.now.records) }
 {
     match nested(alloc, trace, family) {
@@ -125,11 +152,34 @@ fn regions_are_not_nested(alloc: Global, trace: &Trace, family: &Family) -> Resu
     }
 }
 
+/// The predecessors of tasks. Excludes DepsPlace.
+fn edges_of<'a>(
+    alloc: Global,
+    trace: &'a Trace,
+    family: &'a Family,
+) -> Result<Edges<'a>, SearchFault>
+    requires clear { IsClear trace.now.records 9 }
+    requires family { IsFamilyOf trace.now.records family.now }
+    ensures records { IfOk result (λ edges. edges.records ≡ trace.now.records) }
+    ensures family { IfOk result (λ edges. edges.family ≡ family.now) }
+    ensures clear { OnOk result (IsClear trace.now.records 10) }
+    ensures least { IfErr result (IsLeastFound trace.now.records) }
+{
+    match Edges::build(alloc, trace, family) {
+        Ok(edges) => Ok(edges),
+        Err(EdgeFault::Memory) => Err(SearchFault::Memory),
+        Err(EdgeFault::Misplaced(at)) => Err(SearchFault::Malformed {
+            at,
+            cause: Cause::DepsPlace,
+        }),
+    }
+}
+
 /// Excludes ShareWrong.
 fn claims_are_right(trace: &Trace, family: &Family) -> Result<(), SearchFault>
-    requires clear { IsClear trace.now.records 8 }
+    requires clear { IsClear trace.now.records 10 }
     requires family { IsFamilyOf trace.now.records family.now }
-    ensures clear { OnOk result (IsClear trace.now.records 9) }
+    ensures clear { OnOk result (IsClear trace.now.records 11) }
     ensures least { IfErr result (IsLeastFound trace.now.records) }
 {
     match find_wrong_claim(trace.records(), family) {
@@ -143,10 +193,11 @@ fn claims_are_right(trace: &Trace, family: &Family) -> Result<(), SearchFault>
 
 /// By entry of the ledger the record that makes it. Excludes EntryTwice.
 fn makers_of(alloc: Global, trace: &Trace) -> Result<Vec<usize>, SearchFault>
-    requires { IsClear trace.now.records 9 }
-    ensures makers { IfOk result (λ makers. AreMakers trace.now.records (length trace.now.records) makers.items) }
+    requires { IsClear trace.now.records 11 }
+    ensures makers { IfOk result (λ makers. AreMakers trace.now.records
+        (length trace.now.records) makers.items) }
     ensures entries { IfOk result (λ makers. length makers.items ≡ entries_in trace.now.records) }
-    ensures clear { OnOk result (IsClear trace.now.records 10) }
+    ensures clear { OnOk result (IsClear trace.now.records 12) }
     ensures least { IfErr result (IsLeastFound trace.now.records) }
 {
     find_makers(alloc, trace.records())
@@ -154,9 +205,9 @@ fn makers_of(alloc: Global, trace: &Trace) -> Result<Vec<usize>, SearchFault>
 
 /// Excludes LengthAhead.
 fn lengths_are_reached(trace: &Trace, entries: usize) -> Result<(), SearchFault>
-    requires clear { IsClear trace.now.records 10 }
+    requires clear { IsClear trace.now.records 12 }
     requires entries { entries ≡ entries_in trace.now.records }
-    ensures clear { OnOk result (IsClear trace.now.records 11) }
+    ensures clear { OnOk result (IsClear trace.now.records 13) }
     ensures least { IfErr result (IsLeastFound trace.now.records) }
 {
     match find_ahead(trace.records(), entries) {
@@ -171,17 +222,18 @@ fn lengths_are_reached(trace: &Trace, entries: usize) -> Result<(), SearchFault>
 /// For each record the creation that it awaits.
 fn creations_of(alloc: Global, trace: &Trace, family: &Family) -> Result<Vec<Slot>, AllocError>
     requires { IsFamilyOf trace.now.records family.now }
-    ensures { IfOk result (λ creations. HaveCreations trace.now.records (length trace.now.records) creations.items) }
+    ensures { IfOk result (λ creations. HaveCreations trace.now.records
+        (length trace.now.records) creations.items) }
 {
     creations_awaited(alloc, trace.records(), family)
 }
 
 /// Excludes LengthBack.
 fn lengths_rise(trace: &Trace, creations: &[Slot]) -> Result<(), SearchFault>
-    requires clear { IsClear trace.now.records 11 }
+    requires clear { IsClear trace.now.records 13 }
     requires creations { HaveCreations trace.now.records (length trace.now.records) creations.now }
     requires at_home { IsFreeOf trace.now.records Moved }
-    ensures clear { OnOk result (IsClear trace.now.records 12) }
+    ensures clear { OnOk result (IsClear trace.now.records 14) }
     ensures least { IfErr result (IsLeastFound trace.now.records) }
 {
     match find_back(trace.records(), creations) {
@@ -200,14 +252,14 @@ fn order_of(
     creations: &[Slot],
     makers: &[usize],
 ) -> Result<Vec<usize>, SearchFault>
-    requires clear { IsClear trace.now.records 12 }
+    requires clear { IsClear trace.now.records 14 }
     requires creations { HaveCreations trace.now.records (length trace.now.records) creations.now }
     requires makers { AreMakers trace.now.records (length trace.now.records) makers.now }
     requires entries { length makers.now ≡ entries_in trace.now.records }
     requires at_home { IsFreeOf trace.now.records Moved }
     ensures linearization { IfOk result (λ order. IsLinearization trace.now.records order.items) }
     ensures greedy { IfOk result (λ order. IsGreedy trace.now.records order.items) }
-    ensures clear { OnOk result (IsClear trace.now.records 13) }
+    ensures clear { OnOk result (IsClear trace.now.records 15) }
     ensures least { IfErr result (IsLeastFound trace.now.records) }
 {
     let records = trace.records();
@@ -231,8 +283,8 @@ fn file_order(alloc: Global, records: &[Record]) -> Result<Vec<usize>, AllocErro
 
 /// Excludes TargetTask.
 fn no_task_is_for_a_device(trace: &Trace) -> Result<(), SearchFault>
-    requires { IsClear trace.now.records 13 }
-    ensures clear { OnOk result (IsClear trace.now.records 14) }
+    requires { IsClear trace.now.records 15 }
+    ensures clear { OnOk result (IsClear trace.now.records 16) }
     ensures least { IfErr result (IsLeastFound trace.now.records) }
 {
     match target(trace) {
@@ -241,5 +293,52 @@ fn no_task_is_for_a_device(trace: &Trace) -> Result<(), SearchFault>
             cause: Cause::TargetTask,
         }),
         None => Ok(()),
+    }
+}
+
+/// The first record at which a task that must be finished is not, and why it must be.
+fn violation_of(
+    alloc: Global,
+    trace: &Trace,
+    family: &Family,
+    states: &States,
+    teams: &Teams,
+    edges: &Edges,
+) -> Result<Option<(usize, Why)>, SearchFault>
+    requires clear { IsClear trace.now.records 16 }
+    requires family { IsFamilyOf trace.now.records family.now }
+    requires states { AreStatesOf trace.now.records states.now }
+    requires teams { IsTeamsOf trace.now.records family.now.tasks teams.now }
+    requires records { edges.now.records ≡ trace.now.records }
+    requires its_family { edges.now.family ≡ family.now }
+    ensures found { IfOk result (λ found. MatchOption found ((i : ℕ) → AreComplete trace.now.records i)
+        (λ f. IsFirstViolation trace.now.records f.0 f.1)) }
+    ensures memory_alone { IfErr result (λ fault. fault ≡ Memory) }
+{
+    let records = trace.records();
+    let known = find_known(alloc, records, family, states, teams)?;
+    let unfinished = find_open(alloc, records, family, states, teams, &known)?;
+    let late = find_late_start(alloc, records, family, edges, known.own())?;
+    Ok(first_of(unfinished, late))
+}
+
+/// The first of an end that covers an unfinished task and a start before a predecessor is finished.
+fn first_of(unfinished: Option<(usize, u64)>, late: Option<(usize, u64)>) -> Option<(usize, Why)>
+    ensures { (records : List Record)
+        → MatchOption unfinished (AreAllCovered records) (λ f. IsFirstOpenEnd records f.0 f.1)
+        → MatchOption late (AreAllReady records) (λ f. IsFirstLateStart records f.0 f.1)
+        → MatchOption result ((i : ℕ) → AreComplete records i) (λ f. IsFirstViolation records f.0 f.1) }
+{
+    match (unfinished, late) {
+        (Some((end, task)), Some((start, predecessor))) => {
+            if start < end {
+                Some((start, Why::Predecessor(predecessor)))
+            } else {
+                Some((end, Why::Unfinished(task)))
+            }
+        }
+        (Some((end, task)), None) => Some((end, Why::Unfinished(task))),
+        (None, Some((start, predecessor))) => Some((start, Why::Predecessor(predecessor))),
+        (None, None) => None,
     }
 }

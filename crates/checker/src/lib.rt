@@ -1,10 +1,10 @@
-//! The verdict on a trace: whether each wait ended only when it was allowed to.
+//! The verdict on a trace: whether each wait ended only when it was allowed to, and each dependent task
+//! started in time.
 //!
-//! `check` answers yes, no or malformed, and its contract says what each answer means. Read `verdict`,
-//! `checking` and `audited` first, then the phases in the order in which `checking` calls them.
+//! `check` answers yes, no or malformed, and its contract says what each answer means. Read `verdict`
+//! and `checking` first, then the phases in the order in which `checking` calls them.
 #![tactic(auto)]
 
-mod audited;
 mod checking;
 mod claims;
 mod lengths;
@@ -12,8 +12,8 @@ mod merge;
 mod repeats;
 mod schedule;
 mod search;
+mod starts;
 mod verdict;
 
-pub use audited::unaudited;
 pub use checking::check;
 pub use verdict::{CheckFault, Order, Verdict, Why};

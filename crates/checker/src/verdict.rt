@@ -48,13 +48,16 @@ impl Order {
 pub enum Why {
     /// The wait that ends there covers this task, and the task is not finished.
     Unfinished(u64),
+    /// This task is a predecessor of the one that starts there, or of the taskwait that is complete there,
+    /// and it is not finished.
+    Predecessor(u64),
 }
 
 /// What a trace shows. Records are named by their places in it, from 0.
 #[derive(Debug, Drop)]
 pub enum Verdict {
-    /// Each wait ended only when it was allowed to, in every order that the records allow;
-    /// `order` is one of them.
+    /// Each wait ended only when it was allowed to, and each dependent task started in time, in every order
+    /// that the records allow; `order` is one of them.
     Yes { order: Order },
     /// The first record at which a task that must be finished is not.
     No { at: usize, why: Why },

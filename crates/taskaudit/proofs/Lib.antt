@@ -1,2 +1,3 @@
 pub mod CommandLemmas
 mod PlaceLemmas
+mod HeadlineLemmas

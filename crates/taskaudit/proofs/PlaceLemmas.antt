@@ -10,8 +10,7 @@ use Rattle.ompt_events.specs.Violations.{IsRequired, covered, preceding, awaited
 use Rattle.ompt_events.proofs.PlaceLemmas.{at_within}
 use Rattle.checker.specs.declared.verdict.Verdict.TheVariants.{No}
 use Rattle.checker.specs.declared.verdict.Why.{Why}
-use Rattle.checker.specs.declared.verdict.Why.TheVariants.{Unfinished}
-use Rattle.checker.specs.Verdicts.{IsVerdict}
+use Rattle.checker.specs.Verdicts.{IsVerdict, task_of}
 
 -- the end of a region is one of the records
 region_within : (rs : List Record) (i own begin : ℕ) (kind : SyncKind) → IsRegion rs i own kind begin → i < length rs
@@ -27,4 +26,4 @@ required_within rs i task (awaited {dependent = dependent} completes before) = a
 
 -- so is the record of a no
 pub no_within : (rs : List Record) (i : ℕ) (why : Why) → IsVerdict rs (No i why) → i < length rs
-no_within rs i (Unfinished task) verdict = required_within rs i task verdict.unfinished.unfinished.required
+no_within rs i why verdict = required_within rs i (task_of why) verdict.unfinished.unfinished.required

@@ -1,36 +1,47 @@
 -- What an audit makes of the bytes that it reads, and what it writes.
-use Rattle.std.specs.Prelude.{◌≡◌, ◌⊎◌, ℕ, ◌+◌, List, take, Option, IfSome, Some, None, Result, Ok, Err, ⊤}
+use Rattle.std.specs.Prelude.{◌≡◌, ℕ, List, take, Option, IfSome, Some, None, Result, Ok, Err, ⊤}
 use Rattle.std.specs.Io.KnownBytes.{Appends, Keeps}
 use Rattle.ompt_events.specs.declared.records.Record.{Record}
+use Rattle.ompt_events.specs.Records.{wait_completed}
+use Rattle.ompt_events.specs.Places.{at}
 use Rattle.ompt_events.specs.Traces.{TraceView}
+use Rattle.ompt_events.specs.Tree.{IsExplicit}
+use Rattle.ompt_events.specs.HappensBefore.{IsStart}
 use Rattle.ompt_events.specs.Linearization.{IsLinearization}
+use Rattle.ompt_events.specs.Completion.{IsCompleteIn}
+use Rattle.ompt_events.specs.Coverage.{Covers}
+use Rattle.ompt_events.specs.Dependences.{IsPredecessor}
 use Rattle.certificate.specs.declared.faults.ReadCause.{ReadCause}
 use Rattle.certificate.specs.declared.faults.WriteFault.{WriteFault}
 use Rattle.certificate.specs.Counts.{TakesStalls}
-use Rattle.certificate.specs.declared.faults.ReadCause.TheVariants.{Field}
-use Rattle.certificate.specs.Files.{file_says, fault_in}
+use Rattle.certificate.specs.Files.{file_says}
 use Rattle.certificate.specs.Reading.{IsToldRightly}
 use Rattle.checker.specs.declared.verdict.Verdict.{Verdict}
-use Rattle.checker.specs.Audited.{AreAudited, IsFirstUnaudited}
-use Rattle.checker.specs.Verdicts.{IsVerdict, IsAlwaysComplete}
+use Rattle.checker.specs.Verdicts.{IsVerdict}
 use Rattle.taskaudit.specs.declared.work.Outcome.{Outcome}
 use Rattle.taskaudit.specs.declared.work.Outcome.TheVariants.{Yes}
 use Rattle.taskaudit.specs.declared.work.AuditFault.{AuditFault}
 use Rattle.taskaudit.specs.declared.work.AuditFault.TheVariants.{Read, Write}
 use Rattle.taskaudit.specs.Reports.{report_of, outcome_of}
 
--- there is an order of all records that keeps what happens before what, and in every such order
--- each task that a wait covers is complete when the wait ends
-pub record KeepsItsWaits (rs : List Record) : Type 0 where
+-- There is an order of all records that keeps what happens before what. In every such order each task that a
+-- wait covers is complete when the wait ends (OpenMP 5.2, 15.3 to 15.5), each explicit task starts after all
+-- its predecessors are complete (15.9.5), and so is each taskwait with dependences complete (15.5).
+pub record IsSynchronised (rs : List Record) : Type 0 where
   pub order : List ℕ
   pub has_order : IsLinearization rs order
-  pub always_complete : IsAlwaysComplete rs
+  pub waits : (other : List ℕ) → IsLinearization rs other → (i task : ℕ) → Covers rs i task
+      → IsCompleteIn rs other task i
+  pub starts : (other : List ℕ) → IsLinearization rs other → (i dependent predecessor : ℕ)
+      → IsExplicit rs dependent → IsStart rs i dependent → IsPredecessor rs dependent predecessor
+      → IsCompleteIn rs other predecessor i
+  pub taskwaits : (other : List ℕ) → IsLinearization rs other → (i dependent predecessor : ℕ)
+      → at wait_completed rs i ≡ Some dependent → IsPredecessor rs dependent predecessor
+      → IsCompleteIn rs other predecessor i
 
--- the bytes that were read, where they are known, are a file for the trace, each record of a form that a
--- check takes, and this is the records' verdict
+-- the bytes that were read, where they are known, are a file for the trace, and this is the records' verdict
 pub record IsJudged (bytes : Option (List ℕ)) (trace : TraceView) (verdict : Verdict) : Type 0 where
   pub file : IfSome bytes (λ known. file_says known ≡ Ok trace)
-  pub taken : AreAudited trace.records
   pub right : IsVerdict trace.records verdict
 
 -- the report of the verdict was written, and nothing else, and the outcome is the verdict's kind
@@ -40,7 +51,7 @@ pub record Reports (bytes old new : Option (List ℕ)) (outcome : Outcome) : Typ
   pub judged : IsJudged bytes trace verdict
   pub written : Appends old new (report_of trace.records verdict)
   pub kind : outcome ≡ outcome_of verdict
-  pub kept : outcome ≡ Yes → KeepsItsWaits trace.records
+  pub kept : outcome ≡ Yes → IsSynchronised trace.records
 
 -- the report was written up to somewhere
 pub record BreaksOff (bytes old new : Option (List ℕ)) : Type 0 where
@@ -55,23 +66,10 @@ abbrev pub Leaves : Option (List ℕ) → Option (List ℕ) → Option (List ℕ
 Leaves bytes old new (Write f) = BreaksOff bytes old new
 Leaves bytes old new _ = Keeps old new
 
--- the fault of a file of which a check doesn't take the record at the place i: line 1 is the header
-abbrev pub not_taken : ℕ → AuditFault
-not_taken i = Read (fault_in (i + 2) Field)
-
--- the bytes are a file for a trace of whose records this is the first that a check doesn't take
-pub record IsNotTaken (bytes : List ℕ) (fault : AuditFault) : Type 0 where
-  pub trace : TraceView
-  pub file : file_says bytes ≡ Ok trace
-  pub place : ℕ
-  pub unaudited : IsFirstUnaudited trace.records place
-  pub told : fault ≡ not_taken place
-
--- a fault of the input is the file's first one, or one of the source or of memory while the line was read,
--- or that of a whole file with a record that a check doesn't take; left is what the source has left
+-- a fault of the input is the file's first one, or one of the source or of memory while the line was read;
+-- left is what the source has left
 abbrev pub IsReadRightly : Option (List ℕ) → Option (List ℕ) → AuditFault → Type 0
-IsReadRightly bytes left (Read f) =
-    IfSome bytes (λ known. IsToldRightly f.cause f.line known left ⊎ IsNotTaken known (Read f))
+IsReadRightly bytes left (Read f) = IfSome bytes (λ known. IsToldRightly f.cause f.line known left)
 IsReadRightly bytes left _ = ⊤
 
 -- how the reading ended: well, or with this cause

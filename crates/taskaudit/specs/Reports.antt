@@ -1,15 +1,16 @@
 -- What is printed, to the byte. Each text is one line.
 use Rattle.std.specs.Prelude.{ℕ, ◌+◌, ◌++◌, List, length, count_by, is_some, codes, decimal, slice_get}
-use Rattle.std.specs.Option.{option_map_or}
+use Rattle.std.specs.Option.{option_map_or, option_or, unwrap_or}
 use Rattle.ompt_events.specs.declared.records.Record.{Record}
 use Rattle.ompt_events.specs.Regions.{ends_wait}
 use Rattle.ompt_events.specs.declared.cause.Cause.{Cause}
 use Rattle.ompt_events.specs.CauseNames.{cause_number, cause_name}
-use Rattle.ompt_events.specs.Records.{creation}
+use Rattle.ompt_events.specs.Records.{creation, started, wait_completed}
+use Rattle.ompt_events.specs.Places.{at}
 use Rattle.ompt_events.specs.Causes.{entries_in}
 use Rattle.checker.specs.declared.verdict.Verdict.{Verdict}
 use Rattle.checker.specs.declared.verdict.Verdict.TheVariants.{Yes, No, Malformed}
-use Rattle.checker.specs.declared.verdict.Why.TheVariants.{Unfinished}
+use Rattle.checker.specs.declared.verdict.Why.TheVariants.{Unfinished, Predecessor}
 use Rattle.certificate.specs.declared.faults.ReadCause.{ReadCause}
 use Rattle.certificate.specs.declared.faults.ReadCause.TheVariants as read
 use Rattle.certificate.specs.declared.faults.WriteFault.{WriteFault}
@@ -55,6 +56,17 @@ abbrev pub no_text : List Record → ℕ → ℕ → List ℕ
 no_text rs i task =
     codes "no: " ++ (place_of rs i ++ (codes ": task " ++ (decimal task ++ codes " unfinished\n")))
 
+-- the task that starts at the place i, or the taskwait that is complete there; 0 where there is none
+abbrev pub dependent_at : List Record → ℕ → ℕ
+dependent_at rs i = unwrap_or (option_or (at started rs i) (at wait_completed rs i)) 0
+
+-- the predecessor is unfinished there
+abbrev pub late_text : List Record → ℕ → ℕ → List ℕ
+late_text rs i predecessor =
+    codes "no: " ++ (place_of rs i
+    ++ (codes ": task " ++ (decimal predecessor
+    ++ (codes " must precede task " ++ (decimal (dependent_at rs i) ++ codes "\n")))))
+
 -- the record at the place i has the cause
 abbrev pub malformed_text : List Record → ℕ → Cause → List ℕ
 malformed_text rs i cause =
@@ -66,6 +78,7 @@ malformed_text rs i cause =
 abbrev pub report_of : List Record → Verdict → List ℕ
 report_of rs (Yes order) = yes_text rs
 report_of rs (No i (Unfinished task)) = no_text rs i task
+report_of rs (No i (Predecessor task)) = late_text rs i task
 report_of rs (Malformed i cause) = malformed_text rs i cause
 
 -- the text of a fault, one line: any lack of memory has the same

@@ -1,17 +1,15 @@
 //! The audit of a file.
-ghost use Rattle.std.specs.Prelude.{◌≡◌, ◌≢◌, ◌<◌, ◌^◌, ℕ, Err, IfOk, IfErr};
-ghost use Rattle.ompt_events.specs.Limits.{max_records};
+ghost use Rattle.std.specs.Prelude.{◌≡◌, ◌≢◌, ℕ, Err, IfOk, IfErr};
 ghost use Rattle.certificate.specs.Counts.{TakesTurns, breaks_told, breaks_written};
-ghost use Rattle.taskaudit.specs.Audits.{AsksForTurns, Reports, Leaves, IsReadRightly, read_cause_of, written_of, not_taken};
+ghost use Rattle.taskaudit.specs.Audits.{AsksForTurns, Reports, Leaves, IsReadRightly, read_cause_of, written_of};
 
 use crate::report::report_text;
 use crate::work::{AuditFault, Outcome};
-use certificate::{ReadCause, ReadFault, Sink, Source, WriteFault, read, write_bytes};
-use checker::{check, unaudited};
+use certificate::{Sink, Source, WriteFault, read, write_bytes};
+use checker::check;
 use std::alloc::Global;
 
 /// Reads a trace file to its end, checks it and writes the report of its verdict.
-/// A file with a record that a check does not take yet is refused at that record's line.
 pub fn audit<I: Source, O: Sink>(
     alloc: Global,
     source: &mut I,
@@ -33,25 +31,10 @@ pub fn audit<I: Source, O: Sink>(
     ensures sink_memory { result ≢ Err (AuditFault.Write WriteFault.Memory) }
 {
     let trace = read(alloc, source).map_err(AuditFault::Read)?;
-    if let Some(at) = unaudited(&trace) {
-        return Err(not_taken(at));
-    }
     let verdict = check(alloc, &trace).map_err(AuditFault::Check)?;
     let text = report_text(alloc, &verdict, &trace)?;
     match write_bytes(text.as_bytes(), sink) {
         Ok(()) => Ok(Outcome::of(&verdict)),
         Err(fault) => Err(AuditFault::Write(fault)),
     }
-}
-
-/// The fault of a file of which a check does not take the record at this place; the file's line 1 is the
-/// header.
-fn not_taken(at: usize) -> AuditFault
-    requires { at < max_records }
-    ensures { result ≡ not_taken at }
-{
-    AuditFault::Read(ReadFault {
-        line: at as u32 + 2,
-        cause: ReadCause::Field,
-    })
 }

@@ -1,6 +1,6 @@
-//! Judges recorded runs of OpenMP tasks: whether each wait ended only when it was allowed to.
-//! Read `audit` first (`auditing.rt`): its clause `reports` is the headline. Then `serve` and `exit_status`
-//! (`program.rt`), and the texts (`report.rt`).
+//! Judges recorded runs of OpenMP tasks: whether each wait ended, and each dependent task started, only when
+//! it was allowed to. Read `audit` first (`auditing.rt`): its clause `reports` is the headline. Then `serve`
+//! and `exit_status` (`program.rt`), and the texts (`report.rt`).
 #![tactic(auto)]
 
 mod auditing;

@@ -4,7 +4,7 @@ ghost use Rattle.ompt_events.specs.Causes.{entries_in};
 ghost use Rattle.ompt_events.specs.Limits.{max_records};
 ghost use Rattle.checker.specs.Verdicts.{IsVerdict};
 ghost use Rattle.clap.specs.Words.{kind_of};
-ghost use Rattle.taskaudit.specs.Reports.{report_of, fault_text_of, yes_text, no_text, malformed_text, place_text, place_of, creates_in, waits_in};
+ghost use Rattle.taskaudit.specs.Reports.{report_of, fault_text_of, yes_text, no_text, late_text, dependent_at, malformed_text, place_text, place_of, creates_in, waits_in};
 ghost use Rattle.taskaudit.specs.Statuses.{fault_status_of, usage_status_of};
 
 use crate::work::AuditFault;
@@ -37,6 +37,10 @@ pub fn report_text(alloc: Global, verdict: &Verdict, trace: &Trace) -> Result<St
             at,
             why: Why::Unfinished(task),
         } => no_text(alloc, records, *at, *task),
+        Verdict::No {
+            at,
+            why: Why::Predecessor(task),
+        } => late_text(alloc, records, *at, *task),
         Verdict::Malformed { at, cause } => malformed_text(alloc, records, *at, *cause),
     };
     text.map_err(|_| AuditFault::Memory)
@@ -85,6 +89,34 @@ fn no_text(alloc: Global, records: &[Record], at: usize, task: u64) -> Result<St
 {
     let place = Place::of(records, at);
     format!(in alloc; "no: {place}: task {task} unfinished\n")
+}
+
+/// The report of a no: the task should have been finished where another starts, or a taskwait is complete.
+fn late_text(
+    alloc: Global,
+    records: &[Record],
+    at: usize,
+    predecessor: u64,
+) -> Result<String, AllocError>
+    requires within { at < length records.now }
+    requires few { length records.now ≤ max_records }
+    ensures { IfOk result (λ text. string_bytes text ≡ late_text records.now at predecessor) }
+{
+    let place = Place::of(records, at);
+    let task = dependent_at(records, at);
+    format!(in alloc; "no: {place}: task {predecessor} must precede task {task}\n")
+}
+
+/// The task that starts at the record, or the taskwait that is complete there; 0 where there is none.
+fn dependent_at(records: &[Record], at: usize) -> u64
+    requires { at < length records.now }
+    ensures { result ≡ dependent_at records.now at }
+{
+    let body = &records[at].body;
+    match body.started() {
+        Some(task) => task,
+        None => body.wait_completed().unwrap_or(0),
+    }
 }
 
 /// The report of a malformed trace: the record has the cause.

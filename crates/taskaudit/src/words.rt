@@ -10,14 +10,22 @@ use clap::{Command, Error};
 use std::alloc::{AllocError, Global};
 use std::convert::AsStr;
 
+/// What the program is for.
+const ABOUT: &str =
+    "Checks recorded OpenMP tasks: did each wait end, and each dependent task start, only when \
+                     it was allowed to?";
+
 /// What stands below the options in the help.
 const EXPLANATION: &str = r#"Answers, one line on standard output:
   yes: 6 records, 1 entries, 1 tasks, 1 waits
       in every order of the events that the file allows, each task that a
-      taskwait or taskgroup waits for is complete when the wait ends
+      taskwait, taskgroup or barrier waits for is complete when the wait
+      ends, and each dependent task starts after all its predecessors
   no: line 5, thread 0, seq 3: task 2 unfinished
-      the first wait in the file that ended before a task that it waits for
-      was known to be finished, and that task
+      the first event in the file at which a task was not known to be
+      finished that must be: here a wait that ended before its task 2
+  no: line 7, thread 0, seq 5: task 2 must precede task 3
+      here task 3 starts before its predecessor 2 is finished
   malformed: line 4, thread 0, seq 2: cause 2 CreatedTwice
       no real run can produce these events: the cause, and the first event
       that shows it
@@ -29,19 +37,18 @@ Input: one JSON object a line, in UTF-8. The first line is
   {"format":"task-credit-audit","version":1}
 and each other one an event of OpenMP's tool interface (OMPT), with the members
   cb, thread, seq (0, 1, .. in each thread), seen, and with cb
+  parallel_begin task, parallel, requested
+  parallel_end   task, parallel
   implicit_task  endpoint, parallel, task, actual, index, flags
   task_create    task, child, flags, deps
+  dependences    task, list
   task_schedule  prior, status, next; where it finishes a task also root, path, kept
   sync_region    kind, endpoint, parallel, task
   cancel         task, flags; with discarded_task also root, path, kept
   thread_begin   kind
   thread_end     no others
 seen is how many finished tasks the thread knew of; for an event that finishes a
-task, how many were finished before it. docs/FORMAT.md has the whole format.
-
-Supported so far: all of these events, but no parallel regions and members of
-their teams, no dependences and no barriers. A file with another event is
-answered 'unreadable: line L: 6 Field', where L is the first such line."#;
+task, how many were finished before it. docs/FORMAT.md has the whole format."#;
 
 /// What the command line asks for; its first word is the program's name.
 pub fn job<'a, S: AsStr>(alloc: Global, words: &'a [S]) -> Result<Job, Error>
@@ -68,7 +75,7 @@ fn command<'a>(alloc: Global) -> Result<Command<'a>, AllocError>
         .about("Checks the trace file on standard input")
         .after_help(EXPLANATION);
     Command::new(alloc, "taskaudit")
-        .about("Checks recorded OpenMP tasks: did each wait end only when it was allowed to?")
+        .about(ABOUT)
         .after_help(EXPLANATION)
         .disable_help_subcommand(true)
         .subcommand_required(true)

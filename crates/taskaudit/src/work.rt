@@ -17,9 +17,9 @@ pub enum Job {
 /// The kind of a verdict that was reported.
 #[derive(Clone, Copy, Debug, PartialEq, Eq)]
 pub enum Outcome {
-    /// Each wait ended only when it was allowed to.
+    /// Each wait ended, and each dependent task started, only when it was allowed to.
     Yes,
-    /// Some wait ended too early.
+    /// A wait ended, or a dependent task started, too early.
     No,
     /// No real run can produce these records.
     Malformed,

@@ -4,6 +4,7 @@
 
 mod calls;
 mod devices;
+mod edges;
 mod layers;
 mod ledger;
 mod lines;
@@ -22,7 +23,7 @@ use anyhow::{Result, bail};
 use std::env;
 
 const WORDS: &str =
-    "values, read, write, lines, names, tables, shares, states, ledger, devices, refusals, tree, verdict, \
+    "values, read, write, lines, names, tables, shares, states, ledger, devices, refusals, tree, edges, verdict, \
      waits, shared or calls";
 
 /// Does what the word asks for.
@@ -40,6 +41,7 @@ fn run(rt: &HostRuntime, word: &str) -> Result<()> {
         "devices" => devices::all(rt),
         "refusals" => refusals::all(rt),
         "tree" => tree::of_input(rt),
+        "edges" => edges::of_input(rt),
         "verdict" => verdict::of_input(rt),
         "waits" => waits::each(rt),
         _ => bail!("the word must be {WORDS}"),

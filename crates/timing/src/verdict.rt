@@ -2,7 +2,7 @@
 use crate::lines::told;
 use anyhow::{Result, bail};
 use certificate::{FromRead, read};
-use checker::{check, unaudited};
+use checker::check;
 use ompt_events::Trace;
 use task_states::{gap, target};
 
@@ -18,11 +18,8 @@ pub fn of_input(rt: &HostRuntime) -> Result<()> {
 fn of_trace(rt: &HostRuntime, trace: &Trace) -> Result<()> {
     let gap = gap(trace);
     let target = target(trace);
-    let unaudited = unaudited(trace);
-    println!(rt; "gap {gap:?}, target {target:?}, unaudited {unaudited:?}")?;
-    if unaudited.is_none() {
-        let verdict = check(rt.alloc(), trace)?;
-        println!(rt; "{verdict:?}")?;
-    }
+    println!(rt; "gap {gap:?}, target {target:?}")?;
+    let verdict = check(rt.alloc(), trace)?;
+    println!(rt; "{verdict:?}")?;
     Ok(())
 }

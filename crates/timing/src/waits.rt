@@ -2,22 +2,19 @@
 ghost use Rattle.std.specs.Prelude.{◌<◌, length};
 ghost use Rattle.task_tree.specs.Paths.{IsTreeOf};
 ghost use Rattle.task_states.specs.States.{AreStatesOf};
-ghost use Rattle.checker.specs.Audited.{AreAudited};
-ghost use Rattle.wait_coverage.specs.Limits.{HaveNoBarriers};
 
 use crate::lines::{HEADER, input, lines_of, told};
 use anyhow::{Result, bail};
 use certificate::{FromRead, read};
-use checker::unaudited;
 use credit_ledger::{Entry, Ledger};
 use ompt_events::{Path, Record, Trace, finish};
 use std::alloc::Global;
 use task_states::{States, run};
 use task_tree::Tree;
-use wait_coverage::Coverage;
+use wait_coverage::{Coverage, TeamFault};
 
-/// For each of the trace files that stand one after another on standard input: each end of a wait, whether it
-/// waits for children or for descendants, its spans, and the task that is unfinished there.
+/// For each of the trace files that stand one after another on standard input: each end of a wait, whether
+/// it waits for children or for descendants, its spans, and the task that is unfinished there.
 pub fn each(rt: &HostRuntime) -> Result<()> {
     let bytes = input(rt)?;
     let mut file: Vec<u8> = Vec::new(rt.alloc());
@@ -40,15 +37,6 @@ fn of_file(rt: &HostRuntime, file: &[u8]) -> Result<()> {
 }
 
 fn of_trace(rt: &HostRuntime, trace: &Trace) -> Result<()> {
-    match unaudited(trace) {
-        Some(at) => bail!("the record at {at} is of a form that is not checked"),
-        None => of_audited(rt, trace),
-    }
-}
-
-fn of_audited(rt: &HostRuntime, trace: &Trace) -> Result<()>
-    requires { AreAudited trace.now.records }
-{
     match Tree::build(rt.alloc(), trace) {
         Ok(tree) => of_tree(rt, trace, &tree),
         Err(_) => bail!("no tree"),
@@ -57,7 +45,6 @@ fn of_audited(rt: &HostRuntime, trace: &Trace) -> Result<()>
 
 fn of_tree(rt: &HostRuntime, trace: &Trace, tree: &Tree) -> Result<()>
     requires tree { IsTreeOf trace.now.records tree.now }
-    requires no_barriers { HaveNoBarriers trace.now.records }
 {
     match run(rt.alloc(), trace, tree.family()) {
         Ok(states) => of_states(rt, trace, tree, &states),
@@ -68,9 +55,15 @@ fn of_tree(rt: &HostRuntime, trace: &Trace, tree: &Tree) -> Result<()>
 fn of_states(rt: &HostRuntime, trace: &Trace, tree: &Tree, states: &States) -> Result<()>
     requires tree { IsTreeOf trace.now.records tree.now }
     requires states { AreStatesOf trace.now.records states.now }
-    requires no_barriers { HaveNoBarriers trace.now.records }
 {
-    let coverage = Coverage::build(rt.alloc(), trace, tree, states)?;
+    let coverage = match Coverage::build(rt.alloc(), trace, tree, states) {
+        Ok(coverage) => coverage,
+        Err(TeamFault::Short(at)) => {
+            println!(rt; "short at {at}")?;
+            return Ok(());
+        }
+        Err(TeamFault::Memory) => bail!("out of memory"),
+    };
     let ledger = ledger_of(rt.alloc(), trace.records())?;
     for number in 0..coverage.ends().len() {
         of_end(rt, &coverage, &ledger, number)?;

@@ -39,7 +39,8 @@ pub record IsSameRegion (task other begin start : ℕ) (kind another : SyncKind)
   pub kind_is : kind ≡ another
   pub begin_is : begin ≡ start
 
-says_same : (rs : List Record) (i task other : ℕ) (kind another : SyncKind) (e f : Endpoint) → at region rs i ≡ Some (task, kind, e) → at region rs i ≡ Some (other, another, f) → (task ≡ other) × (kind ≡ another) × (e ≡ f)
+-- what two readings of one record say
+pub says_same : (rs : List Record) (i task other : ℕ) (kind another : SyncKind) (e f : Endpoint) → at region rs i ≡ Some (task, kind, e) → at region rs i ≡ Some (other, another, f) → (task ≡ other) × (kind ≡ another) × (e ≡ f)
 says_same rs i task other kind another e f here there =
     let same = same_Some (task, kind, e) (other, another, f) (sym here ∙ there) in
     (ap (λ (p : ℕ × SyncKind × Endpoint). p.0) same, ap (λ (p : ℕ × SyncKind × Endpoint). p.1) same, ap (λ (p : ℕ × SyncKind × Endpoint). p.2) same)

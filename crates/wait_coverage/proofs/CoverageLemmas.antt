@@ -1,22 +1,26 @@
 -- The ends of waits, and the credit that each waits for.
-use Rattle.std.proofs.Common.{◌≡◌, ◌∙◌, ℕ, zero, suc, ◌<◌, ◌+◌, true, List, [], ◌∷◌, ◌++◌, length, get_or, Option, Some, refl, sym, ap, subst, arith, inl, inr, ◌⊎◌}
-use Rattle.std.proofs.lemmas.Bool.{cases_eq}
+use Rattle.std.proofs.Common.{◌≡◌, ◌∙◌, ℕ, ◌<◌, ◌+◌, List, [], ◌∷◌, ◌++◌, length, get_or, Option, Some, None, refl, sym, ap, subst, arith, inl, inr}
+use Rattle.std.proofs.lemmas.Bool.{cases_eq, cases_lt}
+use Rattle.std.specs.Global.{Vec}
 use Rattle.std.proofs.lemmas.Option.{same_Some, slice_get_within, slice_get-get_or}
 use Rattle.std.proofs.lemmas.List.{length_push}
 use Rattle.std.specs.Prelude.{slice_get, take, Contains, MatchOption}
 use Rattle.ompt_events.specs.declared.records.Record.{Record}
 use Rattle.ompt_events.specs.declared.names.SyncKind.{SyncKind}
 use Rattle.ompt_events.specs.declared.names.SyncKind.TheVariants.{Taskwait, Taskgroup}
-use Rattle.ompt_events.specs.Regions.{IsRegion, is_barrier, waits_for_tasks}
+use Rattle.ompt_events.specs.Regions.{IsRegion, IsBarrierBegin}
+use Rattle.ompt_events.specs.Causes.{missed, team_short}
 use Rattle.ompt_events.proofs.ListLemmas.{get_pushed, get_last, pushed_cases, get_contains, contains_get}
 use Rattle.ompt_events.specs.declared.names.Endpoint.TheVariants.{Begin, BeginEnd}
-use Rattle.ompt_events.specs.Records.{region}
+use Rattle.ompt_events.specs.Records.{region, made}
 use Rattle.ompt_events.specs.Places.{at, seen_at}
 use Rattle.ompt_events.specs.Tree.{HasPath}
 use Rattle.ompt_events.specs.Regions.{ended, at_once}
 use Rattle.ompt_events.proofs.RecordLemmas.{at_through}
 use Rattle.ompt_events.proofs.RegionLemmas.{own_begin}
 use Rattle.task_tree.specs.Subjects.{subject}
+use Rattle.task_tree.specs.Makers.{AreNoted}
+use Rattle.task_tree.specs.Family.{FamilyView, IsFamilyOf}
 use Rattle.task_tree.proofs.NamedLemmas.{region_subject}
 use Rattle.task_tree.proofs.PathLemmas.{root_known}
 use Rattle.credit_ledger.specs.declared.entry.Entry.{Entry}
@@ -26,33 +30,29 @@ use Rattle.credit_ledger.specs.declared.entry.Cover.TheVariants.{Children, Desce
 use Rattle.credit_ledger.specs.Entries.{IsSpanHeld}
 use Rattle.wait_coverage.specs.Entries.{IsLedgerOf}
 use Rattle.wait_coverage.specs.Spans as spans
-use Rattle.wait_coverage.specs.Spans.{AreSpans, IsCoverComplete, IsFreeUpTo}
-use Rattle.wait_coverage.specs.Limits.{HaveNoBarriers}
-use Rattle.wait_coverage.specs.Waits.{EndsNoWaitAt, IsWaitAt, waits, groups, kind_of, IsFirstOpen}
-use Rattle.wait_coverage.specs.Coverage.{IsEnd, AreEnds, AreWaits, CoverageView, IsCoverage, AreFirstOpen}
+use Rattle.wait_coverage.specs.Spans.{AreSpans, AreMemberSpans, IsSpan, IsCoverComplete, IsFreeUpTo}
+use Rattle.wait_coverage.specs.Teams.{TeamsView, IsTeamsOf, AreTeams, IsMemberNumbered}
+use Rattle.wait_coverage.specs.Waits.{EndsNoWaitAt, IsWaitAt, waits, groups, meets, cover_of, IsFirstOpen, waiting}
+use Rattle.wait_coverage.specs.Coverage.{IsEnd, AreEnds, AreWaits, IsCoverAt, IsOnly, HasBegun, HaveBegun, IsMemberSpan, AreRosterSpans, CoverageView, IsCoverage, AreFirstOpen}
 use Rattle.wait_coverage.specs.declared.waits.Wait.{Wait}
+use Rattle.wait_coverage.specs.declared.waits.Wait.TheVariants.{Taskwait as ForTaskwait, Taskgroup as ForTaskgroup, Barrier as ForBarrier}
 use Rattle.wait_coverage.proofs.CoverLemmas.{ends_at}
 use Rattle.wait_coverage.proofs.CreditLaw.{held_is_complete}
+use Rattle.wait_coverage.proofs.BarrierLemmas.{barrier_is_other, begun_subject, begin_says}
+use Rattle.wait_coverage.proofs.MateLemmas.{mate_of_number, begin_within}
+use Rattle.wait_coverage.proofs.MemberLemmas.{mate_index}
+use Rattle.wait_coverage.proofs.OpenLemmas.{barrier_waits}
+use Rattle.wait_coverage.proofs.WaitLemmas.{stands_there}
 
 -- ---- the ends
 
-end_kind : (kind : SyncKind) → waits_for_tasks kind ≡ true → (kind ≡ Taskwait) ⊎ ((kind ≡ Taskgroup) ⊎ (is_barrier kind ≡ true))
-end_kind Taskwait is = inl refl
-end_kind Taskgroup is = inr (inl refl)
-end_kind kind is = inr (inr is)
-
-no_end : (rs : List Record) (i : ℕ) → HaveNoBarriers rs → EndsNoWaitAt rs i → IsEnd rs i → ⊥
-no_end rs i none ends_none (task, begin, kind, there, is) = elim (end_kind kind is) [
-  | inl wait ↦ let P : SyncKind → Type 0 = λ k. IsRegion rs i task k begin in (ends_none task begin).0 (subst P wait there)
-  | inr other ↦ elim other [
-    | inl group ↦ let P : SyncKind → Type 0 = λ k. IsRegion rs i task k begin in (ends_none task begin).1 (subst P group there)
-    | inr barrier ↦ let ends = ends_at rs i task begin kind there in none i task kind ends.endpoint ends.says barrier
-  ]
-]
+no_end : (rs : List Record) (i : ℕ) → EndsNoWaitAt rs i → IsEnd rs i → ⊥
+no_end rs i ends_none (task, begin, kind, there, is) = ends_none task begin kind is there
 
 wait_end : (rs : List Record) (tasks : List ℕ) (i : ℕ) (wait : Wait) → IsWaitAt rs tasks i wait → IsEnd rs i
 wait_end rs tasks i wait (waits {parent = parent} {begin = begin} is_parent there) = (parent, begin, Taskwait, there, refl)
 wait_end rs tasks i wait (groups {parent = parent} {begin = begin} is_parent there) = (parent, begin, Taskgroup, there, refl)
+wait_end rs tasks i wait (meets {own = own} {begin = begin} {kind = kind} is_own there barrier begins) = (own, begin, kind, there, barrier_waits kind barrier)
 
 pub ends_start : (rs : List Record) (ends : List ℕ) → ends ≡ [] → AreEnds rs 0 ends
 ends_start rs ends empty = record {
@@ -64,10 +64,10 @@ ends_start rs ends empty = record {
     nothing : (k i : ℕ) → slice_get ends k ≡ Some i → ⊥
     nothing k i there = let inside = slice_get_within ends k i there in let none = ap length empty in omega (arith, inside, none)
 
-pub ends_other : (rs : List Record) (n : ℕ) (ends : List ℕ) → HaveNoBarriers rs → AreEnds rs n ends → EndsNoWaitAt rs n → AreEnds rs (n + 1) ends
-ends_other rs n ends none are ends_none = record {
+pub ends_other : (rs : List Record) (n : ℕ) (ends : List ℕ) → AreEnds rs n ends → EndsNoWaitAt rs n → AreEnds rs (n + 1) ends
+ends_other rs n ends are ends_none = record {
   each = λ i below is. elim (cases_eq i n) [
-    | inl same ↦ absurd (let P : ℕ → Type 0 = IsEnd rs in no_end rs n none ends_none (subst P same is))
+    | inl same ↦ absurd (let P : ℕ → Type 0 = IsEnd rs in no_end rs n ends_none (subst P same is))
     | inr apart ↦ are.each i (omega (arith, below, apart)) is
   ];
   only = λ k i there. let old = are.only k i there in let less = old.0 in (omega (arith, less), old.1);
@@ -131,85 +131,208 @@ begin_subject rs i task begin kind (at_once says) = at_through region subject (t
 end_subject : (rs : List Record) (i task begin : ℕ) (kind : SyncKind) → IsRegion rs i task kind begin → at subject rs i ≡ Some task
 end_subject rs i task begin kind there = let ends = ends_at rs i task begin kind there in at_through region subject (task, kind, ends.endpoint) task rs i (region_subject task kind ends.endpoint) ends.says
 
--- a wait is within the records, and its task has an index
-pub record IsWithin (coverage : CoverageView) (end : ℕ) (wait : Wait) : Type 0 where
-  pub task : wait.task < length coverage.tree.family.tasks
-  pub from : wait.from < length coverage.numbers
-  pub to : wait.to < length coverage.numbers
-  pub inside : end < length coverage.records
-
-pub wait_within : (coverage : CoverageView) (end : ℕ) (wait : Wait) → IsCoverage coverage → IsWaitAt coverage.records coverage.tree.family.tasks end wait → IsWithin coverage end wait
-wait_within coverage end wait is (waits {parent = parent} {begin = begin} {index = index} is_parent there) =
+-- the records at which a wait begins and ends have numbers
+pub wait_begin : (coverage : CoverageView) (index begin end : ℕ) → IsCoverage coverage → IsWaitAt coverage.records coverage.tree.family.tasks end (ForTaskwait index begin) → begin < length coverage.numbers
+wait_begin coverage index begin end is (waits {parent = parent} is_parent there) =
     let ends = ends_at coverage.records end parent begin Taskwait there in
     let low = ends.below in
     let inside = ends.inside in
     let all = is.numbers.all in
-    record { task = slice_get_within coverage.tree.family.tasks index parent is_parent; from = omega (arith, inside, all); to = omega (arith, low, inside, all); inside = inside }
-wait_within coverage end wait is (groups {parent = parent} {begin = begin} {index = index} is_parent there) =
+    omega (arith, low, inside, all)
+
+pub group_numbers : (coverage : CoverageView) (index begin last end : ℕ) → IsCoverage coverage → IsWaitAt coverage.records coverage.tree.family.tasks end (ForTaskgroup index begin last) → (begin < length coverage.numbers) × (last < length coverage.numbers)
+group_numbers coverage index begin last end is (groups {parent = parent} is_parent there) =
     let ends = ends_at coverage.records end parent begin Taskgroup there in
     let low = ends.below in
     let inside = ends.inside in
     let all = is.numbers.all in
-    record { task = slice_get_within coverage.tree.family.tasks index parent is_parent; from = omega (arith, low, inside, all); to = omega (arith, inside, all); inside = inside }
+    (omega (arith, low, inside, all), omega (arith, inside, all))
 
--- what is found for the span is right
-pub record IsFound (coverage : CoverageView) (wait : Wait) (task : ℕ) (span : Span) : Type 0 where
-  pub is_task : slice_get coverage.tree.family.tasks wait.task ≡ Some task
-  pub stands : (root : ℕ) (path : List ℕ) → HasPath coverage.records root task path → HasPath coverage.records span.root task span.path
-  pub none : wait.cover ≡ Children → span.from ≡ 0
-  pub from : wait.cover ≡ Descendants → slice_get coverage.numbers wait.from ≡ Some span.from
-  pub to : slice_get coverage.numbers wait.to ≡ Some span.to
+-- the span of a task stands where the task does
+pub span_is : (rs : List Record) (family : FamilyView) (index id : ℕ) (span : Span) → IsFamilyOf rs family → slice_get family.tasks index ≡ Some id → ((root : ℕ) (path : List ℕ) → HasPath rs root id path → HasPath rs span.root id span.path) → IsSpan rs id span.from span.to span
+span_is rs family index id span is here stands =
+    let known = root_known rs family id index is here in
+    record { stands = stands known.0 known.1 known.2; from_there = refl; to_there = refl }
 
-pub span_right : (coverage : CoverageView) (end task : ℕ) (wait : Wait) (span : Span) → IsCoverage coverage → IsWaitAt coverage.records coverage.tree.family.tasks end wait → IsFound coverage wait task span → AreSpans coverage.records end wait.cover (span ∷ [])
-span_right coverage end task wait span is (waits {parent = parent} {begin = begin} {index = index} is_parent there) found =
-    let same = same_Some task parent (sym found.is_task ∙ is_parent) in
-    let known = root_known coverage.records coverage.tree.family parent index is.tree.family is_parent in
-    let P : ℕ → Type 0 = λ t. HasPath coverage.records span.root t span.path in
-    let Q : ℕ → Type 0 = λ t. HasPath coverage.records known.0 t known.1 in
-    spans.waited there (record {
-      stands = subst P same (found.stands known.0 known.1 (subst Q (sym same) known.2));
-      from_there = found.none refl;
-      to_there = is.numbers.each begin span.to found.to parent (begin_subject coverage.records end parent begin Taskwait there);
-    })
-span_right coverage end task wait span is (groups {parent = parent} {begin = begin} {index = index} is_parent there) found =
-    let same = same_Some task parent (sym found.is_task ∙ is_parent) in
-    let known = root_known coverage.records coverage.tree.family parent index is.tree.family is_parent in
-    let P : ℕ → Type 0 = λ t. HasPath coverage.records span.root t span.path in
-    let Q : ℕ → Type 0 = λ t. HasPath coverage.records known.0 t known.1 in
-    spans.grouped there (record {
-      stands = subst P same (found.stands known.0 known.1 (subst Q (sym same) known.2));
-      from_there = is.numbers.each begin span.from (found.from refl) parent (begin_subject coverage.records end parent begin Taskgroup there);
-      to_there = is.numbers.each end span.to found.to parent (end_subject coverage.records end parent begin Taskgroup there);
-    })
+pub wait_spans : (coverage : CoverageView) (index begin to end : ℕ) (list : List Span) → IsCoverage coverage → slice_get coverage.numbers begin ≡ Some to → ((id : ℕ) → slice_get coverage.tree.family.tasks index ≡ Some id → IsOnly coverage.records id 0 to list) → IsWaitAt coverage.records coverage.tree.family.tasks end (ForTaskwait index begin) → AreSpans coverage.records end Children list
+wait_spans coverage index begin to end list is is_to each (waits {parent = parent} is_parent there) =
+    let one = each parent is_parent in
+    let P : List Span → Type 0 = AreSpans coverage.records end Children in
+    subst P (sym one.only) (spans.waited there (record {
+      stands = one.is_span.stands;
+      from_there = one.is_span.from_there;
+      to_there = one.is_span.to_there ∙ is.numbers.each begin to is_to parent (begin_subject coverage.records end parent begin Taskwait there);
+    }))
 
--- the kind of region that ends there
-pub wait_kind : (rs : List Record) (tasks : List ℕ) (end : ℕ) (wait : Wait) → IsWaitAt rs tasks end wait → (task begin : ℕ) × IsRegion rs end task (kind_of wait.cover) begin
-wait_kind rs tasks end wait (waits {parent = parent} {begin = begin} is_parent there) = (parent, begin, there)
-wait_kind rs tasks end wait (groups {parent = parent} {begin = begin} is_parent there) = (parent, begin, there)
+pub group_spans : (coverage : CoverageView) (index begin last from to end : ℕ) (list : List Span) → IsCoverage coverage → slice_get coverage.numbers begin ≡ Some from → slice_get coverage.numbers last ≡ Some to → ((id : ℕ) → slice_get coverage.tree.family.tasks index ≡ Some id → IsOnly coverage.records id from to list) → IsWaitAt coverage.records coverage.tree.family.tasks end (ForTaskgroup index begin last) → AreSpans coverage.records end Descendants list
+group_spans coverage index begin last from to end list is is_from is_to each (groups {parent = parent} is_parent there) =
+    let one = each parent is_parent in
+    let P : List Span → Type 0 = AreSpans coverage.records end Descendants in
+    subst P (sym one.only) (spans.grouped there (record {
+      stands = one.is_span.stands;
+      from_there = one.is_span.from_there ∙ is.numbers.each begin from is_from parent (begin_subject coverage.records end parent begin Taskgroup there);
+      to_there = one.is_span.to_there ∙ is.numbers.each end to is_to parent (end_subject coverage.records end parent begin Taskgroup there);
+    }))
+
+pub barrier_spans : (rs : List Record) (tasks : List ℕ) (index number end : ℕ) (list : List Span) → ((id : ℕ) → slice_get tasks index ≡ Some id → AreMemberSpans rs id number list) → IsWaitAt rs tasks end (ForBarrier index number) → AreSpans rs end Descendants list
+barrier_spans rs tasks index number end list each (meets {own = own} is_own there barrier begins) = spans.synchronised number there barrier begins (each own is_own)
+
+-- what ends there
+pub wait_cover : (rs : List Record) (tasks : List ℕ) (end : ℕ) (wait : Wait) → IsWaitAt rs tasks end wait → IsCoverAt rs end (cover_of wait)
+wait_cover rs tasks end wait (waits {parent = parent} {begin = begin} is_parent there) = (parent, begin, Taskwait, there, refl, (λ same. refl, λ same. refl))
+wait_cover rs tasks end wait (groups {parent = parent} {begin = begin} is_parent there) = (parent, begin, Taskgroup, there, refl, (λ same. absurd (cc), λ same. absurd (cc)))
+wait_cover rs tasks end wait (meets {own = own} {begin = begin} {kind = kind} is_own there barrier begins) =
+    (own, begin, kind, there, barrier_waits kind barrier, (λ same. absurd (cc), λ same. absurd (barrier_is_other kind Taskwait barrier refl same)))
+
+-- ---- the members of a team
+
+-- the place at which a task begins its barrier with a number
+pub record IsStart (rs : List Record) (tasks : List ℕ) (numbers : List ℕ) (index number start : ℕ) : Type 0 where
+  pub within : index < length tasks
+  pub inside : start < length numbers
+  pub begins : (id : ℕ) → slice_get tasks index ≡ Some id → IsBarrierBegin rs id number start
+
+pub has_start : (coverage : CoverageView) (index number start : ℕ) (places : Vec ℕ) → IsCoverage coverage → slice_get coverage.teams.begins index ≡ Some places → slice_get places.items number ≡ Some start → IsStart coverage.records coverage.tree.family.tasks coverage.numbers index number start
+has_start coverage index number start places is here there =
+    let rs = coverage.records in
+    let tasks = coverage.tree.family.tasks in
+    let below = slice_get_within coverage.teams.begins index places here in
+    let all = is.teams.begins.all in
+    let within : index < length tasks = omega (arith, below, all) in
+    let first = starts (get_or tasks index 0) (slice_get-get_or tasks index 0 within) in
+    let inside = begin_within rs (get_or tasks index 0) number start first in
+    let numbers = is.numbers.all in
+    record { within = within; inside = omega (arith, inside, numbers); begins = starts }
+  where
+    starts : (id : ℕ) → slice_get coverage.tree.family.tasks index ≡ Some id → IsBarrierBegin coverage.records id number start
+    starts id is_id = ap (λ l. slice_get l number) (sym (is.teams.begins.each index id places is_id here)) ∙ there
+
+-- the same of what is read in the table
+pub read_start : (coverage : CoverageView) (index number : ℕ) (list : List ℕ) → IsCoverage coverage → HasBegun coverage.teams.begins number index → ((places : Vec ℕ) → slice_get coverage.teams.begins index ≡ Some places → list ≡ places.items) → IsStart coverage.records coverage.tree.family.tasks coverage.numbers index number (get_or list number 0)
+read_start coverage index number list is begun read =
+    let same = read begun.0 begun.1 in
+    let long = ap length same in
+    let less = begun.2 in
+    has_start coverage index number (get_or list number 0) begun.0 is begun.1 (ap (λ l. slice_get l number) (sym same) ∙ slice_get-get_or list number 0 (omega (arith, less, long)))
+
+pub member_span_is : (coverage : CoverageView) (index number start to id : ℕ) (span : Span) → IsCoverage coverage → IsStart coverage.records coverage.tree.family.tasks coverage.numbers index number start → slice_get coverage.numbers start ≡ Some to → slice_get coverage.tree.family.tasks index ≡ Some id → IsSpan coverage.records id 0 to span → IsMemberSpan coverage.records id number span
+member_span_is coverage index number start to id span is starts is_to is_id is_span =
+    let rs = coverage.records in
+    let begins = starts.begins id is_id in (
+      start,
+      begins,
+      record {
+        stands = is_span.stands;
+        from_there = is_span.from_there;
+        to_there = is_span.to_there ∙ is.numbers.each start to is_to id (begun_subject rs start id (begin_says rs id number start begins));
+      },
+    )
+
+-- the member of the task's team with a number: a task in the roster
+pub record IsSeated (rs : List Record) (tasks : List ℕ) (own place : ℕ) (roster : List (Option ℕ)) : Type 0 where
+  pub index : ℕ
+  pub member : ℕ
+  pub here : slice_get roster place ≡ Some (Some index)
+  pub is_member : slice_get tasks index ≡ Some member
+  pub numbered : IsMemberNumbered rs own place member
+
+seated : (rs : List Record) (tasks : List ℕ) (known : TeamsView) (task team own place : ℕ) (roster : Vec (Option ℕ)) → IsTeamsOf rs tasks known → slice_get tasks task ≡ Some own → slice_get known.teams task ≡ Some (Some team) → slice_get known.rosters team ≡ Some roster → place < length roster.items → IsSeated rs tasks own place roster.items
+seated rs tasks known task team own place roster is is_own is_team is_roster below =
+    let full = is.rosters.full team place roster is_roster below in
+    let is_member = slice_get-get_or tasks full.0 0 full.2 in
+    record {
+      index = full.0;
+      member = get_or tasks full.0 0;
+      here = full.1;
+      is_member = is_member;
+      numbered = (is.rosters.each task own team place full.0 (get_or tasks full.0 0) roster is_own is_team is_roster is_member).0 full.1;
+    }
+
+-- no member misses a barrier that ends
+pub have_begun : (rs : List Record) (tasks : List ℕ) (known : TeamsView) (task team number end : ℕ) (roster : Vec (Option ℕ)) → IsTeamsOf rs tasks known → slice_get known.teams task ≡ Some (Some team) → slice_get known.rosters team ≡ Some roster → IsWaitAt rs tasks end (ForBarrier task number) → HaveBegun known.begins number roster.items
+have_begun rs tasks known task team number end roster is is_team is_roster (meets {own = own} {begin = begin} {kind = kind} is_own there barrier begins) place below =
+    let seat = seated rs tasks known task team own place roster is is_own is_team is_roster below in
+    let inside = slice_get_within tasks seat.index seat.member seat.is_member in
+    let all = is.begins.all in
+    let places = stands_there known.begins seat.index (omega (arith, inside, all)) in
+    let same = is.begins.each seat.index seat.member places.0 seat.is_member places.1 in (
+      seat.index,
+      seat.here,
+      (
+        places.0,
+        places.1,
+        elim (cases_lt number (length places.0.items)) [
+          | inl less ↦ less
+          | inr more ↦ absurd (is.whole end (team_short (missed own seat.member begin number kind there barrier begins (mate_of_number rs own place seat.member seat.numbered)
+              (λ start begun. let found = slice_get_within places.0.items number start (ap (λ l. slice_get l number) same ∙ begun) in omega (arith, found, more)))))
+        ],
+      ),
+    )
+
+pub member_spans_are : (rs : List Record) (tasks : List ℕ) (known : TeamsView) (task team own number : ℕ) (roster : Vec (Option ℕ)) (list : List Span) → AreNoted made rs (length rs) tasks → IsTeamsOf rs tasks known → slice_get tasks task ≡ Some own → slice_get known.teams task ≡ Some (Some team) → slice_get known.rosters team ≡ Some roster → AreRosterSpans rs tasks number roster.items (length roster.items) list → AreMemberSpans rs own number list
+member_spans_are rs tasks known task team own number roster list noted is is_own is_team is_roster are = record {
+  each = λ place span there.
+      let inside = slice_get_within list place span there in
+      let count = are.count in
+      let seat = seated rs tasks known task team own place roster is is_own is_team is_roster (omega (arith, inside, count)) in
+      let found = are.each place seat.index seat.member span seat.here seat.is_member there in
+      (seat.member, found.0, seat.numbered, found.1, found.2);
+  all = λ place member numbered.
+      let other = mate_index rs tasks task own member noted is_own (mate_of_number rs own place member numbered) in
+      let there = (is.rosters.each task own team place other.0 member roster is_own is_team is_roster other.1).1 numbered in
+      let inside = slice_get_within roster.items place (Some other.0) there in
+      let count = are.count in
+      omega (arith, inside, count);
+}
+
+pub teamless_spans : (rs : List Record) (tasks : List ℕ) (teams : List (Option ℕ)) (task own number : ℕ) (list : List Span) → AreTeams rs tasks teams → slice_get tasks task ≡ Some own → slice_get teams task ≡ Some None → list ≡ [] → AreMemberSpans rs own number list
+teamless_spans rs tasks teams task own number list are is_own no_team empty = record {
+  each = λ place span there. absurd (let inside = slice_get_within list place span there in let none = ap length empty in omega (arith, inside, none));
+  all = λ place member numbered. absurd (are.none task own member is_own no_team (mate_of_number rs own place member numbered));
+}
+
+pub roster_start : (rs : List Record) (tasks : List ℕ) (number : ℕ) (roster : List (Option ℕ)) (list : List Span) → list ≡ [] → AreRosterSpans rs tasks number roster 0 list
+roster_start rs tasks number roster list empty = record {
+  count = ap length empty;
+  each = λ place index member span here is there. absurd (let inside = slice_get_within list place span there in let none = ap length empty in omega (arith, inside, none));
+}
+
+pub roster_more : (rs : List Record) (tasks : List ℕ) (number n index : ℕ) (roster : List (Option ℕ)) (list : List Span) (last : Span) → AreRosterSpans rs tasks number roster n list → slice_get roster n ≡ Some (Some index) → ((id : ℕ) → slice_get tasks index ≡ Some id → IsMemberSpan rs id number last) → AreRosterSpans rs tasks number roster (n + 1) (list ++ last ∷ [])
+roster_more rs tasks number n index roster list last are here is = record {
+  count = length_push list last ∙ ap (λ k. k + 1) are.count;
+  each = λ place other member span seat is_member there. elim (pushed_cases list last span place there) [
+    | inl old ↦ are.each place other member span seat is_member old
+    | inr new ↦
+        let at_n : place ≡ n = new.0 ∙ are.count in
+        let same_seat : Some index ≡ Some other = same_Some (Some index) (Some other) (sym here ∙ ap (slice_get roster) (sym at_n) ∙ seat) in
+        let same = same_Some index other same_seat in
+        let P : Span → Type 0 = IsMemberSpan rs member number in
+        subst P new.1 (is member (ap (slice_get tasks) same ∙ is_member))
+  ];
+}
 
 -- ---- what is held is finished
 
-pub held_complete : (coverage : CoverageView) (entries : List Entry) (end seen : ℕ) (cover : Cover) (span : Span) → IsCoverage coverage → IsFreeUpTo coverage.records 13 → IsLedgerOf coverage.records entries → AreSpans coverage.records end cover (span ∷ []) → seen_at coverage.records end ≡ seen → IsSpanHeld (take seen entries) span cover → IsCoverComplete coverage.records end
-held_complete coverage entries end seen cover span is free ledger are names held =
-    (held_is_complete coverage.records entries end cover (span ∷ []) is.trace free ledger are).1 (λ s has. one s has)
+pub held_more : (entries : List Entry) (cover : Cover) (list : List Span) (n : ℕ) (last : Span) → ((k : ℕ) (span : Span) → k < n → slice_get list k ≡ Some span → IsSpanHeld entries span cover) → slice_get list n ≡ Some last → IsSpanHeld entries last cover → (k : ℕ) (span : Span) → k < n + 1 → slice_get list k ≡ Some span → IsSpanHeld entries span cover
+held_more entries cover list n last before here held k span below there = elim (cases_eq k n) [
+  | inl same ↦ let P : Span → Type 0 = λ s. IsSpanHeld entries s cover in subst P (same_Some last span (sym here ∙ ap (slice_get list) (sym same) ∙ there)) held
+  | inr apart ↦ before k span (omega (arith, below, apart)) there
+]
+
+pub held_complete : (coverage : CoverageView) (entries : List Entry) (end seen : ℕ) (cover : Cover) (list : List Span) → IsCoverage coverage → IsFreeUpTo coverage.records 13 → IsLedgerOf coverage.records entries → AreSpans coverage.records end cover list → seen_at coverage.records end ≡ seen → ((span : Span) → Contains list span → IsSpanHeld (take seen entries) span cover) → IsCoverComplete coverage.records end
+held_complete coverage entries end seen cover list is free ledger are names held =
+    let P : ℕ → Type 0 = λ n. AreHeldBelow n in
+    (held_is_complete coverage.records entries end cover list is.trace free ledger are).1 (subst P (sym names) held)
   where
-    one : (s : Span) → Contains (span ∷ []) s → IsSpanHeld (take (seen_at coverage.records end) entries) s cover
-    one s has =
-        let same : span ≡ s = only s has in
-        let P : Span → Type 0 = λ x. IsSpanHeld (take (seen_at coverage.records end) entries) x cover in
-        let Q : ℕ → Type 0 = λ n. IsSpanHeld (take n entries) span cover in
-        subst P same (subst Q (sym names) held)
-      where
-        only : (s : Span) → Contains (span ∷ []) s → span ≡ s
-        only s (zero, low, is_it) = is_it
-        only s (suc k, low, is_it) = absurd (omega arith)
+    AreHeldBelow : ℕ → Type 0
+    AreHeldBelow n = (span : Span) → Contains list span → IsSpanHeld (take n entries) span cover
 
 -- the wait with a number, and the end that it is of
 pub record HasWait (coverage : CoverageView) (number : ℕ) (wait : Wait) : Type 0 where
   pub end : ℕ
   pub here : slice_get coverage.ends number ≡ Some end
   pub is_wait : IsWaitAt coverage.records coverage.tree.family.tasks end wait
-  pub within : IsWithin coverage end wait
+  pub inside : end < length coverage.records
 
 pub has_wait : (coverage : CoverageView) (number : ℕ) (wait : Wait) → IsCoverage coverage → number < length coverage.ends → wait ≡ get_or coverage.waits number wait → HasWait coverage number wait
 has_wait coverage number wait is below read =
@@ -217,18 +340,21 @@ has_wait coverage number wait is below read =
     let end : ℕ = get_or coverage.ends number 0 in
     let here = slice_get-get_or coverage.ends number 0 below in
     let is_wait = is.waits.each number end wait here (slice_get-get_or coverage.waits number wait (omega (arith, below, all)) ∙ ap Some (sym read)) in
-    record { end = end; here = here; is_wait = is_wait; within = wait_within coverage end wait is is_wait }
+    record { end = end; here = here; is_wait = is_wait; inside = (is.ends.only number end here).0 }
+
+-- the end is a record
+pub end_within : (coverage : CoverageView) (number end : ℕ) → IsCoverage coverage → number < length coverage.ends → end ≡ get_or coverage.ends number end → end < length coverage.records
+end_within coverage number end is below read = (is.ends.only number end (slice_get-get_or coverage.ends number end below ∙ ap Some (sym read))).0
+
+-- the same of a given end
+pub wait_at_end : (coverage : CoverageView) (number end : ℕ) (wait : Wait) → IsCoverage coverage → wait ≡ get_or coverage.waits number wait → slice_get coverage.ends number ≡ Some end → IsWaitAt coverage.records coverage.tree.family.tasks end wait
+wait_at_end coverage number end wait is read here =
+    let has = has_wait coverage number wait is (slice_get_within coverage.ends number end here) read in
+    let P : ℕ → Type 0 = λ e. IsWaitAt coverage.records coverage.tree.family.tasks e wait in
+    subst P (same_Some has.end end (sym has.here ∙ here)) has.is_wait
 
 pub coverage_of : (inside coverage : CoverageView) → inside ≡ coverage → IsCoverage inside → IsCoverage coverage
 coverage_of inside coverage same is = subst IsCoverage same is
-
--- each end has a wait
-pub any_wait : (coverage : CoverageView) (number end : ℕ) → IsCoverage coverage → slice_get coverage.ends number ≡ Some end → (wait : Wait) × (slice_get coverage.waits number ≡ Some wait)
-any_wait coverage number end is here =
-    let below = slice_get_within coverage.ends number end here in
-    let all = is.waits.all in
-    let d : Wait = record { task = 0; from = 0; to = 0; cover = Children } in
-    (get_or coverage.waits number d, slice_get-get_or coverage.waits number d (omega (arith, below, all)))
 
 -- ---- several ends
 
@@ -250,3 +376,9 @@ one_more rs ends of n number answer found asked are is = record {
         subst P last.1 (is end (ap (slice_get ends) same ∙ here))
   ];
 }
+
+-- the task of a wait has an index
+pub waiting_within : (rs : List Record) (tasks : List ℕ) (i : ℕ) (wait : Wait) → IsWaitAt rs tasks i wait → waiting wait < length tasks
+waiting_within rs tasks i wait (waits {parent = parent} {index = index} is_task there) = slice_get_within tasks index parent is_task
+waiting_within rs tasks i wait (groups {parent = parent} {index = index} is_task there) = slice_get_within tasks index parent is_task
+waiting_within rs tasks i wait (meets {own = own} {index = index} is_task there barrier begins) = slice_get_within tasks index own is_task

@@ -1,14 +1,17 @@
 -- The entries below the length that an end names finish what it covers exactly where they hold its spans.
-use Rattle.std.proofs.Common.{◌≡◌, ◌≢◌, ◌∙◌, ℕ, ◌<◌, ◌≤◌, true, List, [], ◌∷◌, ◌++◌, length, take, Some, refl, sym, ap, subst, arith, inl, inr, ◌⊎◌}
-use Rattle.std.specs.Prelude.{◌↔◌, Contains}
+use Rattle.std.proofs.Common.{◌≡◌, ◌≢◌, ◌∙◌, ℕ, ◌<◌, ◌≤◌, true, List, [], ◌∷◌, ◌++◌, length, get_or, take, Some, refl, sym, ap, subst, arith, inl, inr, ◌⊎◌}
+use Rattle.std.specs.Prelude.{◌↔◌, Contains, slice_get}
 use Rattle.std.proofs.lemmas.Bool.{false≢true}
+use Rattle.std.proofs.lemmas.Option.{slice_get-get_or}
 use Rattle.ompt_events.specs.declared.records.Record.{Record}
 use Rattle.ompt_events.specs.declared.names.SyncKind.TheVariants.{Taskwait, Taskgroup}
-use Rattle.ompt_events.specs.declared.cause.Cause.TheVariants.{CreatedTwice, ShareWrong}
+use Rattle.ompt_events.specs.declared.names.SyncKind.{SyncKind}
+use Rattle.ompt_events.specs.declared.cause.Cause.TheVariants.{CreatedTwice, TeamShort, ShareWrong}
 use Rattle.ompt_events.specs.Places.{seen_at}
 use Rattle.ompt_events.specs.Traces.{IsTrace}
 use Rattle.ompt_events.specs.Tree.{children_before, children_between, child_number, below}
-use Rattle.ompt_events.specs.Regions.{IsRegion, is_barrier}
+use Rattle.ompt_events.specs.Regions.{IsRegion, is_barrier, IsBarrierBegin}
+use Rattle.ompt_events.specs.Teams.{IsTeammate}
 use Rattle.ompt_events.specs.Coverage.{Covers, IsFamily}
 use Rattle.ompt_events.specs.Coverage as coverage
 use Rattle.ompt_events.specs.Completion.{IsCompleteAt}
@@ -17,10 +20,13 @@ use Rattle.credit_ledger.specs.declared.entry.Span.{Span}
 use Rattle.credit_ledger.specs.declared.entry.Cover.{Cover}
 use Rattle.credit_ledger.specs.declared.entry.Cover.TheVariants.{Children, Descendants}
 use Rattle.credit_ledger.specs.Entries.{IsSpanHeld}
-use Rattle.ompt_events.proofs.ListLemmas.{get_contains}
+use Rattle.ompt_events.proofs.ListLemmas.{get_contains, contains_get}
 use Rattle.wait_coverage.specs.Entries.{IsLedgerOf}
-use Rattle.wait_coverage.specs.Spans.{IsSpan, AreSpans, waited, grouped, AreHeldAt, IsCoverComplete, IsFreeUpTo}
+use Rattle.wait_coverage.specs.Teams.{IsMemberNumbered}
+use Rattle.wait_coverage.specs.Spans.{IsSpan, AreSpans, waited, grouped, synchronised, AreMemberSpans, AreHeldAt, IsCoverComplete, IsFreeUpTo}
 use Rattle.wait_coverage.proofs.CoverLemmas.{ends_at, one_region, child_with, dropped, number_between, done_there, complete_there}
+use Rattle.wait_coverage.proofs.BarrierLemmas.{one_number}
+use Rattle.wait_coverage.proofs.MateLemmas.{one_member, number_of_mate, mate_of_number, begin_within}
 use Rattle.wait_coverage.proofs.TreeLaw.{IsKnown, tree_held, tree_done}
 use Rattle.wait_coverage.proofs.PoolLaw.{pool_held, pool_done}
 
@@ -51,6 +57,17 @@ grouped_held rs entries i task begin span known region is complete number enough
     tree_held rs entries (seen_at rs i) span.root child.0 (span.path ++ number ∷ []) known (below number is.stands child.1.numbered)
     (λ t of. done_there rs i task t Taskgroup ends.endpoint ends.says (complete t (coverage.grouped region among of)))
 
+-- a member's children before its barrier began are covered
+member_held : (rs : List Record) (entries : List Entry) (i task begin number member start : ℕ) (kind : SyncKind) (span : Span) → IsKnown rs entries → IsRegion rs i task kind begin → is_barrier kind ≡ true → IsBarrierBegin rs task number begin → IsTeammate rs task member → IsBarrierBegin rs member number start → IsSpan rs member 0 (child_number rs member start) span → IsCoverComplete rs i → IsSpanHeld (take (seen_at rs i) entries) span Descendants
+member_held rs entries i task begin number member start kind span known region barrier own mate its is complete index enough few =
+    let ends = ends_at rs i task begin kind region in
+    let to = is.to_there in
+    let inside = begin_within rs member number start its in
+    let child = child_with rs member start index (omega (arith, inside)) (omega (arith, few, to)) in
+    let among = get_contains (children_before rs member start) child.0 index child.1.there in
+    tree_held rs entries (seen_at rs i) span.root child.0 (span.path ++ index ∷ []) known (below index is.stands child.1.numbered)
+    (λ t of. done_there rs i task t kind ends.endpoint ends.says (complete t (coverage.synchronised number region barrier own mate its among of)))
+
 -- ---- and the other way round
 
 waited_done : (rs : List Record) (entries : List Entry) (i task begin covered : ℕ) (span : Span) → IsKnown rs entries → IsRegion rs i task Taskwait begin → IsSpan rs task 0 (child_number rs task begin) span → IsSpanHeld (take (seen_at rs i) entries) span Children → Contains (children_before rs task begin) covered → IsCompleteAt rs covered i
@@ -79,6 +96,17 @@ grouped_done rs entries i task begin child covered span known region is held fou
     (tree_done rs entries (seen_at rs i) span.root child covered (span.path ++ numbered.number ∷ []) known (below numbered.number is.stands numbered.numbered)
     (held numbered.number (omega (arith, enough, from)) (omega (arith, few, to))) of)
 
+member_done : (rs : List Record) (entries : List Entry) (i member start number child covered : ℕ) (span : Span) → IsKnown rs entries → IsBarrierBegin rs member number start → IsSpan rs member 0 (child_number rs member start) span → IsSpanHeld (take (seen_at rs i) entries) span Descendants → Contains (children_before rs member start) child → IsFamily rs child covered → IsCompleteAt rs covered i
+member_done rs entries i member start number child covered span known its is held found of =
+    let inside = begin_within rs member number start its in
+    let numbered = number_between rs member start 0 child (omega (arith, inside)) found in
+    let from = is.from_there in
+    let to = is.to_there in
+    let few = numbered.few in
+    complete_there rs i covered
+    (tree_done rs entries (seen_at rs i) span.root child covered (span.path ++ numbered.number ∷ []) known (below numbered.number is.stands numbered.numbered)
+    (held numbered.number (omega (arith, from)) (omega (arith, few, to))) of)
+
 -- ---- the law
 
 single : (P : Span → Type 0) (span other : Span) → P span → Contains (span ∷ []) other → P other
@@ -92,6 +120,10 @@ held_from rs entries i cover spans known (waited {task = task} {begin = begin} {
     single (λ s. IsSpanHeld (take (seen_at rs i) entries) s Children) own span (waited_held rs entries i task begin own known region is complete) found
 held_from rs entries i cover spans known (grouped {task = task} {begin = begin} {span = own} region is) complete span found =
     single (λ s. IsSpanHeld (take (seen_at rs i) entries) s Descendants) own span (grouped_held rs entries i task begin own known region is complete) found
+held_from rs entries i cover spans known (synchronised {task = task} {begin = begin} {kind = kind} number region barrier own are) complete span found =
+    let there = contains_get spans span found in
+    let (member, start, is_member, its, is) = are.each there.0 span there.1 in
+    member_held rs entries i task begin number member start kind span known region barrier own (mate_of_number rs task there.0 member is_member) its is complete
 
 waited_complete : (rs : List Record) (entries : List Entry) (i task begin covered : ℕ) (span : Span) → IsKnown rs entries → IsRegion rs i task Taskwait begin → IsSpan rs task 0 (child_number rs task begin) span → IsSpanHeld (take (seen_at rs i) entries) span Children → Covers rs i covered → IsCompleteAt rs covered i
 waited_complete rs entries i task begin covered span known region is held (coverage.waited {parent = parent} {begin = start} other found) =
@@ -118,13 +150,58 @@ grouped_complete rs entries i task begin covered span known region is held (cove
     let one = one_region rs i task own begin start Taskgroup kind region other in
     absurd (false≢true (ap is_barrier one.kind_is ∙ barrier))
 
-complete_from : (rs : List Record) (entries : List Entry) (i : ℕ) (cover : Cover) (spans : List Span) → IsKnown rs entries → AreSpans rs i cover spans → AreHeldAt rs entries i cover spans → IsCoverComplete rs i
-complete_from rs entries i cover spans known (waited {task = task} {begin = begin} {span = own} region is) held covered covers =
+-- the span of a teammate is among them
+record HasSpan (rs : List Record) (task number member start : ℕ) (spans : List Span) : Type 0 where
+  span : Span
+  found : Contains spans span
+  is : IsSpan rs member 0 (child_number rs member start) span
+
+mate_span : (rs : List Record) (task number member start : ℕ) (spans : List Span) → IsFreeUpTo rs 13 → AreMemberSpans rs task number spans → IsTeammate rs task member → IsBarrierBegin rs member number start → HasSpan rs task number member start spans
+mate_span rs task number member start spans free are mate its =
+    let numbered = number_of_mate rs task member mate in
+    let inside = are.all numbered.0 member numbered.1 in
+    of numbered.0 numbered.1 inside
+  where
+    of : (index : ℕ) → IsMemberNumbered rs task index member → index < length spans → HasSpan rs task number member start spans
+    of index numbered inside = with_span (get_or spans index (record { from = 0; to = 0; root = 0; path = [] })) (slice_get-get_or spans index (record { from = 0; to = 0; root = 0; path = [] }) inside)
+      where
+        with_span : (span : Span) → slice_get spans index ≡ Some span → HasSpan rs task number member start spans
+        with_span span there =
+            let (other, place, other_numbered, other_its, is) = are.each index span there in
+            let same = one_member rs task index index other member (free CreatedTwice (omega arith)) (free TeamShort (omega arith)) other_numbered numbered refl in
+            let P : ℕ → Type 0 = λ m. IsBarrierBegin rs m number place in
+            let place_is : place ≡ start = Rattle.std.proofs.lemmas.Option.same_Some place start (sym (subst P same other_its) ∙ its) in
+            record {
+              span = span;
+              found = get_contains spans span index there;
+              is = subst (λ p. IsSpan rs member 0 (child_number rs member p) span) place_is (subst (λ m. IsSpan rs m 0 (child_number rs m place) span) same is);
+            }
+
+synchronised_complete : (rs : List Record) (entries : List Entry) (i task begin number covered : ℕ) (kind : SyncKind) (spans : List Span) → IsKnown rs entries → IsFreeUpTo rs 13 → IsRegion rs i task kind begin → is_barrier kind ≡ true → IsBarrierBegin rs task number begin → AreMemberSpans rs task number spans → AreHeldAt rs entries i Descendants spans → Covers rs i covered → IsCompleteAt rs covered i
+synchronised_complete rs entries i task begin number covered kind spans known free region barrier own are held (coverage.waited {parent = parent} {begin = start} other found) =
+    let one = one_region rs i task parent begin start kind Taskwait region other in
+    absurd (false≢true (ap is_barrier (sym one.kind_is) ∙ barrier))
+synchronised_complete rs entries i task begin number covered kind spans known free region barrier own are held (coverage.grouped {parent = parent} {begin = start} {child = child} other found of) =
+    let one = one_region rs i task parent begin start kind Taskgroup region other in
+    absurd (false≢true (ap is_barrier (sym one.kind_is) ∙ barrier))
+synchronised_complete rs entries i task begin number covered kind spans known free region barrier own are held (coverage.synchronised {own = self} {begin = start} {member = member} {start = its_start} {child = child} {kind = another} its_number other also self_own mate its found of) =
+    let one = one_region rs i task self begin start kind another region other in
+    let P : ℕ → ℕ → Type 0 = λ t b. IsBarrierBegin rs t its_number b in
+    let here : IsBarrierBegin rs task its_number begin = subst (λ b. IsBarrierBegin rs task its_number b) (sym one.begin_is) (subst (λ t. IsBarrierBegin rs t its_number start) (sym one.task_is) self_own) in
+    let number_is = one_number rs task its_number number begin here own in
+    let its_begin : IsBarrierBegin rs member number its_start = subst (λ n. IsBarrierBegin rs member n its_start) number_is its in
+    let has = mate_span rs task number member its_start spans free are (subst (λ t. IsTeammate rs t member) (sym one.task_is) mate) its_begin in
+    member_done rs entries i member its_start number child covered has.span known its_begin has.is (held has.span has.found) found of
+
+complete_from : (rs : List Record) (entries : List Entry) (i : ℕ) (cover : Cover) (spans : List Span) → IsKnown rs entries → IsFreeUpTo rs 13 → AreSpans rs i cover spans → AreHeldAt rs entries i cover spans → IsCoverComplete rs i
+complete_from rs entries i cover spans known free (waited {task = task} {begin = begin} {span = own} region is) held covered covers =
     waited_complete rs entries i task begin covered own known region is (held own (get_contains (own ∷ []) own 0 refl)) covers
-complete_from rs entries i cover spans known (grouped {task = task} {begin = begin} {span = own} region is) held covered covers =
+complete_from rs entries i cover spans known free (grouped {task = task} {begin = begin} {span = own} region is) held covered covers =
     grouped_complete rs entries i task begin covered own known region is (held own (get_contains (own ∷ []) own 0 refl)) covers
+complete_from rs entries i cover spans known free (synchronised {task = task} {begin = begin} {kind = kind} number region barrier own are) held covered covers =
+    synchronised_complete rs entries i task begin number covered kind spans known free region barrier own are held covers
 
 pub held_is_complete : (rs : List Record) (entries : List Entry) (i : ℕ) (cover : Cover) (spans : List Span) → IsTrace rs → IsFreeUpTo rs 13 → IsLedgerOf rs entries → AreSpans rs i cover spans → IsCoverComplete rs i ↔ AreHeldAt rs entries i cover spans
 held_is_complete rs entries i cover spans trace free are spans_are =
     let known = known_of rs entries trace free are in
-    (held_from rs entries i cover spans known spans_are, complete_from rs entries i cover spans known spans_are)
+    (held_from rs entries i cover spans known spans_are, complete_from rs entries i cover spans known free spans_are)

@@ -9,7 +9,9 @@ use Rattle.std.specs.Prelude.{is_some, min, slice_get, replicate}
 use Rattle.ompt_events.specs.declared.records.Record.{Record}
 use Rattle.ompt_events.specs.declared.records.Part.{Part}
 use Rattle.ompt_events.specs.declared.records.Part.TheVariants.{Whole, Body as BodyPart, Event}
-use Rattle.ompt_events.specs.Records.{creation, finish}
+use Rattle.ompt_events.specs.declared.names.Endpoint.{Endpoint}
+use Rattle.ompt_events.specs.declared.names.SyncKind.{SyncKind}
+use Rattle.ompt_events.specs.Records.{creation, finish, region}
 use Rattle.ompt_events.specs.Places.{at, seen_at}
 use Rattle.ompt_events.specs.Completion.{IsPartFinished}
 use Rattle.ompt_events.proofs.PlaceLemmas.{at_within}
@@ -17,7 +19,7 @@ use Rattle.ompt_events.proofs.RecordLemmas.{at_through}
 use Rattle.task_tree.specs.Numbering.{AreApart}
 use Rattle.task_tree.specs.Subjects.{subject, object, Calls}
 use Rattle.task_tree.proofs.LinkLemmas.{get_set_same, get_set_other}
-use Rattle.task_tree.proofs.NamedLemmas.{creation_subject, creation_object, subject_index, object_index}
+use Rattle.task_tree.proofs.NamedLemmas.{region_subject, creation_subject, creation_object, subject_index, object_index}
 use Rattle.task_tree.proofs.SubjectLemmas.{call_task, call_index, call_none}
 use Rattle.wait_coverage.specs.Entries.{IsDone}
 use Rattle.wait_coverage.specs.declared.lengths.Lengths.{Lengths}
@@ -183,6 +185,10 @@ pub call_same : (tasks : List ℕ) (found slot : Option ℕ) (index task : ℕ) 
 call_same tasks found slot index task calls is says =
     let called = call_index tasks found slot task calls says in
     ap (slice_get tasks) (same_Some index called.0 (sym is ∙ called.1)) ∙ called.2
+
+-- the task that does what a region's record says
+pub region_index : (rs : List Record) (tasks : List ℕ) (i index own : ℕ) (kind : SyncKind) (endpoint : Endpoint) (slot : Option ℕ) → Calls tasks (at subject rs i) slot → slot ≡ Some index → at region rs i ≡ Some (own, kind, endpoint) → slice_get tasks index ≡ Some own
+region_index rs tasks i index own kind endpoint slot calls is says = call_same tasks (at subject rs i) slot index own calls is (at_through region subject (own, kind, endpoint) own rs i (region_subject own kind endpoint) says)
 
 pub call_never : (tasks : List ℕ) (found slot : Option ℕ) (task : ℕ) → Calls tasks found slot → slot ≡ None → found ≡ Some task → ⊥
 call_never tasks found slot task calls none says = none-some task (sym (call_none tasks found slot calls none) ∙ says)

@@ -1,5 +1,5 @@
 -- From which ledger length on what the end of a region covers is finished.
-use Rattle.std.proofs.Common.{◌≡◌, ◌≢◌, ◌∙◌, ℕ, ◌<◌, ◌≤◌, ◌+◌, ◌^◌, false, List, [], ◌∷◌, ◌++◌, length, get_or, Option, Some, None, refl, sym, ap, subst, arith, inl, inr, ◌⊎◌}
+use Rattle.std.proofs.Common.{◌≡◌, ◌≢◌, ◌∙◌, ℕ, ◌<◌, ◌≤◌, ◌+◌, ◌^◌, false, true, List, [], ◌∷◌, ◌++◌, length, get_or, Option, Some, None, refl, sym, ap, subst, arith, inl, inr, ◌⊎◌}
 use Rattle.std.proofs.lemmas.Bool.{cases_eq, cases_lt, false≢true}
 use Rattle.std.proofs.lemmas.Option.{none-some, same_Some, slice_get_within, slice_get-get_or}
 use Rattle.std.proofs.lemmas.List.{length_push, length-set, length-replicate}
@@ -15,7 +15,8 @@ use Rattle.ompt_events.specs.declared.names.SyncKind.TheVariants.{Taskwait, Task
 use Rattle.ompt_events.specs.Records.{creation, region}
 use Rattle.ompt_events.specs.Places.{at}
 use Rattle.ompt_events.specs.Tree.{children_before, children_between, child_number}
-use Rattle.ompt_events.specs.Regions.{IsRegion, EndsRegion, ended, at_once}
+use Rattle.ompt_events.specs.Regions.{IsRegion, EndsRegion, ended, at_once, is_barrier, barrier_begun, IsBarrierBegin}
+use Rattle.ompt_events.specs.Teams.{IsTeammate}
 use Rattle.ompt_events.specs.Coverage.{Covers, IsFamily, waited, grouped, synchronised}
 use Rattle.ompt_events.proofs.ListLemmas.{pushed_cases}
 use Rattle.ompt_events.proofs.RecordLemmas.{at_through}
@@ -28,9 +29,10 @@ use Rattle.task_tree.proofs.LinkLemmas.{get_set_same, get_set_other}
 use Rattle.task_states.specs.States.{IsBegin}
 use Rattle.wait_coverage.specs.Entries.{IsDone}
 use Rattle.wait_coverage.specs.Done.{IsFamilyLimit}
-use Rattle.wait_coverage.specs.Limits.{HaveNoBarriers, IsChildLimit, IsEndLimit, IsLimitOfBegin, IsOnChain, Gathers, HasNode, AreLatest, AreChains, AreNoted}
+use Rattle.wait_coverage.specs.Limits.{IsChildLimit, IsFamiliesLimit, IsLimitOfBegin, IsOnChain, Gathers, HasNode, AreLatest, AreLatestFamilies, AreChains, IsMark, AreNoted}
 use Rattle.wait_coverage.specs.declared.limits.Node.{Node}
 use Rattle.wait_coverage.specs.declared.limits.Progress.{Progress}
+use Rattle.wait_coverage.proofs.BarrierLemmas.{begun_region, begun_other}
 use Rattle.wait_coverage.proofs.CoverLemmas.{ends_at, one_region, child_with, number_between}
 use Rattle.wait_coverage.proofs.StandLemmas.{created_child}
 use Rattle.wait_coverage.proofs.ChainLemmas.{chains_other, chains_more}
@@ -58,6 +60,25 @@ pub record IsGrouped (rs : List Record) (i task : ℕ) : Type 0 where
   pub creates : at creation rs place ≡ Some (parent, child)
   pub of : IsFamily rs child task
 
+-- one of the family of a child that a member of the team created before its barrier with the same number began
+pub record IsMet (rs : List Record) (i task : ℕ) : Type 0 where
+  pub own : ℕ
+  pub begin : ℕ
+  pub kind : SyncKind
+  pub number : ℕ
+  pub member : ℕ
+  pub start : ℕ
+  pub child : ℕ
+  pub place : ℕ
+  pub is_region : IsRegion rs i own kind begin
+  pub barrier : is_barrier kind ≡ true
+  pub begins : IsBarrierBegin rs own number begin
+  pub mate : IsTeammate rs own member
+  pub starts : IsBarrierBegin rs member number start
+  pub before : place < start
+  pub creates : at creation rs place ≡ Some (member, child)
+  pub of : IsFamily rs child task
+
 -- where a contained child was created
 pub created_between : (rs : List Record) (parent begin i child : ℕ) → i ≤ length rs → Contains (children_between rs parent begin i) child → (c : ℕ) × (begin ≤ c) × (c < i) × (at creation rs c ≡ Some (parent, child))
 created_between rs parent begin i child inside found =
@@ -76,27 +97,17 @@ created_between rs parent begin i child inside found =
       | inr at_most ↦ at_most
     ]
 
-pub covers_cases : (rs : List Record) (i task : ℕ) → HaveNoBarriers rs → Covers rs i task → IsWaited rs i task ⊎ IsGrouped rs i task
-covers_cases rs i task none (waited {parent = parent} {begin = begin} there found) =
+pub covers_cases : (rs : List Record) (i task : ℕ) → Covers rs i task → IsWaited rs i task ⊎ (IsGrouped rs i task ⊎ IsMet rs i task)
+covers_cases rs i task (waited {parent = parent} {begin = begin} there found) =
     let place = before_child rs parent task begin found in
     inl record { parent = parent; begin = begin; place = place.0; is_region = there; before = place.1; creates = place.2 }
-covers_cases rs i task none (grouped {parent = parent} {begin = begin} {child = child} there found of) =
+covers_cases rs i task (grouped {parent = parent} {begin = begin} {child = child} there found of) =
     let inside = (ends_at rs i parent begin Taskgroup there).inside in
     let place = created_between rs parent begin i child (omega (arith, inside)) found in
-    inr record { parent = parent; begin = begin; child = child; place = place.0; is_region = there; from = place.1; before = place.2; creates = place.3; of = of }
-covers_cases rs i task none (synchronised {own = own} {begin = begin} {kind = kind} number there barrier begins team starts found of) =
-    let ends = ends_at rs i own begin kind there in
-    absurd (none i own kind ends.endpoint ends.says barrier)
-
-pub end_limit_by : (rs : List Record) (i limit : ℕ) → HaveNoBarriers rs → ((parent begin : ℕ) → IsRegion rs i parent Taskwait begin → IsChildLimit rs begin parent limit) → ((parent begin c child : ℕ) → IsRegion rs i parent Taskgroup begin → begin ≤ c → c < i → at creation rs c ≡ Some (parent, child) → IsFamilyLimit rs child limit) → IsEndLimit rs i limit
-end_limit_by rs i limit none waits groups m t small low covers = elim (covers_cases rs i t none covers) [
-  | inl one ↦ waits one.parent one.begin one.is_region m one.place t small low one.before one.creates
-  | inr one ↦ groups one.parent one.begin one.place one.child one.is_region one.from one.before one.creates m t small low one.of
-]
-
--- a record of another region, or of none
-pub says_other : (rs : List Record) (i parent begin : ℕ) (kind : SyncKind) → ((task : ℕ) (endpoint : Endpoint) → at region rs i ≡ Some (task, kind, endpoint) → ⊥) → IsRegion rs i parent kind begin → ⊥
-says_other rs i parent begin kind none there = let ends = ends_at rs i parent begin kind there in none parent ends.endpoint ends.says
+    inr (inl record { parent = parent; begin = begin; child = child; place = place.0; is_region = there; from = place.1; before = place.2; creates = place.3; of = of })
+covers_cases rs i task (synchronised {own = own} {begin = begin} {member = member} {start = start} {child = child} {kind = kind} number there barrier begins mate starts found of) =
+    let place = before_child rs member child start found in
+    inr (inr record { own = own; begin = begin; kind = kind; number = number; member = member; start = start; child = child; place = place.0; is_region = there; barrier = barrier; begins = begins; mate = mate; starts = starts; before = place.1; creates = place.2; of = of })
 
 -- ---- one record more
 
@@ -141,33 +152,68 @@ latest_more rs n own parent child value done d tasks latest apart are is_own cre
     within : own < length latest
     within = let inside = slice_get_within tasks own parent is_own in omega (arith, inside, are.all)
 
-pub noted_push : (rs : List Record) (n : ℕ) (tasks : List ℕ) (nodes : List Node) (new : Node) (before after : Progress) → AreNoted rs n tasks nodes before → AreLatest rs (n + 1) tasks after.latest.items → AreChains rs tasks (nodes ++ new ∷ []) after.heads.items → ((task : ℕ) → at region rs n ≡ Some (task, Taskwait, Begin) → IsChildLimit rs n task new.limit) → IsEndLimit rs n new.limit → AreNoted rs (n + 1) tasks (nodes ++ new ∷ []) after
-noted_push rs n tasks nodes new before after are latest chains begins ends = record {
-  count = length_push nodes new ∙ ap (λ k. k + 1) are.count;
-  latest = latest;
-  chains = chains;
-  begins = λ i task node there says. elim (pushed_cases nodes new node i there) [
-    | inl old ↦ are.begins i task node old says
-    | inr last ↦
-        let is_n : i ≡ n = last.0 ∙ are.count in
-        let P : ℕ → Type 0 = λ k. IsChildLimit rs k task node.limit in
-        let Q : Node → Type 0 = λ x. IsChildLimit rs n task x.limit in
-        subst P (sym is_n) (subst Q last.1 (begins task (ap (at region rs) (sym is_n) ∙ says)))
-  ];
-  ends = λ i node there. elim (pushed_cases nodes new node i there) [
-    | inl old ↦ are.ends i node old
-    | inr last ↦
-        let is_n : i ≡ n = last.0 ∙ are.count in
-        let P : ℕ → Type 0 = λ k. IsEndLimit rs k node.limit in
-        let Q : Node → Type 0 = λ x. IsEndLimit rs n x.limit in
-        subst P (sym is_n) (subst Q last.1 ends)
+families_other : (rs : List Record) (n : ℕ) (tasks families : List ℕ) → AreLatestFamilies rs n tasks families → at creation rs n ≡ None → AreLatestFamilies rs (n + 1) tasks families
+families_other rs n tasks families are none = record {
+  all = are.all;
+  each = λ index task limit is_task stands c child below creates. elim (cases_eq c n) [
+    | inl same ↦ absurd (none-some (task, child) (sym none ∙ ap (at creation rs) (sym same) ∙ creates))
+    | inr apart ↦ are.each index task limit is_task stands c child (omega arith) creates
   ];
 }
 
-pub noted_alone : (rs : List Record) (n : ℕ) (tasks : List ℕ) (nodes : List Node) (new : Node) (progress : Progress) → AreNoted rs n tasks nodes progress → at creation rs n ≡ None → new.previous ≡ None → ((task : ℕ) → at region rs n ≡ Some (task, Taskwait, Begin) → IsChildLimit rs n task new.limit) → IsEndLimit rs n new.limit → AreNoted rs (n + 1) tasks (nodes ++ new ∷ []) progress
-noted_alone rs n tasks nodes new progress are none alone begins ends =
+families_more : (rs : List Record) (n own parent child value done d : ℕ) (tasks families : List ℕ) → AreApart tasks → AreLatestFamilies rs n tasks families → slice_get tasks own ≡ Some parent → at creation rs n ≡ Some (parent, child) → value ≡ max (get_or families own d) done → IsFamilyLimit rs child done → AreLatestFamilies rs (n + 1) tasks (set families own value)
+families_more rs n own parent child value done d tasks families apart are is_own creates is_value finished = record {
+  all = length-set families own value ∙ are.all;
+  each = λ index other limit is_other stands c born below creates_there. elim (cases_eq index own) [
+    | inl same ↦
+        let is_parent : parent ≡ other = same_Some parent other (sym is_own ∙ ap (slice_get tasks) (sym same) ∙ is_other) in
+        let is_limit : value ≡ limit = same_Some value limit (sym (get_set_same families own value within) ∙ ap (slice_get (set families own value)) (sym same) ∙ stands) in
+        elim (cases_eq c n) [
+          | inl here ↦
+              let pair = same_Some (parent, child) (other, born) (sym creates ∙ ap (at creation rs) (sym here) ∙ creates_there) in
+              let P : ℕ → Type 0 = λ t. IsFamilyLimit rs t limit in
+              subst P (ap (λ (p : ℕ × ℕ). p.1) pair) (weaker child done limit finished (omega (arith, is_value, is_limit)))
+          | inr earlier ↦
+              weaker born (get_or families own d) limit
+              (are.each own parent (get_or families own d) is_own (slice_get-get_or families own d within) c born (omega arith) (creates_there ∙ ap (λ t. Some (t, born)) (sym is_parent)))
+              (omega (arith, is_value, is_limit))
+        ]
+    | inr different ↦ elim (cases_eq c n) [
+      | inl here ↦
+          let pair = same_Some (parent, child) (other, born) (sym creates ∙ ap (at creation rs) (sym here) ∙ creates_there) in
+          absurd (different (apart index own parent (is_other ∙ ap Some (sym (ap (λ (p : ℕ × ℕ). p.0) pair))) is_own))
+      | inr earlier ↦ are.each index other limit is_other (sym (get_set_other families own index value different) ∙ stands) c born (omega arith) creates_there
+    ]
+  ];
+}
+  where
+    within : own < length families
+    within = let inside = slice_get_within tasks own parent is_own in omega (arith, inside, are.all)
+
+    weaker : (born low high : ℕ) → IsFamilyLimit rs born low → low ≤ high → IsFamilyLimit rs born high
+    weaker born low high limit less m t small at_most of = limit m t small (omega (arith, less, at_most)) of
+
+pub noted_push : (rs : List Record) (n : ℕ) (tasks : List ℕ) (nodes : List Node) (new : Node) (before after : Progress) → AreNoted rs n tasks nodes before → AreLatest rs (n + 1) tasks after.latest.items → AreLatestFamilies rs (n + 1) tasks after.families.items → AreChains rs tasks (nodes ++ new ∷ []) after.heads.items → IsMark rs n new.limit → AreNoted rs (n + 1) tasks (nodes ++ new ∷ []) after
+noted_push rs n tasks nodes new before after are latest families chains mark = record {
+  count = length_push nodes new ∙ ap (λ k. k + 1) are.count;
+  latest = latest;
+  families = families;
+  chains = chains;
+  marks = λ i node there. elim (pushed_cases nodes new node i there) [
+    | inl old ↦ are.marks i node old
+    | inr last ↦
+        let is_n : i ≡ n = last.0 ∙ are.count in
+        let P : ℕ → Type 0 = λ k. IsMark rs k node.limit in
+        let Q : Node → Type 0 = λ x. IsMark rs n x.limit in
+        subst P (sym is_n) (subst Q last.1 mark)
+  ];
+}
+
+pub noted_alone : (rs : List Record) (n : ℕ) (tasks : List ℕ) (nodes : List Node) (new : Node) (progress : Progress) → AreNoted rs n tasks nodes progress → at creation rs n ≡ None → new.previous ≡ None → IsMark rs n new.limit → AreNoted rs (n + 1) tasks (nodes ++ new ∷ []) progress
+noted_alone rs n tasks nodes new progress are none alone mark =
     noted_push rs n tasks nodes new progress progress are (latest_other rs n tasks progress.latest.items are.latest none)
-    (chains_other rs tasks nodes new progress.heads.items are.chains alone (ap (at creation rs) are.count ∙ none)) begins ends
+    (families_other rs n tasks progress.families.items are.families none)
+    (chains_other rs tasks nodes new progress.heads.items are.chains alone (ap (at creation rs) are.count ∙ none)) mark
 
 -- ---- the kinds of record
 
@@ -183,15 +229,20 @@ creates_no_region rs i parent child own kind endpoint creates says = there (slic
     there None is is' = none-some (parent, child) is
     there (Some r) is is' = of r.body is is'
 
-pub created_noted : (rs : List Record) (n own parent child done : ℕ) (tasks : List ℕ) (nodes : List Node) (new : Node) (before after : Progress) → HaveNoBarriers rs → AreApart tasks → AreNoted rs n tasks nodes before → at creation rs n ≡ Some (parent, child) → slice_get tasks own ≡ Some parent → slice_get before.heads.items own ≡ Some new.previous → IsFamilyLimit rs child new.limit → ((m : ℕ) → m < 2 ^ 32 → done ≤ m → IsDone rs m child) → after.heads.items ≡ set before.heads.items own (Some n) → ((old : ℕ) → slice_get before.latest.items own ≡ Some old → after.latest.items ≡ set before.latest.items own (max old done)) → AreNoted rs (n + 1) tasks (nodes ++ new ∷ []) after
-created_noted rs n own parent child done tasks nodes new before after none apart are creates is_own head_there limit finished heads latest =
+pub created_noted : (rs : List Record) (n own parent child done : ℕ) (tasks : List ℕ) (nodes : List Node) (new : Node) (before after : Progress) → AreApart tasks → AreNoted rs n tasks nodes before → at creation rs n ≡ Some (parent, child) → slice_get tasks own ≡ Some parent → slice_get before.heads.items own ≡ Some new.previous → IsFamilyLimit rs child new.limit → ((m : ℕ) → m < 2 ^ 32 → done ≤ m → IsDone rs m child) → after.heads.items ≡ set before.heads.items own (Some n) → ((old : ℕ) → slice_get before.latest.items own ≡ Some old → after.latest.items ≡ set before.latest.items own (max old done)) → ((old : ℕ) → slice_get before.families.items own ≡ Some old → after.families.items ≡ set before.families.items own (max old new.limit)) → AreNoted rs (n + 1) tasks (nodes ++ new ∷ []) after
+created_noted rs n own parent child done tasks nodes new before after apart are creates is_own head_there limit finished heads latest families =
     noted_push rs n tasks nodes new before after are
     (subst (AreLatest rs (n + 1) tasks) (sym latest_are) (latest_more rs n own parent child (max (get_or before.latest.items own 0) done) done 0 tasks before.latest.items apart are.latest is_own creates refl finished))
+    (subst (AreLatestFamilies rs (n + 1) tasks) (sym families_are) (families_more rs n own parent child (max (get_or before.families.items own 0) new.limit) new.limit 0 tasks before.families.items apart are.families is_own creates refl limit))
     (subst (AreChains rs tasks (nodes ++ new ∷ [])) (sym heads_are) (chains_more rs tasks nodes new before.heads.items own parent apart are.chains is_own known makes kept))
-    (λ task says. absurd (creates_no_region rs n parent child task Taskwait Begin creates says))
-    (end_limit_by rs n new.limit none
-    (λ p b there. absurd (no_region p b Taskwait there))
-    (λ p b c t there from below made_it. absurd (no_region p b Taskgroup there)))
+    (record {
+      begins = λ task says. absurd (creates_no_region rs n parent child task Taskwait Begin creates says);
+      meets = λ task begun. absurd (let known = begun_region rs n task begun in creates_no_region rs n parent child task known.0 known.1 creates known.2);
+      ends = record {
+        waits = λ p b there. absurd (no_region p b Taskwait there);
+        groups = λ p b c t there from below made_it. absurd (no_region p b Taskgroup there);
+      };
+    })
   where
     no_region : (p b : ℕ) (kind : SyncKind) → IsRegion rs n p kind b → ⊥
     no_region p b kind there = let ends = ends_at rs n p b kind there in creates_no_region rs n parent child p kind ends.endpoint creates ends.says
@@ -201,6 +252,9 @@ created_noted rs n own parent child done tasks nodes new before after none apart
 
     latest_are : after.latest.items ≡ set before.latest.items own (max (get_or before.latest.items own 0) done)
     latest_are = latest (get_or before.latest.items own 0) (slice_get-get_or before.latest.items own 0 (let inside = slice_get_within tasks own parent is_own in let count = are.latest.all in omega (arith, inside, count)))
+
+    families_are : after.families.items ≡ set before.families.items own (max (get_or before.families.items own 0) new.limit)
+    families_are = families (get_or before.families.items own 0) (slice_get-get_or before.families.items own 0 (let inside = slice_get_within tasks own parent is_own in let count = are.families.all in omega (arith, inside, count)))
 
     known : (next : ℕ) → new.previous ≡ Some next → next < length nodes
     known next is = are.chains.known own next (head_there ∙ ap Some is)
@@ -216,17 +270,23 @@ created_noted rs n own parent child done tasks nodes new before after none apart
         let P : Option ℕ → Type 0 = λ h. HasNode rs nodes h c born in
         inl (subst P (same_Some head new.previous (sym stands ∙ head_there)) has)
 
-pub closed_noted : (rs : List Record) (n own parent begin : ℕ) (tasks : List ℕ) (nodes : List Node) (new : Node) (before after : Progress) → HaveNoBarriers rs → AreApart tasks → AreNoted rs n tasks nodes before → EndsRegion rs n parent Taskgroup begin → slice_get tasks own ≡ Some parent → (head : Option ℕ) → slice_get before.heads.items own ≡ Some head → Gathers nodes head begin new → after.heads.items ≡ set before.heads.items own (Some n) → after.latest.items ≡ before.latest.items → AreNoted rs (n + 1) tasks (nodes ++ new ∷ []) after
-closed_noted rs n own parent begin tasks nodes new before after none apart are ends is_own head head_there gathered heads latest =
+pub closed_noted : (rs : List Record) (n own parent begin : ℕ) (tasks : List ℕ) (nodes : List Node) (new : Node) (before after : Progress) → AreApart tasks → AreNoted rs n tasks nodes before → EndsRegion rs n parent Taskgroup begin → slice_get tasks own ≡ Some parent → (head : Option ℕ) → slice_get before.heads.items own ≡ Some head → Gathers nodes head begin new → after.heads.items ≡ set before.heads.items own (Some n) → after.latest.items ≡ before.latest.items → after.families.items ≡ before.families.items → AreNoted rs (n + 1) tasks (nodes ++ new ∷ []) after
+closed_noted rs n own parent begin tasks nodes new before after apart are ends is_own head head_there gathered heads latest families =
     noted_push rs n tasks nodes new before after are
     (subst (AreLatest rs (n + 1) tasks) (sym latest) (latest_other rs n tasks before.latest.items are.latest no_creation))
+    (subst (AreLatestFamilies rs (n + 1) tasks) (sym families) (families_other rs n tasks before.families.items are.families no_creation))
     (subst (AreChains rs tasks (nodes ++ new ∷ [])) (sym heads_are) (chains_more rs tasks nodes new before.heads.items own parent apart are.chains is_own gathered.known makes kept))
-    (λ task says. absurd (let same = same_Some (parent, Taskgroup, End) (task, Taskwait, Begin) (sym ends.ends ∙ says) in let kinds : End ≡ Begin = ap (λ (x : ℕ × SyncKind × Endpoint). x.2) same in cc))
-    (end_limit_by rs n new.limit none
-    (λ p b there. let same = one_region rs n parent p begin b Taskgroup Taskwait (ended ends) there in absurd (let kinds = same.kind_is in cc))
-    (λ p b c t there from less creates. grouped_limit c t
-    (let same = one_region rs n parent p begin b Taskgroup Taskgroup (ended ends) there in let begins = same.begin_is in omega (arith, begins, from)) less
-    (creates ∙ ap (λ x. Some (x, t)) (sym (one_region rs n parent p begin b Taskgroup Taskgroup (ended ends) there).task_is))))
+    (record {
+      begins = λ task says. absurd (let same = same_Some (parent, Taskgroup, End) (task, Taskwait, Begin) (sym ends.ends ∙ says) in let kinds : End ≡ Begin = ap (λ (x : ℕ × SyncKind × Endpoint). x.2) same in cc);
+      meets = λ task begun. absurd (begun_other rs n task parent Taskgroup End ends.ends refl begun);
+      ends = record {
+        waits = λ p b there. let same = one_region rs n parent p begin b Taskgroup Taskwait (ended ends) there in absurd (let kinds = same.kind_is in cc);
+        groups = λ p b c t there from less creates.
+            let same = one_region rs n parent p begin b Taskgroup Taskgroup (ended ends) there in
+            let begins = same.begin_is in
+            grouped_limit c t (omega (arith, begins, from)) less (creates ∙ ap (λ x. Some (x, t)) (sym same.task_is));
+      };
+    })
   where
     no_creation : at creation rs n ≡ None
     no_creation = of (at creation rs n) refl
@@ -289,7 +349,7 @@ creation_there rs i some = of (at creation rs i) refl
     of None e = absurd (some e)
     of (Some (parent, child)) e = (parent, child, e)
 
--- ---- taskwaits, and records that say nothing
+-- ---- taskwaits, and records that say nothing of them
 
 no_creation : (rs : List Record) (i own : ℕ) (kind : SyncKind) (endpoint : Endpoint) → at region rs i ≡ Some (own, kind, endpoint) → at creation rs i ≡ None
 no_creation rs i own kind endpoint says = of (at creation rs i) refl
@@ -305,11 +365,17 @@ same_says rs i task other kind another e f here there =
     (ap (λ (p : ℕ × SyncKind × Endpoint). p.0) same, ap (λ (p : ℕ × SyncKind × Endpoint). p.1) same, ap (λ (p : ℕ × SyncKind × Endpoint). p.2) same)
 
 -- the end of a taskwait
-pub ended_noted : (rs : List Record) (n task : ℕ) (tasks : List ℕ) (nodes : List Node) (new : Node) (progress : Progress) → HaveNoBarriers rs → AreNoted rs n tasks nodes progress → at region rs n ≡ Some (task, Taskwait, End) → new.previous ≡ None → IsLimitOfBegin rs nodes n new.limit → AreNoted rs (n + 1) tasks (nodes ++ new ∷ []) progress
-ended_noted rs n task tasks nodes new progress none are says alone limit =
+pub ended_noted : (rs : List Record) (n task : ℕ) (tasks : List ℕ) (nodes : List Node) (new : Node) (progress : Progress) → AreNoted rs n tasks nodes progress → at region rs n ≡ Some (task, Taskwait, End) → new.previous ≡ None → IsLimitOfBegin rs nodes n new.limit → AreNoted rs (n + 1) tasks (nodes ++ new ∷ []) progress
+ended_noted rs n task tasks nodes new progress are says alone limit =
     noted_alone rs n tasks nodes new progress are (no_creation rs n task Taskwait End says) alone
-    (λ t begins. absurd (let same = (same_says rs n task t Taskwait Taskwait End Begin says begins).2 in cc))
-    (end_limit_by rs n new.limit none waits (λ p b c t there from less creates. absurd (let ends = ends_at rs n p b Taskgroup there in let same = (same_says rs n task p Taskwait Taskgroup End ends.endpoint says ends.says).1 in cc)))
+    (record {
+      begins = λ t begins. absurd (let same = (same_says rs n task t Taskwait Taskwait End Begin says begins).2 in cc);
+      meets = λ t begun. absurd (begun_other rs n t task Taskwait End says refl begun);
+      ends = record {
+        waits = waits;
+        groups = λ p b c t there from less creates. absurd (let ends = ends_at rs n p b Taskgroup there in let same = (same_says rs n task p Taskwait Taskgroup End ends.endpoint says ends.says).1 in cc);
+      };
+    })
   where
     waits : (p b : ℕ) → IsRegion rs n p Taskwait b → IsChildLimit rs b p new.limit
     waits p b (ended ends) =
@@ -317,15 +383,21 @@ ended_noted rs n task tasks nodes new progress none are says alone limit =
         let begins = own_begin rs n p b Taskwait ends in
         let kinds : begins.kind ≡ Taskwait = same_Some begins.kind Taskwait (sym (ap (option_map (λ (r : ℕ × SyncKind × Endpoint). r.1)) begins.begins) ∙ ends.same_kind) in
         let P : ℕ → Type 0 = λ l. IsChildLimit rs b p l in
-        subst P there.2 (are.begins b p there.0 there.1 (begins.begins ∙ ap (λ k. Some (p, k, Begin)) kinds))
+        subst P there.2 ((are.marks b there.0 there.1).begins p (begins.begins ∙ ap (λ k. Some (p, k, Begin)) kinds))
     waits p b (at_once once) = absurd (let same = (same_says rs n task p Taskwait Taskwait End BeginEnd says once).2 in cc)
 
 -- the begin of one, or one that begins and ends at once
-pub begun_noted : (rs : List Record) (n task : ℕ) (endpoint : Endpoint) (tasks : List ℕ) (nodes : List Node) (new : Node) (progress : Progress) → HaveNoBarriers rs → AreNoted rs n tasks nodes progress → at region rs n ≡ Some (task, Taskwait, endpoint) → endpoint ≢ End → new.previous ≡ None → ((t : ℕ) → at subject rs n ≡ Some t → IsChildLimit rs n t new.limit) → AreNoted rs (n + 1) tasks (nodes ++ new ∷ []) progress
-begun_noted rs n task endpoint tasks nodes new progress none are says not_end alone limit =
+pub begun_noted : (rs : List Record) (n task : ℕ) (endpoint : Endpoint) (tasks : List ℕ) (nodes : List Node) (new : Node) (progress : Progress) → AreNoted rs n tasks nodes progress → at region rs n ≡ Some (task, Taskwait, endpoint) → endpoint ≢ End → new.previous ≡ None → ((t : ℕ) → at subject rs n ≡ Some t → IsChildLimit rs n t new.limit) → AreNoted rs (n + 1) tasks (nodes ++ new ∷ []) progress
+begun_noted rs n task endpoint tasks nodes new progress are says not_end alone limit =
     noted_alone rs n tasks nodes new progress are (no_creation rs n task Taskwait endpoint says) alone
-    (λ t begins. mine t Begin begins)
-    (end_limit_by rs n new.limit none waits (λ p b c t there from less creates. absurd (let ends = ends_at rs n p b Taskgroup there in let same = (same_says rs n task p Taskwait Taskgroup endpoint ends.endpoint says ends.says).1 in cc)))
+    (record {
+      begins = λ t begins. mine t Begin begins;
+      meets = λ t begun. absurd (begun_other rs n t task Taskwait endpoint says refl begun);
+      ends = record {
+        waits = waits;
+        groups = λ p b c t there from less creates. absurd (let ends = ends_at rs n p b Taskgroup there in let same = (same_says rs n task p Taskwait Taskgroup endpoint ends.endpoint says ends.says).1 in cc);
+      };
+    })
   where
     mine : (t : ℕ) (e : Endpoint) → at region rs n ≡ Some (t, Taskwait, e) → IsChildLimit rs n t new.limit
     mine t e there = limit t (at_through region subject (t, Taskwait, e) t rs n (region_subject t Taskwait e) there)
@@ -335,13 +407,17 @@ begun_noted rs n task endpoint tasks nodes new progress none are says not_end al
     waits p b (at_once once) = mine p BeginEnd once
 
 -- a record that is no creation, no part of a taskwait and no end of a taskgroup that began before it
-pub silent_noted : (rs : List Record) (n : ℕ) (tasks : List ℕ) (nodes : List Node) (new : Node) (progress : Progress) → HaveNoBarriers rs → AreNoted rs n tasks nodes progress → at creation rs n ≡ None → ((task : ℕ) (endpoint : Endpoint) → at region rs n ≡ Some (task, Taskwait, endpoint) → ⊥) → ((task : ℕ) → at region rs n ≡ Some (task, Taskgroup, End) → ⊥) → new.previous ≡ None → AreNoted rs (n + 1) tasks (nodes ++ new ∷ []) progress
-silent_noted rs n tasks nodes new progress none are quiet no_wait no_group alone =
+pub other_noted : (rs : List Record) (n : ℕ) (tasks : List ℕ) (nodes : List Node) (new : Node) (progress : Progress) → AreNoted rs n tasks nodes progress → at creation rs n ≡ None → ((task : ℕ) (endpoint : Endpoint) → at region rs n ≡ Some (task, Taskwait, endpoint) → ⊥) → ((task : ℕ) → at region rs n ≡ Some (task, Taskgroup, End) → ⊥) → ((task : ℕ) → barrier_begun (at region rs n) ≡ Some task → IsFamiliesLimit rs n task new.limit) → new.previous ≡ None → AreNoted rs (n + 1) tasks (nodes ++ new ∷ []) progress
+other_noted rs n tasks nodes new progress are quiet no_wait no_group meets alone =
     noted_alone rs n tasks nodes new progress are quiet alone
-    (λ t begins. absurd (no_wait t Begin begins))
-    (end_limit_by rs n new.limit none
-    (λ p b there. absurd (let ends = ends_at rs n p b Taskwait there in no_wait p ends.endpoint ends.says))
-    groups)
+    (record {
+      begins = λ t begins. absurd (no_wait t Begin begins);
+      meets = meets;
+      ends = record {
+        waits = λ p b there. absurd (let ends = ends_at rs n p b Taskwait there in no_wait p ends.endpoint ends.says);
+        groups = groups;
+      };
+    })
   where
     groups : (p b c t : ℕ) → IsRegion rs n p Taskgroup b → b ≤ c → c < n → at creation rs c ≡ Some (p, t) → IsFamilyLimit rs t new.limit
     groups p b c t (ended ends) from less creates = absurd (no_group p ends.ends)
@@ -350,3 +426,8 @@ silent_noted rs n tasks nodes new progress none are quiet no_wait no_group alone
 pub not_some : {X : Type 0} {o : Option X} → is_some o ≡ false → o ≡ None
 not_some {o = None} nothing = refl
 not_some {o = Some x} nothing = absurd (false≢true (sym nothing))
+
+-- what is no index is none
+pub none_else : {X : Type 0} {o : Option X} → ((x : X) → o ≡ Some x → ⊥) → o ≡ None
+none_else {o = None} never = refl
+none_else {o = Some x} never = absurd (never x refl)

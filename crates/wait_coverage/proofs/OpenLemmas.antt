@@ -1,5 +1,5 @@
 -- What of the tasks that an end covers is unfinished there.
-use Rattle.std.proofs.Common.{◌≡◌, ◌∙◌, ℕ, ◌<◌, ◌≤◌, ◌^◌, List, length, Option, Some, None, sym, ap, subst, arith, inl, inr}
+use Rattle.std.proofs.Common.{◌≡◌, ◌∙◌, ℕ, ◌<◌, ◌≤◌, ◌^◌, true, List, length, Option, Some, None, refl, sym, ap, subst, arith, inl, inr}
 use Rattle.std.proofs.lemmas.Bool.{cases_lt}
 use Rattle.std.proofs.lemmas.Option.{same_Some, slice_get_within}
 use Rattle.std.specs.Prelude.{MatchOption, slice_get, Contains}
@@ -9,16 +9,20 @@ use Rattle.ompt_events.specs.declared.names.SyncKind.TheVariants.{Taskwait, Task
 use Rattle.ompt_events.specs.Records.{created, creation}
 use Rattle.ompt_events.specs.Places.{at, seen_at}
 use Rattle.ompt_events.specs.Tree.{children_before, children_between, child_number, child, deeper}
-use Rattle.ompt_events.specs.Coverage.{Covers, waited, grouped}
+use Rattle.ompt_events.specs.Coverage.{Covers, waited, grouped, synchronised}
+use Rattle.ompt_events.specs.Regions.{IsRegion, IsBarrierBegin, is_barrier, waits_for_tasks}
+use Rattle.ompt_events.specs.Teams.{IsTeammate}
 use Rattle.ompt_events.proofs.RecordLemmas.{creation_at_created}
 use Rattle.ompt_events.proofs.TreeLemmas.{child_before}
 use Rattle.credit_ledger.specs.declared.entry.Cover.{Cover}
 use Rattle.credit_ledger.specs.declared.entry.Cover.TheVariants.{Children, Descendants}
 use Rattle.wait_coverage.specs.Entries.{IsDone}
 use Rattle.wait_coverage.specs.Spans.{IsCoverComplete}
-use Rattle.wait_coverage.specs.Limits.{HaveNoBarriers, AreEndLimits}
-use Rattle.wait_coverage.specs.Waits.{EndsNoWaitAt, IsWaitAt, waits, groups, IsAwaitedBy, IsAwaited, IsFirstOpen, IsFirstOpenEnd, IsLateAt, IsFirstLate}
+use Rattle.wait_coverage.specs.Limits.{AreEndLimits}
+use Rattle.wait_coverage.specs.Waits.{EndsNoWaitAt, IsWaitAt, waits, groups, meets, IsWithin, before_begin, in_group, by_member, cover_of, IsAwaitedBy, IsAwaited, IsFirstOpen, IsFirstOpenEnd, IsLateAt, IsFirstLate}
 use Rattle.wait_coverage.specs.declared.waits.Wait.{Wait}
+use Rattle.wait_coverage.specs.declared.waits.Wait.TheVariants.{Taskwait as ForTaskwait, Taskgroup as ForTaskgroup, Barrier as ForBarrier}
+use Rattle.wait_coverage.proofs.BarrierLemmas.{one_number, barrier_is_other}
 use Rattle.wait_coverage.specs.declared.limits.Node.{Node}
 use Rattle.wait_coverage.proofs.CoverLemmas.{EndsAt, ends_at, one_region, child_with, child_stays, dropped, done_there, complete_there}
 use Rattle.wait_coverage.proofs.CompleteLemmas.{done_or_not}
@@ -43,32 +47,60 @@ between rs parent begin i c task inside from before creates =
     (number_rises rs parent begin c from (omega (arith, inside))) (created_child rs c parent task i creates before)
 
 awaited_covered : (rs : List Record) (tasks : List ℕ) (i task : ℕ) (wait : Wait) → IsWaitAt rs tasks i wait → IsAwaited rs tasks wait task → Covers rs i task
-awaited_covered rs tasks i task wait (waits {parent = parent} {begin = begin} is_parent there) own =
-    let same = same_Some own.parent parent (sym own.is_parent ∙ is_parent) in
-    waited there (child_before rs parent task begin own.place own.before (own.creates ∙ ap (λ p. Some (p, task)) same))
-awaited_covered rs tasks i task wait (groups {parent = parent} {begin = begin} is_parent there) (first, own, of) =
-    let same = same_Some own.parent parent (sym own.is_parent ∙ is_parent) in
-    let ends = ends_at rs i parent begin Taskgroup there in
-    let inside = ends.inside in
-    let before = own.before in
-    grouped there (between rs parent begin i own.place first (omega (arith, inside, before)) own.from own.before (own.creates ∙ ap (λ p. Some (p, first)) same)) of
+awaited_covered rs tasks i task wait (waits {parent = parent} {begin = begin} {index = index} is_parent there) own = of own.within own.creates
+  where
+    of : {p c : ℕ} → IsWithin rs tasks p c (ForTaskwait index begin) → at creation rs c ≡ Some (p, task) → Covers rs i task
+    of {p} {c} (before_begin own_is before) creates = waited there (child_before rs parent task begin c before (creates ∙ ap (λ t. Some (t, task)) (same_Some p parent (sym own_is ∙ is_parent))))
+awaited_covered rs tasks i task wait (groups {parent = parent} {begin = begin} {index = index} is_parent there) (first, own, family) = of own.within own.creates
+  where
+    of : {p c : ℕ} → IsWithin rs tasks p c (ForTaskgroup index begin i) → at creation rs c ≡ Some (p, first) → Covers rs i task
+    of {p} {c} (in_group own_is from before) creates =
+        let ends = ends_at rs i parent begin Taskgroup there in
+        let inside = ends.inside in
+        grouped there (between rs parent begin i c first (omega (arith, inside, before)) from before (creates ∙ ap (λ t. Some (t, first)) (same_Some p parent (sym own_is ∙ is_parent)))) family
+awaited_covered rs tasks i task wait (meets {own = waiter} {begin = begin} {index = index} {number = number} is_own there barrier begins) (first, own, family) = of own.within own.creates
+  where
+    of : {p c : ℕ} → IsWithin rs tasks p c (ForBarrier index number) → at creation rs c ≡ Some (p, first) → Covers rs i task
+    of {p} {c} (by_member {own = other} {start = start} own_is mate starts before) creates =
+        let P : ℕ → Type 0 = λ t. IsTeammate rs t p in
+        synchronised number there barrier begins (subst P (same_Some other waiter (sym own_is ∙ is_own)) mate) starts (child_before rs p first start c before creates) family
 
-covered_awaited : (rs : List Record) (tasks : List ℕ) (i task : ℕ) (wait : Wait) → HaveNoBarriers rs → IsWaitAt rs tasks i wait → Covers rs i task → IsAwaited rs tasks wait task
-covered_awaited rs tasks i task wait none (waits {parent = parent} {begin = begin} is_parent there) covers = elim (covers_cases rs i task none covers) [
+covered_awaited : (rs : List Record) (tasks : List ℕ) (i task : ℕ) (wait : Wait) → IsWaitAt rs tasks i wait → Covers rs i task → IsAwaited rs tasks wait task
+covered_awaited rs tasks i task wait (waits {parent = parent} {begin = begin} is_parent there) covers = elim (covers_cases rs i task covers) [
   | inl one ↦
       let same = one_region rs i one.parent parent one.begin begin Taskwait Taskwait one.is_region there in
       let begins = same.begin_is in
       let before = one.before in
-      record { parent = parent; place = one.place; is_parent = is_parent; from = omega arith; before = omega (arith, begins, before); creates = one.creates ∙ ap (λ p. Some (p, task)) same.task_is }
-  | inr one ↦ let same = (one_region rs i one.parent parent one.begin begin Taskgroup Taskwait one.is_region there).kind_is in absurd (cc)
+      record { parent = parent; place = one.place; within = before_begin is_parent (omega (arith, begins, before)); creates = one.creates ∙ ap (λ p. Some (p, task)) same.task_is }
+  | inr other ↦ elim other [
+    | inl one ↦ let same = (one_region rs i one.parent parent one.begin begin Taskgroup Taskwait one.is_region there).kind_is in absurd (cc)
+    | inr one ↦ absurd (barrier_is_other one.kind Taskwait one.barrier refl (one_region rs i one.own parent one.begin begin one.kind Taskwait one.is_region there).kind_is)
+  ]
 ]
-covered_awaited rs tasks i task wait none (groups {parent = parent} {begin = begin} is_parent there) covers = elim (covers_cases rs i task none covers) [
+covered_awaited rs tasks i task wait (groups {parent = parent} {begin = begin} is_parent there) covers = elim (covers_cases rs i task covers) [
   | inl one ↦ let same = (one_region rs i one.parent parent one.begin begin Taskwait Taskgroup one.is_region there).kind_is in absurd (cc)
-  | inr one ↦
-      let same = one_region rs i one.parent parent one.begin begin Taskgroup Taskgroup one.is_region there in
-      let begins = same.begin_is in
-      let from = one.from in
-      (one.child, record { parent = parent; place = one.place; is_parent = is_parent; from = omega (arith, begins, from); before = one.before; creates = one.creates ∙ ap (λ p. Some (p, one.child)) same.task_is }, one.of)
+  | inr other ↦ elim other [
+    | inl one ↦
+        let same = one_region rs i one.parent parent one.begin begin Taskgroup Taskgroup one.is_region there in
+        let begins = same.begin_is in
+        let from = one.from in
+        (one.child, record { parent = parent; place = one.place; within = in_group is_parent (omega (arith, begins, from)) one.before; creates = one.creates ∙ ap (λ p. Some (p, one.child)) same.task_is }, one.of)
+    | inr one ↦ absurd (barrier_is_other one.kind Taskgroup one.barrier refl (one_region rs i one.own parent one.begin begin one.kind Taskgroup one.is_region there).kind_is)
+  ]
+]
+covered_awaited rs tasks i task wait (meets {own = waiter} {begin = begin} {number = number} {kind = kind} is_own there barrier begins) covers = elim (covers_cases rs i task covers) [
+  | inl one ↦ absurd (barrier_is_other kind Taskwait barrier refl (one_region rs i waiter one.parent begin one.begin kind Taskwait there one.is_region).kind_is)
+  | inr other ↦ elim other [
+    | inl one ↦ absurd (barrier_is_other kind Taskgroup barrier refl (one_region rs i waiter one.parent begin one.begin kind Taskgroup there one.is_region).kind_is)
+    | inr one ↦
+        let same = one_region rs i one.own waiter one.begin begin one.kind kind one.is_region there in
+        let P : ℕ → Type 0 = λ t. IsTeammate rs t one.member in
+        let Q : ℕ → Type 0 = λ t. IsBarrierBegin rs t one.number one.begin in
+        let R : ℕ → Type 0 = λ b. IsBarrierBegin rs waiter one.number b in
+        let S : ℕ → Type 0 = λ n. IsBarrierBegin rs one.member n one.start in
+        let is_number = one_number rs waiter one.number number begin (subst R same.begin_is (subst Q same.task_is one.begins)) begins in
+        (one.child, record { parent = one.member; place = one.place; within = by_member is_own (subst P same.task_is one.mate) (subst S is_number one.starts) one.before; creates = one.creates }, one.of)
+  ]
 ]
 
 -- ---- unfinished tasks
@@ -77,10 +109,11 @@ covered_awaited rs tasks i task wait none (groups {parent = parent} {begin = beg
 wait_ends : (rs : List Record) (tasks : List ℕ) (i : ℕ) (wait : Wait) → IsWaitAt rs tasks i wait → (task begin : ℕ) × (kind : SyncKind) × EndsAt rs i task begin kind
 wait_ends rs tasks i wait (waits {parent = parent} {begin = begin} is_parent there) = (parent, begin, Taskwait, ends_at rs i parent begin Taskwait there)
 wait_ends rs tasks i wait (groups {parent = parent} {begin = begin} is_parent there) = (parent, begin, Taskgroup, ends_at rs i parent begin Taskgroup there)
+wait_ends rs tasks i wait (meets {own = own} {begin = begin} {kind = kind} is_own there barrier begins) = (own, begin, kind, ends_at rs i own begin kind there)
 
 -- a task that is waited for was created
 awaited_created : (rs : List Record) (tasks : List ℕ) (task : ℕ) (wait : Wait) → IsAwaited rs tasks wait task → (place : ℕ) × (at created rs place ≡ Some task)
-awaited_created rs tasks task wait is = of wait.cover is
+awaited_created rs tasks task wait is = of (cover_of wait) is
   where
     of : (cover : Cover) → IsAwaitedBy rs tasks task wait cover → (place : ℕ) × (at created rs place ≡ Some task)
     of Children own = (own.place, creation_at_created own.parent task rs own.place own.creates)
@@ -93,31 +126,51 @@ limit_complete rs i nodes node seen are there names small low task covers =
     let P : ℕ → Type 0 = λ n. IsDone rs n task in
     complete_there rs i task (subst P (sym names) (are.known i node there seen task small low covers))
 
-pub none_complete : (rs : List Record) (i : ℕ) → HaveNoBarriers rs → EndsNoWaitAt rs i → IsCoverComplete rs i
-none_complete rs i none ends_none task covers = elim (covers_cases rs i task none covers) [
-  | inl one ↦ absurd ((ends_none one.parent one.begin).0 one.is_region)
-  | inr one ↦ absurd ((ends_none one.parent one.begin).1 one.is_region)
+-- each kind of barrier waits
+pub barrier_waits : (kind : SyncKind) → is_barrier kind ≡ true → waits_for_tasks kind ≡ true
+barrier_waits Taskwait barrier = refl
+barrier_waits Taskgroup barrier = refl
+barrier_waits _ barrier = barrier
+
+-- what covers a task ends there
+pub record EndsWaitAt (rs : List Record) (i : ℕ) : Type 0 where
+  pub task : ℕ
+  pub begin : ℕ
+  pub kind : SyncKind
+  pub is_region : IsRegion rs i task kind begin
+  pub demands : waits_for_tasks kind ≡ true
+
+covers_at : (rs : List Record) (i task : ℕ) → Covers rs i task → EndsWaitAt rs i
+covers_at rs i task covers = elim (covers_cases rs i task covers) [
+  | inl one ↦ record { task = one.parent; begin = one.begin; kind = Taskwait; is_region = one.is_region; demands = refl }
+  | inr other ↦ elim other [
+    | inl one ↦ record { task = one.parent; begin = one.begin; kind = Taskgroup; is_region = one.is_region; demands = refl }
+    | inr one ↦ record { task = one.own; begin = one.begin; kind = one.kind; is_region = one.is_region; demands = barrier_waits one.kind one.barrier }
+  ]
 ]
 
-pub late_open : (rs : List Record) (tasks : List ℕ) (i seen : ℕ) (wait : Wait) (found : Option ℕ) → HaveNoBarriers rs → IsWaitAt rs tasks i wait → seen_at rs i ≡ seen → MatchOption found ((place task : ℕ) → IsLateAt rs tasks wait seen place task → ⊥) (IsFirstLate rs tasks wait seen) → MatchOption found (IsCoverComplete rs i) (IsFirstOpen rs i)
-late_open rs tasks i seen wait None none is names in_time = λ task covers. elim (done_or_not rs seen task) [
+pub none_complete : (rs : List Record) (i : ℕ) → EndsNoWaitAt rs i → IsCoverComplete rs i
+none_complete rs i ends_none task covers = let one = covers_at rs i task covers in absurd (ends_none one.task one.begin one.kind one.demands one.is_region)
+
+pub late_open : (rs : List Record) (tasks : List ℕ) (i seen : ℕ) (wait : Wait) (found : Option ℕ) → IsWaitAt rs tasks i wait → seen_at rs i ≡ seen → MatchOption found ((place task : ℕ) → IsLateAt rs tasks wait seen place task → ⊥) (IsFirstLate rs tasks wait seen) → MatchOption found (IsCoverComplete rs i) (IsFirstOpen rs i)
+late_open rs tasks i seen wait None is names in_time = λ task covers. elim (done_or_not rs seen task) [
   | inl done ↦ complete_there rs i task (subst (done_below task) (sym names) done)
   | inr not_done ↦
-      let awaited = covered_awaited rs tasks i task wait none is covers in
+      let awaited = covered_awaited rs tasks i task wait is covers in
       let place = awaited_created rs tasks task wait awaited in
       absurd (in_time place.0 task (place.1, awaited, not_done))
 ]
   where
     done_below : ℕ → ℕ → Type 0
     done_below t n = IsDone rs n t
-late_open rs tasks i seen wait (Some task) none is names late = record {
+late_open rs tasks i seen wait (Some task) is names late = record {
   is_open = record {
     covered = awaited_covered rs tasks i task wait is late.late.1;
     incomplete = λ complete. late.late.2 (subst (done_below task) names (done_there rs i ends.0 task ends.2 ends.3.endpoint ends.3.says complete));
   };
   creation = late.place;
   is_created = late.late.0;
-  created_first = λ k other below creates is_open. late.first k other below (creates, covered_awaited rs tasks i other wait none is is_open.covered, λ done. is_open.incomplete (complete_there rs i other (subst (done_below other) (sym names) done)));
+  created_first = λ k other below creates is_open. late.first k other below (creates, covered_awaited rs tasks i other wait is is_open.covered, λ done. is_open.incomplete (complete_there rs i other (subst (done_below other) (sym names) done)));
 }
   where
     done_below : ℕ → ℕ → Type 0
@@ -132,8 +185,8 @@ pub first_open_end : (rs : List Record) (i task : ℕ) → ((k : ℕ) → k < i 
 first_open_end rs i task before first = record { first_open = first; before = before }
 
 -- past the last record nothing is covered
-pub complete_whole : (rs : List Record) (n : ℕ) → HaveNoBarriers rs → ((k : ℕ) → k < n → IsCoverComplete rs k) → length rs ≤ n → (i : ℕ) → IsCoverComplete rs i
-complete_whole rs n none before all i task covers = elim (covers_cases rs i task none covers) [
-  | inl one ↦ let inside = (ends_at rs i one.parent one.begin Taskwait one.is_region).inside in before i (omega (arith, inside, all)) task covers
-  | inr one ↦ let inside = (ends_at rs i one.parent one.begin Taskgroup one.is_region).inside in before i (omega (arith, inside, all)) task covers
-]
+pub complete_whole : (rs : List Record) (n : ℕ) → ((k : ℕ) → k < n → IsCoverComplete rs k) → length rs ≤ n → (i : ℕ) → IsCoverComplete rs i
+complete_whole rs n before all i task covers =
+    let one = covers_at rs i task covers in
+    let inside = (ends_at rs i one.task one.begin one.kind one.is_region).inside in
+    before i (omega (arith, inside, all)) task covers

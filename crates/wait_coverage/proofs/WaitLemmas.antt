@@ -1,6 +1,6 @@
 -- What the end of a region waits for, and which of it is unfinished.
-use Rattle.std.proofs.Common.{◌≡◌, ◌≢◌, ◌∙◌, ℕ, ◌<◌, ◌≤◌, ◌+◌, ◌^◌, Bool, false, List, length, get_or, Option, Some, None, refl, sym, ap, subst, arith, inl, inr, ◌⊎◌}
-use Rattle.std.proofs.lemmas.Bool.{cases_eq}
+use Rattle.std.proofs.Common.{◌≡◌, ◌≢◌, ◌∙◌, ℕ, ◌<◌, ◌≤◌, ◌+◌, ◌^◌, Bool, false, true, List, [], ◌∷◌, length, get_or, Option, Some, None, refl, sym, ap, subst, arith, inl, inr, ◌⊎◌}
+use Rattle.std.proofs.lemmas.Bool.{cases_eq, false≢true}
 use Rattle.std.proofs.lemmas.Option.{none-some, same_Some, slice_get_within, slice_get-get_or}
 use Rattle.std.proofs.lemmas.List.{length-set, get_or-set_same, get_or-set_other}
 use Rattle.std.proofs.Math.ListN.{set}
@@ -9,64 +9,112 @@ use Rattle.ompt_events.specs.declared.records.Record.{Record}
 use Rattle.ompt_events.specs.declared.names.Endpoint.{Endpoint}
 use Rattle.ompt_events.specs.declared.names.Endpoint.TheVariants.{Begin, End, BeginEnd}
 use Rattle.ompt_events.specs.declared.names.SyncKind.{SyncKind}
-use Rattle.ompt_events.specs.declared.names.SyncKind.TheVariants.{Taskwait, Taskgroup}
+use Rattle.ompt_events.specs.declared.names.SyncKind.TheVariants.{Barrier, BarrierImplicit, BarrierExplicit, Taskwait, Taskgroup, BarrierImplicitWorkshare, BarrierImplicitParallel}
 use Rattle.ompt_events.specs.Records.{made, created, creation, region}
 use Rattle.ompt_events.specs.Places.{at}
 use Rattle.ompt_events.specs.Tree.{child, deeper}
-use Rattle.ompt_events.specs.Regions.{IsRegion, EndsRegion, ended, at_once}
+use Rattle.ompt_events.specs.Regions.{IsRegion, EndsRegion, ended, at_once, is_barrier, waits_for_tasks}
 use Rattle.ompt_events.specs.Coverage.{IsFamily}
 use Rattle.task_tree.specs.Family.{FamilyView, IsFamilyOf}
 use Rattle.task_tree.specs.Lineage.{parent_index, IsParentAt}
 use Rattle.task_tree.proofs.OnceLemmas.{made_once, creation_made}
 use Rattle.task_tree.proofs.LineageLemmas.{parent_is_at, parent_at_is}
-use Rattle.credit_ledger.specs.declared.entry.Cover.{Cover}
-use Rattle.credit_ledger.specs.declared.entry.Cover.TheVariants.{Children, Descendants}
+use Rattle.credit_ledger.specs.declared.entry.Cover.TheVariants.{Descendants}
 use Rattle.ompt_events.proofs.PlaceLemmas.{at_index, at_within}
 use Rattle.task_states.specs.States.{IsBegin}
 use Rattle.wait_coverage.specs.Entries.{IsDone}
 use Rattle.wait_coverage.specs.Done.{IsDoneFrom, AreOwn, IsParentsFirst}
-use Rattle.wait_coverage.specs.Waits.{IsWaitAt, waits, groups, IsOwnChild, IsAwaitedBy, IsAwaited, AreAwaited, AreMarked, IsMarkedAbove, EndsNoWait, EndsNoWaitAt, kind_of, IsBeginOf, IsLateAt}
+use Rattle.wait_coverage.specs.Waits.{IsWaitAt, waits, groups, IsOwnChild, IsAwaitedBy, IsAwaited, AreAwaited, AreMarked, IsMarkedAbove, EndsNoWait, EndsNoWaitAt, IsBeginOf, IsLateAt, cover_of, IsWithin, before_begin, in_group, by_member, meets}
+use Rattle.wait_coverage.specs.Teams.{AreBeginNumbers, begins_before}
 use Rattle.wait_coverage.specs.declared.waits.Wait.{Wait}
+use Rattle.wait_coverage.specs.declared.waits.Wait.TheVariants.{Taskwait as ForTaskwait, Taskgroup as ForTaskgroup, Barrier as ForBarrier}
+use Rattle.wait_coverage.proofs.BarrierLemmas.{barrier_begins_at}
+use Rattle.task_tree.specs.Numbering.{AreApart}
+use Rattle.ompt_events.specs.Teams.{IsTeammate}
 use Rattle.wait_coverage.proofs.CoverLemmas.{ends_at}
 use Rattle.wait_coverage.proofs.DoneLemmas.{indices_of}
 
 -- ---- the children
 
--- where a task's parent is another one, or it is created at another place, it is not one of them
-pub own_parent : (rs : List Record) (family : FamilyView) (index task : ℕ) (wait : Wait) → IsFamilyOf rs family → slice_get family.tasks index ≡ Some task → IsOwnChild rs family.tasks wait task → parent_index family index ≡ Some wait.task
-own_parent rs family index task wait are here own = parent_at_is rs family index task wait.task are here (own.parent, own.is_parent, (own.place, own.creates))
+-- a task with a parent is one where its parent's index and the place of its creation are
+pub own_by : (rs : List Record) (family : FamilyView) (index task up place : ℕ) (wait : Wait) (answer : Bool) → IsFamilyOf rs family → slice_get family.tasks index ≡ Some task → parent_index family index ≡ Some up → at made rs place ≡ slice_get family.tasks index → ((parent : ℕ) → slice_get family.tasks up ≡ Some parent → IsTrue answer ↔ IsWithin rs family.tasks parent place wait) → IsTrue answer ↔ IsOwnChild rs family.tasks wait task
+own_by rs family index task up place wait answer are here above is_made exact = (
+  λ yes_it. record { parent = known.0; place = place; within = (exact known.0 known.1).0 yes_it; creates = creates },
+  λ own.
+      let same_place : own.place ≡ place = made_once rs task own.place place are.once (creation_made rs own.parent task own.place own.creates) (is_made ∙ here) in
+      let pair = same_Some (own.parent, task) (known.0, task) (sym own.creates ∙ ap (at creation rs) same_place ∙ creates) in
+      let P : ℕ → Type 0 = λ k. IsWithin rs family.tasks own.parent k wait in
+      let Q : ℕ → Type 0 = λ p. IsWithin rs family.tasks p place wait in
+      (exact known.0 known.1).1 (subst Q (ap (λ (p : ℕ × ℕ). p.0) pair) (subst P same_place own.within)),
+)
+  where
+    known : IsParentAt rs family.tasks up task
+    known = parent_is_at rs family index task up are here above
 
-pub own_place : (rs : List Record) (family : FamilyView) (index task place : ℕ) (wait : Wait) → IsFamilyOf rs family → slice_get family.tasks index ≡ Some task → at made rs place ≡ slice_get family.tasks index → IsOwnChild rs family.tasks wait task → (wait.from ≤ place) × (place < wait.to)
-own_place rs family index task place wait are here is_made own =
-    let same = made_once rs task own.place place are.once (creation_made rs own.parent task own.place own.creates) (is_made ∙ here) in
-    let from = own.from in
-    let before = own.before in
-    (omega (arith, same, from), omega (arith, same, before))
+    creates : at creation rs place ≡ Some (known.0, task)
+    creates = ap (at creation rs) (sym (made_once rs task known.2.0 place are.once (creation_made rs known.0 task known.2.0 known.2.1) (is_made ∙ here))) ∙ known.2.1
 
-pub own_child : (rs : List Record) (family : FamilyView) (index task place : ℕ) (wait : Wait) → IsFamilyOf rs family → slice_get family.tasks index ≡ Some task → parent_index family index ≡ Some wait.task → at made rs place ≡ slice_get family.tasks index → wait.from ≤ place → place < wait.to → IsOwnChild rs family.tasks wait task
-own_child rs family index task place wait are here above is_made from before =
-    let parent = parent_is_at rs family index task wait.task are here above in
-    let created_at = parent.2 in
-    let same = made_once rs task created_at.0 place are.once (creation_made rs parent.0 task created_at.0 created_at.1) (is_made ∙ here) in
-    record {
-      parent = parent.0;
-      place = place;
-      is_parent = parent.1;
-      from = from;
-      before = before;
-      creates = ap (at creation rs) (sym same) ∙ created_at.1;
-    }
+-- and one with none is none
+pub own_parentless : (rs : List Record) (family : FamilyView) (index task : ℕ) (wait : Wait) → IsFamilyOf rs family → slice_get family.tasks index ≡ Some task → parent_index family index ≡ None → IsOwnChild rs family.tasks wait task → ⊥
+own_parentless rs family index task wait are here none own =
+    let known = indices_of rs family own.place own.parent task are own.creates in
+    none-some known.up (sym none ∙ parent_at_is rs family index task known.up are here (own.parent, known.is_parent, (own.place, own.creates)))
+
+some_within : {X : Type 0} (table : List X) (index : ℕ) → index < length table → slice_get table index ≡ None → ⊥
+some_within [] index inside none = absurd (omega (arith, inside))
+some_within (x ∷ xs) index inside none = none-some (get_or (x ∷ xs) index x) (sym none ∙ slice_get-get_or (x ∷ xs) index x inside)
+
+-- what stands at an index within a table
+pub stands_there : {X : Type 0} (table : List X) (index : ℕ) → index < length table → (x : X) × (slice_get table index ≡ Some x)
+stands_there {X} table index inside = of (slice_get table index) refl
+  where
+    of : (o : Option X) → slice_get table index ≡ o → (x : X) × (slice_get table index ≡ Some x)
+    of None e = absurd (some_within table index inside e)
+    of (Some x) e = (x, e)
+
+-- ---- which children
+
+pub within_taskwait : (rs : List Record) (tasks : List ℕ) (parent place index task begin : ℕ) (answer : Bool) → AreApart tasks → slice_get tasks index ≡ Some parent → IsTrue answer ↔ ((task ≡ index) × (0 ≤ place) × (place < begin)) → IsTrue answer ↔ IsWithin rs tasks parent place (ForTaskwait task begin)
+within_taskwait rs tasks parent place index task begin answer apart here exact = (
+  λ yes_it. let known = exact.0 yes_it in before_begin (ap (slice_get tasks) known.0 ∙ here) known.2,
+  λ within. exact.1 (of within),
+)
+  where
+    of : IsWithin rs tasks parent place (ForTaskwait task begin) → (task ≡ index) × (0 ≤ place) × (place < begin)
+    of (before_begin there less) = (apart task index parent there here, omega arith, less)
+
+pub within_taskgroup : (rs : List Record) (tasks : List ℕ) (parent place index task begin end : ℕ) (answer : Bool) → AreApart tasks → slice_get tasks index ≡ Some parent → IsTrue answer ↔ ((task ≡ index) × (begin ≤ place) × (place < end)) → IsTrue answer ↔ IsWithin rs tasks parent place (ForTaskgroup task begin end)
+within_taskgroup rs tasks parent place index task begin end answer apart here exact = (
+  λ yes_it. let known = exact.0 yes_it in in_group (ap (slice_get tasks) known.0 ∙ here) known.1 known.2,
+  λ within. exact.1 (of within),
+)
+  where
+    of : IsWithin rs tasks parent place (ForTaskgroup task begin end) → (task ≡ index) × (begin ≤ place) × (place < end)
+    of (in_group there from less) = (apart task index parent there here, from, less)
+
+-- the place is before the barrier begin with this number
+abbrev pub IsBeforeBegin : List ℕ → ℕ → ℕ → Type 0
+IsBeforeBegin places number place = (start : ℕ) × (slice_get places number ≡ Some start) × (place < start)
+
+pub within_barrier : (rs : List Record) (tasks places : List ℕ) (own parent place index task number : ℕ) (answer : Bool) → slice_get tasks task ≡ Some own → IsTeammate rs own parent → places ≡ begins_before rs parent (length rs) → IsTrue answer ↔ IsBeforeBegin places number place → IsTrue answer ↔ IsWithin rs tasks parent place (ForBarrier task number)
+within_barrier rs tasks places own parent place index task number answer is_own mate are exact = (
+  λ yes_it. let known = exact.0 yes_it in by_member is_own mate (ap (λ l. slice_get l number) (sym are) ∙ known.1) known.2,
+  λ within. exact.1 (of within),
+)
+  where
+    of : IsWithin rs tasks parent place (ForBarrier task number) → IsBeforeBegin places number place
+    of (by_member {start = start} there mates begins less) = (start, ap (λ l. slice_get l number) are ∙ begins, less)
 
 -- ---- and their descendants
 
-as_deep : (rs : List Record) (tasks : List ℕ) (task : ℕ) (wait : Wait) → wait.cover ≡ Descendants → IsAwaited rs tasks wait task → IsAwaitedBy rs tasks task wait Descendants
+as_deep : (rs : List Record) (tasks : List ℕ) (task : ℕ) (wait : Wait) → cover_of wait ≡ Descendants → IsAwaited rs tasks wait task → IsAwaitedBy rs tasks task wait Descendants
 as_deep rs tasks task wait deep is = subst (IsAwaitedBy rs tasks task wait) deep is
 
-of_deep : (rs : List Record) (tasks : List ℕ) (task : ℕ) (wait : Wait) → wait.cover ≡ Descendants → IsAwaitedBy rs tasks task wait Descendants → IsAwaited rs tasks wait task
+of_deep : (rs : List Record) (tasks : List ℕ) (task : ℕ) (wait : Wait) → cover_of wait ≡ Descendants → IsAwaitedBy rs tasks task wait Descendants → IsAwaited rs tasks wait task
 of_deep rs tasks task wait deep is = subst (IsAwaitedBy rs tasks task wait) (sym deep) is
 
 -- a task is waited for as a child, or with its parent
-pub awaited_cases : (rs : List Record) (family : FamilyView) (index task : ℕ) (wait : Wait) → IsFamilyOf rs family → slice_get family.tasks index ≡ Some task → wait.cover ≡ Descendants → IsAwaited rs family.tasks wait task → IsOwnChild rs family.tasks wait task ⊎ ((up parent : ℕ) × (parent_index family index ≡ Some up) × (slice_get family.tasks up ≡ Some parent) × IsAwaited rs family.tasks wait parent)
+pub awaited_cases : (rs : List Record) (family : FamilyView) (index task : ℕ) (wait : Wait) → IsFamilyOf rs family → slice_get family.tasks index ≡ Some task → cover_of wait ≡ Descendants → IsAwaited rs family.tasks wait task → IsOwnChild rs family.tasks wait task ⊎ ((up parent : ℕ) × (parent_index family index ≡ Some up) × (slice_get family.tasks up ≡ Some parent) × IsAwaited rs family.tasks wait parent)
 awaited_cases rs family index task wait are here deep is = of (as_deep rs family.tasks task wait deep is)
   where
     up_of : (i parent : ℕ) → at creation rs i ≡ Some (parent, task) → (other : ℕ) → IsOwnChild rs family.tasks wait other → IsFamily rs other parent → (up above : ℕ) × (parent_index family index ≡ Some up) × (slice_get family.tasks up ≡ Some above) × IsAwaited rs family.tasks wait above
@@ -80,7 +128,7 @@ awaited_cases rs family index task wait are here deep is = of (as_deep rs family
     of (other, own, inr (deeper i {parent = parent} above creates)) = inr (up_of i parent creates other own (inr above))
 
 -- a child of one that is waited for is, where descendants are
-pub below_awaited : (rs : List Record) (family : FamilyView) (index task up parent : ℕ) (wait : Wait) → IsFamilyOf rs family → slice_get family.tasks index ≡ Some task → wait.cover ≡ Descendants → parent_index family index ≡ Some up → slice_get family.tasks up ≡ Some parent → IsAwaited rs family.tasks wait parent → IsAwaited rs family.tasks wait task
+pub below_awaited : (rs : List Record) (family : FamilyView) (index task up parent : ℕ) (wait : Wait) → IsFamilyOf rs family → slice_get family.tasks index ≡ Some task → cover_of wait ≡ Descendants → parent_index family index ≡ Some up → slice_get family.tasks up ≡ Some parent → IsAwaited rs family.tasks wait parent → IsAwaited rs family.tasks wait task
 below_awaited rs family index task up parent wait are here deep above is_parent is = of_deep rs family.tasks task wait deep (of (as_deep rs family.tasks parent wait deep is))
   where
     known : IsParentAt rs family.tasks up task
@@ -96,19 +144,7 @@ below_awaited rs family index task up parent wait are here deep above is_parent 
     of (other, own, inl is_other) = let P : ℕ → Type 0 = λ p. at creation rs known.2.0 ≡ Some (p, task) in (other, own, inr (child known.2.0 (subst P is_other creates)))
     of (other, own, inr descends) = (other, own, inr (deeper known.2.0 descends creates))
 
--- a child is waited for
-pub own_awaited : (rs : List Record) (tasks : List ℕ) (task : ℕ) (wait : Wait) → IsOwnChild rs tasks wait task → IsAwaited rs tasks wait task
-own_awaited rs tasks task wait own = of wait.cover
-  where
-    of : (cover : Cover) → IsAwaitedBy rs tasks task wait cover
-    of Children = own
-    of Descendants = (task, own, inl refl)
-
 -- ---- marks
-
--- what is_awaited answers where only children are waited for
-pub only_children : (rs : List Record) (tasks : List ℕ) (task : ℕ) (wait : Wait) → wait.cover ≡ Children → IsAwaited rs tasks wait task → IsOwnChild rs tasks wait task
-only_children rs tasks task wait alone is = subst (IsAwaitedBy rs tasks task wait) alone is
 
 pub marked_start : (rs : List Record) (tasks : List ℕ) (wait : Wait) (order : List ℕ) (marks : List Bool) → length marks ≡ length tasks → AreMarked rs tasks wait order 0 marks
 marked_start rs tasks wait order marks all = record {
@@ -184,26 +220,39 @@ found_begin rs i own kind (Some begin) says known =
     subst P (sym (same_Some begin there.0 there.1)) (later_begin rs i own there.0 kind says there.2)
 
 -- a region that ends does not begin there alone
-not_begin : (rs : List Record) (i task begin own : ℕ) (kind other : SyncKind) (endpoint : Endpoint) → IsRegion rs i task kind begin → at region rs i ≡ Some (own, other, endpoint) → endpoint ≢ Begin
+pub not_begin : (rs : List Record) (i task begin own : ℕ) (kind other : SyncKind) (endpoint : Endpoint) → IsRegion rs i task kind begin → at region rs i ≡ Some (own, other, endpoint) → endpoint ≢ Begin
 not_begin rs i task begin own kind other endpoint (ended ends) says same = let e = (same_says rs i task own kind other End endpoint ends.ends says).2 in let never : End ≡ Begin = e ∙ same in cc
 not_begin rs i task begin own kind other endpoint (at_once once) says same = let e = (same_says rs i task own kind other BeginEnd endpoint once says).2 in let never : BeginEnd ≡ Begin = e ∙ same in cc
 
 pub no_wait_there : (rs : List Record) (i : ℕ) (r : Record) → i < length rs → EndsNoWait (get_or rs i r).body → EndsNoWaitAt rs i
-no_wait_there rs i r within ends_none task begin = (λ there. (of Taskwait task begin there).0 refl, λ there. (of Taskgroup task begin there).1 refl)
-  where
-    of : (kind : SyncKind) (t b : ℕ) → IsRegion rs i t kind b → (kind ≡ Taskwait → ⊥) × (kind ≡ Taskgroup → ⊥)
-    of kind t b there =
-        let ends = ends_at rs i t b kind there in
-        elim (ends_none t kind ends.endpoint (sym (at_index region rs i r within) ∙ ends.says)) [
-          | inl begins ↦ absurd (not_begin rs i t b t kind kind ends.endpoint there ends.says begins)
-          | inr other ↦ other
-        ]
+no_wait_there rs i r within ends_none task begin kind demands there =
+    let ends = ends_at rs i task begin kind there in
+    elim (ends_none task kind ends.endpoint (sym (at_index region rs i r within) ∙ ends.says)) [
+      | inl begins ↦ not_begin rs i task begin task kind kind ends.endpoint there ends.says begins
+      | inr other ↦ false≢true (sym other ∙ demands)
+    ]
 
-pub children_wait : (rs : List Record) (tasks : List ℕ) (i index begin task : ℕ) (cover : Cover) → cover ≡ Children → slice_get tasks index ≡ Some task → IsRegion rs i task (kind_of cover) begin → IsWaitAt rs tasks i (record { task = index; from = 0; to = begin; cover = cover })
-children_wait rs tasks i index begin task cover is is_task there = rw is (waits is_task (let P : Cover → Type 0 = λ c. IsRegion rs i task (kind_of c) begin in subst P is there))
+pub taskwait_there : (rs : List Record) (tasks : List ℕ) (i index begin task : ℕ) (kind : SyncKind) → kind ≡ Taskwait → slice_get tasks index ≡ Some task → IsRegion rs i task kind begin → IsWaitAt rs tasks i (ForTaskwait index begin)
+taskwait_there rs tasks i index begin task kind is is_task there = let P : SyncKind → Type 0 = λ k. IsRegion rs i task k begin in waits is_task (subst P is there)
 
-pub descendants_wait : (rs : List Record) (tasks : List ℕ) (i index begin task : ℕ) (cover : Cover) → cover ≡ Descendants → slice_get tasks index ≡ Some task → IsRegion rs i task (kind_of cover) begin → IsWaitAt rs tasks i (record { task = index; from = begin; to = i; cover = cover })
-descendants_wait rs tasks i index begin task cover is is_task there = rw is (groups is_task (let P : Cover → Type 0 = λ c. IsRegion rs i task (kind_of c) begin in subst P is there))
+pub taskgroup_there : (rs : List Record) (tasks : List ℕ) (i index begin task : ℕ) (kind : SyncKind) → kind ≡ Taskgroup → slice_get tasks index ≡ Some task → IsRegion rs i task kind begin → IsWaitAt rs tasks i (ForTaskgroup index begin i)
+taskgroup_there rs tasks i index begin task kind is is_task there = let P : SyncKind → Type 0 = λ k. IsRegion rs i task k begin in groups is_task (subst P is there)
+
+-- a region that waits for tasks, and is of neither kind, is a barrier
+barrier_else : (kind : SyncKind) → (kind ≡ Taskwait → ⊥) → (kind ≡ Taskgroup → ⊥) → waits_for_tasks kind ≡ true → is_barrier kind ≡ true
+barrier_else Taskwait not_wait not_group demands = absurd (not_wait refl)
+barrier_else Taskgroup not_wait not_group demands = absurd (not_group refl)
+barrier_else Barrier not_wait not_group demands = demands
+barrier_else BarrierImplicit not_wait not_group demands = demands
+barrier_else BarrierExplicit not_wait not_group demands = demands
+barrier_else BarrierImplicitWorkshare not_wait not_group demands = demands
+barrier_else BarrierImplicitParallel not_wait not_group demands = demands
+barrier_else _ not_wait not_group demands = demands
+
+pub barrier_there : (rs : List Record) (tasks numbers : List ℕ) (i index begin number task : ℕ) (kind : SyncKind) → (kind ≡ Taskwait → ⊥) → (kind ≡ Taskgroup → ⊥) → waits_for_tasks kind ≡ true → AreBeginNumbers rs (length rs) numbers → slice_get numbers begin ≡ Some number → slice_get tasks index ≡ Some task → IsRegion rs i task kind begin → IsWaitAt rs tasks i (ForBarrier index number)
+barrier_there rs tasks numbers i index begin number task kind not_wait not_group demands are stands is_task there =
+    let barrier = barrier_else kind not_wait not_group demands in
+    meets is_task there barrier (are.each begin number stands task (barrier_begins_at rs i task begin kind there barrier))
 
 -- ---- late tasks
 

@@ -1,27 +1,35 @@
 -- What the coverage of the waits of a trace knows.
-use Rattle.std.specs.Prelude.{ℕ, ◌≡◌, ◌<◌, true, List, length, Option, Some, MatchOption, Contains, slice_get}
+use Rattle.std.specs.Prelude.{ℕ, ◌≡◌, ◌<◌, ◌↔◌, true, List, [], ◌∷◌, length, Option, Some, MatchOption, Contains, slice_get}
+use Rattle.std.specs.Global.{Vec}
 use Rattle.ompt_events.specs.declared.records.Record.{Record}
 use Rattle.ompt_events.specs.declared.names.SyncKind.{SyncKind}
+use Rattle.ompt_events.specs.declared.names.SyncKind.TheVariants.{Taskwait}
 use Rattle.ompt_events.specs.Traces.{IsTrace}
-use Rattle.ompt_events.specs.Regions.{IsRegion, waits_for_tasks}
+use Rattle.ompt_events.specs.Tree.{child_number}
+use Rattle.ompt_events.specs.Regions.{IsRegion, IsBarrierBegin, waits_for_tasks}
+use Rattle.credit_ledger.specs.declared.entry.Span.{Span}
+use Rattle.credit_ledger.specs.declared.entry.Cover.{Cover}
+use Rattle.credit_ledger.specs.declared.entry.Cover.TheVariants.{Children}
 use Rattle.task_tree.specs.Paths.{TreeView, IsTreeOf}
-use Rattle.wait_coverage.specs.Limits.{HaveNoBarriers}
+use Rattle.wait_coverage.specs.Teams.{TeamsView, IsTeamsOf}
 use Rattle.wait_coverage.specs.Known.{IsKnown}
 use Rattle.wait_coverage.specs.Numbers.{AreNumbers}
-use Rattle.wait_coverage.specs.Spans.{IsCoverComplete}
+use Rattle.wait_coverage.specs.Spans.{IsSpan, IsCoverComplete}
 use Rattle.wait_coverage.specs.Waits.{IsWaitAt, IsFirstOpen}
 use Rattle.wait_coverage.specs.declared.unfinished.Known.{Known}
 use Rattle.wait_coverage.specs.declared.waits.Wait.{Wait}
 
 -- a region ends there that waits for tasks (OpenMP 5.2, 15.3 to 15.5)
 abbrev pub IsEnd : List Record → ℕ → Type 0
-IsEnd rs i = (task begin : ℕ) × (kind : SyncKind) × IsRegion rs i task kind begin × (waits_for_tasks kind ≡ true)
+IsEnd rs i = (task begin : ℕ) × (kind : SyncKind) × IsRegion rs i task kind begin
+    × (waits_for_tasks kind ≡ true)
 
 -- the first n records' ends of such regions, in file order
 pub record AreEnds (rs : List Record) (n : ℕ) (ends : List ℕ) : Type 0 where
   pub each : (i : ℕ) → i < n → IsEnd rs i → Contains ends i
   pub only : (k i : ℕ) → slice_get ends k ≡ Some i → (i < n) × IsEnd rs i
-  pub rising : (k j i after : ℕ) → k < j → slice_get ends k ≡ Some i → slice_get ends j ≡ Some after → i < after
+  pub rising : (k j i after : ℕ) → k < j → slice_get ends k ≡ Some i → slice_get ends j ≡ Some after
+      → i < after
 
 -- what each end waits for
 pub record AreWaits (rs : List Record) (tasks ends : List ℕ) (waits : List Wait) : Type 0 where
@@ -29,11 +37,49 @@ pub record AreWaits (rs : List Record) (tasks ends : List ℕ) (waits : List Wai
   pub each : (k i : ℕ) (wait : Wait) → slice_get ends k ≡ Some i → slice_get waits k ≡ Some wait
       → IsWaitAt rs tasks i wait
 
+-- a region ends at i that waits for tasks: for the children alone where it is a taskwait, and for all
+-- descendants where it is of another kind
+abbrev pub IsCoverAt : List Record → ℕ → Cover → Type 0
+IsCoverAt rs i cover = (task begin : ℕ) × (kind : SyncKind) × IsRegion rs i task kind begin
+    × (waits_for_tasks kind ≡ true) × ((cover ≡ Children) ↔ (kind ≡ Taskwait))
+
+-- ---- spans
+
+-- one span, of the children of the task with these numbers
+pub record IsOnly (rs : List Record) (task from to : ℕ) (spans : List Span) : Type 0 where
+  pub span : Span
+  pub only : spans ≡ span ∷ []
+  pub is_span : IsSpan rs task from to span
+
+-- the task at the index begins a barrier with this number
+abbrev pub HasBegun : List (Vec ℕ) → ℕ → ℕ → Type 0
+HasBegun begins number index =
+    (places : Vec ℕ) × (slice_get begins index ≡ Some places) × (number < length places.items)
+
+-- each member of the roster does, and no slot is empty
+abbrev pub HaveBegun : List (Vec ℕ) → ℕ → List (Option ℕ) → Type 0
+HaveBegun begins number roster = (place : ℕ) → place < length roster
+    → (index : ℕ) × (slice_get roster place ≡ Some (Some index)) × HasBegun begins number index
+
+-- the span is of the children that the member created before its barrier with this number began
+abbrev pub IsMemberSpan : List Record → ℕ → ℕ → Span → Type 0
+IsMemberSpan rs member number span = (start : ℕ) × IsBarrierBegin rs member number start
+    × IsSpan rs member 0 (child_number rs member start) span
+
+-- that of each of the first n members of the roster
+pub record AreRosterSpans (rs : List Record) (tasks : List ℕ) (number : ℕ) (roster : List (Option ℕ)) (n : ℕ)
+    (spans : List Span) : Type 0 where
+  pub count : length spans ≡ n
+  pub each : (place index member : ℕ) (span : Span) → slice_get roster place ≡ Some (Some index)
+      → slice_get tasks index ≡ Some member → slice_get spans place ≡ Some span
+      → IsMemberSpan rs member number span
+
 -- ---- the whole
 
 pub record CoverageView : Type 0 where
   pub records : List Record
   pub tree : TreeView
+  pub teams : TeamsView
   pub known : Known
   pub numbers : List ℕ
   pub ends : List ℕ
@@ -43,14 +89,15 @@ pub record CoverageView : Type 0 where
 pub record IsCoverage (coverage : CoverageView) : Type 0 where
   pub trace : IsTrace coverage.records
   pub tree : IsTreeOf coverage.records coverage.tree
-  pub no_barriers : HaveNoBarriers coverage.records
+  pub teams : IsTeamsOf coverage.records coverage.tree.family.tasks coverage.teams
   pub known : IsKnown coverage.records coverage.tree.family coverage.known
   pub numbers : AreNumbers coverage.records (length coverage.records) coverage.numbers
   pub ends : AreEnds coverage.records (length coverage.records) coverage.ends
   pub waits : AreWaits coverage.records coverage.tree.family.tasks coverage.ends coverage.waits
 
 -- of the first n ends that are asked for, by their numbers, the first open task of each
-pub record AreFirstOpen (rs : List Record) (ends of : List ℕ) (n : ℕ) (found : List (Option ℕ)) : Type 0 where
+pub record AreFirstOpen (rs : List Record) (ends of : List ℕ) (n : ℕ)
+    (found : List (Option ℕ)) : Type 0 where
   pub count : length found ≡ n
   pub each : (k number end : ℕ) (answer : Option ℕ) → slice_get of k ≡ Some number
       → slice_get ends number ≡ Some end → slice_get found k ≡ Some answer

@@ -1,11 +1,19 @@
--- What the finished tasks of a trace put into a ledger, and which credit the end of a region waits for. Which
--- tasks it waits for is defined in `ompt_events`, and what a ledger holds in `credit_ledger`.
+-- What the finished tasks of a trace put into a ledger, and which credit the end of a region waits for.
+-- Which tasks it waits for is defined in `ompt_events`, and what a ledger holds in `credit_ledger`.
 pub mod Entries
+pub mod Teams
 pub mod Spans
 pub mod Lengths
 pub mod Done
 pub mod Limits
+pub mod Meetings
 pub mod Waits
 pub mod Known
 pub mod Numbers
 pub mod Coverage
+pub mod Begins
+pub mod Members
+pub mod Fewest
+pub mod Missed
+pub mod Seats
+pub mod Short

@@ -1,30 +1,34 @@
 -- From which ledger length on what the end of a region covers is finished.
-use Rattle.std.specs.Prelude.{ℕ, ◌≡◌, ◌<◌, ◌≤◌, ◌^◌, true, List, length, Option, Some, slice_get}
+use Rattle.std.specs.Prelude.{ℕ, ◌≡◌, ◌<◌, ◌≤◌, ◌^◌, List, length, Option, Some, slice_get}
 use Rattle.ompt_events.specs.declared.records.Record.{Record}
 use Rattle.ompt_events.specs.declared.names.Endpoint.TheVariants.{Begin}
-use Rattle.ompt_events.specs.declared.names.Endpoint.{Endpoint}
-use Rattle.ompt_events.specs.declared.names.SyncKind.{SyncKind}
-use Rattle.ompt_events.specs.declared.names.SyncKind.TheVariants.{Taskwait}
+use Rattle.ompt_events.specs.declared.names.SyncKind.TheVariants.{Taskwait, Taskgroup}
 use Rattle.ompt_events.specs.Records.{creation, region}
 use Rattle.ompt_events.specs.Places.{at}
-use Rattle.ompt_events.specs.Regions.{EndsRegion, is_barrier}
+use Rattle.ompt_events.specs.Regions.{IsRegion, EndsRegion, barrier_begun}
 use Rattle.ompt_events.specs.Coverage.{Covers}
 use Rattle.wait_coverage.specs.Entries.{IsDone}
 use Rattle.wait_coverage.specs.Done.{IsFamilyLimit}
 use Rattle.wait_coverage.specs.declared.limits.Node.{Node}
 use Rattle.wait_coverage.specs.declared.limits.Progress.{Progress}
 
--- no region is a barrier that waits for tasks
-abbrev pub HaveNoBarriers : List Record → Type 0
-HaveNoBarriers rs =
-    (i task : ℕ) (kind : SyncKind) (endpoint : Endpoint) → at region rs i ≡ Some (task, kind, endpoint)
-    → is_barrier kind ≡ true → ⊥
-
 -- from this ledger length on the children that the task created before the place i are finished
 abbrev pub IsChildLimit : List Record → ℕ → ℕ → ℕ → Type 0
 IsChildLimit rs i task limit =
     (m c child : ℕ) → m < 2 ^ 32 → limit ≤ m → c < i → at creation rs c ≡ Some (task, child)
     → IsDone rs m child
+
+-- from this ledger length on the children that the task created before the place i are finished, and so are
+-- their descendants
+abbrev pub IsFamiliesLimit : List Record → ℕ → ℕ → ℕ → Type 0
+IsFamiliesLimit rs i task limit =
+    (c child : ℕ) → c < i → at creation rs c ≡ Some (task, child) → IsFamilyLimit rs child limit
+
+-- from this ledger length on each task is finished that a taskwait or a taskgroup that ends at i covers
+pub record IsWaitLimit (rs : List Record) (i limit : ℕ) : Type 0 where
+  pub waits : (parent begin : ℕ) → IsRegion rs i parent Taskwait begin → IsChildLimit rs begin parent limit
+  pub groups : (parent begin c child : ℕ) → IsRegion rs i parent Taskgroup begin → begin ≤ c → c < i
+      → at creation rs c ≡ Some (parent, child) → IsFamilyLimit rs child limit
 
 -- from this ledger length on each task that the end at i covers is finished
 abbrev pub IsEndLimit : List Record → ℕ → ℕ → Type 0
@@ -48,7 +52,8 @@ pub record Gathers (nodes : List Node) (head : Option ℕ) (begin : ℕ) (gather
   pub known : (next : ℕ) → gathered.previous ≡ Some next → next < length nodes
   pub within : (place : ℕ) (node : Node) → IsOnChain nodes head place → begin < place
       → slice_get nodes place ≡ Some node → node.limit ≤ gathered.limit
-  pub rest : (place : ℕ) → IsOnChain nodes head place → place ≤ begin → IsOnChain nodes gathered.previous place
+  pub rest : (place : ℕ) → IsOnChain nodes head place → place ≤ begin
+      → IsOnChain nodes gathered.previous place
 
 -- what stands at the begin of the taskwait that ends at i
 abbrev pub IsLimitOfBegin : List Record → List Node → ℕ → ℕ → Type 0
@@ -70,9 +75,17 @@ pub record AreLatest (rs : List Record) (n : ℕ) (tasks latest : List ℕ) : Ty
   pub each : (index task limit : ℕ) → slice_get tasks index ≡ Some task → slice_get latest index ≡ Some limit
       → IsChildLimit rs n task limit
 
+-- the same of the children and their descendants
+pub record AreLatestFamilies (rs : List Record) (n : ℕ) (tasks families : List ℕ) : Type 0 where
+  pub all : length families ≡ length tasks
+  pub each : (index task limit : ℕ) → slice_get tasks index ≡ Some task
+      → slice_get families index ≡ Some limit
+      → IsFamiliesLimit rs n task limit
+
 -- at the index of each task stands the head of a chain, where each child that one of the first n records
 -- creates has a node
-pub record AreChains (rs : List Record) (tasks : List ℕ) (nodes : List Node) (heads : List (Option ℕ)) : Type 0 where
+pub record AreChains (rs : List Record) (tasks : List ℕ) (nodes : List Node)
+    (heads : List (Option ℕ)) : Type 0 where
   pub all : length heads ≡ length tasks
   pub known : (index head : ℕ) → slice_get heads index ≡ Some (Some head) → head < length nodes
   pub falling : AreFalling nodes
@@ -89,11 +102,26 @@ pub record AreEndLimits (rs : List Record) (nodes : List Node) : Type 0 where
   pub count : length nodes ≡ length rs
   pub known : AreKnown rs nodes
 
+-- the limit is right for what begins or ends there: for the begin of a taskwait or of a barrier, and for the
+-- end of a taskwait or of a taskgroup
+pub record IsMark (rs : List Record) (i limit : ℕ) : Type 0 where
+  pub begins : (task : ℕ) → at region rs i ≡ Some (task, Taskwait, Begin) → IsChildLimit rs i task limit
+  pub meets : (task : ℕ) → barrier_begun (at region rs i) ≡ Some task → IsFamiliesLimit rs i task limit
+  pub ends : IsWaitLimit rs i limit
+
+abbrev pub AreMarks : List Record → List Node → Type 0
+AreMarks rs nodes = (i : ℕ) (node : Node) → slice_get nodes i ≡ Some node → IsMark rs i node.limit
+
+-- at each record
+pub record AreNodes (rs : List Record) (nodes : List Node) : Type 0 where
+  pub count : length nodes ≡ length rs
+  pub marks : AreMarks rs nodes
+
 -- what is known behind the first n records
-pub record AreNoted (rs : List Record) (n : ℕ) (tasks : List ℕ) (nodes : List Node) (progress : Progress) : Type 0 where
+pub record AreNoted (rs : List Record) (n : ℕ) (tasks : List ℕ) (nodes : List Node)
+    (progress : Progress) : Type 0 where
   pub count : length nodes ≡ n
   pub latest : AreLatest rs n tasks progress.latest.items
+  pub families : AreLatestFamilies rs n tasks progress.families.items
   pub chains : AreChains rs tasks nodes progress.heads.items
-  pub begins : (i task : ℕ) (node : Node) → slice_get nodes i ≡ Some node
-      → at region rs i ≡ Some (task, Taskwait, Begin) → IsChildLimit rs i task node.limit
-  pub ends : AreKnown rs nodes
+  pub marks : AreMarks rs nodes

@@ -1,5 +1,5 @@
 -- What the end of a region waits for, by the places of the creations, and what of it is unfinished.
-use Rattle.std.specs.Prelude.{ℕ, ◌≡◌, ◌<◌, ◌≤◌, ◌⊎◌, ◌↔◌, Bool, false, IsTrue, List, length, Some, slice_get, slice_index_or}
+use Rattle.std.specs.Prelude.{ℕ, ◌≡◌, ◌<◌, ◌≤◌, ◌⊎◌, ◌↔◌, Bool, false, true, IsTrue, List, length, Some, slice_get, slice_index_or}
 use Rattle.ompt_events.specs.declared.records.Record.{Record}
 use Rattle.ompt_events.specs.declared.records.Body.{Body}
 use Rattle.ompt_events.specs.declared.names.Endpoint.{Endpoint}
@@ -8,7 +8,8 @@ use Rattle.ompt_events.specs.declared.names.SyncKind.{SyncKind}
 use Rattle.ompt_events.specs.declared.names.SyncKind.TheVariants.{Taskwait, Taskgroup}
 use Rattle.ompt_events.specs.Records.{creation, created, region}
 use Rattle.ompt_events.specs.Places.{at}
-use Rattle.ompt_events.specs.Regions.{IsRegion}
+use Rattle.ompt_events.specs.Regions.{IsRegion, IsBarrierBegin, is_barrier, waits_for_tasks}
+use Rattle.ompt_events.specs.Teams.{IsTeammate}
 use Rattle.ompt_events.specs.Coverage.{Covers, IsFamily}
 use Rattle.ompt_events.specs.Completion.{IsCompleteAt}
 use Rattle.task_tree.specs.Family.{FamilyView}
@@ -18,37 +19,67 @@ use Rattle.credit_ledger.specs.declared.entry.Cover.TheVariants.{Children, Desce
 use Rattle.wait_coverage.specs.Entries.{IsDone}
 use Rattle.wait_coverage.specs.Spans.{IsCoverComplete}
 use Rattle.wait_coverage.specs.declared.waits.Wait.{Wait}
+use Rattle.wait_coverage.specs.declared.waits.Wait.TheVariants.{Taskwait as ForTaskwait, Taskgroup as ForTaskgroup, Barrier as ForBarrier}
 
 -- ---- what a wait is for
 
--- the wait that ends at i: for the children created before a taskwait began, or for those created in a
--- taskgroup, with their descendants
+-- what the region that ends at i waits for (OpenMP 5.2, 15.5, 15.4 and 15.3)
 pub data IsWaitAt (rs : List Record) (tasks : List ℕ) (i : ℕ) : Wait → Type 0 where
-  waits : {parent begin index : ℕ} → slice_get tasks index ≡ Some parent → IsRegion rs i parent Taskwait begin
-      → IsWaitAt rs tasks i (record { task = index; from = 0; to = begin; cover = Children })
-  groups : {parent begin index : ℕ} → slice_get tasks index ≡ Some parent → IsRegion rs i parent Taskgroup begin
-      → IsWaitAt rs tasks i (record { task = index; from = begin; to = i; cover = Descendants })
+  waits : {parent begin index : ℕ} → slice_get tasks index ≡ Some parent
+      → IsRegion rs i parent Taskwait begin
+      → IsWaitAt rs tasks i (ForTaskwait index begin)
+  groups : {parent begin index : ℕ} → slice_get tasks index ≡ Some parent
+      → IsRegion rs i parent Taskgroup begin
+      → IsWaitAt rs tasks i (ForTaskgroup index begin i)
+  meets : {own begin index number : ℕ} {kind : SyncKind} → slice_get tasks index ≡ Some own
+      → IsRegion rs i own kind begin → is_barrier kind ≡ true → IsBarrierBegin rs own number begin
+      → IsWaitAt rs tasks i (ForBarrier index number)
 
--- no taskwait and no taskgroup ends there
+-- no region ends there that waits for tasks
 abbrev pub EndsNoWaitAt : List Record → ℕ → Type 0
-EndsNoWaitAt rs i = (task begin : ℕ) → (IsRegion rs i task Taskwait begin → ⊥) × (IsRegion rs i task Taskgroup begin → ⊥)
+EndsNoWaitAt rs i =
+    (task begin : ℕ) (kind : SyncKind) → waits_for_tasks kind ≡ true → IsRegion rs i task kind begin → ⊥
 
--- the child is created while the wait's children are
+-- a child that the parent creates at the place is waited for
+pub data IsWithin (rs : List Record) (tasks : List ℕ) (parent place : ℕ) : Wait → Type 0 where
+  -- it is created before the taskwait begins
+  before_begin : {index begin : ℕ} → slice_get tasks index ≡ Some parent → place < begin
+      → IsWithin rs tasks parent place (ForTaskwait index begin)
+  -- in the taskgroup
+  in_group : {index begin end : ℕ} → slice_get tasks index ≡ Some parent → begin ≤ place → place < end
+      → IsWithin rs tasks parent place (ForTaskgroup index begin end)
+  -- or by a member of the team before its barrier with this number begins
+  by_member : {index number own start : ℕ} → slice_get tasks index ≡ Some own → IsTeammate rs own parent
+      → IsBarrierBegin rs parent number start → place < start
+      → IsWithin rs tasks parent place (ForBarrier index number)
+
+-- the child is one of those that are waited for
 pub record IsOwnChild (rs : List Record) (tasks : List ℕ) (wait : Wait) (child : ℕ) : Type 0 where
   pub parent : ℕ
   pub place : ℕ
-  pub is_parent : slice_get tasks wait.task ≡ Some parent
-  pub from : wait.from ≤ place
-  pub before : place < wait.to
+  pub within : IsWithin rs tasks parent place wait
   pub creates : at creation rs place ≡ Some (parent, child)
+
+-- whether the descendants of the children are waited for too
+abbrev pub cover_of : Wait → Cover
+cover_of (ForTaskwait index begin) = Children
+cover_of (ForTaskgroup index begin end) = Descendants
+cover_of (ForBarrier index number) = Descendants
+
+-- the index of the task that waits
+abbrev pub waiting : Wait → ℕ
+waiting (ForTaskwait index begin) = index
+waiting (ForTaskgroup index begin end) = index
+waiting (ForBarrier index number) = index
 
 -- one of the tasks that are waited for: a child, or one of its family
 abbrev pub IsAwaitedBy : List Record → List ℕ → ℕ → Wait → Cover → Type 0
 IsAwaitedBy rs tasks task wait Children = IsOwnChild rs tasks wait task
-IsAwaitedBy rs tasks task wait Descendants = (child : ℕ) × IsOwnChild rs tasks wait child × IsFamily rs child task
+IsAwaitedBy rs tasks task wait Descendants = (child : ℕ) × IsOwnChild rs tasks wait child
+    × IsFamily rs child task
 
 abbrev pub IsAwaited : List Record → List ℕ → Wait → ℕ → Type 0
-IsAwaited rs tasks wait task = IsAwaitedBy rs tasks task wait wait.cover
+IsAwaited rs tasks wait task = IsAwaitedBy rs tasks task wait (cover_of wait)
 
 -- at the index of each task stands whether it is waited for
 pub record AreAwaited (rs : List Record) (tasks : List ℕ) (wait : Wait) (marks : List Bool) : Type 0 where
@@ -57,7 +88,8 @@ pub record AreAwaited (rs : List Record) (tasks : List ℕ) (wait : Wait) (marks
       → IsTrue (slice_index_or marks index false) ↔ IsAwaited rs tasks wait task
 
 -- the same of the tasks at the first n places of an order
-pub record AreMarked (rs : List Record) (tasks : List ℕ) (wait : Wait) (order : List ℕ) (n : ℕ) (marks : List Bool) : Type 0 where
+pub record AreMarked (rs : List Record) (tasks : List ℕ) (wait : Wait) (order : List ℕ) (n : ℕ)
+    (marks : List Bool) : Type 0 where
   pub all : length marks ≡ length tasks
   pub each : (place index task : ℕ) → place < n → slice_get order place ≡ Some index
       → slice_get tasks index ≡ Some task
@@ -72,18 +104,15 @@ IsMarkedAbove rs family wait marks index = (up parent : ℕ) → parent_index fa
 -- the record ends no wait for tasks
 abbrev pub EndsNoWait : Body → Type 0
 EndsNoWait body = (task : ℕ) (kind : SyncKind) (endpoint : Endpoint)
-    → region body ≡ Some (task, kind, endpoint) → (endpoint ≡ Begin)
-    ⊎ ((kind ≡ Taskwait → ⊥) × (kind ≡ Taskgroup → ⊥))
+    → region body ≡ Some (task, kind, endpoint) → (endpoint ≡ Begin) ⊎ (waits_for_tasks kind ≡ false)
 
--- the kind of region whose end waits so
-abbrev pub kind_of : Cover → SyncKind
-kind_of Children = Taskwait
-kind_of Descendants = Taskgroup
-
--- the record ends a wait for these tasks
-abbrev pub EndsWaitFor : Body → Cover → Type 0
-EndsWaitFor body cover = (task : ℕ) × (endpoint : Endpoint)
-    × (region body ≡ Some (task, kind_of cover, endpoint)) × (endpoint ≡ Begin → ⊥)
+-- the record ends a region of this kind, which waits for tasks
+pub record EndsWaitOf (body : Body) (kind : SyncKind) : Type 0 where
+  pub task : ℕ
+  pub endpoint : Endpoint
+  pub says : region body ≡ Some (task, kind, endpoint)
+  pub ends : endpoint ≡ Begin → ⊥
+  pub waits : waits_for_tasks kind ≡ true
 
 -- the region that ends at i began there
 abbrev pub IsBeginOf : List Record → ℕ → ℕ → Type 0
@@ -97,7 +126,8 @@ pub record IsOpen (rs : List Record) (i task : ℕ) : Type 0 where
   pub covered : Covers rs i task
   pub incomplete : IsCompleteAt rs task i → ⊥
 
--- of the tasks that the end at i covers and that are unfinished there this one was created first in file order
+-- of the tasks that the end at i covers and that are unfinished there this one was created first in file
+-- order
 pub record IsFirstOpen (rs : List Record) (i task : ℕ) : Type 0 where
   pub is_open : IsOpen rs i task
   pub creation : ℕ

@@ -1,21 +1,23 @@
 //! The ends of waits in a trace, the credit that each waits for, and the task that is unfinished at each.
-ghost use Rattle.std.specs.Prelude.{ℕ, ◌≡◌, ◌<◌, ◌∷◌, [], List, Some, All, IfOk, IsTrue, MatchOption, length, slice_get, take};
+ghost use Rattle.std.specs.Prelude.{ℕ, ◌≡◌, ◌<◌, List, Some, All, IfOk, IfErr, IsTrue, MatchOption, Contains, Option, length, slice_get, take};
 ghost use Rattle.ompt_events.specs.declared.records.Record.{Record};
 ghost use Rattle.ompt_events.specs.Tree.{HasPath};
-ghost use Rattle.ompt_events.specs.Regions.{IsRegion};
 ghost use Rattle.task_tree.specs.Family.{IsFamilyOf};
 ghost use Rattle.task_tree.specs.Paths.{IsTreeOf};
 ghost use Rattle.task_states.specs.States.{AreStatesOf};
+ghost use Rattle.credit_ledger.specs.declared.entry.Span.{Span};
+ghost use Rattle.credit_ledger.specs.declared.entry.Cover.{Cover};
 ghost use Rattle.credit_ledger.specs.Entries.{IsSpanHeld};
-ghost use Rattle.wait_coverage.specs.declared.waits.Wait.{Wait};
 ghost use Rattle.wait_coverage.specs.Entries.{IsLedgerOf};
-ghost use Rattle.wait_coverage.specs.Spans.{AreSpans, IsCoverComplete, IsFreeUpTo};
-ghost use Rattle.wait_coverage.specs.Limits.{HaveNoBarriers};
-ghost use Rattle.wait_coverage.specs.Waits.{IsFirstOpen, kind_of};
-ghost use Rattle.wait_coverage.specs.Coverage.{AreEnds, AreWaits, AreFirstOpen};
+ghost use Rattle.wait_coverage.specs.declared.waits.Wait.TheVariants.{Barrier};
+ghost use Rattle.wait_coverage.specs.Spans.{AreSpans, AreMemberSpans, IsSpan, IsCoverComplete, IsFreeUpTo};
+ghost use Rattle.wait_coverage.specs.Teams.{IsTeamsOf, IsTeamFault};
+ghost use Rattle.wait_coverage.specs.Waits.{IsWaitAt, IsFirstOpen, cover_of};
+ghost use Rattle.wait_coverage.specs.Coverage.{AreEnds, AreWaits, AreFirstOpen, IsCoverAt, IsOnly, HasBegun, HaveBegun, IsMemberSpan, AreRosterSpans};
 
-use crate::fault::CoverFault;
+use crate::fault::{CoverFault, TeamFault};
 use crate::numbers::find_numbers;
+use crate::teams::Teams;
 use crate::unfinished::{Known, find_known, open_of};
 use crate::waits::{Wait, wait_at};
 use credit_ledger::{Cover, Ledger, Span};
@@ -23,13 +25,14 @@ use ompt_events::{Path, Record, Trace};
 use std::alloc::{AllocError, Global};
 use std::marker::Model;
 use task_states::States;
-use task_tree::{Family, Tree};
+use task_tree::{Family, Slot, Tree};
 
 /// What each wait of a trace waits for.
 #[derive(Debug, Drop)]
 pub struct Coverage<'a> {
     records: &'a [Record],
     tree: &'a Tree,
+    teams: Teams,
     known: Known,
     /// For each record how many children its task had created before it.
     numbers: Vec<u32>,
@@ -45,6 +48,7 @@ impl<'a> Model for Coverage<'a> {
     ghost view = { λ coverage. record {
       records = coverage.records.now;
       tree = coverage.tree.now;
+      teams = coverage.teams;
       known = coverage.known;
       numbers = coverage.numbers.items;
       ends = coverage.ends.items;
@@ -54,6 +58,7 @@ impl<'a> Model for Coverage<'a> {
     ghost invariant = { λ coverage. IsCoverage (record {
       records = coverage.records.now;
       tree = coverage.tree.now;
+      teams = coverage.teams;
       known = coverage.known;
       numbers = coverage.numbers.items;
       ends = coverage.ends.items;
@@ -62,27 +67,29 @@ impl<'a> Model for Coverage<'a> {
 }
 
 impl<'a> Coverage<'a> {
-    /// What each wait of the trace waits for. The tree and the states must be those of the trace, and none of
-    /// its regions a barrier that waits for tasks. Refused is only what finds no memory.
+    /// What each wait of the trace waits for. Refused is a team or a barrier that lacks a member (OpenMP
+    /// 5.2, 10.1 and 15.3), at its first record. The tree and the states must be those of the trace.
     pub fn build(
         alloc: Global,
         trace: &'a Trace,
         tree: &'a Tree,
         states: &States,
-    ) -> Result<Coverage<'a>, CoverFault>
+    ) -> Result<Coverage<'a>, TeamFault>
         requires tree { IsTreeOf trace.now.records tree.now }
         requires states { AreStatesOf trace.now.records states.now }
-        requires no_barriers { HaveNoBarriers trace.now.records }
-        ensures { IfOk result (λ coverage. coverage.records ≡ trace.now.records) }
+        ensures coverage { IfOk result (λ coverage. coverage.records ≡ trace.now.records) }
+        ensures fault { IfErr result (IsTeamFault trace.now.records) }
     {
         let records = trace.records();
         let family = tree.family();
-        let known = find_known(alloc, records, family, states)?;
+        let teams = Teams::build(alloc, records, family, states)?;
+        let known = find_known(alloc, records, family, states, &teams)?;
         let numbers = find_numbers(alloc, records, family)?;
-        let (ends, waits) = find_ends(alloc, records, family, states)?;
+        let (ends, waits) = find_ends(alloc, records, family, states, &teams)?;
         Ok(Coverage {
             records,
             tree,
+            teams,
             known,
             numbers,
             ends,
@@ -102,9 +109,9 @@ impl<'a> Coverage<'a> {
     pub fn cover(&self, number: usize) -> Cover
         requires { number < length self.now.ends }
         ensures { (end : ℕ) → slice_get self.now.ends number ≡ Some end
-            → (task begin : ℕ) × IsRegion self.now.records end task (kind_of result) begin }
+            → IsCoverAt self.now.records end result }
     {
-        self.waits[number].cover
+        self.waits[number].cover()
     }
 
     /// The credit that the end with this number among the ends waits for: the spans of children whose start
@@ -112,17 +119,16 @@ impl<'a> Coverage<'a> {
     pub fn spans(&self, number: usize) -> Result<Vec<Span>, CoverFault>
         requires { number < length self.now.ends }
         ensures { IfOk result (λ spans. (end : ℕ) → slice_get self.now.ends number ≡ Some end
-            → (cover : Cover) × AreSpans self.now.records end cover spans.items) }
+            → (cover : Cover) × IsCoverAt self.now.records end cover
+            × AreSpans self.now.records end cover spans.items) }
     {
-        let mut spans = Vec::new(*self.ends.allocator());
-        spans.push(self.span(number)?)?;
-        Ok(spans)
+        Ok(self.spans_of(&self.waits[number])?)
     }
 
     /// Of the tasks that the end with this number among the ends covers the first created one that is not
     /// finished by the entries of the ledger below the length that the end names: none where these hold the
-    /// credit that it waits for (F. Mattern, 1989). That is promised where the ledger is that of the trace and
-    /// none of the causes 1 to 13 occurs in it. `Memory` is the only refusal.
+    /// credit that it waits for (F. Mattern, 1989). That is promised where the ledger is that of the trace
+    /// and none of the causes 1 to 13 occurs in it. `Memory` is the only refusal.
     pub fn first_open(&self, number: usize, ledger: &Ledger) -> Result<Option<u64>, CoverFault>
         requires { number < length self.now.ends }
         ensures { IsLedgerOf self.now.records ledger.now → IsFreeUpTo self.now.records 13
@@ -131,8 +137,9 @@ impl<'a> Coverage<'a> {
     {
         let at = self.ends[number];
         let wait = &self.waits[number];
-        let span = self.span(number)?;
-        if is_held(ledger, self.records[at].seen, &span, wait.cover)? {
+        let spans = self.spans_of(wait)?;
+        let seen = self.records[at].seen;
+        if are_held(ledger, seen, spans.as_slice(), wait.cover())? {
             return Ok(None);
         }
         let alloc = *self.ends.allocator();
@@ -140,6 +147,7 @@ impl<'a> Coverage<'a> {
             alloc,
             self.records,
             self.tree.family(),
+            &self.teams,
             &self.known,
             wait,
             at,
@@ -154,7 +162,8 @@ impl<'a> Coverage<'a> {
     ) -> Result<Vec<Option<u64>>, CoverFault>
         requires { All (λ number. number < length self.now.ends) of.now }
         ensures { IsLedgerOf self.now.records ledger.now → IsFreeUpTo self.now.records 13
-            → IfOk result (λ found. AreFirstOpen self.now.records self.now.ends of.now (length of.now) found.items) }
+            → IfOk result (λ found.
+            AreFirstOpen self.now.records self.now.ends of.now (length of.now) found.items) }
     {
         let mut found = Vec::with_capacity(*self.ends.allocator(), of.len())?;
         for index in 0..of.len() {
@@ -163,17 +172,42 @@ impl<'a> Coverage<'a> {
         Ok(found)
     }
 
-    /// The span of children that the end with this number waits for.
-    fn span(&self, number: usize) -> Result<Span, AllocError>
-        requires { number < length self.now.ends }
-        ensures { IfOk result (λ span. (end : ℕ) (wait : Wait) → slice_get self.now.ends number ≡ Some end
-            → slice_get self.now.waits number ≡ Some wait
-            → AreSpans self.now.records end wait.cover (span ∷ [])) }
+    /// The credit that is waited for: one span, or for a barrier one of each member of the team.
+    fn spans_of(&self, wait: &Wait) -> Result<Vec<Span>, AllocError>
+        requires { (end : ℕ) × IsWaitAt self.now.records self.now.tree.family.tasks end wait.now }
+        ensures { IfOk result (λ spans. (end : ℕ)
+            → IsWaitAt self.now.records self.now.tree.family.tasks end wait.now
+            → AreSpans self.now.records end (cover_of wait.now) spans.items) }
     {
-        let wait = &self.waits[number];
-        let task = self.tree.family().tasks().as_slice()[wait.task];
-        let (root, path) = stands_at(*self.ends.allocator(), self.tree, task)?;
-        let (from, to) = numbers_of(self.numbers.as_slice(), wait);
+        match *wait {
+            Wait::Taskwait { task, begin } => self.only_span(task, 0, self.numbers[begin]),
+            Wait::Taskgroup { task, begin, end } => {
+                let from = self.numbers[begin];
+                self.only_span(task, from, self.numbers[end])
+            }
+            Wait::Barrier { task, number } => self.member_spans(task, number),
+        }
+    }
+
+    /// The span of the children of the task at the index with these numbers, alone.
+    fn only_span(&self, task: usize, from: u32, to: u32) -> Result<Vec<Span>, AllocError>
+        requires { task < length self.now.tree.family.tasks }
+        ensures { IfOk result (λ spans. (id : ℕ) → slice_get self.now.tree.family.tasks task ≡ Some id
+            → IsOnly self.now.records id from to spans.items) }
+    {
+        let mut spans = Vec::new(*self.ends.allocator());
+        spans.push(self.span(task, from, to)?)?;
+        Ok(spans)
+    }
+
+    /// The span of the children of the task at the index with these numbers.
+    fn span(&self, task: usize, from: u32, to: u32) -> Result<Span, AllocError>
+        requires { task < length self.now.tree.family.tasks }
+        ensures { IfOk result (λ span. (id : ℕ) → slice_get self.now.tree.family.tasks task ≡ Some id
+            → IsSpan self.now.records id from to span) }
+    {
+        let id = self.tree.family().tasks().as_slice()[task];
+        let (root, path) = stands_at(*self.ends.allocator(), self.tree, id)?;
         Ok(Span {
             from,
             to,
@@ -181,12 +215,52 @@ impl<'a> Coverage<'a> {
             path,
         })
     }
+
+    /// For each member of the team of the task at the index, by its number in the team, the span of the
+    /// children that it created before its barrier with this number began.
+    fn member_spans(&self, task: usize, number: usize) -> Result<Vec<Span>, AllocError>
+        requires { (end : ℕ)
+            × IsWaitAt self.now.records self.now.tree.family.tasks end (Barrier task number) }
+        ensures { IfOk result (λ spans. (id : ℕ) → slice_get self.now.tree.family.tasks task ≡ Some id
+            → AreMemberSpans self.now.records id number spans.items) }
+    {
+        match self.teams.team(task) {
+            Some(team) => self.roster_spans(self.teams.roster(team), number),
+            None => Ok(Vec::new(*self.ends.allocator())),
+        }
+    }
+
+    /// The same for the tasks at the indices of a roster.
+    fn roster_spans(&self, roster: &[Slot], number: usize) -> Result<Vec<Span>, AllocError>
+        requires { HaveBegun self.now.teams.begins number roster.now }
+        ensures { IfOk result (λ spans. AreRosterSpans self.now.records self.now.tree.family.tasks number
+            roster.now (length roster.now) spans.items) }
+    {
+        let mut spans = Vec::with_capacity(*self.ends.allocator(), roster.len())?;
+        for index in 0..roster.len() {
+            let member = roster[index].get().unwrap();
+            spans.push(self.member_span(member, number)?)?;
+        }
+        Ok(spans)
+    }
+
+    /// The span of the children that the task at the index created before its barrier with this number
+    /// began.
+    fn member_span(&self, member: usize, number: usize) -> Result<Span, AllocError>
+        requires { HasBegun self.now.teams.begins number member }
+        ensures { IfOk result (λ span. (id : ℕ) → slice_get self.now.tree.family.tasks member ≡ Some id
+            → IsMemberSpan self.now.records id number span) }
+    {
+        let start = self.teams.begins(member)[number] as usize;
+        self.span(member, 0, self.numbers[start])
+    }
 }
 
 /// The root and the path of a task.
 fn stands_at(alloc: Global, tree: &Tree, task: u64) -> Result<(u64, Path), AllocError>
-    ensures { IfOk result (λ place. (records : List Record) (root : ℕ) (path : List ℕ) → IsTreeOf records tree.now
-        → HasPath records root task path → HasPath records place.0 task place.1) }
+    ensures { IfOk result (λ place. (records : List Record) (root : ℕ) (path : List ℕ)
+        → IsTreeOf records tree.now → HasPath records root task path
+        → HasPath records place.0 task place.1) }
 {
     let root = tree.root(task).unwrap_or(0);
     let mut numbers = Vec::new(alloc);
@@ -196,18 +270,17 @@ fn stands_at(alloc: Global, tree: &Tree, task: u64) -> Result<(u64, Path), Alloc
     Ok((root, Path::from_vec(numbers)))
 }
 
-/// The numbers of the first of the children that are waited for, and of the first one behind them.
-fn numbers_of(numbers: &[u32], wait: &Wait) -> (u32, u32)
-    requires from { wait.now.from < length numbers.now }
-    requires to { wait.now.to < length numbers.now }
-    ensures from { wait.now.cover ≡ Cover.Children → result.0 ≡ 0 }
-    ensures later { wait.now.cover ≡ Cover.Descendants → slice_get numbers.now wait.now.from ≡ Some result.0 }
-    ensures to { slice_get numbers.now wait.now.to ≡ Some result.1 }
+/// Whether the first entries of the ledger, so many as were seen, hold all the spans.
+fn are_held(ledger: &Ledger, seen: u32, spans: &[Span], cover: Cover) -> Result<bool, CoverFault>
+    ensures { IfOk result (λ held. IsTrue held → (span : Span) → Contains spans.now span
+        → IsSpanHeld (take seen ledger.now) span cover) }
 {
-    match wait.cover {
-        Cover::Children => (0, numbers[wait.to]),
-        Cover::Descendants => (numbers[wait.from], numbers[wait.to]),
+    for index in 0..spans.len() {
+        if !is_held(ledger, seen, &spans[index], cover)? {
+            return Ok(false);
+        }
     }
+    Ok(true)
 }
 
 /// Whether the first entries of the ledger, so many as were seen, hold the span. No credit comes back from
@@ -230,17 +303,19 @@ fn find_ends(
     records: &[Record],
     family: &Family,
     states: &States,
+    teams: &Teams,
 ) -> Result<(Vec<usize>, Vec<Wait>), AllocError>
     requires family { IsFamilyOf records.now family.now }
     requires states { AreStatesOf records.now states.now }
-    requires no_barriers { HaveNoBarriers records.now }
+    requires teams { IsTeamsOf records.now family.now.tasks teams.now }
     ensures ends { IfOk result (λ found. AreEnds records.now (length records.now) found.0.items) }
-    ensures waits { IfOk result (λ found. AreWaits records.now family.now.tasks found.0.items found.1.items) }
+    ensures waits { IfOk result (λ found.
+        AreWaits records.now family.now.tasks found.0.items found.1.items) }
 {
     let mut ends = Vec::new(alloc);
     let mut waits = Vec::new(alloc);
     for at in 0..records.len() {
-        if let Some(wait) = wait_at(records, family, states, at) {
+        if let Some(wait) = wait_at(records, family, states, teams, at) {
             ends.push(at)?;
             waits.push(wait)?;
         }

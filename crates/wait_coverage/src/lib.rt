@@ -1,24 +1,34 @@
 //! Which tasks the end of a region waits for, whether they are finished there, and whether the ledger of
 //! finished tasks holds their credit.
 //!
-//! `find_open` looks at the ends of a whole trace, `Coverage` answers for single ones with their credit, and `laws`
-//! says why held credit means finished tasks. Read `unfinished` first, then what it stands on: `order` (tasks
-//! behind their parents), `done` (after `lengths`: from which ledger length on each task is finished, and its
-//! descendants), `limits` (the same of what each end covers), `waits` (the search where one is not); then
-//! `coverage`, after `numbers`.
+//! `find_open` looks at the ends of a whole trace, `Coverage` answers for single ones with their credit, and
+//! `laws` says why held credit means finished tasks. Read `unfinished` first, then what it stands on:
+//! `teams` (who meets at a barrier; after `begins`, `members`, `fewest`, `missed`, `seats` and `short`),
+//! `order` (tasks behind their parents), `done` (after `lengths`: from which ledger length on each task is
+//! finished, and its descendants), `limits` and `meetings` (the same of what each end covers), `waits` (the
+//! search where one is not); then `coverage`, after `numbers`.
 #![tactic(auto)]
 
+mod begins;
 mod coverage;
 mod done;
 mod fault;
+mod fewest;
 pub mod laws;
 mod lengths;
 mod limits;
+mod meetings;
+mod members;
+mod missed;
 mod numbers;
 mod order;
+mod seats;
+mod short;
+mod teams;
 mod unfinished;
 mod waits;
 
 pub use coverage::Coverage;
-pub use fault::CoverFault;
-pub use unfinished::find_open;
+pub use fault::{CoverFault, TeamFault};
+pub use teams::Teams;
+pub use unfinished::{Known, find_known, find_open};

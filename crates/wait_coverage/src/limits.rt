@@ -6,9 +6,11 @@ ghost use Rattle.task_tree.specs.Family.{IsFamilyOf};
 ghost use Rattle.task_states.specs.States.{AreStatesOf};
 ghost use Rattle.wait_coverage.specs.Done.{AreDone};
 ghost use Rattle.task_tree.specs.Subjects.{subject};
-ghost use Rattle.wait_coverage.specs.Limits.{HaveNoBarriers, IsChildLimit, IsLimitOfBegin, AreFalling, Gathers, AreLatest, AreNoted, AreEndLimits};
+ghost use Rattle.wait_coverage.specs.Limits.{IsChildLimit, IsFamiliesLimit, IsLimitOfBegin, AreFalling, Gathers, AreLatest, AreLatestFamilies, AreNoted, AreNodes};
+ghost use Rattle.ompt_events.specs.Regions.{barrier_begun};
 
 use crate::done::Done;
+use crate::meetings::begins_barrier;
 use ompt_events::{Body, Endpoint, Record, SyncKind};
 use std::alloc::{AllocError, Global};
 use task_states::States;
@@ -18,7 +20,8 @@ use task_tree::{Family, Slot};
 #[derive(Clone, Copy, Debug, PartialEq, Eq)]
 pub(crate) struct Node {
     /// The ledger length from which on tasks are finished: of a creation, the child and its descendants; of
-    /// the begin of a taskwait, the children so far; of the end of a region, what it covers.
+    /// the begin of a taskwait, the children so far; of the begin of a barrier, these and their descendants;
+    /// of the end of a region, what it covers.
     pub(crate) limit: u64,
     /// For a creation and the end of a taskgroup the one before of the same task, of those that are not in a
     /// taskgroup that ended since.
@@ -32,11 +35,13 @@ struct Progress {
     heads: Vec<Slot>,
     /// The ledger length from which on the children so far are finished.
     latest: Vec<u64>,
+    /// The same of the children so far and their descendants.
+    families: Vec<u64>,
 }
 
 impl Node {
     /// A node that no end of a taskgroup has to look at.
-    fn alone(limit: u64) -> Node
+    pub(crate) fn alone(limit: u64) -> Node
         ensures limit { result.limit ≡ limit }
         ensures alone { result.previous ≡ None }
     {
@@ -47,7 +52,7 @@ impl Node {
     }
 }
 
-/// What is noted at each record.
+/// What is noted at each record, but for the ends of barriers.
 pub(crate) fn find_limits(
     alloc: Global,
     records: &[Record],
@@ -58,9 +63,8 @@ pub(crate) fn find_limits(
     requires few { length records.now ≤ 2 ^ 22 }
     requires family { IsFamilyOf records.now family.now }
     requires states { AreStatesOf records.now states.now }
-    requires no_barriers { HaveNoBarriers records.now }
     requires done { AreDone records.now family.now.tasks done.now }
-    ensures { IfOk result (λ nodes. AreEndLimits records.now nodes.items) }
+    ensures { IfOk result (λ nodes. AreNodes records.now nodes.items) }
 {
     let mut progress = no_progress(alloc, family.tasks().as_slice().len())?;
     let mut nodes: Vec<Node> = Vec::with_capacity(alloc, records.len())?;
@@ -83,10 +87,12 @@ pub(crate) fn find_limits(
 fn no_progress(alloc: Global, tasks: usize) -> Result<Progress, AllocError>
     ensures heads { IfOk result (λ progress. progress.heads.items ≡ replicate tasks None) }
     ensures latest { IfOk result (λ progress. progress.latest.items ≡ replicate tasks 0) }
+    ensures families { IfOk result (λ progress. progress.families.items ≡ replicate tasks 0) }
 {
     Ok(Progress {
         heads: vec![in alloc; Slot::none(); tasks]?,
         latest: vec![in alloc; 0; tasks]?,
+        families: vec![in alloc; 0; tasks]?,
     })
 }
 
@@ -104,7 +110,6 @@ fn node_at(
     requires few { length records.now ≤ 2 ^ 22 }
     requires family { IsFamilyOf records.now family.now }
     requires states { AreStatesOf records.now states.now }
-    requires no_barriers { HaveNoBarriers records.now }
     requires done { AreDone records.now family.now.tasks done.now }
     requires noted { AreNoted records.now at family.now.tasks nodes.now progress.old }
     ensures { AreNoted records.now (at + 1) family.now.tasks (nodes.now ++ result ∷ []) progress.new }
@@ -123,13 +128,14 @@ fn node_at(
                 Node::alone(latest_limit(records, family, progress.latest.as_slice(), at))
             }
         },
-        None => Node::alone(0),
+        None => Node::alone(begin_limit(records, family, progress.families.as_slice(), at)),
     }
 }
 
 /// Whether the record ends a taskgroup that it did not begin itself.
 fn ends_taskgroup(body: &Body) -> bool
-    ensures { IsTrue result ↔ ((task : ℕ) × (region body.now ≡ Some (task, SyncKind.Taskgroup, Endpoint.End))) }
+    ensures { IsTrue result ↔ ((task : ℕ)
+        × (region body.now ≡ Some (task, SyncKind.Taskgroup, Endpoint.End))) }
 {
     match body.region() {
         Some((_, SyncKind::Taskgroup, Endpoint::End)) => true,
@@ -160,7 +166,6 @@ fn create(
     requires within { at < length records.now }
     requires few { length records.now ≤ 2 ^ 22 }
     requires family { IsFamilyOf records.now family.now }
-    requires no_barriers { HaveNoBarriers records.now }
     requires creates { says_at creation records.now at ≡ None → ⊥ }
     requires done { AreDone records.now family.now.tasks done.now }
     requires noted { AreNoted records.now at family.now.tasks nodes.now progress.old }
@@ -175,6 +180,7 @@ fn create(
     let previous = progress.heads[parent];
     progress.heads[parent] = Slot::some(at);
     progress.latest[parent] = progress.latest[parent].max(done.own[child]);
+    progress.families[parent] = progress.families[parent].max(done.families[child]);
     Node {
         limit: done.families[child],
         previous,
@@ -194,8 +200,8 @@ fn close(
     requires few { length records.now ≤ 2 ^ 22 }
     requires family { IsFamilyOf records.now family.now }
     requires states { AreStatesOf records.now states.now }
-    requires no_barriers { HaveNoBarriers records.now }
-    requires ends { (task : ℕ) × (says_at region records.now at ≡ Some (task, SyncKind.Taskgroup, Endpoint.End)) }
+    requires ends { (task : ℕ)
+        × (says_at region records.now at ≡ Some (task, SyncKind.Taskgroup, Endpoint.End)) }
     requires noted { AreNoted records.now at family.now.tasks nodes.now progress.old }
     ensures { AreNoted records.now (at + 1) family.now.tasks (nodes.now ++ result ∷ []) progress.new }
 {
@@ -242,7 +248,8 @@ fn later(slot: Slot, begin: usize) -> Option<usize>
 fn limit_of_begin(records: &[Record], states: &States, nodes: &[Node], at: usize) -> u64
     requires states { AreStatesOf records.now states.now }
     requires count { length nodes.now ≡ at }
-    requires ends { (task : ℕ) × (says_at region records.now at ≡ Some (task, SyncKind.Taskwait, Endpoint.End)) }
+    requires ends { (task : ℕ)
+        × (says_at region records.now at ≡ Some (task, SyncKind.Taskwait, Endpoint.End)) }
     ensures { IsLimitOfBegin records.now nodes.now at result }
 {
     match states.begin(at) {
@@ -255,10 +262,29 @@ fn limit_of_begin(records: &[Record], states: &States, nodes: &[Node], at: usize
 fn latest_limit(records: &[Record], family: &Family, latest: &[u64], at: usize) -> u64
     requires family { IsFamilyOf records.now family.now }
     requires latest { AreLatest records.now at family.now.tasks latest.now }
-    ensures { (task : ℕ) → says_at subject records.now at ≡ Some task → IsChildLimit records.now at task result }
+    ensures { (task : ℕ) → says_at subject records.now at ≡ Some task
+        → IsChildLimit records.now at task result }
 {
     match family.subject(at) {
         Some(index) => latest[index],
+        None => 0,
+    }
+}
+
+/// The limit so far of the children of the task that begins a barrier at the place, and of their
+/// descendants; 0 where none does.
+fn begin_limit(records: &[Record], family: &Family, families: &[u64], at: usize) -> u64
+    requires within { at < length records.now }
+    requires family { IsFamilyOf records.now family.now }
+    requires families { AreLatestFamilies records.now at family.now.tasks families.now }
+    ensures { (task : ℕ) → barrier_begun (says_at region records.now at) ≡ Some task
+        → IsFamiliesLimit records.now at task result }
+{
+    if !begins_barrier(&records[at].body) {
+        return 0;
+    }
+    match family.subject(at) {
+        Some(index) => families[index],
         None => 0,
     }
 }

@@ -1,15 +1,19 @@
 //! The first end of a region that covers an unfinished task.
-ghost use Rattle.std.specs.Prelude.{ℕ, ◌≡◌, ◌<◌, ◌≤◌, ◌^◌, IfOk, MatchOption, length};
-ghost use Rattle.task_tree.specs.Family.{IsFamilyOf};
+ghost use Rattle.std.specs.Prelude.{ℕ, ◌≡◌, ◌<◌, ◌≤◌, ◌^◌, List, IfOk, MatchOption, length};
+ghost use Rattle.ompt_events.specs.declared.records.Record.{Record};
+ghost use Rattle.task_tree.specs.Family.{IsFamilyOf, FamilyView};
 ghost use Rattle.task_states.specs.States.{AreStatesOf};
-ghost use Rattle.wait_coverage.specs.Limits.{HaveNoBarriers};
+ghost use Rattle.wait_coverage.specs.Teams.{IsTeamsOf};
+ghost use Rattle.wait_coverage.specs.Done.{AreOwn};
 ghost use Rattle.wait_coverage.specs.Spans.{IsCoverComplete};
 ghost use Rattle.wait_coverage.specs.Waits.{IsWaitAt, IsFirstOpen, IsFirstOpenEnd};
 ghost use Rattle.wait_coverage.specs.Known.{IsKnown};
 
 use crate::done::{Done, find_done};
 use crate::limits::{Node, find_limits};
+use crate::meetings::add_meetings;
 use crate::order::parents_first;
+use crate::teams::Teams;
 use crate::waits::{Wait, find_awaited, first_late, wait_at};
 use ompt_events::Record;
 use std::alloc::{AllocError, Global};
@@ -18,7 +22,7 @@ use task_tree::Family;
 
 /// What is known of all tasks and records before an end is looked at.
 #[derive(Debug, Drop)]
-pub(crate) struct Known {
+pub struct Known {
     /// The indices of the tasks, each behind that of its parent.
     pub(crate) order: Vec<usize>,
     pub(crate) done: Done,
@@ -26,44 +30,59 @@ pub(crate) struct Known {
     pub(crate) nodes: Vec<Node>,
 }
 
-/// What is known of all tasks and records.
-pub(crate) fn find_known(
+impl Known {
+    /// By index of the task the ledger length from which on it is finished.
+    pub fn own(&self) -> &[u64]
+        ensures { (rs : List Record) (family : FamilyView) → IsKnown rs family self.now
+            → AreOwn rs family.tasks result.now }
+    {
+        self.done.own.as_slice()
+    }
+}
+
+/// What is known of all tasks and records. It takes a few steps for each record, and memory linear in the
+/// records.
+pub fn find_known(
     alloc: Global,
     records: &[Record],
     family: &Family,
     states: &States,
+    teams: &Teams,
 ) -> Result<Known, AllocError>
     requires few { length records.now ≤ 2 ^ 22 }
     requires family { IsFamilyOf records.now family.now }
     requires states { AreStatesOf records.now states.now }
-    requires no_barriers { HaveNoBarriers records.now }
+    requires teams { IsTeamsOf records.now family.now.tasks teams.now }
     ensures { IfOk result (IsKnown records.now family.now) }
 {
     let order = parents_first(alloc, family)?;
     let done = find_done(alloc, records, family, order.as_slice())?;
-    let nodes = find_limits(alloc, records, family, states, &done)?;
+    let mut nodes = find_limits(alloc, records, family, states, &done)?;
+    add_meetings(alloc, records, family, states, teams, &mut nodes)?;
     Ok(Known { order, done, nodes })
 }
 
-/// The first record that ends a taskwait or a taskgroup of which a task is unfinished, and of the tasks that
-/// it covers the first created one that is (OpenMP 5.2, 15.5 and 15.4). None of the regions may be a barrier. It
-/// takes a few steps for each record, and memory linear in the records.
+/// The first record that ends a region that waits for tasks, and that covers an unfinished one; and of the
+/// tasks that it covers the first created one that is unfinished (OpenMP 5.2, 15.3 to 15.5). It takes a few
+/// steps for each record, and memory linear in the records.
 pub fn find_open(
     alloc: Global,
     records: &[Record],
     family: &Family,
     states: &States,
+    teams: &Teams,
+    known: &Known,
 ) -> Result<Option<(usize, u64)>, AllocError>
     requires few { length records.now ≤ 2 ^ 22 }
     requires family { IsFamilyOf records.now family.now }
     requires states { AreStatesOf records.now states.now }
-    requires no_barriers { HaveNoBarriers records.now }
+    requires teams { IsTeamsOf records.now family.now.tasks teams.now }
+    requires known { IsKnown records.now family.now known.now }
     ensures { IfOk result (λ found. MatchOption found ((i : ℕ) → IsCoverComplete records.now i)
         (λ f. IsFirstOpenEnd records.now f.0 f.1)) }
 {
-    let known = find_known(alloc, records, family, states)?;
     for at in 0..records.len() {
-        if let Some(task) = open_at(alloc, records, family, states, &known, at)? {
+        if let Some(task) = open_at(alloc, records, family, states, teams, known, at)? {
             return Ok(Some((at, task)));
         }
     }
@@ -76,22 +95,24 @@ fn open_at(
     records: &[Record],
     family: &Family,
     states: &States,
+    teams: &Teams,
     known: &Known,
     at: usize,
 ) -> Result<Option<u64>, AllocError>
     requires within { at < length records.now }
     requires family { IsFamilyOf records.now family.now }
     requires states { AreStatesOf records.now states.now }
-    requires no_barriers { HaveNoBarriers records.now }
+    requires teams { IsTeamsOf records.now family.now.tasks teams.now }
     requires known { IsKnown records.now family.now known.now }
-    ensures { IfOk result (λ found. MatchOption found (IsCoverComplete records.now at) (IsFirstOpen records.now at)) }
+    ensures { IfOk result (λ found. MatchOption found (IsCoverComplete records.now at)
+        (IsFirstOpen records.now at)) }
 {
     // Most waits end in time: only where this one did not is a late task looked for.
     if known.nodes[at].limit <= u64::from(records[at].seen) {
         return Ok(None);
     }
-    match wait_at(records, family, states, at) {
-        Some(wait) => open_of(alloc, records, family, known, &wait, at),
+    match wait_at(records, family, states, teams, at) {
+        Some(wait) => open_of(alloc, records, family, teams, known, &wait, at),
         None => Ok(None),
     }
 }
@@ -101,18 +122,20 @@ pub(crate) fn open_of(
     alloc: Global,
     records: &[Record],
     family: &Family,
+    teams: &Teams,
     known: &Known,
     wait: &Wait,
     at: usize,
 ) -> Result<Option<u64>, AllocError>
     requires within { at < length records.now }
     requires family { IsFamilyOf records.now family.now }
-    requires no_barriers { HaveNoBarriers records.now }
+    requires teams { IsTeamsOf records.now family.now.tasks teams.now }
     requires known { IsKnown records.now family.now known.now }
     requires wait { IsWaitAt records.now family.now.tasks at wait.now }
-    ensures { IfOk result (λ found. MatchOption found (IsCoverComplete records.now at) (IsFirstOpen records.now at)) }
+    ensures { IfOk result (λ found. MatchOption found (IsCoverComplete records.now at)
+        (IsFirstOpen records.now at)) }
 {
-    let marks = find_awaited(alloc, records, family, known.order.as_slice(), wait)?;
+    let marks = find_awaited(alloc, records, family, teams, known.order.as_slice(), wait)?;
     let own = known.done.own.as_slice();
     Ok(first_late(records, family, own, marks.as_slice(), records[at].seen))
 }

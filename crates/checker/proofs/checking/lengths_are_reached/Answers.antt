@@ -7,4 +7,4 @@ use Rattle.checker.proofs.checking.lengths_are_reached.Goals as goal
 pub returns-in-Some-clause-least : goal.returns-in-Some-clause-least
 returns-in-Some-clause-least c =
     let rs = c.args.trace.now.records in
-    least_more rs 10 1 (Malformed c.in-Some.at LengthAhead) c.requires.clear (only_least rs LengthAhead (Malformed c.in-Some.at LengthAhead) (refl, rw c.records.ensures.value at c.in-Some.ensures))
+    least_more rs 12 1 (Malformed c.in-Some.at LengthAhead) c.requires.clear (only_least rs LengthAhead (Malformed c.in-Some.at LengthAhead) (refl, rw c.records.ensures.value at c.in-Some.ensures))

@@ -7,4 +7,4 @@ use Rattle.checker.proofs.checking.lengths_rise.Goals as goal
 pub returns-in-Some-clause-least : goal.returns-in-Some-clause-least
 returns-in-Some-clause-least c =
     let rs = c.args.trace.now.records in
-    least_more rs 11 1 (Malformed c.in-Some.at LengthBack) c.requires.clear (only_least rs LengthBack (Malformed c.in-Some.at LengthBack) (refl, rw c.records.ensures.value at c.in-Some.ensures))
+    least_more rs 13 1 (Malformed c.in-Some.at LengthBack) c.requires.clear (only_least rs LengthBack (Malformed c.in-Some.at LengthBack) (refl, rw c.records.ensures.value at c.in-Some.ensures))

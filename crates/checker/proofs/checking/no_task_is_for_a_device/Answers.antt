@@ -7,7 +7,7 @@ use Rattle.checker.proofs.checking.no_task_is_for_a_device.Goals as goal
 pub returns-in-Some-clause-least : goal.returns-in-Some-clause-least
 returns-in-Some-clause-least c =
     let rs = c.args.trace.now.records in
-    least_more rs 13 1 (Malformed c.in-Some.at TargetTask) c.requires (only_least rs TargetTask (Malformed c.in-Some.at TargetTask) (refl, c.in-Some.ensures))
+    least_more rs 15 1 (Malformed c.in-Some.at TargetTask) c.requires (only_least rs TargetTask (Malformed c.in-Some.at TargetTask) (refl, c.in-Some.ensures))
 
 pub returns-in-None-clause-clear : goal.returns-in-None-clause-clear
-returns-in-None-clause-clear c = clear_more c.args.trace.now.records 13 1 c.requires (only_clear c.args.trace.now.records TargetTask c.in-None.ensures)
+returns-in-None-clause-clear c = clear_more c.args.trace.now.records 15 1 c.requires (only_clear c.args.trace.now.records TargetTask c.in-None.ensures)

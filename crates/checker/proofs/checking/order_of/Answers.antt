@@ -24,7 +24,7 @@ pub returns-then-is_in_order-clause-clear : goal.returns-then-is_in_order-clause
 returns-then-is_in_order-clause-clear c =
     let rs = c.args.trace.now.records in
     let steps : (a b : ℕ) → IsStep rs a b → a < b = rw c.records-records.ensures.value at (c.is_in_order.ensures c.if-is_in_order.true) in
-    clear_more rs 12 1 c.requires.clear (only_clear rs NoOrder (file_orders rs steps))
+    clear_more rs 14 1 c.requires.clear (only_clear rs NoOrder (file_orders rs steps))
 
 pub is_in_order-requires-clause-apart : goal.is_in_order-requires-clause-apart
 is_in_order-requires-clause-apart c = trace_apart c.records-records.result.now c.records-records.ensures.is_trace
@@ -33,12 +33,12 @@ pub find_order-requires-clause-apart : goal.find_order-requires-clause-apart
 find_order-requires-clause-apart c = trace_apart c.records-records.result.now c.records-records.ensures.is_trace
 
 pub find_order-requires-clause-reached : goal.find_order-requires-clause-reached
-find_order-requires-clause-reached c = rw c.records-records.ensures.value (c.requires.clear LengthAhead (10, omega arith, refl))
+find_order-requires-clause-reached c = rw c.records-records.ensures.value (c.requires.clear LengthAhead (12, omega arith, refl))
 
 pub returns-clause-clear : goal.returns-clause-clear
 returns-clause-clear c =
     let rs = c.args.trace.now.records in
-    on_ok_weaker c.find_order.result (λ free. clear_more rs 12 1 c.requires.clear (only_clear rs NoOrder free)) (rw c.records-records.ensures.value at c.find_order.ensures.free)
+    on_ok_weaker c.find_order.result (λ free. clear_more rs 14 1 c.requires.clear (only_clear rs NoOrder free)) (rw c.records-records.ensures.value at c.find_order.ensures.free)
 
 pub returns-clause-least : goal.returns-clause-least
-returns-clause-least c = IfErr-weaker c.find_order.result _ _ (λ fault found. least_more c.args.trace.now.records 12 1 fault c.requires.clear (only_least c.args.trace.now.records NoOrder fault found)) (rw c.records-records.ensures.value at c.find_order.ensures.found)
+returns-clause-least c = IfErr-weaker c.find_order.result _ _ (λ fault found. least_more c.args.trace.now.records 14 1 fault c.requires.clear (only_least c.args.trace.now.records NoOrder fault found)) (rw c.records-records.ensures.value at c.find_order.ensures.found)

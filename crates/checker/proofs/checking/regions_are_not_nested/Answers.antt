@@ -7,4 +7,4 @@ use Rattle.checker.proofs.checking.regions_are_not_nested.Goals as goal
 pub returns-in-Ok-Some-clause-least : goal.returns-in-Ok-Some-clause-least
 returns-in-Ok-Some-clause-least c =
     let rs = c.args.trace.now.records in
-    least_more rs 7 1 (Malformed c.in-Ok-Some.at NestedParallel) c.requires.clear (only_least rs NestedParallel (Malformed c.in-Ok-Some.at NestedParallel) (refl, rw c.in-Ok-Some.field-0-is at c.in-Ok-Some.ensures.found))
+    least_more rs 8 1 (Malformed c.in-Ok-Some.at NestedParallel) c.requires.clear (only_least rs NestedParallel (Malformed c.in-Ok-Some.at NestedParallel) (refl, rw c.in-Ok-Some.field-0-is at c.in-Ok-Some.ensures.found))

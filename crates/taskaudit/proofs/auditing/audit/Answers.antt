@@ -1,9 +1,10 @@
-use Rattle.std.proofs.Common.{rules, ◌≡◌, ◌∙◌, ℕ, List, Ok, take, subst}
+use Rattle.std.proofs.Common.{rules, ◌≡◌, ◌∙◌, ℕ, List, Ok, take, sym, subst}
 use Rattle.std.specs.Prelude.{IfSome}
 use Rattle.std.specs.String.{string_bytes}
 use Rattle.std.specs.Io.KnownBytes.{Appends}
 use Rattle.taskaudit.specs.Audits.{IsJudged}
 use Rattle.certificate.specs.Files.{file_says}
+use Rattle.taskaudit.proofs.HeadlineLemmas.{synchronised}
 use Rattle.taskaudit.proofs.auditing.audit.Goals as goal
 
 pub returns-in-Ok-clause-reports : goal.returns-in-Ok-clause-reports
@@ -16,10 +17,10 @@ returns-in-Ok-clause-reports g c =
     record {
       trace = trace;
       verdict = verdict;
-      judged = record { file = rw read at c.read.ensures.file; taken = c.in_default.ensures; right = rw checked at c.check.ensures };
+      judged = record { file = rw read at c.read.ensures.file; right = rw checked at c.check.ensures };
       written = subst P (c.as_bytes.ensures.value ∙ c.in_ok-text.ensures.text) c.in-Ok.ensures.ok;
       kind = c.of.ensures;
-      kept = λ yes. let kind = c.of.ensures in search rules;
+      kept = λ yes. synchronised trace.records verdict (rw checked at c.check.ensures) (sym c.of.ensures ∙ yes);
     }
 
 pub returns-clause-leaves : goal.returns-clause-leaves
@@ -33,7 +34,7 @@ returns-clause-leaves g c =
     record {
       trace = trace;
       verdict = verdict;
-      judged = record { file = rw read at c.read.ensures.file; taken = c.in_default.ensures; right = rw checked at c.check.ensures };
+      judged = record { file = rw read at c.read.ensures.file; right = rw checked at c.check.ensures };
       count = part.0;
       written = subst P (c.as_bytes.ensures.value ∙ c.in_ok-text.ensures.text) part.1;
     }

@@ -12,7 +12,7 @@ loop-at-preserved c =
         waits = waits_more rs tasks c.loop-at.at w.in-Some.wait c.loop-at.ends.items c.loop-at.waits.items c.loop-at.invariant.waits w.in-Some.ensures;
       }
       | in_default w ↦ rw (w.ends-is, w.waits-is) record {
-        ends = ends_other rs c.loop-at.at c.loop-at.ends.items c.requires.no_barriers c.loop-at.invariant.ends w.in_default.ensures;
+        ends = ends_other rs c.loop-at.at c.loop-at.ends.items c.loop-at.invariant.ends w.in_default.ensures;
         waits = c.loop-at.invariant.waits;
       }
     ]

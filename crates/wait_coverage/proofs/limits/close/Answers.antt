@@ -46,4 +46,4 @@ returns c =
     let same = same_Some c.in-Some-begin.begin found.0 (sym c.in-Some-begin.is ∙ found.1) in
     let P : ℕ → Type 0 = λ b. Gathers c.args.nodes.now c.index.result.now b c.gather-node.result in
     let gathered = subst P same c.gather-node.ensures in
-    closed_noted rs i c.in-Some.parent parent found.0 tasks c.args.nodes.now c.gather-node.result c.args.progress.now _ c.requires.no_barriers c.requires.family.makers.apart c.requires.noted found.2 own c.index.result.now head gathered (ap (λ x. set c.args.progress.now.heads.items c.in-Some.parent x) c.some.ensures) refl
+    closed_noted rs i c.in-Some.parent parent found.0 tasks c.args.nodes.now c.gather-node.result c.args.progress.now _ c.requires.family.makers.apart c.requires.noted found.2 own c.index.result.now head gathered (ap (λ x. set c.args.progress.now.heads.items c.in-Some.parent x) c.some.ensures) refl refl

@@ -9,4 +9,4 @@ pub loop-at-preserved : goal.loop-at-preserved
 loop-at-preserved c = below_more _ _ c.loop-at.invariant (rw c.in_default.is at c.in_ok-task.ensures)
 
 pub returns : goal.returns
-returns c = complete_whole c.args.records.now c.loop-at.at c.requires.no_barriers c.loop-at.invariant c.loop-at-test.false
+returns c = complete_whole c.args.records.now c.loop-at.at c.loop-at.invariant c.loop-at-test.false

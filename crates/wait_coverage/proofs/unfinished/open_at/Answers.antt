@@ -16,4 +16,4 @@ returns-then-index-from c =
     limit_complete rs c.args.at nodes c.index.result.now seen c.requires.known.limits there (seen_index rs c.args.at c.index-records-at.result c.requires.within) small (omega (arith, from, c.if-index-from.true))
 
 pub returns-in-None : goal.returns-in-None
-returns-in-None c = none_complete c.args.records.now c.args.at c.requires.no_barriers c.in-None.ensures
+returns-in-None c = none_complete c.args.records.now c.args.at c.in-None.ensures

@@ -8,4 +8,4 @@ returns c =
     let rs = c.args.records.now in
     let seen = (get_or rs c.args.at c.index-records-at.result).seen in
     let late = c.first_late.ensures c.args.wait.now (rw c.as_slice-2.ensures.value c.in_ok-marks.ensures) in
-    late_open rs c.args.family.now.tasks c.args.at seen c.args.wait.now c.first_late.result c.requires.no_barriers c.requires.wait (seen_index rs c.args.at c.index-records-at.result c.requires.within) late
+    late_open rs c.args.family.now.tasks c.args.at seen c.args.wait.now c.first_late.result c.requires.wait (seen_index rs c.args.at c.index-records-at.result c.requires.within) late

@@ -17,12 +17,13 @@ returns-in-Some c = λ task is.
     let rs = c.args.records.now in
     let family = c.args.family.now in
     let up = c.in-Some.up in
+    let deep = sym c.cover.ensures ∙ c.in-Descendants.is in
     let above = sym c.parent_at.ensures ∙ c.in-Some.is in
     let parent = get_or family.tasks up 0 in
     let is_parent = slice_get-get_or family.tasks up 0 (parent_within rs family c.args.index up c.requires.family above) in
     let known = c.requires.above up parent above is_parent in (
-      λ mark. below_awaited rs family c.args.index task up parent c.args.wait.now c.requires.family is c.in-Descendants.is above is_parent (known.0 mark),
-      λ awaited. elim (awaited_cases rs family c.args.index task c.args.wait.now c.requires.family is c.in-Descendants.is awaited) [
+      λ mark. below_awaited rs family c.args.index task up parent c.args.wait.now c.requires.family is deep above is_parent (known.0 mark),
+      λ awaited. elim (awaited_cases rs family c.args.index task c.args.wait.now c.requires.family is deep awaited) [
         | inl own ↦ absurd (false≢true (sym c.if-is_own_child.false ∙ (c.is_own_child.ensures task is).1 own))
         | inr found ↦
             let same = same_Some found.0 up (sym found.2 ∙ above) in
@@ -34,7 +35,7 @@ returns-in-Some c = λ task is.
 pub returns-in-None : goal.returns-in-None
 returns-in-None c = λ task is. (
   λ never. absurd (false≢true never),
-  λ awaited. elim (awaited_cases c.args.records.now c.args.family.now c.args.index task c.args.wait.now c.requires.family is c.in-Descendants.is awaited) [
+  λ awaited. elim (awaited_cases c.args.records.now c.args.family.now c.args.index task c.args.wait.now c.requires.family is (sym c.cover.ensures ∙ c.in-Descendants.is) awaited) [
     | inl own ↦ absurd (false≢true (sym c.if-is_own_child.false ∙ (c.is_own_child.ensures task is).1 own))
     | inr found ↦ absurd (none-some found.0 (sym c.in-None.is ∙ c.parent_at.ensures ∙ found.2))
   ],

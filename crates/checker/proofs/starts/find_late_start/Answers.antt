@@ -1,0 +1,9 @@
+use Rattle.std.proofs.Common.{below_more}
+use Rattle.checker.proofs.LateLemmas.{ready_whole}
+use Rattle.checker.proofs.starts.find_late_start.Goals as goal
+
+pub loop-at-preserved : goal.loop-at-preserved
+loop-at-preserved c = (c.note_start.ensures, below_more _ _ c.loop-at.invariant.1 (rw c.in_default-2.is at c.in_ok-task.ensures.found))
+
+pub returns-clause-found : goal.returns-clause-found
+returns-clause-found c = λ i. ready_whole c.args.records.now c.loop-at.at i c.loop-at.invariant.1 c.loop-at-test.false

@@ -1,0 +1,84 @@
+-- Which tasks start, and which taskwaits are complete, before one of their predecessors is finished.
+use Rattle.std.specs.Prelude.{ℕ, ◌≡◌, ◌<◌, ◌↔◌, ◌⊎◌, Bool, false, IsTrue, List, length, Some, slice_get, slice_index_or}
+use Rattle.ompt_events.specs.declared.records.Record.{Record}
+use Rattle.ompt_events.specs.Records.{created, started, wait_completed}
+use Rattle.ompt_events.specs.Places.{at}
+use Rattle.ompt_events.specs.Tree.{IsExplicit}
+use Rattle.ompt_events.specs.HappensBefore.{IsStart}
+use Rattle.ompt_events.specs.Dependences.{IsPredecessor}
+use Rattle.ompt_events.specs.Completion.{IsCompleteAt}
+use Rattle.wait_coverage.specs.Entries.{IsDone}
+
+-- the task must be complete at i as a predecessor: of an explicit task that starts there (OpenMP 5.2,
+-- 15.9.5), or of a taskwait with dependences that is complete there (15.5)
+abbrev pub IsPreceded : List Record → ℕ → ℕ → Type 0
+IsPreceded rs i task =
+    ((dependent : ℕ) × IsExplicit rs dependent × IsStart rs i dependent × IsPredecessor rs dependent task)
+    ⊎ ((dependent : ℕ) × (at wait_completed rs i ≡ Some dependent) × IsPredecessor rs dependent task)
+
+-- and it isn't
+abbrev pub IsLate : List Record → ℕ → ℕ → Type 0
+IsLate rs i task = IsPreceded rs i task × (IsCompleteAt rs task i → ⊥)
+
+-- all such tasks are complete at i
+abbrev pub AreReady : List Record → ℕ → Type 0
+AreReady rs i = (task : ℕ) → IsPreceded rs i task → IsCompleteAt rs task i
+
+-- of the tasks that are late at i this one was created first in file order
+pub record IsFirstLateAt (rs : List Record) (i task : ℕ) : Type 0 where
+  pub late : IsLate rs i task
+  pub creation : ℕ
+  pub is_created : at created rs creation ≡ Some task
+  pub created_first : (k other : ℕ) → k < creation → at created rs k ≡ Some other → IsLate rs i other → ⊥
+
+-- at the first record with a late task the one of them that was created first
+pub record IsFirstLateStart (rs : List Record) (i task : ℕ) : Type 0 where
+  pub first_late : IsFirstLateAt rs i task
+  pub before : (k : ℕ) → k < i → AreReady rs k
+
+-- ---- what the search knows
+
+-- by the entries below this length it is decided which tasks are complete at i
+abbrev pub IsBound : List Record → ℕ → ℕ → Type 0
+IsBound rs i bound = (task : ℕ) → IsCompleteAt rs task i ↔ IsDone rs bound task
+
+-- by index of the task whether one of the first n records starts it
+pub record AreStarted (rs : List Record) (n : ℕ) (tasks : List ℕ) (marks : List Bool) : Type 0 where
+  pub all : length marks ≡ length tasks
+  pub each : (index task : ℕ) → slice_get tasks index ≡ Some task
+      → IsTrue (slice_index_or marks index false) ↔ ((k : ℕ) × (k < n) × (at started rs k ≡ Some task))
+
+-- an explicit task starts at i, which stands at the index
+abbrev pub StartsAt : List Record → List ℕ → ℕ → ℕ → Type 0
+StartsAt rs tasks i index =
+    (task : ℕ) × (slice_get tasks index ≡ Some task) × IsExplicit rs task × IsStart rs i task
+
+-- none does
+abbrev pub StartsNoneAt : List Record → ℕ → Type 0
+StartsNoneAt rs i = (task : ℕ) → IsExplicit rs task → IsStart rs i task → ⊥
+
+-- the taskwait that is complete at i stands at the index
+abbrev pub CompletesAt : List Record → List ℕ → ℕ → ℕ → Type 0
+CompletesAt rs tasks i index =
+    (task : ℕ) × (slice_get tasks index ≡ Some task) × (at wait_completed rs i ≡ Some task)
+
+-- none is
+abbrev pub CompletesNoneAt : List Record → ℕ → Type 0
+CompletesNoneAt rs i = (task : ℕ) → at wait_completed rs i ≡ Some task → ⊥
+
+-- the entries below the length don't finish this predecessor of the task
+abbrev pub IsBehind : List Record → ℕ → ℕ → ℕ → Type 0
+IsBehind rs task bound predecessor =
+    IsPredecessor rs task predecessor × (IsDone rs bound predecessor → ⊥)
+
+-- they finish each
+abbrev pub AreDoneBefore : List Record → ℕ → ℕ → Type 0
+AreDoneBefore rs task bound = (predecessor : ℕ) → IsPredecessor rs task predecessor
+    → IsDone rs bound predecessor
+
+-- of those that they don't finish this one was created first
+pub record IsFirstBehind (rs : List Record) (task bound predecessor : ℕ) : Type 0 where
+  pub behind : IsBehind rs task bound predecessor
+  pub creation : ℕ
+  pub is_created : at created rs creation ≡ Some predecessor
+  pub first : (k other : ℕ) → k < creation → at created rs k ≡ Some other → IsBehind rs task bound other → ⊥

@@ -1,0 +1,77 @@
+//! The predecessors of a trace's tasks.
+ghost use Rattle.std.specs.Prelude.{◌≡◌};
+ghost use Rattle.task_tree.specs.Family.{IsFamilyOf};
+
+use crate::lines::told;
+use anyhow::{Result, bail};
+use certificate::{FromRead, read};
+use depend_edges::{EdgeFault, Edges};
+use ompt_events::{Record, Trace};
+use std::alloc::Global;
+use task_tree::Family;
+
+/// Prints which tasks must be finished before each created task of the trace on standard input starts.
+pub fn of_input(rt: &HostRuntime) -> Result<()> {
+    match read(rt.alloc(), &mut FromRead::new(rt.reader())) {
+        Ok(trace) => of_trace(rt, &trace),
+        Err(fault) => bail!("{}", told(rt.alloc(), fault)?),
+    }
+}
+
+fn of_trace(rt: &HostRuntime, trace: &Trace) -> Result<()> {
+    match Family::build(rt.alloc(), trace) {
+        Ok(family) => of_family(rt, trace, &family),
+        Err(_) => bail!("no tree"),
+    }
+}
+
+/// Prints the predecessors, or the first record with misplaced dependences.
+fn of_family(rt: &HostRuntime, trace: &Trace, family: &Family) -> Result<()>
+    requires { IsFamilyOf trace.now.records family.now }
+{
+    match Edges::build(rt.alloc(), trace, family) {
+        Ok(edges) => of_edges(rt, trace.records(), family, &edges),
+        Err(EdgeFault::Misplaced(at)) => {
+            println!(rt; "misplaced at {at}")?;
+            Ok(())
+        }
+        Err(EdgeFault::Memory) => bail!("out of memory"),
+    }
+}
+
+/// Prints the predecessors of each created task, and the last of them in the order in which tasks are made.
+fn of_edges(rt: &HostRuntime, records: &[Record], family: &Family, edges: &Edges) -> Result<()>
+    requires { edges.now.family ≡ family.now }
+{
+    let tasks = family.tasks().as_slice().len();
+    let own = ordinals(rt.alloc(), tasks)?;
+    if own.len() != tasks {
+        bail!("there is not one number for each task");
+    }
+    let Ok(latest) = edges.latest(rt.alloc(), own.as_slice()) else {
+        bail!("out of memory");
+    };
+    for event in records {
+        let Some(task) = event.body.created() else {
+            continue;
+        };
+        let Ok(predecessors) = edges.of(task) else {
+            bail!("out of memory");
+        };
+        let last = match family.tasks().index_of(task) {
+            Some(index) if index < latest.len() => latest[index],
+            _ => 0,
+        };
+        println!(rt; "{task}: {predecessors:?}, latest {last}")?;
+    }
+    Ok(())
+}
+
+/// 1, 2, .. up to the count.
+fn ordinals(alloc: Global, count: usize) -> Result<Vec<u64>> {
+    let mut numbers = Vec::new(alloc);
+    for number in 0..count {
+        numbers.push(number as u64 + 1)?;
+    }
+    Ok(numbers)
+}

@@ -1,0 +1,188 @@
+-- From which ledger length on what the end of a barrier covers is finished.
+use Rattle.std.proofs.Common.{◌≡◌, ◌∙◌, ℕ, ◌<◌, ◌≤◌, ◌+◌, true, List, length, Option, Some, None, refl, sym, ap, subst, arith, inl, inr}
+use Rattle.std.proofs.lemmas.Bool.{cases_eq}
+use Rattle.std.proofs.lemmas.Option.{same_Some, slice_get_within}
+use Rattle.std.proofs.lemmas.List.{length-set}
+use Rattle.std.proofs.Math.ListN.{set}
+use Rattle.std.specs.Global.{Vec}
+use Rattle.std.specs.Prelude.{slice_get}
+use Rattle.ompt_events.specs.declared.records.Record.{Record}
+use Rattle.ompt_events.specs.declared.names.Endpoint.{Endpoint}
+use Rattle.ompt_events.specs.declared.names.SyncKind.{SyncKind}
+use Rattle.ompt_events.specs.declared.names.SyncKind.TheVariants.{Taskwait, Taskgroup}
+use Rattle.ompt_events.specs.Records.{region}
+use Rattle.ompt_events.specs.Places.{at}
+use Rattle.ompt_events.specs.Regions.{IsRegion, is_barrier, barrier_begun, IsBarrierBegin}
+use Rattle.ompt_events.specs.Teams.{IsTeammate}
+use Rattle.ompt_events.proofs.PlaceLemmas.{at_within}
+use Rattle.task_tree.specs.Numbering.{AreApart}
+use Rattle.task_tree.specs.Subjects.{subject}
+use Rattle.task_tree.specs.Family.{FamilyView, IsFamilyOf}
+use Rattle.task_tree.proofs.LinkLemmas.{get_set_same, get_set_other}
+use Rattle.task_tree.proofs.LookupLemmas.{subject_calls}
+use Rattle.task_tree.proofs.SubjectLemmas.{call_index}
+use Rattle.wait_coverage.specs.Limits.{IsFamiliesLimit, IsWaitLimit, IsEndLimit, AreEndLimits}
+use Rattle.wait_coverage.specs.declared.limits.Node.{Node}
+use Rattle.wait_coverage.specs.Meetings.{IsBarrierEnd, AreMet, IsRaised, AreMeetingsAdded}
+use Rattle.wait_coverage.specs.Teams.{AreTeams}
+use Rattle.wait_coverage.proofs.BarrierLemmas.{begin_says, begun_subject, begun_region, one_number, barrier_is_other}
+use Rattle.wait_coverage.proofs.CoverLemmas.{ends_at, one_region, says_same}
+use Rattle.wait_coverage.proofs.LimitLemmas.{covers_cases}
+use Rattle.wait_coverage.proofs.WaitLemmas.{not_begin}
+
+-- ---- the members' begins, one record more
+
+-- where no member begins a barrier
+pub met_other : (rs : List Record) (n : ℕ) (tasks : List ℕ) (teams : List (Option ℕ)) (meetings : List (Vec ℕ)) → AreMet rs n tasks teams meetings → ((index task team : ℕ) → barrier_begun (at region rs n) ≡ Some task → slice_get tasks index ≡ Some task → slice_get teams index ≡ Some (Some team) → ⊥) → AreMet rs (n + 1) tasks teams meetings
+met_other rs n tasks teams meetings are none = record {
+  within = are.within;
+  each = λ index task team number i row is_task in_team stands starts below. elim (cases_eq i n) [
+    | inl same ↦ absurd (none index task team (ap (λ k. barrier_begun (at region rs k)) (sym same) ∙ begin_says rs task number i starts) is_task in_team)
+    | inr apart ↦ are.each index task team number i row is_task in_team stands starts (omega (arith, below, apart))
+  ];
+}
+
+-- a greater limit is one too
+weaker : (rs : List Record) (i task low high : ℕ) → IsFamiliesLimit rs i task low → low ≤ high → IsFamiliesLimit rs i task high
+weaker rs i task low high limit less c child before creates m t small at_most of = limit c child before creates m t small (omega (arith, less, at_most)) of
+
+-- where one does
+pub met_more : (rs : List Record) (n own task team number limit : ℕ) (tasks : List ℕ) (teams : List (Option ℕ)) (meetings : List (Vec ℕ)) (old new : Vec ℕ) → AreApart tasks → AreMet rs n tasks teams meetings → slice_get tasks own ≡ Some task → slice_get teams own ≡ Some (Some team) → slice_get meetings team ≡ Some old → IsBarrierBegin rs task number n → IsFamiliesLimit rs n task limit → IsRaised number limit old.items new.items → AreMet rs (n + 1) tasks teams (set meetings team new)
+met_more rs n own task team number limit tasks teams meetings old new apart are is_own in_team row_there begins families raised = record {
+  within = λ index other stands. let less = are.within index other stands in let same = length-set meetings team new in omega (arith, less, same);
+  each = λ index other t k i row is_other other_team stands starts below. elim (cases_eq i n) [
+    | inl last ↦
+        let P : ℕ → Type 0 = IsBarrierBegin rs other k in
+        let Q : ℕ → Type 0 = λ x. IsBarrierBegin rs x k n in
+        let starts_here : IsBarrierBegin rs other k n = subst P last starts in
+        let is_task : other ≡ task = same_Some other task (sym (begin_says rs other k n starts_here) ∙ begin_says rs task number n begins) in
+        let is_number : k ≡ number = one_number rs task k number n (subst Q is_task starts_here) begins in
+        let is_index : index ≡ own = apart index own other is_other (is_own ∙ ap Some (sym is_task)) in
+        let is_team : t ≡ team = same_Some t team (same_Some (Some t) (Some team) (sym other_team ∙ ap (slice_get teams) is_index ∙ in_team)) in
+        let is_row : new ≡ row = same_Some new row (sym (get_set_same meetings team new within) ∙ ap (slice_get (set meetings team new)) (sym is_team) ∙ stands) in
+        let R : ℕ → Type 0 = λ x. IsFamiliesLimit rs x other raised.raised.0 in
+        let S : ℕ → Type 0 = λ x. IsFamiliesLimit rs n x raised.raised.0 in
+        record {
+          limit = raised.raised.0;
+          there = ap (λ (v : Vec ℕ). slice_get v.items k) (sym is_row) ∙ ap (slice_get new.items) is_number ∙ raised.raised.1;
+          families = subst R (sym last) (subst S (sym is_task) (weaker rs n task limit raised.raised.0 families raised.raised.2));
+        }
+    | inr earlier ↦ elim (cases_eq t team) [
+      | inl is_team ↦
+          let is_row : new ≡ row = same_Some new row (sym (get_set_same meetings team new within) ∙ ap (slice_get (set meetings team new)) (sym is_team) ∙ stands) in
+          let known = are.each index other t k i old is_other other_team (ap (slice_get meetings) is_team ∙ row_there) starts (omega (arith, below, earlier)) in
+          let kept = raised.kept k known.limit known.there in
+          record {
+            limit = kept.0;
+            there = ap (λ (v : Vec ℕ). slice_get v.items k) (sym is_row) ∙ kept.1;
+            families = weaker rs i other known.limit kept.0 known.families kept.2;
+          }
+      | inr different ↦ are.each index other t k i row is_other other_team (sym (get_set_other meetings team t new different) ∙ stands) starts (omega (arith, below, earlier))
+    ]
+  ];
+}
+  where
+    within : team < length meetings
+    within = slice_get_within meetings team old row_there
+
+-- ---- the end of a barrier
+
+-- no barrier ends there
+pub plain_limit : (rs : List Record) (i limit : ℕ) → IsWaitLimit rs i limit → (IsBarrierEnd rs i → ⊥) → IsEndLimit rs i limit
+plain_limit rs i limit noted none m t small low covers = elim (covers_cases rs i t covers) [
+  | inl one ↦ noted.waits one.parent one.begin one.is_region m one.place t small low one.before one.creates
+  | inr other ↦ elim other [
+    | inl one ↦ noted.groups one.parent one.begin one.place one.child one.is_region one.from one.before one.creates m t small low one.of
+    | inr one ↦
+        let ends = ends_at rs i one.own one.begin one.kind one.is_region in
+        absurd (none (one.own, one.kind, ends.endpoint, ends.says, not_begin rs i one.own one.begin one.own one.kind one.kind ends.endpoint one.is_region ends.says, one.barrier))
+  ]
+]
+
+-- the barrier's number has a limit
+pub own_meeting : (rs : List Record) (i index own team begin number : ℕ) (kind : SyncKind) (tasks : List ℕ) (teams : List (Option ℕ)) (meetings : List (Vec ℕ)) (row : Vec ℕ) → AreMet rs (length rs) tasks teams meetings → slice_get tasks index ≡ Some own → slice_get teams index ≡ Some (Some team) → slice_get meetings team ≡ Some row → IsRegion rs i own kind begin → IsBarrierBegin rs own number begin → number < length row.items
+own_meeting rs i index own team begin number kind tasks teams meetings row are is_own in_team stands there begins =
+    let ends = ends_at rs i own begin kind there in
+    let below = ends.below in
+    let inside = ends.inside in
+    let known = are.each index own team number begin row is_own in_team stands begins (omega (arith, below, inside)) in
+    slice_get_within row.items number known.limit known.there
+
+pub met_limit : (rs : List Record) (family : FamilyView) (i index own team begin number limit : ℕ) (kind : SyncKind) (teams : List (Option ℕ)) (meetings : List (Vec ℕ)) (row : Vec ℕ) → IsFamilyOf rs family → AreTeams rs family.tasks teams → AreMet rs (length rs) family.tasks teams meetings → slice_get family.tasks index ≡ Some own → slice_get teams index ≡ Some (Some team) → slice_get meetings team ≡ Some row → IsRegion rs i own kind begin → is_barrier kind ≡ true → IsBarrierBegin rs own number begin → slice_get row.items number ≡ Some limit → IsEndLimit rs i limit
+met_limit rs family i index own team begin number limit kind teams meetings row are known met is_own in_team stands there barrier begins is_limit m t small low covers = elim (covers_cases rs i t covers) [
+  | inl one ↦ absurd (barrier_is_other kind Taskwait barrier refl (one_region rs i own one.parent begin one.begin kind Taskwait there one.is_region).kind_is)
+  | inr other ↦ elim other [
+    | inl one ↦ absurd (barrier_is_other kind Taskgroup barrier refl (one_region rs i own one.parent begin one.begin kind Taskgroup there one.is_region).kind_is)
+    | inr one ↦
+        let same = one_region rs i one.own own one.begin begin one.kind kind one.is_region there in
+        let P : ℕ → Type 0 = λ x. IsBarrierBegin rs x one.number one.begin in
+        let Q : ℕ → Type 0 = λ b. IsBarrierBegin rs own one.number b in
+        let R : ℕ → Type 0 = λ x. IsTeammate rs x one.member in
+        let is_number = one_number rs own one.number number begin (subst Q same.begin_is (subst P same.task_is one.begins)) begins in
+        let says = begin_says rs one.member one.number one.start one.starts in
+        let says_region = begun_region rs one.start one.member says in
+        let called = call_index family.tasks (at subject rs one.start) _ one.member (subject_calls rs family one.start are) (begun_subject rs one.start one.member says) in
+        let mates = (known.mates index called.0 own one.member team is_own called.2 in_team).1 (subst R same.task_is one.mate) in
+        let meeting = met.each called.0 one.member team one.number one.start row called.2 mates stands one.starts (at_within region rs one.start (one.member, says_region.0, says_region.1) says_region.2) in
+        let is_same : meeting.limit ≡ limit = same_Some meeting.limit limit (sym meeting.there ∙ ap (slice_get row.items) is_number ∙ is_limit) in
+        meeting.families one.place one.child one.before one.creates m t small (omega (arith, is_same, low)) one.of
+  ]
+]
+
+-- a task in no team has no teammate
+pub teamless_limit : (rs : List Record) (i index own limit : ℕ) (kind : SyncKind) (endpoint : Endpoint) (tasks : List ℕ) (teams : List (Option ℕ)) → AreTeams rs tasks teams → slice_get tasks index ≡ Some own → slice_get teams index ≡ Some None → at region rs i ≡ Some (own, kind, endpoint) → is_barrier kind ≡ true → IsEndLimit rs i limit
+teamless_limit rs i index own limit kind endpoint tasks teams known is_own alone says barrier m t small low covers = elim (covers_cases rs i t covers) [
+  | inl one ↦ absurd (let ends = ends_at rs i one.parent one.begin Taskwait one.is_region in barrier_is_other kind Taskwait barrier refl (says_same rs i own one.parent kind Taskwait endpoint ends.endpoint says ends.says).1)
+  | inr other ↦ elim other [
+    | inl one ↦ absurd (let ends = ends_at rs i one.parent one.begin Taskgroup one.is_region in barrier_is_other kind Taskgroup barrier refl (says_same rs i own one.parent kind Taskgroup endpoint ends.endpoint says ends.says).1)
+    | inr one ↦
+        let ends = ends_at rs i one.own one.begin one.kind one.is_region in
+        let same = (says_same rs i own one.own kind one.kind endpoint ends.endpoint says ends.says).0 in
+        let R : ℕ → Type 0 = λ x. IsTeammate rs x one.member in
+        absurd (known.none index own one.member is_own alone (subst R (sym same) one.mate))
+  ]
+]
+
+-- ---- one record more
+
+-- where no barrier ends
+pub added_other : (rs : List Record) (n : ℕ) (nodes : List Node) → AreMeetingsAdded rs n nodes → (IsBarrierEnd rs n → ⊥) → AreMeetingsAdded rs (n + 1) nodes
+added_other rs n nodes are none = record {
+  count = are.count;
+  known = λ i node below there. elim (cases_eq i n) [
+    | inl same ↦
+        let P : ℕ → Type 0 = λ k. IsEndLimit rs k node.limit in
+        let Q : ℕ → Type 0 = λ k. IsWaitLimit rs k node.limit in
+        subst P (sym same) (plain_limit rs n node.limit (subst Q same (are.noted i node (omega (arith, same)) there)) none)
+    | inr apart ↦ are.known i node (omega (arith, below, apart)) there
+  ];
+  noted = λ i node past there. are.noted i node (omega (arith, past)) there;
+}
+
+-- where one does
+pub added_more : (rs : List Record) (n : ℕ) (nodes : List Node) (new : Node) → AreMeetingsAdded rs n nodes → n < length rs → IsEndLimit rs n new.limit → AreMeetingsAdded rs (n + 1) (set nodes n new)
+added_more rs n nodes new are below limit = record {
+  count = length-set nodes n new ∙ are.count;
+  known = λ i node low there. elim (cases_eq i n) [
+    | inl same ↦
+        let P : ℕ → Type 0 = λ k. IsEndLimit rs k node.limit in
+        let Q : Node → Type 0 = λ x. IsEndLimit rs n x.limit in
+        let is : new ≡ node = same_Some new node (sym (get_set_same nodes n new within) ∙ ap (slice_get (set nodes n new)) (sym same) ∙ there) in
+        subst P (sym same) (subst Q is limit)
+    | inr apart ↦ are.known i node (omega (arith, low, apart)) (sym (get_set_other nodes n i new apart) ∙ there)
+  ];
+  noted = λ i node past there. are.noted i node (omega (arith, past)) (sym (get_set_other nodes n i new (λ same. absurd (omega (arith, same, past)))) ∙ there);
+}
+  where
+    within : n < length nodes
+    within = rw are.count below
+
+-- at all records
+pub added_all : (rs : List Record) (n : ℕ) (nodes : List Node) → AreMeetingsAdded rs n nodes → length rs ≤ n → AreEndLimits rs nodes
+added_all rs n nodes are whole = record {
+  count = are.count;
+  known = λ i node there.
+      let within = slice_get_within nodes i node there in
+      let count = are.count in
+      are.known i node (omega (arith, whole, within, count)) there;
+}

@@ -1,0 +1,57 @@
+-- From which ledger length on what the members of a team created before one barrier is finished.
+use Rattle.std.specs.Prelude.{ℕ, ◌≡◌, ◌<◌, ◌≤◌, true, List, length, Option, Some, slice_get}
+use Rattle.std.specs.Global.{Vec}
+use Rattle.ompt_events.specs.declared.records.Record.{Record}
+use Rattle.ompt_events.specs.declared.records.Body.{Body}
+use Rattle.ompt_events.specs.declared.names.Endpoint.{Endpoint}
+use Rattle.ompt_events.specs.declared.names.Endpoint.TheVariants.{Begin}
+use Rattle.ompt_events.specs.declared.names.SyncKind.{SyncKind}
+use Rattle.ompt_events.specs.Records.{region}
+use Rattle.ompt_events.specs.Places.{at}
+use Rattle.ompt_events.specs.Regions.{is_barrier, IsBarrierBegin}
+use Rattle.wait_coverage.specs.Limits.{IsFamiliesLimit, IsWaitLimit, IsEndLimit}
+use Rattle.wait_coverage.specs.declared.limits.Node.{Node}
+
+-- a barrier ends that waits for tasks
+abbrev pub IsBarrierEndOf : Option (ℕ × SyncKind × Endpoint) → Type 0
+IsBarrierEndOf says = (task : ℕ) × (kind : SyncKind) × (endpoint : Endpoint)
+    × (says ≡ Some (task, kind, endpoint)) × (endpoint ≡ Begin → ⊥) × (is_barrier kind ≡ true)
+
+abbrev pub EndsBarrier : Body → Type 0
+EndsBarrier body = IsBarrierEndOf (region body)
+
+abbrev pub IsBarrierEnd : List Record → ℕ → Type 0
+IsBarrierEnd rs i = IsBarrierEndOf (at region rs i)
+
+-- the teams of the first n tasks have lesser numbers
+abbrev pub HaveTeams : ℕ → List (Option ℕ) → ℕ → Type 0
+HaveTeams n teams count =
+    (index team : ℕ) → index < n → slice_get teams index ≡ Some (Some team) → team < count
+
+-- the row has a limit for what the task created before its barrier with this number began at i
+pub record IsMeeting (rs : List Record) (task number i : ℕ) (row : List ℕ) : Type 0 where
+  pub limit : ℕ
+  pub there : slice_get row number ≡ Some limit
+  pub families : IsFamiliesLimit rs i task limit
+
+-- at the number of each team stands a row by the numbers of its barriers, for the begins among the first n
+-- records
+pub record AreMet (rs : List Record) (n : ℕ) (tasks : List ℕ) (teams : List (Option ℕ))
+    (meetings : List (Vec ℕ)) : Type 0 where
+  pub within : (index team : ℕ) → slice_get teams index ≡ Some (Some team) → team < length meetings
+  pub each : (index task team number i : ℕ) (row : Vec ℕ) → slice_get tasks index ≡ Some task
+      → slice_get teams index ≡ Some (Some team) → slice_get meetings team ≡ Some row
+      → IsBarrierBegin rs task number i → i < n → IsMeeting rs task number i row.items
+
+-- each has at least what it had, and the one with this number at least the limit
+pub record IsRaised (number limit : ℕ) (before after : List ℕ) : Type 0 where
+  pub kept : (k old : ℕ) → slice_get before k ≡ Some old
+      → (new : ℕ) × (slice_get after k ≡ Some new) × (old ≤ new)
+  pub raised : (new : ℕ) × (slice_get after number ≡ Some new) × (limit ≤ new)
+
+-- at each end among the first n records stands the limit of what it covers, at each other end that of what
+-- it covers as a taskwait or a taskgroup
+pub record AreMeetingsAdded (rs : List Record) (n : ℕ) (nodes : List Node) : Type 0 where
+  pub count : length nodes ≡ length rs
+  pub known : (i : ℕ) (node : Node) → i < n → slice_get nodes i ≡ Some node → IsEndLimit rs i node.limit
+  pub noted : (i : ℕ) (node : Node) → n ≤ i → slice_get nodes i ≡ Some node → IsWaitLimit rs i node.limit

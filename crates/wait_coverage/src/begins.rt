@@ -1,0 +1,99 @@
+//! Where each task begins barriers, and how many it began before.
+ghost use Rattle.std.specs.Prelude.{◌≡◌, ◌<◌, ◌≤◌, ◌+◌, ◌^◌, ◌++◌, ◌∷◌, [], IfOk, OnOk, length};
+ghost use Rattle.task_tree.specs.Family.{IsFamilyOf};
+ghost use Rattle.ompt_events.specs.Records.{region};
+ghost use Rattle.ompt_events.specs.Regions.{barrier_begun};
+ghost use Rattle.wait_coverage.specs.Teams.{AreBegins, AreBeginNumbers, IsNumberOf};
+ghost use Rattle.wait_coverage.specs.Begins.{AreEmpty};
+
+use ompt_events::{Body, Endpoint, Record};
+use std::alloc::{AllocError, Global};
+use task_tree::Family;
+
+/// By index of the task the places at which it begins barriers, and by place of a record that begins one how
+/// many its task began before.
+pub(crate) struct Begins {
+    pub(crate) begins: Vec<Vec<u32>>,
+    pub(crate) numbers: Vec<u32>,
+}
+
+/// Where each task begins barriers.
+pub(crate) fn find_begins(
+    alloc: Global,
+    records: &[Record],
+    family: &Family,
+) -> Result<Begins, AllocError>
+    requires few { length records.now ≤ 2 ^ 22 }
+    requires family { IsFamilyOf records.now family.now }
+    ensures begins { IfOk result (λ found. AreBegins records.now
+        (length records.now) family.now.tasks found.begins.items) }
+    ensures numbers { IfOk result (λ found. AreBeginNumbers records.now
+        (length records.now) found.numbers.items) }
+{
+    let mut begins = no_places(alloc, family.tasks().as_slice().len())?;
+    let mut numbers = Vec::with_capacity(alloc, records.len())?;
+    for at in 0..records.len() {
+        let number = note_begin(records, family, &mut begins, at)?;
+        numbers.push(number)?;
+    }
+    Ok(Begins { begins, numbers })
+}
+
+/// No place for any task.
+fn no_places(alloc: Global, tasks: usize) -> Result<Vec<Vec<u32>>, AllocError>
+    ensures { IfOk result (λ begins. AreEmpty tasks begins.items) }
+{
+    let mut begins = Vec::with_capacity(alloc, tasks)?;
+    for _index in 0..tasks {
+        begins.push(Vec::new(alloc))?;
+    }
+    Ok(begins)
+}
+
+/// Notes the barrier that begins at a place, and answers how many its task began before; 0 where none
+/// begins.
+fn note_begin(
+    records: &[Record],
+    family: &Family,
+    begins: &mut Vec<Vec<u32>>,
+    at: usize,
+) -> Result<u32, AllocError>
+    requires within { at < length records.now }
+    requires few { length records.now ≤ 2 ^ 22 }
+    requires family { IsFamilyOf records.now family.now }
+    requires begins { AreBegins records.now at family.now.tasks begins.old.items }
+    ensures begins { OnOk result (AreBegins records.now (at + 1) family.now.tasks begins.new.items) }
+    ensures number { IfOk result (IsNumberOf records.now at) }
+{
+    if barrier_begun(&records[at].body).is_none() {
+        return Ok(0);
+    }
+    match family.subject(at) {
+        Some(index) => add_place(&mut begins[index], at),
+        None => Ok(0),
+    }
+}
+
+/// Adds a place, and answers how many stood there before.
+fn add_place(places: &mut Vec<u32>, at: usize) -> Result<u32, AllocError>
+    requires small { at < 2 ^ 32 }
+    requires few { length places.old.items < 2 ^ 32 }
+    ensures more { OnOk result (places.new.items ≡ places.old.items ++ at ∷ []) }
+    ensures number { IfOk result (λ number. number ≡ length places.old.items) }
+{
+    let number = places.len() as u32;
+    places.push(at as u32)?;
+    Ok(number)
+}
+
+/// The task that begins a barrier of the kinds that wait for the tasks of the team, whether or not it ends
+/// there too.
+fn barrier_begun(body: &Body) -> Option<u64>
+    ensures { result ≡ barrier_begun (region body.now) }
+{
+    let (task, kind, endpoint) = body.region()?;
+    if endpoint == Endpoint::End {
+        return None;
+    }
+    if kind.is_barrier() { Some(task) } else { None }
+}

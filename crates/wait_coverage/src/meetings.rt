@@ -1,0 +1,214 @@
+//! From which ledger length on what the end of a barrier covers is finished: what the begins of all members
+//! of a team say together.
+ghost use Rattle.std.specs.Prelude.{ℕ, ◌≡◌, ◌<◌, ◌≤◌, ◌+◌, ◌↔◌, IfOk, IsTrue, Some, length, slice_get};
+ghost use Rattle.ompt_events.specs.Records.{region};
+ghost use Rattle.ompt_events.specs.Regions.{IsRegion, barrier_begun};
+ghost use Rattle.ompt_events.specs.Places.{at as says_at};
+ghost use Rattle.task_tree.specs.Family.{IsFamilyOf};
+ghost use Rattle.task_states.specs.States.{AreStatesOf};
+ghost use Rattle.wait_coverage.specs.Teams.{IsTeamsOf};
+ghost use Rattle.wait_coverage.specs.Limits.{IsEndLimit, AreNodes, AreEndLimits};
+ghost use Rattle.wait_coverage.specs.Meetings.{EndsBarrier, IsBarrierEnd, HaveTeams, AreMet, IsRaised, AreMeetingsAdded};
+
+use crate::limits::Node;
+use crate::teams::Teams;
+use crate::waits::begin_of;
+use ompt_events::{Body, Endpoint, Record};
+use std::alloc::{AllocError, Global};
+use task_states::States;
+use task_tree::Family;
+
+/// Makes the nodes of the ends of barriers right; those of all other records stay as they are. It takes a
+/// few steps for each record.
+pub(crate) fn add_meetings(
+    alloc: Global,
+    records: &[Record],
+    family: &Family,
+    states: &States,
+    teams: &Teams,
+    nodes: &mut Vec<Node>,
+) -> Result<(), AllocError>
+    requires family { IsFamilyOf records.now family.now }
+    requires states { AreStatesOf records.now states.now }
+    requires teams { IsTeamsOf records.now family.now.tasks teams.now }
+    requires nodes { AreNodes records.now nodes.old.items }
+    ensures { IfOk result (λ done. AreEndLimits records.now nodes.new.items) }
+{
+    let meetings = find_meetings(alloc, records, family, teams, nodes.as_slice())?;
+    for at in 0..records.len() {
+        add_meeting(
+            records,
+            family,
+            states,
+            teams,
+            meetings.as_slice(),
+            nodes,
+            at,
+        );
+    }
+    Ok(())
+}
+
+/// By number of the team and number of the barrier from which ledger length on the children are finished
+/// that each member created before its barrier began, with their descendants.
+fn find_meetings(
+    alloc: Global,
+    records: &[Record],
+    family: &Family,
+    teams: &Teams,
+    nodes: &[Node],
+) -> Result<Vec<Vec<u64>>, AllocError>
+    requires family { IsFamilyOf records.now family.now }
+    requires teams { IsTeamsOf records.now family.now.tasks teams.now }
+    requires nodes { AreNodes records.now nodes.now }
+    ensures { IfOk result (λ meetings.
+        AreMet records.now (length records.now) family.now.tasks teams.now.teams meetings.items) }
+{
+    let mut meetings = no_meetings(alloc, family, teams)?;
+    for at in 0..records.len() {
+        meet(records, family, teams, nodes, &mut meetings, at)?;
+    }
+    Ok(meetings)
+}
+
+/// No barrier of any team.
+fn no_meetings(alloc: Global, family: &Family, teams: &Teams) -> Result<Vec<Vec<u64>>, AllocError>
+    requires all { length teams.now.teams ≡ length family.now.tasks }
+    ensures { IfOk result (λ meetings.
+        HaveTeams (length family.now.tasks) teams.now.teams (length meetings.items)) }
+{
+    let mut meetings: Vec<Vec<u64>> = Vec::new(alloc);
+    for index in 0..family.tasks().as_slice().len() {
+        if let Some(team) = teams.team(index) {
+            reach(alloc, &mut meetings, team)?;
+        }
+    }
+    Ok(meetings)
+}
+
+/// Room for the team with this number.
+fn reach(alloc: Global, meetings: &mut Vec<Vec<u64>>, team: usize) -> Result<(), AllocError>
+    ensures { IfOk result (λ done. (team < length meetings.new.items)
+        × (length meetings.old.items ≤ length meetings.new.items)) }
+{
+    'room: while meetings.len() <= team {
+        meetings.push(Vec::new(alloc))?;
+    }
+    Ok(())
+}
+
+/// The meeting with the member that begins a barrier at the place, if one does.
+fn meet(
+    records: &[Record],
+    family: &Family,
+    teams: &Teams,
+    nodes: &[Node],
+    meetings: &mut Vec<Vec<u64>>,
+    at: usize,
+) -> Result<(), AllocError>
+    requires within { at < length records.now }
+    requires family { IsFamilyOf records.now family.now }
+    requires teams { IsTeamsOf records.now family.now.tasks teams.now }
+    requires nodes { AreNodes records.now nodes.now }
+    requires met { AreMet records.now at family.now.tasks teams.now.teams meetings.old.items }
+    ensures { IfOk result (λ done.
+        AreMet records.now (at + 1) family.now.tasks teams.now.teams meetings.new.items) }
+{
+    if !begins_barrier(&records[at].body) {
+        return Ok(());
+    }
+    let Some(index) = family.subject(at) else {
+        return Ok(());
+    };
+    let Some(team) = teams.team(index) else {
+        return Ok(());
+    };
+    raise(
+        &mut meetings[team],
+        teams.number(at) as usize,
+        nodes[at].limit,
+    )
+}
+
+/// The limit of the barrier with this number is at least the given one.
+fn raise(limits: &mut Vec<u64>, number: usize, limit: u64) -> Result<(), AllocError>
+    ensures { IfOk result (λ done. IsRaised number limit limits.old.items limits.new.items) }
+{
+    'room: while limits.len() <= number {
+        limits.push(0)?;
+    }
+    limits[number] = limits[number].max(limit);
+    Ok(())
+}
+
+/// Whether the record begins a barrier that waits for tasks.
+pub(crate) fn begins_barrier(body: &Body) -> bool
+    ensures { IsTrue result ↔ ((task : ℕ) × (barrier_begun (region body.now) ≡ Some task)) }
+{
+    match body.region() {
+        Some((_, kind, endpoint)) => endpoint != Endpoint::End && kind.is_barrier(),
+        None => false,
+    }
+}
+
+/// Whether the record ends a barrier that waits for tasks.
+fn ends_barrier(body: &Body) -> bool
+    ensures { IsTrue result ↔ EndsBarrier body.now }
+{
+    match body.region() {
+        Some((_, kind, endpoint)) => endpoint != Endpoint::Begin && kind.is_barrier(),
+        None => false,
+    }
+}
+
+/// Writes the limit of the record at the place if it ends a barrier.
+fn add_meeting(
+    records: &[Record],
+    family: &Family,
+    states: &States,
+    teams: &Teams,
+    meetings: &[Vec<u64>],
+    nodes: &mut Vec<Node>,
+    at: usize,
+)
+    requires within { at < length records.now }
+    requires family { IsFamilyOf records.now family.now }
+    requires states { AreStatesOf records.now states.now }
+    requires teams { IsTeamsOf records.now family.now.tasks teams.now }
+    requires met { AreMet records.now (length records.now) family.now.tasks teams.now.teams meetings.now }
+    requires nodes { AreMeetingsAdded records.now at nodes.old.items }
+    ensures { AreMeetingsAdded records.now (at + 1) nodes.new.items }
+{
+    if ends_barrier(&records[at].body) {
+        nodes[at].limit = end_limit(records, family, states, teams, meetings, at);
+    }
+}
+
+/// The limit of the barrier that ends at the place; 0 where its task is in no team.
+fn end_limit(
+    records: &[Record],
+    family: &Family,
+    states: &States,
+    teams: &Teams,
+    meetings: &[Vec<u64>],
+    at: usize,
+) -> u64
+    requires within { at < length records.now }
+    requires ends { IsBarrierEnd records.now at }
+    requires family { IsFamilyOf records.now family.now }
+    requires states { AreStatesOf records.now states.now }
+    requires teams { IsTeamsOf records.now family.now.tasks teams.now }
+    requires met { AreMet records.now (length records.now) family.now.tasks teams.now.teams meetings.now }
+    ensures { IsEndLimit records.now at result }
+{
+    let Some(index) = family.subject(at) else {
+        return 0;
+    };
+    let Some(team) = teams.team(index) else {
+        return 0;
+    };
+    let Some(begin) = begin_of(records, states, at) else {
+        return 0;
+    };
+    meetings[team][teams.number(begin) as usize]
+}
