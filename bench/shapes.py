@@ -102,11 +102,129 @@ def open_waits(size):
     return thread.lines
 
 
+def siblings(size, items):
+    """Siblings one after another, the list of each as told."""
+    thread = Thread()
+    for number in range(size // 4):
+        child = number + 2
+        thread.add(cb="task_create", task=1, child=child, flags=["explicit"], deps=True)
+        thread.add(cb="dependences", task=child, list=[{"type": kind, "var": var} for kind, var in items(number)])
+        thread.switch(1, child)
+        thread.complete(child, 1, [number])
+    return thread.lines
+
+
+def writers(size):
+    """Siblings that all write one location."""
+    return siblings(size, lambda number: [("out", 7)])
+
+
+def alternating(size):
+    """Siblings that read and write one location in turn."""
+    return siblings(size, lambda number: [("inout" if number % 2 else "in", 7)])
+
+
+def long_lists(size):
+    """Siblings with 64 items each, on locations that the others have too."""
+    return siblings(size, lambda number: [("out" if (number + it) % 3 else "in", (number + it) % 96) for it in range(64)])
+
+
+class Team:
+    """The records of a team in the order of time, in which each thread knows the whole ledger."""
+
+    def __init__(self, members):
+        self.members, self.lines, self.seqs, self.seen = members, [HEADER], [0] * members, 0
+        self.counts = [0] * members
+
+    def add(self, thread, **record):
+        record |= {"thread": thread, "seq": self.seqs[thread], "seen": self.seen}
+        self.seqs[thread] += 1
+        self.lines.append(json.dumps(record, sort_keys=True, separators=(",", ":")))
+
+    def region(self, thread, kind, endpoint):
+        self.add(thread, cb="sync_region", kind=kind, endpoint=endpoint, parallel=1, task=2 + thread)
+
+    def create(self, thread, child, deps):
+        """The place of the new child below its root."""
+        self.add(thread, cb="task_create", task=2 + thread, child=child, flags=["explicit"], deps=deps)
+        self.counts[thread] += 1
+        return {"root": 2 + thread, "path": [self.counts[thread] - 1], "kept": 0}
+
+    def depending(self, thread, child, var):
+        """A child that depends on one before it, and runs."""
+        place = self.create(thread, child, True)
+        self.add(thread, cb="dependences", task=child, list=[{"type": "inout", "var": var}])
+        self.add(thread, cb="task_schedule", status="switch", prior=2 + thread, next=child)
+        self.add(thread, cb="task_schedule", status="complete", prior=child, next=2 + thread, **place)
+        self.seen += 1
+
+    def discarded(self, thread, child):
+        """A child of a taskgroup that is cancelled before it runs."""
+        self.region(thread, "taskgroup", "begin")
+        place = self.create(thread, child, False)
+        self.add(thread, cb="cancel", task=2 + thread, flags=["taskgroup", "activated"])
+        self.add(thread, cb="cancel", task=child, flags=["taskgroup", "discarded_task"], **place)
+        self.seen += 1
+        self.region(thread, "taskgroup", "end")
+
+
+def team_of_256(size):
+    """A team of 256 threads, with as many barriers as fit."""
+    team = Team(256)
+    team.add(0, cb="implicit_task", endpoint="begin", task=1, parallel=0, actual=1, index=0, flags=["initial"])
+    team.add(0, cb="parallel_begin", task=1, parallel=1, requested=team.members)
+    for thread in range(team.members):
+        team.add(thread, cb="implicit_task", endpoint="begin", task=2 + thread, parallel=1, actual=team.members,
+                 index=thread, flags=["implicit"])
+    while len(team.lines) + 2 * team.members <= size:
+        for endpoint in ("begin", "end"):
+            for thread in range(team.members):
+                team.region(thread, "barrier_explicit", endpoint)
+    return team.lines
+
+
+def all_callbacks(size):
+    """A team of 8 whose members create tasks with dependences, cancel taskgroups, wait, and meet at barriers."""
+    team, free = Team(8), 100
+    for thread in range(team.members):
+        team.add(thread, cb="thread_begin", kind="worker")
+    team.add(0, cb="implicit_task", endpoint="begin", task=1, parallel=0, actual=1, index=0, flags=["initial"])
+    team.add(0, cb="parallel_begin", task=1, parallel=1, requested=team.members)
+    for thread in range(team.members):
+        team.add(thread, cb="implicit_task", endpoint="begin", task=2 + thread, parallel=1, actual=team.members,
+                 index=thread, flags=["implicit"])
+    while len(team.lines) < size - 300:
+        for thread in range(team.members):
+            for number in range(3):
+                team.depending(thread, free, number % 2)
+                free += 1
+            team.discarded(thread, free)
+            free += 1
+            team.region(thread, "taskwait", "begin")
+            team.region(thread, "taskwait", "end")
+        for endpoint in ("begin", "end"):
+            for thread in range(team.members):
+                team.region(thread, "barrier_explicit", endpoint)
+    for thread in range(team.members):
+        team.add(thread, cb="implicit_task", endpoint="end", task=2 + thread, parallel=1, actual=team.members,
+                 index=thread, flags=["implicit"])
+    team.add(0, cb="parallel_end", task=1, parallel=1)
+    team.add(0, cb="implicit_task", endpoint="end", task=1, parallel=0, actual=1, index=0, flags=["initial"])
+    for thread in range(team.members):
+        team.add(thread, cb="thread_end")
+    return team.lines
+
+
 SHAPES = [
+    ("all ten callbacks, in a team of 8", all_callbacks, "yes: "),
     ("waits of one task, all children before each", waits, "yes: "),
     ("taskgroups one in another", groups, "yes: "),
     ("a chain of 1,000 with leaves", chain, "yes: "),
     ("open waits only", open_waits, "no: "),
+    ("a team of 256, as many barriers as fit", team_of_256, "yes: "),
+    ("siblings that all write one location", writers, "yes: "),
+    ("siblings that read and write one location in turn", alternating, "yes: "),
+    ("siblings with 64 dependences each", long_lists, "yes: "),
 ]
 
 
