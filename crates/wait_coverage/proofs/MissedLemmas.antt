@@ -5,11 +5,10 @@ use Rattle.std.proofs.lemmas.Option.{none-some, same_Some, slice_get_within, sli
 use Rattle.std.specs.Prelude.{slice_get, MatchOption, option_map}
 use Rattle.ompt_events.specs.declared.records.Record.{Record}
 use Rattle.ompt_events.specs.declared.names.Endpoint.{Endpoint}
-use Rattle.ompt_events.specs.declared.names.Endpoint.TheVariants.{Begin, End, BeginEnd}
 use Rattle.ompt_events.specs.declared.names.SyncKind.{SyncKind}
 use Rattle.ompt_events.specs.Records.{region, made}
 use Rattle.ompt_events.specs.Places.{at}
-use Rattle.ompt_events.specs.Regions.{is_barrier, barrier_begun, barrier_begins, IsBarrierBegin, IsRegion, ended, at_once, EndsRegion}
+use Rattle.ompt_events.specs.Regions.{is_barrier, barrier_begun, barrier_begins, IsBarrierBegin, IsRegion, ended, at_once}
 use Rattle.ompt_events.specs.Teams.{IsTeammate}
 use Rattle.ompt_events.proofs.ListLemmas.{pushed_cases}
 use Rattle.ompt_events.proofs.RecordLemmas.{at_through}
@@ -17,8 +16,8 @@ use Rattle.ompt_events.proofs.RegionLemmas.{own_begin}
 use Rattle.task_tree.specs.Makers.{AreNoted}
 use Rattle.task_tree.specs.Subjects.{subject}
 use Rattle.task_tree.proofs.NamedLemmas.{region_subject}
-use Rattle.task_states.specs.States.{IsBegin}
 use Rattle.wait_coverage.specs.Teams.{AreTeams, AreBeginNumbers, begins_before}
+use Rattle.wait_coverage.specs.Waits.{IsBeginOf}
 use Rattle.wait_coverage.specs.Missed.{EndsBarrier, EndsNoBarrier, IsMissed, AreFewestOf}
 use Rattle.wait_coverage.proofs.BeginLemmas.{begins_cases, begins_few}
 use Rattle.wait_coverage.proofs.CoverLemmas.{ends_at, one_region}
@@ -35,25 +34,9 @@ other_kind rs i own kind endpoint says no_barrier = λ task begin another ends b
     let same : kind ≡ another = ap (λ (p : ℕ × SyncKind × Endpoint). p.1) (same_Some (own, kind, endpoint) (task, another, is.endpoint) (sym says ∙ is.says)) in
     false≢true (sym no_barrier ∙ ap is_barrier same ∙ barrier)
 
-pub only_begin : (rs : List Record) (i own : ℕ) (kind : SyncKind) → at region rs i ≡ Some (own, kind, Begin) → EndsNoBarrier rs i
-only_begin rs i own kind says = λ task begin another ends barrier. never task begin another ends
-  where
-    endpoint_of : (task : ℕ) (another : SyncKind) (endpoint : Endpoint) → at region rs i ≡ Some (task, another, endpoint) → Begin ≡ endpoint
-    endpoint_of task another endpoint says' = ap (λ (p : ℕ × SyncKind × Endpoint). p.2) (same_Some (own, kind, Begin) (task, another, endpoint) (sym says ∙ says'))
-
-    never : (task begin : ℕ) (another : SyncKind) → IsRegion rs i task another begin → ⊥
-    never task begin another (ended is) = let same = endpoint_of task another End is.ends in cc
-    never task begin another (at_once is) = let same = endpoint_of task another BeginEnd is in cc
-
-pub found_barrier : (rs : List Record) (i task : ℕ) (kind : SyncKind) (found : Option ℕ) → is_barrier kind ≡ true → at region rs i ≡ Some (task, kind, End) → IsBegin rs i task kind found → MatchOption found (EndsNoBarrier rs i) (EndsBarrier rs i)
-found_barrier rs i task kind None barrier says begins = absurd (let is = begins says in none-some is.0 is.1)
-found_barrier rs i task kind (Some begin) barrier says begins =
-    let is = begins says in
-    let P : ℕ → Type 0 = EndsRegion rs i task kind in
-    record { task = task; kind = kind; ends = ended (subst P (sym (same_Some begin is.0 is.1)) is.2); barrier = barrier }
-
-pub once_barrier : (rs : List Record) (i task : ℕ) (kind : SyncKind) → is_barrier kind ≡ true → at region rs i ≡ Some (task, kind, BeginEnd) → EndsBarrier rs i i
-once_barrier rs i task kind barrier says = record { task = task; kind = kind; ends = at_once says; barrier = barrier }
+pub found_barrier : (rs : List Record) (i own : ℕ) (kind : SyncKind) (endpoint : Endpoint) (found : Option ℕ) → at region rs i ≡ Some (own, kind, endpoint) → is_barrier kind ≡ true → MatchOption found ((task begin : ℕ) (another : SyncKind) → IsRegion rs i task another begin → ⊥) (IsBeginOf rs i) → MatchOption found (EndsNoBarrier rs i) (EndsBarrier rs i)
+found_barrier rs i own kind endpoint None says barrier none = λ task begin another ends is. none task begin another ends
+found_barrier rs i own kind endpoint (Some begin) says barrier is = record { task = own; kind = kind; ends = is own kind endpoint says; barrier = barrier }
 
 -- the begin of a barrier begins it
 begun_there : (rs : List Record) (i task begin : ℕ) (kind : SyncKind) → IsRegion rs i task kind begin → is_barrier kind ≡ true → barrier_begun (at region rs begin) ≡ Some task

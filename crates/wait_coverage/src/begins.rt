@@ -1,5 +1,5 @@
 //! Where each task begins barriers, and how many it began before.
-ghost use Rattle.std.specs.Prelude.{◌≡◌, ◌<◌, ◌≤◌, ◌+◌, ◌^◌, ◌++◌, ◌∷◌, [], IfOk, OnOk, length};
+ghost use Rattle.std.specs.Prelude.{ℕ, ◌≡◌, ◌↔◌, ◌<◌, ◌≤◌, ◌+◌, ◌^◌, ◌++◌, ◌∷◌, [], Some, IsTrue, IfOk, OnOk, length};
 ghost use Rattle.task_tree.specs.Family.{IsFamilyOf};
 ghost use Rattle.ompt_events.specs.Records.{region};
 ghost use Rattle.ompt_events.specs.Regions.{barrier_begun};
@@ -84,6 +84,13 @@ fn add_place(places: &mut Vec<u32>, at: usize) -> Result<u32, AllocError>
     let number = places.len() as u32;
     places.push(at as u32)?;
     Ok(number)
+}
+
+/// Whether the record begins a barrier that waits for tasks.
+pub(crate) fn begins_barrier(body: &Body) -> bool
+    ensures { IsTrue result ↔ ((task : ℕ) × (barrier_begun (region body.now) ≡ Some task)) }
+{
+    barrier_begun(body).is_some()
 }
 
 /// The task that begins a barrier of the kinds that wait for the tasks of the team, whether or not it ends

@@ -52,11 +52,3 @@ impl From<AllocError> for TeamFault {
         TeamFault::Memory
     }
 }
-
-impl<T: Drop> From<AllocFailed<T>> for TeamFault {
-    ghost from_gives = { λ _ fault. fault ≡ OutOfMemory };
-
-    fn from(_error: AllocFailed<T>) -> TeamFault {
-        TeamFault::Memory
-    }
-}

@@ -9,8 +9,8 @@ ghost use Rattle.task_tree.specs.Subjects.{subject};
 ghost use Rattle.wait_coverage.specs.Limits.{IsChildLimit, IsFamiliesLimit, IsLimitOfBegin, AreFalling, Gathers, AreLatest, AreLatestFamilies, AreNoted, AreNodes};
 ghost use Rattle.ompt_events.specs.Regions.{barrier_begun};
 
+use crate::begins::begins_barrier;
 use crate::done::Done;
-use crate::meetings::begins_barrier;
 use ompt_events::{Body, Endpoint, Record, SyncKind};
 use std::alloc::{AllocError, Global};
 use task_states::States;
@@ -41,7 +41,7 @@ struct Progress {
 
 impl Node {
     /// A node that no end of a taskgroup has to look at.
-    pub(crate) fn alone(limit: u64) -> Node
+    fn alone(limit: u64) -> Node
         ensures limit { result.limit ≡ limit }
         ensures alone { result.previous ≡ None }
     {

@@ -2,7 +2,6 @@
 //! of a team say together.
 ghost use Rattle.std.specs.Prelude.{ℕ, ◌≡◌, ◌<◌, ◌≤◌, ◌+◌, ◌↔◌, IfOk, IsTrue, Some, length, slice_get};
 ghost use Rattle.ompt_events.specs.Records.{region};
-ghost use Rattle.ompt_events.specs.Regions.{IsRegion, barrier_begun};
 ghost use Rattle.ompt_events.specs.Places.{at as says_at};
 ghost use Rattle.task_tree.specs.Family.{IsFamilyOf};
 ghost use Rattle.task_states.specs.States.{AreStatesOf};
@@ -10,6 +9,7 @@ ghost use Rattle.wait_coverage.specs.Teams.{IsTeamsOf};
 ghost use Rattle.wait_coverage.specs.Limits.{IsEndLimit, AreNodes, AreEndLimits};
 ghost use Rattle.wait_coverage.specs.Meetings.{EndsBarrier, IsBarrierEnd, HaveTeams, AreMet, IsRaised, AreMeetingsAdded};
 
+use crate::begins::begins_barrier;
 use crate::limits::Node;
 use crate::teams::Teams;
 use crate::waits::begin_of;
@@ -139,16 +139,6 @@ fn raise(limits: &mut Vec<u64>, number: usize, limit: u64) -> Result<(), AllocEr
     }
     limits[number] = limits[number].max(limit);
     Ok(())
-}
-
-/// Whether the record begins a barrier that waits for tasks.
-pub(crate) fn begins_barrier(body: &Body) -> bool
-    ensures { IsTrue result ↔ ((task : ℕ) × (barrier_begun (region body.now) ≡ Some task)) }
-{
-    match body.region() {
-        Some((_, kind, endpoint)) => endpoint != Endpoint::End && kind.is_barrier(),
-        None => false,
-    }
 }
 
 /// Whether the record ends a barrier that waits for tasks.

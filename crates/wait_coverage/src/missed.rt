@@ -5,7 +5,8 @@ ghost use Rattle.task_states.specs.States.{AreStatesOf};
 ghost use Rattle.wait_coverage.specs.Teams.{AreTeams, AreBeginNumbers};
 ghost use Rattle.wait_coverage.specs.Missed.{EndsBarrier, EndsNoBarrier, IsMissed, AreFewestOf};
 
-use ompt_events::{Endpoint, Record};
+use crate::waits::begin_of;
+use ompt_events::Record;
 use task_states::States;
 use task_tree::{Family, Slot};
 
@@ -50,13 +51,9 @@ fn barrier_begin(records: &[Record], states: &States, at: usize) -> Option<usize
     requires states { AreStatesOf records.now states.now }
     ensures { MatchOption result (EndsNoBarrier records.now at) (EndsBarrier records.now at) }
 {
-    let (_, kind, endpoint) = records[at].body.region()?;
+    let (_, kind, _) = records[at].body.region()?;
     if !kind.is_barrier() {
         return None;
     }
-    match endpoint {
-        Endpoint::Begin => None,
-        Endpoint::End => states.begin(at),
-        Endpoint::BeginEnd => Some(at),
-    }
+    begin_of(records, states, at)
 }
