@@ -1,4 +1,4 @@
-//! Ids in the order of their values, each with its index, and a binary search in them.
+//! Ids in the order of their values, each with its index, and a search in them.
 ghost use Rattle.std.specs.Prelude.{ℕ, ◌≡◌, ◌≤◌, ◌^◌, Some, None, IfOk, IfSome, OnOk, IsTrue, MatchOption, length, slice_get};
 ghost use Rattle.task_tree.specs.Ranking.{AreEntries, IsRising, IsRanked, HasEntry, HasNoEntry};
 
@@ -58,6 +58,36 @@ fn is_rising(ranked: &[Entry]) -> bool
 
 /// The index of the id.
 pub(crate) fn search(ranked: &[Entry], id: u64) -> Option<usize>
+    requires { IsRising ranked.now (length ranked.now) }
+    ensures { MatchOption result (HasNoEntry ranked.now id) (HasEntry ranked.now id) }
+{
+    match guess(ranked, id) {
+        Some(index) => Some(index),
+        None => bisect(ranked, id),
+    }
+}
+
+/// The index of the id, where the ids below it have no gap: runtimes often count their tasks.
+fn guess(ranked: &[Entry], id: u64) -> Option<usize>
+    ensures { IfSome result (HasEntry ranked.now id) }
+{
+    let first = ranked.first()?.id;
+    if id < first {
+        return None;
+    }
+    if id - first >= ranked.len() as u64 {
+        return None;
+    }
+    let place = (id - first) as usize;
+    if ranked[place].id == id {
+        Some(ranked[place].index as usize)
+    } else {
+        None
+    }
+}
+
+/// The index of the id, by halves.
+fn bisect(ranked: &[Entry], id: u64) -> Option<usize>
     requires { IsRising ranked.now (length ranked.now) }
     ensures { MatchOption result (HasNoEntry ranked.now id) (HasEntry ranked.now id) }
 {

@@ -50,10 +50,10 @@ pub(crate) fn find_subjects(
 {
     let mut subjects = Vec::with_capacity(alloc, records.len())?;
     let mut objects = Vec::with_capacity(alloc, records.len())?;
-    let mut hints = Hints::new(alloc, tasks.as_slice().len())?;
+    let mut hints = Hints::new();
     for event in records {
         let first = slot_of(tasks, subject(&event.body), hints.subject(event));
-        let second = slot_of(tasks, object(&event.body), hints.object(event, first));
+        let second = slot_of(tasks, object(&event.body), hints.object());
         hints.note(event, first, second);
         subjects.push(first)?;
         objects.push(second)?;
