@@ -1,20 +1,22 @@
 -- What a pass over the records has read, one record on.
-use Rattle.std.proofs.Common.{◌≡◌, ◌∙◌, ℕ, ◌+◌, List, [], ◌∷◌, ◌++◌, length, Option, Some, None, Bool, true, false, cond, refl, sym, ap}
-use Rattle.std.proofs.lemmas.Option.{slice_get-map, none-some, same_Some}
-use Rattle.std.proofs.lemmas.List.{length-map, append-nil, append_assoc}
-use Rattle.std.proofs.lemmas.List.Elements.{filter-append}
+use Rattle.std.proofs.Common.{◌≡◌, ◌∙◌, ℕ, ◌+◌, List, [], ◌∷◌, ◌++◌, length, Option, Some, None, Bool, true, false, cond, take, refl, sym, ap, arith, inl, inr, ◌<◌}
+use Rattle.std.proofs.lemmas.Option.{slice_get-map, slice_get_within, get_or_from_slice_get, none-some, same_Some}
+use Rattle.std.proofs.lemmas.Bool.{cases_eq, ne_eqb, false≢true}
+use Rattle.std.proofs.lemmas.List.{length-map, append-nil, append_assoc, take_more}
+use Rattle.std.proofs.lemmas.List.Elements.{All-push, filter-append}
 use Rattle.std.proofs.lemmas.Grind.{flat_map-append}
-use Rattle.std.specs.Prelude.{◌==◌, ◌&&◌, map, option_map, filter, slice_get, option_and_then}
+use Rattle.std.specs.Prelude.{◌==◌, ◌&&◌, not, map, option_map, filter, slice_get, option_and_then}
 use Rattle.std.specs.List.{flat_map, range_with_len}
 use Rattle.std.specs.Option.{option_map_or}
 use Rattle.ompt_events.specs.declared.records.Record.{Record}
 use Rattle.ompt_events.specs.declared.records.Body.{Body}
 use Rattle.ompt_events.specs.declared.records.Body.TheVariants.{TaskSchedule, Cancel}
 use Rattle.ompt_events.specs.declared.names.Status.{Status}
+use Rattle.ompt_events.specs.declared.names.Status.TheVariants.{EarlyFulfill}
 use Rattle.ompt_events.specs.declared.state.State.{State}
 use Rattle.ompt_events.specs.Records.{schedule, discarded}
 use Rattle.ompt_events.specs.Places.{at, places}
-use Rattle.ompt_events.specs.States.{Move, Stopped, Started, Discarded, is_task, moves_by, moves_at, moves_of, first_state}
+use Rattle.ompt_events.specs.States.{Move, Stopped, Started, Discarded, is_task, is_on, is_early, home_of, moves_by, moves_at, moves_of, first_state}
 use Rattle.ompt_events.proofs.PlaceLemmas.{range_more}
 use Rattle.task_tree.specs.Subjects.{subject, Calls}
 use Rattle.task_tree.proofs.SubjectLemmas.{call_task, call_index}
@@ -24,7 +26,7 @@ use Rattle.task_states.specs.declared.moves.Move as steps
 use Rattle.task_states.specs.declared.moves.Move.TheVariants as step
 use Rattle.task_states.specs.declared.progress.Pass.{Pass}
 use Rattle.task_states.specs.declared.progress.Pass.TheVariants.{Early, Home, Rest}
-use Rattle.task_states.specs.Progress.{the_nature, the_move, is_read, read_before, moves_before, and_move, and_record, AreNatures, HasCome}
+use Rattle.task_states.specs.Progress.{the_nature, the_move, is_read, is_read_for, read_before, moves_read, moves_before, and_move, and_record, early_for, fulfils_early, IsReadWhole, AreLeft, AreNatures, HasCome}
 use Rattle.task_states.proofs.ProgressLemmas.{come_same}
 
 -- ---- the task that a record names
@@ -111,16 +113,93 @@ no_moves pass rs i r moves stands no_schedule no_discard task = ap (λ l. moves 
     of (Cancel flags t share) is missing = ap (λ (o : Option ℕ). moves task ++ cond reads (map (λ move. (i, move)) (cond (is_task task o) (Discarded ∷ []) [])) []) missing ∙ none (moves task) reads
     of _ is missing = none (moves task) reads
 
--- ---- the passes
+-- ---- the records that a pass reads for each of their tasks
 
-pub moves_more : (pass : Pass) (rs : List Record) (n task : ℕ) → moves_before pass rs (n + 1) task ≡ and_record pass rs n (moves_before pass rs n) task
-moves_more pass rs n task =
+-- where a pass reads the record for the task that was found, a task for which it does not is another
+read_apart : (reads : ℕ → Bool) (found : Option ℕ) (task : ℕ) → option_map_or reads found true ≡ true → reads task ≡ false → is_task task found ≡ false
+read_apart reads None task all off = refl
+read_apart reads (Some other) task all off = elim (cases_eq other task) [
+  | inl same ↦ absurd (false≢true (sym off ∙ ap reads (sym same) ∙ all))
+  | inr apart ↦ ne_eqb other task apart
+]
+
+-- of a schedule these are two, or one
+pub schedule_whole : (pass : Pass) (rs : List Record) (i : ℕ) (r : Record) (status : Status) (prior : ℕ) (next : Option ℕ) → slice_get rs i ≡ Some r → schedule r.body ≡ Some (status, prior, next) → is_read_for pass rs (Some prior) i ≡ true → is_read_for pass rs next i ≡ true → IsReadWhole pass rs i
+schedule_whole pass rs i r status prior next stands says first second task off = moves_there rs i task r stands ∙ of r.body says
+  where
+    reads : ℕ → Bool
+    reads other = is_read pass rs other i
+
+    none_of : (s : Status) (a b : Bool) → a ≡ false → b ≡ false → map {B = ℕ × Move} (λ move. (i, move)) ((cond a (Stopped s ∷ []) [] ++ cond b (Started ∷ []) []) ++ []) ≡ []
+    none_of s true b first second = absurd (false≢true (sym first))
+    none_of s false true first second = absurd (false≢true (sym second))
+    none_of s false false first second = refl
+
+    of : (b : Body) → schedule b ≡ Some (status, prior, next) → map {B = ℕ × Move} (λ move. (i, move)) (moves_by task b) ≡ []
+    of (TaskSchedule s p n share) is =
+        let same : (s, p, n) ≡ (status, prior, next) = same_Some (s, p, n) (status, prior, next) is in
+        none_of s (p == task) (is_task task n)
+        (ap (λ (t : Status × ℕ × Option ℕ). is_task task (Some t.1)) same ∙ read_apart reads (Some prior) task first off)
+        (ap (λ (t : Status × ℕ × Option ℕ). is_task task t.2) same ∙ read_apart reads next task second off)
+    of _ is = absurd (none-some (status, prior, next) is)
+
+-- of a cancellation at most one
+pub discard_whole : (pass : Pass) (rs : List Record) (i : ℕ) (r : Record) (named : ℕ) → slice_get rs i ≡ Some r → discarded r.body ≡ Some named → is_read_for pass rs (Some named) i ≡ true → IsReadWhole pass rs i
+discard_whole pass rs i r named stands says all task off = moves_there rs i task r stands ∙ of r.body says
+  where
+    reads : ℕ → Bool
+    reads other = is_read pass rs other i
+
+    of : (b : Body) → discarded b ≡ Some named → map {B = ℕ × Move} (λ move. (i, move)) (moves_by task b) ≡ []
+    of (Cancel flags t share) is =
+        ap (λ (b : Bool). map {B = ℕ × Move} (λ move. (i, move)) (cond b (Discarded ∷ []) []))
+        (ap (is_task task) is ∙ read_apart reads (Some named) task all off)
+    of _ is = absurd (none-some named is)
+
+-- and of all others none
+pub still_whole : (pass : Pass) (rs : List Record) (i : ℕ) (r : Record) → slice_get rs i ≡ Some r → schedule r.body ≡ None → discarded r.body ≡ None → IsReadWhole pass rs i
+still_whole pass rs i r stands no_schedule no_discard task off = moves_there rs i task r stands ∙ of r.body no_schedule no_discard
+  where
+    of : (b : Body) → schedule b ≡ None → discarded b ≡ None → map {B = ℕ × Move} (λ move. (i, move)) (moves_by task b) ≡ []
+    of (TaskSchedule s p n share) is missing = absurd (none-some (s, p, n) (sym is))
+    of (Cancel flags t share) is missing = ap (λ (o : Option ℕ). map {B = ℕ × Move} (λ move. (i, move)) (cond (is_task task o) (Discarded ∷ []) [])) missing
+    of _ is missing = refl
+
+-- the last pass reads nothing of a record that the home pass read for each of its tasks
+pub whole_not_left : (rs : List Record) (i : ℕ) (moves : ℕ → List (ℕ × Move)) → IsReadWhole Home rs i → (task : ℕ) → and_record Rest rs i moves task ≡ moves task
+whole_not_left rs i moves whole task = by (is_read Home rs task i) refl
+  where
+    and_false : (b : Bool) → b && false ≡ false
+    and_false true = refl
+    and_false false = refl
+
+    by : (b : Bool) → is_read Home rs task i ≡ b → and_record Rest rs i moves task ≡ moves task
+    by true home = ap (λ b. moves task ++ cond (not (is_early rs task i) && not b) (moves_at rs task i) []) home
+        ∙ ap (λ b. moves task ++ cond b (moves_at rs task i) []) (and_false (not (is_early rs task i))) ∙ append-nil (moves task)
+    by false away = ap (λ l. moves task ++ cond (is_read Rest rs task i) l []) (whole task away) ∙ none (moves task) (is_read Rest rs task i)
+
+-- the first pass reads nothing where no event is fulfilled early
+pub early_unread : (rs : List Record) (i : ℕ) (r : Record) (moves : ℕ → List (ℕ × Move)) → slice_get rs i ≡ Some r → fulfils_early r.body ≡ false → (task : ℕ) → and_record Early rs i moves task ≡ moves task
+early_unread rs i r moves stands says task =
+    ap (λ b. moves task ++ cond (b && not (is_on rs (home_of rs task) i)) (moves_at rs task i) []) (early_there ∙ of r.body says) ∙ append-nil (moves task)
+  where
+    early_there : is_early rs task i ≡ early_for task r.body
+    early_there = ap (λ (o : Option Record). option_map_or (λ (q : Record). early_for task q.body) o false) stands
+
+    of : (b : Body) → fulfils_early b ≡ false → early_for task b ≡ false
+    of (TaskSchedule EarlyFulfill prior next share) is = absurd (false≢true (sym is))
+    of _ is = refl
+
+-- ---- the places that are left for the last pass
+
+-- one more place that the pass goes over
+read_more : (pass : Pass) (rs : List Record) (gone : List ℕ) (n task : ℕ) → moves_read pass rs (gone ++ n ∷ []) task ≡ and_record pass rs n (moves_read pass rs gone) task
+read_more pass rs gone n task =
     let f = moves_at rs task in
     let before = read_before pass rs task in
     let reads = is_read pass rs task in
-    let front = filter reads (range_with_len 0 n) in
-    ap (λ l. flat_map f (before ++ filter reads l)) (range_more n)
-    ∙ ap (λ l. flat_map f (before ++ l)) (filter-append reads (range_with_len 0 n) (n ∷ []))
+    let front = filter reads gone in
+    ap (λ l. flat_map f (before ++ l)) (filter-append reads gone (n ∷ []))
     ∙ ap (flat_map f) (sym (append_assoc before front (filter reads (n ∷ []))))
     ∙ flat_map-append f (before ++ front) (filter reads (n ∷ []))
     ∙ ap (λ l. flat_map f (before ++ front) ++ l) (last (reads n))
@@ -128,6 +207,33 @@ moves_more pass rs n task =
     last : (b : Bool) → flat_map (moves_at rs task) (cond b (n ∷ []) []) ≡ cond b (moves_at rs task n) []
     last true = append-nil (moves_at rs task n)
     last false = refl
+
+pub moves_more : (pass : Pass) (rs : List Record) (n task : ℕ) → moves_before pass rs (n + 1) task ≡ and_record pass rs n (moves_before pass rs n) task
+moves_more pass rs n task =
+    ap (λ l. moves_read pass rs l task) (range_more n) ∙ read_more pass rs (range_with_len 0 n) n task
+
+same_record : (pass : Pass) (rs : List Record) (n task : ℕ) (moves moves' : ℕ → List (ℕ × Move)) → moves task ≡ moves' task → and_record pass rs n moves task ≡ and_record pass rs n moves' task
+same_record pass rs n task moves moves' same = ap (λ l. l ++ cond (is_read pass rs task n) (moves_at rs task n) []) same
+
+-- a place is noted
+pub left_noted : (rs : List Record) (n : ℕ) (left : List ℕ) → AreLeft rs n left → AreLeft rs (n + 1) (left ++ n ∷ [])
+left_noted rs n left are = record {
+  within = All-push (λ place. place < n + 1) left n (λ k d inside. omega (arith, are.within k d inside)) (omega arith);
+  all = λ task. read_more Rest rs left n task ∙ same_record Rest rs n task (moves_read Rest rs left) (moves_before Rest rs n) (are.all task) ∙ sym (moves_more Rest rs n task);
+}
+
+-- it need not be
+pub left_passed : (rs : List Record) (n : ℕ) (left : List ℕ) → AreLeft rs n left → IsReadWhole Home rs n → AreLeft rs (n + 1) left
+left_passed rs n left are whole = record {
+  within = λ k d inside. omega (arith, are.within k d inside);
+  all = λ task. are.all task ∙ sym (whole_not_left rs n (moves_before Rest rs n) whole task) ∙ sym (moves_more Rest rs n task);
+}
+
+-- the last pass, one place on
+pub rest_more : (rs : List Record) (left : List ℕ) (k place : ℕ) → slice_get left k ≡ Some place → (task : ℕ) → moves_read Rest rs (take (k + 1) left) task ≡ and_record Rest rs place (moves_read Rest rs (take k left)) task
+rest_more rs left k place stands task = ap (λ l. moves_read Rest rs l task) (take_more left k place (slice_get_within left k place stands) ∙ ap (λ p. take k left ++ p ∷ []) (get_or_from_slice_get left k place place stands)) ∙ read_more Rest rs (take k left) place task
+
+-- ---- the passes
 
 pub early_start : (rs : List Record) (task : ℕ) → moves_before Early rs 0 task ≡ []
 early_start rs task = refl

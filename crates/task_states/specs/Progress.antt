@@ -1,5 +1,5 @@
 -- How far each task has come while the records are gone over in three passes.
-use Rattle.std.specs.Prelude.{ℕ, ◌≡◌, ◌≤◌, ◌+◌, ◌++◌, ◌∷◌, ◌&&◌, ◌==◌, ltb, not, Bool, true, false, List, [], length, Option, Some, None, Contains, IsSomeAnd, is_some, if◌then◌else◌, filter, find, take, set, get_or, slice_get, unwrap_or}
+use Rattle.std.specs.Prelude.{ℕ, ◌≡◌, ◌<◌, ◌≤◌, ◌+◌, ◌++◌, ◌∷◌, ◌&&◌, ◌==◌, ltb, not, Bool, true, false, List, [], length, Option, Some, None, All, Contains, IsSomeAnd, is_some, if◌then◌else◌, filter, find, take, set, get_or, slice_get, unwrap_or}
 use Rattle.std.specs.List.{flat_map, range_with_len}
 use Rattle.ompt_events.specs.declared.records.Record.{Record}
 use Rattle.ompt_events.specs.declared.state.State.{State}
@@ -44,11 +44,27 @@ read_before Home rs task = filter (is_read Early rs task) (places rs)
 read_before Rest rs task =
     filter (is_read Early rs task) (places rs) ++ filter (is_read Home rs task) (places rs)
 
+-- the moves of a task that are read once the pass has gone over these places
+abbrev pub moves_read : Pass → List Record → List ℕ → ℕ → List (ℕ × states.Move)
+moves_read pass rs gone task =
+    flat_map (moves_at rs task) (read_before pass rs task ++ filter (is_read pass rs task) gone)
+
 -- the moves of a task that are read before the pass comes to the place n
 abbrev pub moves_before : Pass → List Record → ℕ → ℕ → List (ℕ × states.Move)
-moves_before pass rs n task =
-    flat_map (moves_at rs task)
-    (read_before pass rs task ++ filter (is_read pass rs task) (range_with_len 0 n))
+moves_before pass rs n task = moves_read pass rs (range_with_len 0 n) task
+
+-- whether a pass reads the record at i for the task that was found; where none was, nothing is missed
+abbrev pub is_read_for : Pass → List Record → Option ℕ → ℕ → Bool
+is_read_for pass rs found i = option_map_or (λ task. is_read pass rs task i) found true
+
+-- the pass reads the record at i for each task that moves there
+abbrev pub IsReadWhole : Pass → List Record → ℕ → Type 0
+IsReadWhole pass rs i = (task : ℕ) → is_read pass rs task i ≡ false → moves_at rs task i ≡ []
+
+-- below n the last pass has nothing to read at other places than these
+pub record AreLeft (rs : List Record) (n : ℕ) (left : List ℕ) : Type 0 where
+  pub within : All (λ place. place < n) left
+  pub all : (task : ℕ) → moves_read Rest rs left task ≡ moves_before Rest rs n task
 
 -- of these moves the one at i is the first that the task's state does not allow
 pub record IsRefused (nature : states.Nature) (moves : List (ℕ × states.Move)) (i : ℕ) : Type 0 where
@@ -133,6 +149,11 @@ start_noted starts (Some n) place = set starts n (Some (unwrap_or (get_or starts
 abbrev pub early_for : ℕ → Body → Bool
 early_for task (TaskSchedule EarlyFulfill prior next share) = prior == task
 early_for task _ = false
+
+-- whether the body fulfils some task's event early
+abbrev pub fulfils_early : Body → Bool
+fulfils_early (TaskSchedule EarlyFulfill prior next share) = true
+fulfils_early _ = false
 
 -- whether a record of this thread is at a home
 abbrev pub is_at : Option ℕ → ℕ → Bool

@@ -1,12 +1,13 @@
 //! How far each task comes by the moves that its state allows.
-ghost use Rattle.std.specs.Prelude.{ℕ, ◌≡◌, ◌<◌, List, Some, None, [], IfOk, length, set, get_or, slice_get};
+ghost use Rattle.std.specs.Prelude.{ℕ, ◌≡◌, ◌<◌, List, Some, None, [], IsTrue, IfOk, OnOk, length, set, get_or, slice_get};
 ghost use Rattle.ompt_events.specs.declared.records.Record.{Record};
 ghost use Rattle.ompt_events.specs.States as states;
 ghost use Rattle.ompt_events.specs.States.{first_state, state_after, home_of, moves_of};
 ghost use Rattle.task_tree.specs.Family.{IsFamilyOf};
 ghost use Rattle.task_tree.specs.Numbering.{AreApart};
 ghost use Rattle.task_tree.specs.Subjects.{Calls};
-ghost use Rattle.task_states.specs.Progress.{the_nature, the_move, earlier, refused_after, is_read, early_for, is_at, and_move, and_record, moves_before, HasCome, AreNatures, AreHomes};
+ghost use Rattle.task_states.specs.declared.progress.Pass.TheVariants.{Early, Home, Rest};
+ghost use Rattle.task_states.specs.Progress.{the_nature, the_move, earlier, refused_after, is_read, is_read_for, early_for, fulfils_early, is_at, and_move, and_record, moves_before, IsReadWhole, AreLeft, HasCome, AreNatures, AreHomes};
 
 use crate::moves::{Move, Nature, after_move};
 use crate::origins::{Origins, find_origins};
@@ -58,7 +59,11 @@ impl Progress {
 }
 
 impl Progress {
-    /// Goes on by one move of a task, where this pass reads the record at the place for the task.
+    /// Goes on by one move of a task, where this pass reads the record at the place for the task, and says
+    /// whether it does.
+    // It is inlined, as are `note_named` and `read`, so that each pass has a copy of its own, in which the
+    // tests for the other passes are left out: that takes half as long as a call.
+    #[inline(always)]
     fn note(
         &mut self,
         origins: &Origins,
@@ -68,7 +73,7 @@ impl Progress {
         task: u64,
         index: usize,
         step: Move,
-    )
+    ) -> bool
         requires within { at < length records.now }
         requires states { index < length self.old.states }
         requires natures { index < length origins.now.natures.items }
@@ -78,15 +83,20 @@ impl Progress {
             → slice_get tasks index ≡ Some task → AreNatures records.now tasks origins.now.natures.items
             → AreHomes records.now tasks origins.now.homes.items → HasCome records.now tasks moves self.old
             → HasCome records.now tasks (and_move pass records.now at (Some task) step moves) self.new }
+        ensures read { (tasks : List ℕ) → slice_get tasks index ≡ Some task
+            → AreHomes records.now tasks origins.now.homes.items → result ≡ is_read pass records.now task at }
     {
         if is_read(pass, &records[at], task, origins.homes[index]) {
             self.go_on(index, at, origins.natures[index], step);
+            return true;
         }
+        false
     }
 }
 
 impl Progress {
-    /// The same for the task that the record names, if it does.
+    /// The same for the task that the record names, if it does. Where it names none, nothing is left to read.
+    #[inline(always)]
     fn note_named(
         &mut self,
         origins: &Origins,
@@ -97,7 +107,7 @@ impl Progress {
         named: Option<u64>,
         slot: Option<usize>,
         step: Move,
-    )
+    ) -> bool
         requires within { at < length records.now }
         requires calls { Calls family.now.tasks named slot }
         requires apart { AreApart family.now.tasks }
@@ -108,17 +118,20 @@ impl Progress {
         ensures come { (moves : ℕ → List (ℕ × states.Move))
             → HasCome records.now family.now.tasks moves self.old
             → HasCome records.now family.now.tasks (and_move pass records.now at named step moves) self.new }
+        ensures read { result ≡ is_read_for pass records.now named at }
     {
         let Some(task) = named else {
-            return;
+            return true;
         };
         let Some(index) = slot else {
-            return;
+            return true;
         };
-        self.note(origins, records, pass, at, task, index, step);
+        self.note(origins, records, pass, at, task, index, step)
     }
 
-    /// Goes on by what the record at a place does to its tasks, where this pass reads it for them.
+    /// Goes on by what the record at a place does to its tasks, where this pass reads it for them, and says
+    /// whether it reads it for each of them.
+    #[inline(always)]
     fn read(
         &mut self,
         origins: &Origins,
@@ -126,7 +139,7 @@ impl Progress {
         family: &Family,
         pass: Pass,
         at: usize,
-    )
+    ) -> bool
         requires within { at < length records.now }
         requires family { IsFamilyOf records.now family.now }
         requires natures { AreNatures records.now family.now.tasks origins.now.natures.items }
@@ -136,58 +149,91 @@ impl Progress {
         ensures come { (moves : ℕ → List (ℕ × states.Move))
             → HasCome records.now family.now.tasks moves self.old
             → HasCome records.now family.now.tasks (and_record pass records.now at moves) self.new }
+        ensures whole { IsTrue result → IsReadWhole pass records.now at }
     {
         let body = &records[at].body;
         if let Some((status, prior, next)) = body.schedule() {
+            let slot = family.subject(at);
             let stop = Move::Stopped(status);
-            self.note_named(
+            let stopped = self.note_named(
                 origins,
                 records,
                 family,
                 pass,
                 at,
                 Some(prior),
-                family.subject(at),
+                slot,
                 stop,
             );
-            self.note_named(
-                origins,
-                records,
-                family,
-                pass,
-                at,
-                next,
-                family.object(at),
-                Move::Started,
-            );
-            return;
+            let slot = family.object(at);
+            let start = Move::Started;
+            let started = self.note_named(origins, records, family, pass, at, next, slot, start);
+            return stopped & started;
         }
         let Some(task) = body.discarded() else {
-            return;
+            return true;
         };
-        self.note_named(
-            origins,
-            records,
-            family,
-            pass,
-            at,
-            Some(task),
-            family.subject(at),
-            Move::Discarded,
-        );
+        let slot = family.subject(at);
+        let end = Move::Discarded;
+        self.note_named(origins, records, family, pass, at, Some(task), slot, end)
     }
 
-    /// Goes on by all records that this pass reads.
-    fn read_all(&mut self, origins: &Origins, records: &[Record], family: &Family, pass: Pass)
+    /// Goes on by the fulfilments ahead of a task's home. As this pass reads no other records, it passes over
+    /// them after one look at the body, and looks for none of their tasks.
+    fn read_early(&mut self, origins: &Origins, records: &[Record], family: &Family)
         requires family { IsFamilyOf records.now family.now }
         requires natures { AreNatures records.now family.now.tasks origins.now.natures.items }
         requires homes { AreHomes records.now family.now.tasks origins.now.homes.items }
-        requires come { HasCome records.now family.now.tasks (moves_before pass records.now 0) self.old }
+        requires come { HasCome records.now family.now.tasks (moves_before Early records.now 0) self.old }
         ensures { HasCome records.now family.now.tasks
-            (moves_before pass records.now (length records.now)) self.new }
+            (moves_before Early records.now (length records.now)) self.new }
     {
         for at in 0..records.len() {
-            self.read(origins, records, family, pass, at);
+            if fulfils_early(&records[at].body) {
+                self.read(origins, records, family, Pass::Early, at);
+            }
+        }
+    }
+
+    /// Goes on by all records for the tasks whose home made them, and gives the places of the records with a
+    /// task that has another home, or none. There are few of those in most files.
+    fn read_home(
+        &mut self,
+        alloc: Global,
+        origins: &Origins,
+        records: &[Record],
+        family: &Family,
+    ) -> Result<Vec<usize>, AllocError>
+        requires family { IsFamilyOf records.now family.now }
+        requires natures { AreNatures records.now family.now.tasks origins.now.natures.items }
+        requires homes { AreHomes records.now family.now.tasks origins.now.homes.items }
+        requires come { HasCome records.now family.now.tasks (moves_before Home records.now 0) self.old }
+        ensures come { OnOk result (HasCome records.now family.now.tasks
+            (moves_before Home records.now (length records.now)) self.new) }
+        ensures left { IfOk result (λ left. AreLeft records.now (length records.now) left.items) }
+    {
+        let mut left = Vec::new(alloc);
+        for at in 0..records.len() {
+            let whole = self.read(origins, records, family, Pass::Home, at);
+            if !whole {
+                left.push(at)?;
+            }
+        }
+        Ok(left)
+    }
+
+    /// Goes on by all that is left to read, which stands at these places alone.
+    fn read_rest(&mut self, origins: &Origins, records: &[Record], family: &Family, left: &[usize])
+        requires family { IsFamilyOf records.now family.now }
+        requires natures { AreNatures records.now family.now.tasks origins.now.natures.items }
+        requires homes { AreHomes records.now family.now.tasks origins.now.homes.items }
+        requires left { AreLeft records.now (length records.now) left.now }
+        requires come { HasCome records.now family.now.tasks (moves_before Rest records.now 0) self.old }
+        ensures { HasCome records.now family.now.tasks
+            (moves_before Rest records.now (length records.now)) self.new }
+    {
+        for at in left {
+            self.read(origins, records, family, Pass::Rest, *at);
         }
     }
 
@@ -235,9 +281,9 @@ pub(crate) fn find_progress(
 {
     let origins = find_origins(alloc, records, family)?;
     let mut progress = Progress::new(alloc, origins.natures.as_slice())?;
-    progress.read_all(&origins, records, family, Pass::Early);
-    progress.read_all(&origins, records, family, Pass::Home);
-    progress.read_all(&origins, records, family, Pass::Rest);
+    progress.read_early(&origins, records, family);
+    let left = progress.read_home(alloc, &origins, records, family)?;
+    progress.read_rest(&origins, records, family, left.as_slice());
     Ok(progress)
 }
 
@@ -274,6 +320,19 @@ fn is_early(body: &Body, task: u64) -> bool
             prior,
             ..
         } => *prior == task,
+        _ => false,
+    }
+}
+
+/// Whether the record fulfils the event of any task before that task's body has ended.
+fn fulfils_early(body: &Body) -> bool
+    ensures { result ≡ fulfils_early body.now }
+{
+    match body {
+        Body::TaskSchedule {
+            status: Status::EarlyFulfill,
+            ..
+        } => true,
         _ => false,
     }
 }

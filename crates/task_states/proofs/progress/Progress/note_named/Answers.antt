@@ -16,3 +16,9 @@ returns-clause-come c = λ moves come.
     let tasks = c.args.family.now.tasks in
     let stands = named_stands tasks c.args.named c.args.slot c.in-Some.task c.in-Some-slot.index c.requires.calls c.in-Some.is c.in-Some-slot.is in
     rw c.in-Some.is (c.note.ensures.come tasks moves c.requires.apart stands c.requires.natures c.requires.homes come)
+
+pub returns-clause-read : goal.returns-clause-read
+returns-clause-read c =
+    let tasks = c.args.family.now.tasks in
+    let stands = named_stands tasks c.args.named c.args.slot c.in-Some.task c.in-Some-slot.index c.requires.calls c.in-Some.is c.in-Some-slot.is in
+    rw c.in-Some.is (c.note.ensures.read tasks stands c.requires.homes)

@@ -1,0 +1,33 @@
+use Rattle.std.proofs.Common.{◌≡◌, ◌∙◌, ◌+◌, length, subst, sym, ap, arith}
+use Rattle.ompt_events.specs.declared.records.Record.{Record}
+use Rattle.ompt_events.proofs.PlaceLemmas.{read_get}
+use Rattle.task_states.specs.declared.progress.Pass.TheVariants.{Early}
+use Rattle.task_states.specs.Progress.{HasCome, moves_before, and_record, fulfils_early}
+use Rattle.task_states.proofs.ProgressLemmas.{come_same}
+use Rattle.task_states.proofs.PassLemmas.{moves_more, early_unread}
+use Rattle.task_states.proofs.progress.Progress.read_early.Goals as goal
+use Rattle.task_states.proofs.progress.Progress.read_early.Goals.{then-fulfils_early, else-fulfils_early}
+
+pub read-requires-clause-all : goal.read-requires-clause-all
+read-requires-clause-all c = c.loop-at.invariant.all
+
+pub loop-at-preserved : goal.loop-at-preserved
+loop-at-preserved c =
+    let rs = c.args.records.now in
+    let tasks = c.args.family.now.tasks in
+    let i = c.loop-at.at in
+    let r = c.index-records-at.result in
+    let before = moves_before Early rs i in
+    elim c.if-fulfils_early.branch [
+      | then-fulfils_early w ↦ rw w.self-is (come_same rs tasks (and_record Early rs i before) (moves_before Early rs (i + 1)) w.read.new.self (moves_more Early rs i) (w.read.ensures.come before c.loop-at.invariant))
+      | else-fulfils_early w ↦
+          let stands = read_get rs i r c.loop-at-test.true c.index-records-at.is in
+          let late = ap (λ (q : Record). fulfils_early q.body) c.index-records-at.is ∙ sym c.fulfils_early.ensures ∙ w.if-fulfils_early.false in
+          rw w.self-is (come_same rs tasks before (moves_before Early rs (i + 1)) c.loop-at.self (λ task. moves_more Early rs i task ∙ early_unread rs i r before stands late task) c.loop-at.invariant)
+    ]
+
+pub returns : goal.returns
+returns c =
+    let rs = c.args.records.now in
+    let all : c.loop-at.at ≡ length rs = omega (arith, c.loop-at-test.false, c.loop-at.auto.at-end) in
+    subst (λ n. HasCome rs c.args.family.now.tasks (moves_before Early rs n) c.loop-at.self) all c.loop-at.invariant
