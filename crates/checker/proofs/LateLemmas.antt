@@ -14,6 +14,7 @@ use Rattle.ompt_events.specs.Places.{at, seen_at}
 use Rattle.ompt_events.specs.Traces.{IsTrace, IsSound, HasItsNext}
 use Rattle.ompt_events.specs.Tree.{IsChild, IsExplicit, children_before, child_number}
 use Rattle.ompt_events.specs.HappensBefore.{IsStart}
+use Rattle.ompt_events.specs.Completion.{IsCompleteAt}
 use Rattle.ompt_events.specs.Dependences.{IsPredecessor}
 use Rattle.ompt_events.specs.Causes.{IsFreeOf}
 use Rattle.ompt_events.proofs.ListLemmas.{get_contains, contains_get}
@@ -27,7 +28,7 @@ use Rattle.wait_coverage.specs.Done.{AreOwn}
 use Rattle.wait_coverage.specs.Entries.{IsDone}
 use Rattle.checker.specs.Starts.{IsPreceded, AreReady, IsFirstLateAt, IsBound, AreStarted, StartsAt, StartsNoneAt, CompletesAt, CompletesNoneAt, AreDoneBefore, IsFirstBehind}
 use Rattle.checker.specs.declared.search.SearchFault.{SearchFault}
-use Rattle.checker.proofs.StartLemmas.{done_from, bound_still}
+use Rattle.checker.proofs.StartLemmas.{done_from, bound_still, complete_from_start}
 
 -- ---- children with greater numbers are created later
 
@@ -128,6 +129,21 @@ done_by_latest rs tasks own latest index task bound noted are_own are is small l
     let found = predecessor_index rs tasks task predecessor noted precedes in
     let less = are.each index task found.0 predecessor is precedes found.1 in
     (done_from rs tasks own found.0 predecessor are_own found.1 bound small).0 (omega (arith, less, low))
+
+-- where no task has a predecessor that an entry finishes, none is late
+pub none_late : (rs : List Record) (tasks own latest : List ℕ) (i : ℕ) → AreNoted made rs (length rs) tasks → AreOwn rs tasks own → AreLatest rs tasks own latest → ((index : ℕ) → index < length latest → slice_index latest index ≡ 0) → AreReady rs i
+none_late rs tasks own latest i noted are_own are none predecessor preceded = elim preceded [
+  | inl (dependent, explicit, start, is) ↦ complete dependent is
+  | inr (dependent, completed, is) ↦ complete dependent is
+]
+  where
+    complete : (dependent : ℕ) → IsPredecessor rs dependent predecessor → IsCompleteAt rs predecessor i
+    complete dependent is =
+        let place = child_place rs is.parent (length rs) is.number dependent is.is_child in
+        let index = contains_get tasks dependent (noted.each place.0 dependent place.1 (created_at_made dependent rs place.0 (creation_at_created is.parent dependent rs place.0 place.2))) in
+        let within = slice_get_within tasks index.0 dependent index.1 in
+        let low : slice_index latest index.0 ≤ 0 = let zero_there = none index.0 (rw are.all within) in omega (arith, zero_there) in
+        complete_from_start rs i predecessor (done_by_latest rs tasks own latest index.0 dependent 0 noted are_own are index.1 (omega arith) low predecessor is)
 
 -- ---- what it says of the record
 

@@ -1,9 +1,13 @@
 mod ClaimLemmas
 mod LengthLemmas
 mod RepeatLemmas
+mod ListsLemmas
+mod QueueLemmas
+mod OrderLemmas
 mod MergeLemmas
 mod MakerLemmas
 mod MergingLemmas
+mod FrontLemmas
 mod ScheduleLemmas
 mod StartLemmas
 mod LateLemmas

@@ -85,10 +85,3 @@ thread_of rs i within = found (slice_get rs i) refl
     found : (o : Option Record) → slice_get rs i ≡ o → (thread : ℕ) × (thread_at rs i ≡ Some thread)
     found None e = absurd (no_get rs i within e)
     found (Some r) e = (r.thread, ap (option_map (λ (q : Record). q.thread)) e)
-
--- where no head before a place passes the test no record before it may stand next
-pub none_found : (rs : List Record) (awaited : List (Option ℕ)) (placed : List Bool) (heads : List ℕ) (low first n : ℕ) → IsFreeOf rs Moved → AreClosed rs placed → HaveCreations rs (length rs) awaited → AreHeads rs placed heads → IsLow rs placed low → length heads ≤ n → ((t : ℕ) → t < n → slice_index heads t < first → IsReadyHead rs awaited placed low (slice_index heads t) → ⊥) → (i : ℕ) → i < first → MayFollow rs placed i → ⊥
-none_found rs awaited placed heads low first n at_home closed awaits are is_low all none i before may =
-    let thread = thread_of rs i may.within in
-    let same = is_head rs placed heads i thread.0 are thread.1 may in
-    none thread.0 (let inside = are.all i thread.0 thread.1 in omega arith) (rw same before) (rw same (ready_head rs awaited placed low i at_home closed awaits is_low may))

@@ -17,7 +17,8 @@ use Rattle.ompt_events.specs.HappensBefore.{thread_order, creation, discard, ful
 use Rattle.ompt_events.specs.declared.cause.Cause.TheVariants.{NoOrder}
 use Rattle.ompt_events.specs.Causes.{HasCause, no_order, HasNoOrder, IsFirstWith}
 use Rattle.ompt_events.specs.Linearization.{IsDue, IsReady, IsFirstReady, IsGreedy, IsGrounded, IsLinearization}
-use Rattle.checker.specs.Merge.{HaveCreations, StartsOrFulfils, IsLow, Awaits, AreEarly, IsHint, HintsAt, AreClosed, Stands, MayFollow, AreHeads, IsNextOf, AreHeadsFrom, AreLinks}
+use Rattle.checker.specs.Merge.{HaveCreations, StartsOrFulfils, IsLow, AreClosed, Stands, MayFollow, AreHeads}
+use Rattle.checker.specs.Lists.{AreLists, IsNextWith}
 use Rattle.checker.proofs.ScheduleLemmas.{step_awaits}
 use Rattle.checker.proofs.MergeLemmas.{stands_same, stands_or_not, is_head}
 use Rattle.ompt_events.proofs.LinearizationLemmas.{IsClosed, due_from_steps, closed_more, greedy_more, greedy_grounded, grounded_rising}
@@ -73,15 +74,15 @@ merging_closed rs placed heads order merging a b before stands = merging.from_or
 contains_none : (i : ℕ) → Contains (let l : List ℕ = [] in l) i → ⊥
 contains_none i (k, below, is) = absurd (omega arith)
 
-pub merging_start : (rs : List Record) (heads : List ℕ) (placed : List Bool) → placed ≡ replicate (length rs) false → AreHeadsFrom rs 0 heads → IsMerging rs placed heads []
-merging_start rs heads placed is first = rw is (record {
+pub merging_start : (rs : List Record) (heads nexts : List ℕ) (placed : List Bool) → placed ≡ replicate (length rs) false → AreLists (thread_at rs) (length rs) 0 heads nexts → ((i thread : ℕ) → thread_at rs i ≡ Some thread → thread < length heads) → IsMerging rs placed heads []
+merging_start rs heads nexts placed is lists all = rw is (record {
   all = length-replicate (length rs) false;
   to_order = λ i stands. absurd (none_stands (length rs) i stands);
   from_order = λ i c. absurd (contains_none i c);
   are_heads = record {
-    all = first.all;
-    below = λ thread i runs below. absurd ((first.each thread (first.all i thread runs)).none i (omega arith) below runs);
-    head = λ thread low inside. (first.each thread low).found inside;
+    all = all;
+    below = λ thread i runs below. absurd ((lists.first thread (all i thread runs)).none i (omega arith) below runs);
+    head = λ thread low inside. (lists.first thread low).found inside;
     missing = λ thread low stands. none_stands (length rs) (slice_index heads thread) stands;
   };
   above = λ thread i runs stands. absurd (none_stands (length rs) i stands);
@@ -91,59 +92,8 @@ merging_start rs heads placed is first = rw is (record {
   permutation = IsPermutation-refl (places rs);
 })
 
--- ---- the first records of threads, one place before
-
-none_from : (rs : List Record) (heads : List ℕ) → ((i thread : ℕ) → thread_at rs i ≡ Some thread → thread < length heads) → ((thread : ℕ) → thread < length heads → slice_index heads thread ≡ length rs) → AreHeadsFrom rs (length rs) heads
-none_from rs heads all is = record {
-  all = all;
-  each = λ thread low. rw (is thread low) (record {
-    behind = omega arith;
-    within = omega arith;
-    none = λ i from below. absurd (omega arith);
-    found = λ inside. absurd (omega arith);
-  });
-}
-
-pub heads_last : (rs : List Record) (n : ℕ) → ((i thread : ℕ) → thread_at rs i ≡ Some thread → thread < n) → AreHeadsFrom rs (length rs) (replicate n (length rs))
-heads_last rs n all = none_from rs (replicate n (length rs)) (λ i thread runs. rw (length-replicate n (length rs)) (all i thread runs)) (λ thread low. get_or-replicate n thread (length rs) 0 (rw (length-replicate n (length rs)) at low))
-
-pub heads_back : (rs : List Record) (from thread : ℕ) (heads : List ℕ) → from < length rs → thread_at rs from ≡ Some thread → AreHeadsFrom rs (from + 1) heads → AreHeadsFrom rs from (set heads thread from)
-heads_back rs from thread heads within runs are = record {
-  all = λ i other there. rw (length-set heads thread from) (are.all i other there);
-  each = λ other low. elim (cases_eq other thread) [
-    | inl same ↦ rw (same, get_or-set_same heads thread from 0 (are.all from thread runs)) (record {
-      behind = omega arith;
-      within = omega arith;
-      none = λ i after below. absurd (omega arith);
-      found = λ inside. runs;
-    })
-    | inr apart ↦
-        let old = are.each other (rw (length-set heads thread from) at low) in
-        rw (get_or-set_other heads thread other from 0 apart) (record {
-          behind = let h = old.behind in omega (arith, h);
-          within = old.within;
-          none = λ i after below there. elim (cases_eq i from) [
-            | inl same ↦ apart (same_Some other thread (sym there ∙ ap (thread_at rs) same ∙ runs))
-            | inr beyond ↦ old.none i (omega arith) below there
-          ];
-          found = old.found;
-        })
-  ];
-}
-
-pub links_back : (rs : List Record) (from thread next : ℕ) (links : List ℕ) → from < length rs → thread_at rs from ≡ Some thread → IsNextOf rs thread (from + 1) next → AreLinks rs (from + 1) links → AreLinks rs from (set links from next)
-links_back rs from thread next links within runs is_next are = record {
-  all = length-set links from next ∙ are.all;
-  each = λ i other after there. elim (cases_eq i from) [
-    | inl same ↦
-        let other_is : other ≡ thread = same_Some other thread (sym there ∙ ap (thread_at rs) same ∙ runs) in
-        rw (same, other_is, get_or-set_same links from next 0 (rw are.all within)) is_next
-    | inr beyond ↦ rw (get_or-set_other links from i next 0 beyond) (are.each i other (omega arith) there)
-  ];
-}
-
 -- the heads after the head of a thread was placed
-heads_more : (rs : List Record) (placed : List Bool) (heads order : List ℕ) (place thread next : ℕ) → IsMerging rs placed heads order → MayFollow rs placed place → thread_at rs place ≡ Some thread → IsNextOf rs thread (place + 1) next → AreHeads rs (set placed place true) (set heads thread next)
+heads_more : (rs : List Record) (placed : List Bool) (heads order : List ℕ) (place thread next : ℕ) → IsMerging rs placed heads order → MayFollow rs placed place → thread_at rs place ≡ Some thread → IsNextWith (thread_at rs) (length rs) thread (place + 1) next → AreHeads rs (set placed place true) (set heads thread next)
 heads_more rs placed heads order place thread next merging may runs is_next = record {
   all = λ i other runs_there. rw (length-set heads thread next) (merging.are_heads.all i other runs_there);
   below = λ other i runs_there below. elim (cases_eq other thread) [
@@ -194,7 +144,7 @@ heads_more rs placed heads order place thread next merging may runs is_next = re
     ]
 
 -- one more record stands
-pub merging_more : (rs : List Record) (placed : List Bool) (heads order : List ℕ) (place thread next : ℕ) → IsMerging rs placed heads order → MayFollow rs placed place → ((i : ℕ) → i < place → MayFollow rs placed i → ⊥) → thread_at rs place ≡ Some thread → IsNextOf rs thread (place + 1) next → IsMerging rs (set placed place true) (set heads thread next) (order ++ place ∷ [])
+pub merging_more : (rs : List Record) (placed : List Bool) (heads order : List ℕ) (place thread next : ℕ) → IsMerging rs placed heads order → MayFollow rs placed place → ((i : ℕ) → i < place → MayFollow rs placed i → ⊥) → thread_at rs place ≡ Some thread → IsNextWith (thread_at rs) (length rs) thread (place + 1) next → IsMerging rs (set placed place true) (set heads thread next) (order ++ place ∷ [])
 merging_more rs placed heads order place thread next merging may first runs is_next = record {
   all = length-set placed place true ∙ merging.all;
   to_order = λ i stands. elim (stands_cases placed place i stands) [
@@ -337,66 +287,3 @@ first_unordered rs placed heads order i merging none within missing before = rec
 
 pub unordered_within : (rs : List Record) (i : ℕ) → HasCause rs i NoOrder → i < length rs
 unordered_within rs i (no_order h) = h.within
-
--- ---- the hint
-
--- one more record that awaits a creation
-early_cases : (creations : List (Option ℕ)) (n : ℕ) (early after : List Bool) → AreEarly creations n early → length after ≡ length early → ((c : ℕ) → slice_get early c ≡ Some true → slice_get after c ≡ Some true) → ((c : ℕ) → n < c → c < length creations → slice_get creations n ≡ Some (Some c) → slice_get after c ≡ Some true) → AreEarly creations (n + 1) after
-early_cases creations n early after are len still here = record {
-  all = len ∙ are.all;
-  each = λ i c below before within awaits. elim (cases_eq i n) [
-    | inl same ↦ here c (rw (← same) before) within (ap (slice_get creations) (sym same) ∙ awaits)
-    | inr apart ↦ still c (are.each i c (omega arith) before within awaits)
-  ];
-}
-
-pub early_marked : (creations : List (Option ℕ)) (n made : ℕ) (early : List Bool) → AreEarly creations n early → slice_get creations n ≡ Some (Some made) → made < length creations → AreEarly creations (n + 1) (set early made true)
-early_marked creations n made early are awaits within = early_cases creations n early (set early made true) are (length-set early made true) (λ c marked. stands_still early made c marked) (λ c before inside there. stands_same (set early made true) made c (same_Some made c (same_Some (Some made) (Some c) (sym awaits ∙ there))) (stands_here early made (rw are.all within)))
-
-pub early_other : (creations : List (Option ℕ)) (n : ℕ) (early : List Bool) → AreEarly creations n early → ((c : ℕ) → n < c → c < length creations → slice_get creations n ≡ Some (Some c) → ⊥) → AreEarly creations (n + 1) early
-early_other creations n early are none = early_cases creations n early early are refl (λ c marked. marked) (λ c before inside there. absurd (none c before inside there))
-
--- a step from the record to one before it in the file, which may stand once the record does
-no_step : (rs : List Record) → StartsOrFulfils rs → (creations : List (Option ℕ)) (early placed after : List Bool) (low place i : ℕ) → HaveCreations rs (length rs) creations → AreEarly creations (length creations) early → place < length rs → (Stands early place → ⊥) → (Stands placed place → ⊥) → IsLow rs placed low → IsLow rs after low → i < place → MayFollow rs after i → IsStep rs place i → ⊥
-no_step rs apart creations early placed after low place i awaits are_early within not_early missing is_low is_low' before may s = by s
-  where
-    awaited_behind : Awaits rs i place → ⊥
-    awaited_behind waits = not_early (are_early.each i place (rw awaits.all may.within) before (rw awaits.all within) (awaits.each i place may.within waits))
-
-    by : IsStep rs place i → ⊥
-    by (program (thread_order earlier inside there)) = absurd (omega (arith, earlier, before))
-    by (program (creation task creates start)) = awaited_behind (step_awaits rs apart place i (inr (inl (task, creates, start.starts))))
-    by (program (discard task creates gone)) = awaited_behind (step_awaits rs apart place i (inr (inr (task, creates, gone))))
-    by (program (fulfilment task creates done)) = awaited_behind (step_awaits rs apart place i (inl (task, creates, done)))
-    by (ledger finishes less) = elim (cases_lt (seen_at rs place) low) [
-      | inl below ↦ missing (is_low.below place finishes below)
-      | inr above ↦
-          let next = is_low'.next i (omega (arith, above, less)) in
-          next.3 (may.steps next.0 (ledger next.1 (let is = next.2 in omega (arith, is, above, less))))
-    ]
-
-pub hint_more : (rs : List Record) → StartsOrFulfils rs → (creations : List (Option ℕ)) (early placed : List Bool) (heads : List ℕ) (low now_low place thread next : ℕ) (found : Option ℕ) → HaveCreations rs (length rs) creations → AreEarly creations (length creations) early → place < length placed → MayFollow rs placed place → ((i : ℕ) → i < place → MayFollow rs placed i → ⊥) → thread < length heads → IsLow rs placed low → IsLow rs (set placed place true) now_low → HintsAt early place next low now_low found → IfSome found (IsHint rs (set placed place true) (set heads thread next))
-hint_more rs apart creations early placed heads low now_low place thread next None awaits are_early inside here before in_heads is_low is_low' hints = tt
-hint_more rs apart creations early placed heads low now_low place thread next (Some hint) awaits are_early inside here before in_heads is_low is_low' hints =
-    let h = hints hint refl in
-    record {
-      thread = thread;
-      low = rw (length-set heads thread next) in_heads;
-      head = get_or-set_same heads thread next 0 in_heads ∙ sym h.1;
-      none = λ i below. none_before (rw (← h.3) at is_low') h.2 i (omega (arith, below, h.0));
-    }
-  where
-    none_before : IsLow rs (set placed place true) low → (Stands early place → ⊥) → (i : ℕ) → i < place + 1 → MayFollow rs (set placed place true) i → ⊥
-    none_before same_low not_early i below may = elim (cases_eq i place) [
-      | inl same ↦ may.missing (let P : ℕ → Type 0 = λ j. Stands (set placed place true) j in subst P (sym same) (stands_here placed place inside))
-      | inr apart' ↦ before i (omega arith) (record {
-        within = may.within;
-        missing = λ stands. may.missing (stands_still placed place i stands);
-        steps = λ a s. elim (stands_cases placed place a (may.steps a s)) [
-          | inl old ↦ old
-          | inr same ↦
-              let P : ℕ → Type 0 = λ j. IsStep rs j i in
-              absurd (no_step rs apart creations early placed (set placed place true) low place i awaits are_early here.within not_early here.missing is_low same_low (omega arith) may (subst P same s))
-        ];
-      })
-    ]

@@ -17,7 +17,7 @@ use Rattle.ompt_events.specs.declared.cause.Cause.TheVariants.{EntryTwice, Lengt
 use Rattle.ompt_events.specs.Causes.{IsFreeOf, entries_in, entry_twice, length_ahead, entry}
 use Rattle.ompt_events.specs.Places.{at, seen_at}
 use Rattle.ompt_events.specs.HappensBefore.{IsFinishing}
-use Rattle.ompt_events.specs.Completion.{IsPartFinished, IsFinished, CountsAt, StartsTask}
+use Rattle.ompt_events.specs.Completion.{IsPartFinished, IsFinished, IsCompleteAt, CountsAt, StartsTask}
 use Rattle.task_tree.specs.Subjects.{object, Calls}
 use Rattle.task_tree.specs.Numbering.{AreApart}
 use Rattle.wait_coverage.specs.Entries.{IsDone}
@@ -62,6 +62,10 @@ finished_to rs A B task follows done = elim done [
   | inl whole ↦ inl (part_to rs A B task Whole follows whole)
   | inr both ↦ inr (part_to rs A B task Body follows both.0, part_to rs A B task Event follows both.1)
 ]
+
+-- what no entry at all is needed for is complete everywhere
+pub complete_from_start : (rs : List Record) (i task : ℕ) → IsDone rs 0 task → IsCompleteAt rs task i
+complete_from_start rs i task done = finished_to rs (λ k. seen_at rs k < 0) (CountsAt rs i) task (λ k there less. absurd (omega (arith, less))) done
 
 pub bound_by : (rs : List Record) (i bound : ℕ) → ((k : ℕ) → IsFinishing rs k → CountsAt rs i k → seen_at rs k < bound) → ((k : ℕ) → IsFinishing rs k → seen_at rs k < bound → CountsAt rs i k) → IsBound rs i bound
 bound_by rs i bound to back task = (

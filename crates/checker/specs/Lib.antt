@@ -5,5 +5,8 @@ pub mod Search
 pub mod Repeats
 pub mod Lengths
 pub mod Entries
+pub mod Orders
+pub mod Lists
+pub mod Queue
 pub mod Merge
 pub mod Starts

@@ -1,11 +1,15 @@
 -- The records while they are put into an order.
-use Rattle.std.specs.Prelude.{ℕ, ◌≡◌, ◌<◌, ◌≤◌, ◌+◌, List, length, Bool, true, Option, Some, slice_get, slice_index}
+use Rattle.std.specs.Prelude.{ℕ, ◌≡◌, ◌≢◌, ◌<◌, ◌≤◌, ◌+◌, ◌⊎◌, List, Contains, length, Bool, true, Option, None, Some, option_map, slice_get, slice_index, slice_index_or}
 use Rattle.std.specs.Option.{option_or}
 use Rattle.ompt_events.specs.declared.records.Record.{Record}
 use Rattle.ompt_events.specs.declared.records.Body.{Body}
 use Rattle.ompt_events.specs.Records.{created, started, discarded, fulfilled}
 use Rattle.ompt_events.specs.Places.{at, thread_at, seen_at}
 use Rattle.ompt_events.specs.HappensBefore.{IsFinishing, IsStep, HappensBefore}
+use Rattle.ompt_events.specs.declared.cause.Cause.TheVariants.{Moved}
+use Rattle.ompt_events.specs.Causes.{entries_in, IsFreeOf}
+use Rattle.checker.specs.Lists.{AreLists, IsRising}
+use Rattle.checker.specs.declared.waiting.Waiting.{Waiting}
 
 -- the task that the record fulfils, discards or starts: it was created before
 abbrev pub awaited : Body → Option ℕ
@@ -67,40 +71,49 @@ pub record IsReadyHead (rs : List Record) (creations : List (Option ℕ)) (place
   pub is_created : (c : ℕ) → slice_get creations i ≡ Some (Some c) → Stands placed c
   pub is_entered : seen_at rs i ≤ low
 
--- the head of a thread before which no record may stand next
-pub record IsHint (rs : List Record) (placed : List Bool) (heads : List ℕ) (hint : ℕ) : Type 0 where
-  pub thread : ℕ
-  pub low : thread < length heads
-  pub head : slice_index heads thread ≡ hint
-  pub none : (i : ℕ) → i < hint → MayFollow rs placed i → ⊥
+-- what is known while records are put in order: which stand, the head of each thread, and the ledger length
+-- that is reached
+pub record IsFront (rs : List Record) (creations : List (Option ℕ)) (placed : List Bool) (heads : List ℕ)
+    (low : ℕ) : Type 0 where
+  pub awaited : HaveCreations rs (length rs) creations
+  pub apart : StartsOrFulfils rs
+  pub at_home : IsFreeOf rs Moved
+  pub closed : AreClosed rs placed
+  pub are_heads : AreHeads rs placed heads
+  pub is_low : IsLow rs placed low
 
--- of the first n records each that awaits a creation behind it has that one marked
-pub record AreEarly (creations : List (Option ℕ)) (n : ℕ) (early : List Bool) : Type 0 where
-  pub all : length early ≡ length creations
-  pub each : (i c : ℕ) → i < n → i < c → c < length creations → slice_get creations i ≡ Some (Some c)
-      → slice_get early c ≡ Some true
+-- the places are those that may stand next, and perhaps some that stand already
+pub record AreReady (rs : List Record) (placed : List Bool) (ready : List ℕ) : Type 0 where
+  pub all : (i : ℕ) → MayFollow rs placed i → Contains ready i
+  pub only : (i : ℕ) → Contains ready i → Stands placed i ⊎ MayFollow rs placed i
 
--- the hint after a record that stands: the next in the file, of its thread too, where no record before it
--- awaits what this one creates, and the first entry that is missing is the same
-abbrev pub HintsAt : List Bool → ℕ → ℕ → ℕ → ℕ → Option ℕ → Type 0
-HintsAt early place next low now_low found =
-    (hint : ℕ) → found ≡ Some hint
-    → (hint ≡ place + 1) × (hint ≡ next) × (slice_get early place ≡ Some true → ⊥) × (low ≡ now_low)
+-- some that may stand next were put to them
+pub record AreMore (rs : List Record) (placed : List Bool) (old new : List ℕ) : Type 0 where
+  pub kept : (i : ℕ) → Contains old i → Contains new i
+  pub only : (i : ℕ) → Contains new i → Contains old i ⊎ MayFollow rs placed i
 
--- the first record of the thread from a place on; the number of records where there is none
-pub record IsNextOf (rs : List Record) (thread from next : ℕ) : Type 0 where
-  pub behind : from ≤ next
-  pub within : next ≤ length rs
-  pub none : (i : ℕ) → from ≤ i → i < next → thread_at rs i ≡ Some thread → ⊥
-  pub found : next < length rs → thread_at rs next ≡ Some thread
+-- one that may stand next and does not stand was taken from them, the least, and some that stand
+pub record IsTaken (rs : List Record) (placed : List Bool) (place : ℕ) (ready : List ℕ) : Type 0 where
+  pub next : MayFollow rs placed place
+  pub first : (i : ℕ) → i < place → MayFollow rs placed i → ⊥
+  pub kept : (i : ℕ) → i ≢ place → MayFollow rs placed i → Contains ready i
+  pub only : (i : ℕ) → Contains ready i → Stands placed i ⊎ MayFollow rs placed i
 
--- of each thread the first record from a place on
-pub record AreHeadsFrom (rs : List Record) (from : ℕ) (heads : List ℕ) : Type 0 where
-  pub all : (i thread : ℕ) → thread_at rs i ≡ Some thread → thread < length heads
-  pub each : (thread : ℕ) → thread < length heads → IsNextOf rs thread from (slice_index heads thread)
+-- the creation that each record awaits
+abbrev pub creation_of : List (Option ℕ) → ℕ → Option ℕ
+creation_of creations i = slice_index_or creations i None
 
--- for each record from a place on the next one of its thread
-pub record AreLinks (rs : List Record) (from : ℕ) (links : List ℕ) : Type 0 where
-  pub all : length links ≡ length rs
-  pub each : (i thread : ℕ) → from ≤ i → thread_at rs i ≡ Some thread
-      → IsNextOf rs thread (i + 1) (slice_index links i)
+-- the ledger length that each record names
+abbrev pub length_of : List Record → ℕ → Option ℕ
+length_of rs i = option_map (λ (r : Record). r.seen) (slice_get rs i)
+
+-- the lists are those of the records that await each creation, and that name each ledger length
+pub record AreWaiting (rs : List Record) (creations : List (Option ℕ)) (waiting : Waiting) : Type 0 where
+  pub awaiting : AreLists (creation_of creations) (length rs) 0 waiting.by_creation.firsts.items
+      waiting.by_creation.nexts.items
+  pub naming : AreLists (length_of rs) (length rs) 0 waiting.by_length.firsts.items
+      waiting.by_length.nexts.items
+  pub creations_rise : IsRising (length rs) waiting.by_creation.nexts.items
+  pub lengths_rise : IsRising (length rs) waiting.by_length.nexts.items
+  pub places : length waiting.by_creation.firsts.items ≡ length rs
+  pub lengths : length waiting.by_length.firsts.items ≡ entries_in rs + 1

@@ -1,7 +1,6 @@
 //! The check as a whole.
 ghost use Rattle.std.specs.Prelude.{ℕ, ◌≡◌, List, MatchOption, IfOk, IfErr, OnOk, length};
 ghost use Rattle.ompt_events.specs.declared.cause.Cause.TheVariants.{Moved};
-ghost use Rattle.ompt_events.specs.Places.{places};
 ghost use Rattle.ompt_events.specs.Linearization.{IsLinearization, IsGreedy};
 ghost use Rattle.ompt_events.specs.Causes.{entries_in, IsFreeOf};
 ghost use Rattle.task_tree.specs.Family.{IsFamilyOf};
@@ -66,9 +65,7 @@ fn verdict_of(alloc: Global, trace: &Trace) -> Result<Verdict, SearchFault>
     no_task_is_for_a_device(trace)?;
     match violation_of(alloc, trace, &family, &states, &teams, &edges)? {
         Some((at, why)) => Ok(Verdict::No { at, why }),
-        None => Ok(Verdict::Yes {
-            order: Order::from_vec(order),
-        }),
+        None => Ok(Verdict::Yes { order }),
     }
 }
 
@@ -251,34 +248,26 @@ fn order_of(
     trace: &Trace,
     creations: &[Slot],
     makers: &[usize],
-) -> Result<Vec<usize>, SearchFault>
+) -> Result<Order, SearchFault>
     requires clear { IsClear trace.now.records 14 }
     requires creations { HaveCreations trace.now.records (length trace.now.records) creations.now }
     requires makers { AreMakers trace.now.records (length trace.now.records) makers.now }
     requires entries { length makers.now ≡ entries_in trace.now.records }
     requires at_home { IsFreeOf trace.now.records Moved }
-    ensures linearization { IfOk result (λ order. IsLinearization trace.now.records order.items) }
-    ensures greedy { IfOk result (λ order. IsGreedy trace.now.records order.items) }
+    ensures linearization { IfOk result (IsLinearization trace.now.records) }
+    ensures greedy { IfOk result (IsGreedy trace.now.records) }
     ensures clear { OnOk result (IsClear trace.now.records 15) }
     ensures least { IfErr result (IsLeastFound trace.now.records) }
 {
     let records = trace.records();
     // A file in time order costs one pass.
     if is_in_order(records, creations) {
-        return Ok(file_order(alloc, records)?);
+        return Ok(Order::in_file(records.len()));
     }
-    find_order(alloc, records, creations, makers)
-}
-
-/// All places as they stand in the file.
-fn file_order(alloc: Global, records: &[Record]) -> Result<Vec<usize>, AllocError>
-    ensures { IfOk result (λ order. order.items ≡ places records.now) }
-{
-    let mut order = Vec::with_capacity(alloc, records.len())?;
-    for at in 0..records.len() {
-        order.push(at)?;
+    match find_order(alloc, records, creations, makers) {
+        Ok(places) => Ok(Order::from_vec(places)),
+        Err(fault) => Err(fault),
     }
-    Ok(order)
 }
 
 /// Excludes TargetTask.

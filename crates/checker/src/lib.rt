@@ -7,13 +7,17 @@
 
 mod checking;
 mod claims;
+mod front;
 mod lengths;
+mod lists;
 mod merge;
+mod queue;
 mod repeats;
 mod schedule;
 mod search;
 mod starts;
 mod verdict;
+mod waiting;
 
 pub use checking::check;
 pub use verdict::{CheckFault, Order, Verdict, Why};

@@ -1,5 +1,5 @@
 //! The first task that starts, or taskwait that is complete, before one of its predecessors is finished.
-ghost use Rattle.std.specs.Prelude.{ℕ, List, ◌≡◌, ◌<◌, ◌+◌, ◌≤◌, ◌^◌, ◌↔◌, IfOk, IfErr, IsTrue, MatchOption, OnOk, Some, false, length, replicate, slice_get, slice_index_or};
+ghost use Rattle.std.specs.Prelude.{ℕ, List, ◌≡◌, ◌<◌, ◌+◌, ◌≤◌, ◌^◌, ◌↔◌, IfOk, IfErr, IsTrue, MatchOption, OnOk, Some, false, length, replicate, slice_get, slice_index, slice_index_or};
 ghost use Rattle.ompt_events.specs.declared.cause.Cause.TheVariants.{EntryTwice, LengthAhead};
 ghost use Rattle.ompt_events.specs.Causes.{IsFreeOf};
 ghost use Rattle.ompt_events.specs.Traces.{IsTrace};
@@ -42,6 +42,9 @@ pub(crate) fn find_late_start(
     let Ok(latest) = edges.latest(alloc, own) else {
         return Err(SearchFault::Memory);
     };
+    if are_all_zero(&latest) {
+        return Ok(None);
+    }
     let mut started = no_starts(alloc, family.tasks().as_slice().len())?;
     for at in 0..records.len() {
         if let Some(task) = late_at(records, family, edges, own, &latest, &started, at)? {
@@ -50,6 +53,18 @@ pub(crate) fn find_late_start(
         note_start(records, family, &mut started, at);
     }
     Ok(None)
+}
+
+/// Whether no task has a predecessor that it might have to wait for.
+fn are_all_zero(latest: &[u64]) -> bool
+    ensures { IsTrue result → (index : ℕ) → index < length latest.now → slice_index latest.now index ≡ 0 }
+{
+    for length in latest {
+        if *length > 0 {
+            return false;
+        }
+    }
+    true
 }
 
 /// No task was started.

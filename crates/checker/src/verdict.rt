@@ -1,45 +1,84 @@
 //! What a check answers.
-ghost use Rattle.std.specs.Prelude.{◌≡◌};
+ghost use Rattle.std.specs.Prelude.{◌≡◌, length, slice_get};
+ghost use Rattle.std.specs.List.{range_with_len};
 
 use ompt_events::Cause;
 use std::marker::Model;
 use thiserror::Error;
 
-/// Places of records in an order, which contracts see as a list.
+/// The records of a trace in some order, which contracts see as the list of their places.
 #[derive(Debug, Drop)]
 pub struct Order {
-    places: Vec<usize>,
+    places: Places,
+}
+
+/// Places of records, the earliest first.
+#[derive(Debug, Drop)]
+enum Places {
+    /// So many records as they stand in the file.
+    InFile(usize),
+    /// These.
+    Listed(Vec<usize>),
 }
 
 impl Model for Order {
     ghost use Rattle.std.specs.Prelude.{List, ℕ};
+    ghost use Rattle.checker.specs.Orders.{list_of};
 
     ghost Value = { List ℕ };
 
-    ghost view = { λ order. order.places.items };
+    ghost view = { λ order. list_of order.places };
 }
 
 impl Order {
+    /// So many records as they stand in the file. Takes no memory.
+    pub fn in_file(records: usize) -> Order
+        ensures { result ≡ range_with_len 0 records }
+    {
+        Order {
+            places: Places::InFile(records),
+        }
+    }
+
     /// The order of these places. Takes no memory.
     pub fn from_vec(places: Vec<usize>) -> Order
         ensures { result ≡ places.items }
     {
-        Order { places }
+        Order {
+            places: Places::Listed(places),
+        }
     }
 
-    /// The places, the earliest first.
-    pub fn as_slice(&self) -> &[usize]
-        ensures { result.now ≡ self.now }
+    /// How many records.
+    pub fn len(&self) -> usize
+        ensures { result ≡ length self.now }
     {
-        self.places.as_slice()
+        match &self.places {
+            Places::InFile(records) => *records,
+            Places::Listed(list) => list.len(),
+        }
     }
 
-    /// The places, given back. Takes no memory.
-    pub fn into_vec(self) -> Vec<usize>
-        ensures { result.items ≡ self }
+    /// The place of the record that has so many before it in the order, from 0; none past the end.
+    pub fn place_at(&self, before: usize) -> Option<usize>
+        ensures { result ≡ slice_get self.now before }
     {
-        let Order { places: list } = self;
-        list
+        match &self.places {
+            Places::InFile(records) => {
+                if before < *records {
+                    Some(before)
+                } else {
+                    None
+                }
+            }
+            Places::Listed(list) => {
+                if before < list.len() {
+                    Some(list[before])
+                } else {
+                    None
+                }
+            }
+        }
     }
 }
 

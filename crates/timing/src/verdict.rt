@@ -2,8 +2,9 @@
 use crate::lines::told;
 use anyhow::{Result, bail};
 use certificate::{FromRead, read};
-use checker::check;
+use checker::{Order, Verdict, check};
 use ompt_events::Trace;
+use std::alloc::{AllocError, Global};
 use task_states::{gap, target};
 
 /// Prints the answers of the calls on the trace of standard input.
@@ -19,7 +20,23 @@ fn of_trace(rt: &HostRuntime, trace: &Trace) -> Result<()> {
     let gap = gap(trace);
     let target = target(trace);
     println!(rt; "gap {gap:?}, target {target:?}")?;
-    let verdict = check(rt.alloc(), trace)?;
-    println!(rt; "{verdict:?}")?;
+    match check(rt.alloc(), trace)? {
+        Verdict::Yes { order } => {
+            let places = places_of(rt.alloc(), &order)?;
+            println!(rt; "yes, order {places:?}")?;
+        }
+        other => println!(rt; "{other:?}")?,
+    }
     Ok(())
+}
+
+/// The places in the order, the earliest first.
+fn places_of(alloc: Global, order: &Order) -> Result<Vec<usize>, AllocError> {
+    let mut places = Vec::with_capacity(alloc, order.len())?;
+    for before in 0..order.len() {
+        if let Some(place) = order.place_at(before) {
+            places.push(place)?;
+        }
+    }
+    Ok(places)
 }

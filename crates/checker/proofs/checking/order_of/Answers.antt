@@ -1,7 +1,5 @@
 use Rattle.std.proofs.Common.{ℕ, ◌≡◌, ◌<◌, refl, arith}
-use Rattle.std.proofs.lemmas.Result.{IfErr-weaker, on_ok_weaker}
 use Rattle.ompt_events.specs.declared.cause.Cause.TheVariants.{LengthAhead, NoOrder}
-use Rattle.ompt_events.specs.Places.{places}
 use Rattle.ompt_events.specs.HappensBefore.{IsStep}
 use Rattle.checker.proofs.PhaseLemmas.{least_more, clear_more, only_least, only_clear}
 use Rattle.checker.proofs.ScheduleLemmas.{trace_apart}
@@ -10,15 +8,15 @@ use Rattle.checker.proofs.checking.order_of.Goals as goal
 
 pub returns-then-is_in_order-clause-linearization : goal.returns-then-is_in_order-clause-linearization
 returns-then-is_in_order-clause-linearization c =
-    let steps : (a b : ℕ) → IsStep c.args.trace.now.records a b → a < b = rw c.records-records.ensures.value at (c.is_in_order.ensures c.if-is_in_order.true) in
-    let same : c.in_ok-file_order.field-0.items ≡ places c.args.trace.now.records = rw c.records-records.ensures.value at c.in_ok-file_order.ensures in
-    rw same (file_linear c.args.trace.now.records steps)
+    let rs = c.args.trace.now.records in
+    let steps : (a b : ℕ) → IsStep rs a b → a < b = rw c.records-records.ensures.value at (c.is_in_order.ensures c.if-is_in_order.true) in
+    rw (c.in_file.ensures, c.records-records.ensures.value) (file_linear rs steps)
 
 pub returns-then-is_in_order-clause-greedy : goal.returns-then-is_in_order-clause-greedy
 returns-then-is_in_order-clause-greedy c =
-    let steps : (a b : ℕ) → IsStep c.args.trace.now.records a b → a < b = rw c.records-records.ensures.value at (c.is_in_order.ensures c.if-is_in_order.true) in
-    let same : c.in_ok-file_order.field-0.items ≡ places c.args.trace.now.records = rw c.records-records.ensures.value at c.in_ok-file_order.ensures in
-    rw same (file_greedy c.args.trace.now.records steps)
+    let rs = c.args.trace.now.records in
+    let steps : (a b : ℕ) → IsStep rs a b → a < b = rw c.records-records.ensures.value at (c.is_in_order.ensures c.if-is_in_order.true) in
+    rw (c.in_file.ensures, c.records-records.ensures.value) (file_greedy rs steps)
 
 pub returns-then-is_in_order-clause-clear : goal.returns-then-is_in_order-clause-clear
 returns-then-is_in_order-clause-clear c =
@@ -35,10 +33,12 @@ find_order-requires-clause-apart c = trace_apart c.records-records.result.now c.
 pub find_order-requires-clause-reached : goal.find_order-requires-clause-reached
 find_order-requires-clause-reached c = rw c.records-records.ensures.value (c.requires.clear LengthAhead (12, omega arith, refl))
 
-pub returns-clause-clear : goal.returns-clause-clear
-returns-clause-clear c =
+pub returns-in-Ok-clause-clear : goal.returns-in-Ok-clause-clear
+returns-in-Ok-clause-clear c =
     let rs = c.args.trace.now.records in
-    on_ok_weaker c.find_order.result (λ free. clear_more rs 14 1 c.requires.clear (only_clear rs NoOrder free)) (rw c.records-records.ensures.value at c.find_order.ensures.free)
+    clear_more rs 14 1 c.requires.clear (only_clear rs NoOrder (rw c.records-records.ensures.value at c.in-Ok.ensures.free))
 
-pub returns-clause-least : goal.returns-clause-least
-returns-clause-least c = IfErr-weaker c.find_order.result _ _ (λ fault found. least_more c.args.trace.now.records 14 1 fault c.requires.clear (only_least c.args.trace.now.records NoOrder fault found)) (rw c.records-records.ensures.value at c.find_order.ensures.found)
+pub returns-in-Err-clause-least : goal.returns-in-Err-clause-least
+returns-in-Err-clause-least c =
+    let rs = c.args.trace.now.records in
+    least_more rs 14 1 c.in-Err.fault c.requires.clear (only_least rs NoOrder c.in-Err.fault (rw c.records-records.ensures.value at c.in-Err.ensures.found))

@@ -15,7 +15,7 @@ pub returns-clause-verdict : goal.returns-clause-verdict
 returns-clause-verdict c =
     let rs = c.args.trace.now.records in
     let complete : (i : ℕ) → AreComplete rs i = rw c.in-None.is at c.in_ok-at.ensures.found in
-    rw c.from_vec.ensures (approved rs c.in_ok-order.order.items c.in_ok-no_task_is_for_a_device.ensures.clear c.in_ok-order.ensures.linearization c.in_ok-order.ensures.greedy complete)
+    approved rs c.in_ok-order.order c.in_ok-no_task_is_for_a_device.ensures.clear c.in_ok-order.ensures.linearization c.in_ok-order.ensures.greedy complete
 
 pub returns-in-Some-clause-verdict : goal.returns-in-Some-clause-verdict
 returns-in-Some-clause-verdict c =

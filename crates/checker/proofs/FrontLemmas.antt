@@ -1,0 +1,211 @@
+-- Which records may stand next, and what a record more lets stand.
+use Rattle.std.proofs.Common.{zero, suc, ◌≡◌, ◌≢◌, ◌∙◌, ◌<◌, ◌≤◌, ◌+◌, ℕ, List, [], ◌∷◌, length, Option, Some, None, Bool, true, refl, sym, ap, subst, arith, inl, inr, ◌⊎◌, set}
+use Rattle.std.proofs.lemmas.Bool.{cases_eq, cases_lt}
+use Rattle.std.proofs.lemmas.Option.{none-some, same_Some, slice_get-get_or, slice_get_within}
+use Rattle.std.proofs.lemmas.List.{get_or-set_other}
+use Rattle.std.proofs.lemmas.List.Sorted.{Contains-permutation, IsPermutation-sym, length_permutation}
+use Rattle.std.proofs.lemmas.List.Elements.{Contains-append_right}
+use Rattle.std.proofs.lemmas.Map.Made.{Contains-tail}
+use Rattle.std.specs.Option.{option_map_or}
+use Rattle.std.specs.Prelude.{Contains, IsPermutation, slice_get, slice_index, option_map}
+use Rattle.ompt_events.specs.declared.records.Record.{Record}
+use Rattle.ompt_events.specs.Places.{thread_at, seen_at}
+use Rattle.ompt_events.specs.declared.cause.Cause.TheVariants.{Moved}
+use Rattle.ompt_events.specs.Causes.{IsFreeOf}
+use Rattle.checker.specs.Merge.{HaveCreations, StartsOrFulfils, Stands, MayFollow, AreHeads, IsLow, IsFront, IsReadyHead, AreReady, AreMore, IsTaken, creation_of, length_of}
+use Rattle.checker.proofs.MergeLemmas.{may_follow, ready_head, is_head, thread_of}
+use Rattle.checker.proofs.MergingLemmas.{IsMerging, merging_closed, stands_here, stands_still, stands_cases}
+
+-- ---- the test
+
+pub follows : (rs : List Record) (creations : List (Option ℕ)) (placed : List Bool) (heads : List ℕ) (low thread i : ℕ) → IsFront rs creations placed heads low → thread_at rs i ≡ Some thread → slice_index heads thread ≡ i → IsReadyHead rs creations placed low i → MayFollow rs placed i
+follows rs creations placed heads low thread i front runs is ready = may_follow rs front.apart creations placed heads low thread i front.awaited front.are_heads front.is_low (front.are_heads.all i thread runs) is ready
+
+pub passes : (rs : List Record) (creations : List (Option ℕ)) (placed : List Bool) (heads : List ℕ) (low i : ℕ) → IsFront rs creations placed heads low → MayFollow rs placed i → IsReadyHead rs creations placed low i
+passes rs creations placed heads low i front may = ready_head rs creations placed low i front.at_home front.closed front.awaited front.is_low may
+
+-- ---- the queue
+
+contains_first : (x : ℕ) (xs : List ℕ) → Contains (x ∷ xs) x
+contains_first x xs = (0, omega arith, refl)
+
+contains_behind : (x y : ℕ) (xs : List ℕ) → Contains xs x → Contains (y ∷ xs) x
+contains_behind x y xs c = Contains-append_right (y ∷ []) xs x c
+
+contains_cases : (x y : ℕ) (xs : List ℕ) → Contains (y ∷ xs) x → (x ≡ y) ⊎ Contains xs x
+contains_cases x y xs c = elim (cases_eq x y) [
+  | inl same ↦ inl same
+  | inr apart ↦ inr (Contains-tail y xs x (λ same. apart (sym same)) c)
+]
+
+pub more_refl : (rs : List Record) (placed : List Bool) (old : List ℕ) → AreMore rs placed old old
+more_refl rs placed old = record {
+  kept = λ i c. c;
+  only = λ i c. inl c;
+}
+
+pub more_then : (rs : List Record) (placed : List Bool) (old mid new : List ℕ) → AreMore rs placed old mid → AreMore rs placed mid new → AreMore rs placed old new
+more_then rs placed old mid new first second = record {
+  kept = λ i c. second.kept i (first.kept i c);
+  only = λ i c. elim (second.only i c) [
+    | inl before ↦ first.only i before
+    | inr may ↦ inr may
+  ];
+}
+
+pub more_put : (rs : List Record) (placed : List Bool) (place : ℕ) (old new : List ℕ) → IsPermutation (place ∷ old) new → MayFollow rs placed place → AreMore rs placed old new
+more_put rs placed place old new moved may = record {
+  kept = λ i c. Contains-permutation (place ∷ old) new i moved (contains_behind i place old c);
+  only = λ i c. elim (contains_cases i place old (Contains-permutation new (place ∷ old) i (IsPermutation-sym (place ∷ old) new moved) c)) [
+    | inl same ↦ inr (rw same may)
+    | inr before ↦ inl before
+  ];
+}
+
+pub has_put : (place : ℕ) (old new : List ℕ) → IsPermutation (place ∷ old) new → Contains new place
+has_put place old new moved = Contains-permutation (place ∷ old) new place moved (contains_first place old)
+
+pub one_less : (place : ℕ) (old new : List ℕ) → IsPermutation old (place ∷ new) → length new < length old
+one_less place old new moved = let same = length_permutation old (place ∷ new) moved in omega (arith, same)
+
+-- a place that stands is taken out
+pub ready_less : (rs : List Record) (placed : List Bool) (place : ℕ) (old new : List ℕ) → IsPermutation old (place ∷ new) → Stands placed place → AreReady rs placed old → AreReady rs placed new
+ready_less rs placed place old new moved stands ready = record {
+  all = λ i may. elim (contains_cases i place new (Contains-permutation old (place ∷ new) i moved (ready.all i may))) [
+    | inl same ↦ absurd (may.missing (rw same stands))
+    | inr c ↦ c
+  ];
+  only = λ i c. ready.only i (Contains-permutation (place ∷ new) old i (IsPermutation-sym old (place ∷ new) moved) (contains_behind i place new c));
+}
+
+-- one that does not stand is taken out, the least
+pub ready_taken : (rs : List Record) (placed : List Bool) (place : ℕ) (old new : List ℕ) → IsPermutation old (place ∷ new) → (Stands placed place → ⊥) → ((i : ℕ) → Contains old i → place ≤ i) → AreReady rs placed old → IsTaken rs placed place new
+ready_taken rs placed place old new moved missing least ready = record {
+  next = elim (ready.only place (Contains-permutation (place ∷ new) old place (IsPermutation-sym old (place ∷ new) moved) (contains_first place new))) [
+    | inl stands ↦ absurd (missing stands)
+    | inr may ↦ may
+  ];
+  first = λ i below may. let h = least i (ready.all i may) in absurd (omega (arith, below, h));
+  kept = λ i apart may. elim (contains_cases i place new (Contains-permutation old (place ∷ new) i moved (ready.all i may))) [
+    | inl same ↦ absurd (apart same)
+    | inr c ↦ c
+  ];
+  only = λ i c. ready.only i (Contains-permutation (place ∷ new) old i (IsPermutation-sym old (place ∷ new) moved) (contains_behind i place new c));
+}
+
+pub none_ready_here : (rs : List Record) (placed : List Bool) (ready : List ℕ) → length ready ≡ 0 → AreReady rs placed ready → (i : ℕ) → MayFollow rs placed i → ⊥
+none_ready_here rs placed ready none are i may =
+    let c = are.all i may in
+    let low = c.1 in
+    absurd (omega (arith, low, none))
+
+-- each record that may stand next is the head of its thread
+pub head_of : (rs : List Record) (placed : List Bool) (heads : List ℕ) (i : ℕ) → AreHeads rs placed heads → MayFollow rs placed i → (thread : ℕ) × (thread < length heads) × (slice_index heads thread ≡ i)
+head_of rs placed heads i are may =
+    let thread = thread_of rs i may.within in
+    (thread.0, are.all i thread.0 thread.1, is_head rs placed heads i thread.0 are thread.1 may)
+
+-- ---- one record more
+
+cases_option : (o : Option ℕ) (x : ℕ) → (o ≡ Some x) ⊎ (o ≡ Some x → ⊥)
+cases_option None x = inr (λ e. none-some x e)
+cases_option (Some y) x = elim (cases_eq y x) [
+  | inl same ↦ inl (ap Some same)
+  | inr apart ↦ inr (λ e. apart (same_Some y x e))
+]
+
+creation_got : (creations : List (Option ℕ)) (i c : ℕ) → slice_get creations i ≡ Some (Some c) → creation_of creations i ≡ Some c
+creation_got creations i c awaits = same_Some (creation_of creations i) (Some c) (sym (slice_get-get_or creations i None (slice_get_within creations i (Some c) awaits)) ∙ awaits)
+
+length_named : (rs : List Record) (i : ℕ) → i < length rs → length_of rs i ≡ Some (seen_at rs i)
+length_named rs i within = named (slice_get rs i) refl
+  where
+    named : (o : Option Record) → slice_get rs i ≡ o → length_of rs i ≡ Some (seen_at rs i)
+    named None e = absurd (none-some (thread_of rs i within).0 (sym (ap (option_map (λ (r : Record). r.thread)) e) ∙ (thread_of rs i within).1))
+    named (Some r) e = ap (option_map (λ (q : Record). q.seen)) e ∙ ap Some (sym (ap (λ (o : Option Record). option_map_or (λ (q : Record). q.seen) o 0) e))
+
+-- one that may stand next once the place does could do so before, or follows it in its thread, or awaits it,
+-- or names a ledger length that was not reached
+let_stand : (rs : List Record) (creations : List (Option ℕ)) (placed : List Bool) (heads : List ℕ) (low now_low place thread next i : ℕ) → IsFront rs creations placed heads low → IsFront rs creations (set placed place true) (set heads thread next) now_low → thread_at rs place ≡ Some thread → slice_index (set heads thread next) thread ≡ next → place < length placed → MayFollow rs (set placed place true) i → (i ≡ next) ⊎ ((creation_of creations i ≡ Some place) ⊎ (((k : ℕ) × (low < k) × (k ≤ now_low) × (length_of rs i ≡ Some k)) ⊎ MayFollow rs placed i))
+let_stand rs creations placed heads low now_low place thread next i before after runs is_next inside may = elim (cases_eq own.0 thread) [
+  | inl same ↦ inl (sym head_is ∙ ap (slice_index (set heads thread next)) same ∙ is_next)
+  | inr apart ↦ of_another apart
+]
+  where
+    own : (t : ℕ) × (thread_at rs i ≡ Some t)
+    own = thread_of rs i may.within
+
+    head_is : slice_index (set heads thread next) own.0 ≡ i
+    head_is = is_head rs (set placed place true) (set heads thread next) i own.0 after.are_heads own.1 may
+
+    passes_now : IsReadyHead rs creations (set placed place true) now_low i
+    passes_now = passes rs creations (set placed place true) (set heads thread next) now_low i after may
+
+    stood : (creation_of creations i ≡ Some place → ⊥) → (c : ℕ) → slice_get creations i ≡ Some (Some c) → Stands placed c
+    stood other c awaits = elim (stands_cases placed place c (passes_now.is_created c awaits)) [
+      | inl old ↦ old
+      | inr same ↦ absurd (other (creation_got creations i c awaits ∙ ap Some same))
+    ]
+
+    of_another : own.0 ≢ thread → (i ≡ next) ⊎ ((creation_of creations i ≡ Some place) ⊎ (((k : ℕ) × (low < k) × (k ≤ now_low) × (length_of rs i ≡ Some k)) ⊎ MayFollow rs placed i))
+    of_another apart = elim (cases_option (creation_of creations i) place) [
+      | inl awaits ↦ inr (inl awaits)
+      | inr other ↦ elim (cases_lt low (seen_at rs i)) [
+        | inl more ↦ inr (inr (inl (seen_at rs i, more, passes_now.is_entered, length_named rs i may.within)))
+        | inr reached ↦ inr (inr (inr (follows rs creations placed heads low own.0 i before own.1 (sym (get_or-set_other heads thread own.0 next 0 apart) ∙ head_is) (record {
+          within = may.within;
+          is_created = stood other;
+          is_entered = reached;
+        }))))
+      ]
+    ]
+
+-- all that may stand next are among those that were ready and those that were offered
+pub ready_more : (rs : List Record) (creations : List (Option ℕ)) (placed : List Bool) (heads : List ℕ) (low now_low place thread next : ℕ) (rest ready : List ℕ) → IsFront rs creations placed heads low → IsFront rs creations (set placed place true) (set heads thread next) now_low → thread_at rs place ≡ Some thread → slice_index (set heads thread next) thread ≡ next → place < length placed → IsTaken rs placed place rest → AreMore rs (set placed place true) rest ready → (MayFollow rs (set placed place true) next → Contains ready next) → ((i : ℕ) → creation_of creations i ≡ Some place → MayFollow rs (set placed place true) i → Contains ready i) → ((i k : ℕ) → low + 1 ≤ k → k < now_low + 1 → length_of rs i ≡ Some k → MayFollow rs (set placed place true) i → Contains ready i) → AreReady rs (set placed place true) ready
+ready_more rs creations placed heads low now_low place thread next rest ready before after runs is_next inside taken more of_thread of_creation of_length = record {
+  all = λ i may. elim (let_stand rs creations placed heads low now_low place thread next i before after runs is_next inside may) [
+    | inl same ↦ let P : ℕ → Type 0 = λ j. Contains ready j in subst P (sym same) (of_thread (rw same at may))
+    | inr (inl awaits) ↦ of_creation i awaits may
+    | inr (inr (inl names)) ↦ of_length i names.0 (let l = names.1 in omega (arith, l)) (let l = names.2 in omega (arith, l)) names.3 may
+    | inr (inr (inr could)) ↦ more.kept i (taken.kept i (λ same. may.missing (rw same (stands_here placed place inside))) could)
+  ];
+  only = λ i c. elim (more.only i c) [
+    | inr may ↦ inr may
+    | inl old ↦ still i (taken.only i old)
+  ];
+}
+  where
+    still : (i : ℕ) → Stands placed i ⊎ MayFollow rs placed i → Stands (set placed place true) i ⊎ MayFollow rs (set placed place true) i
+    still i (inl stands) = inl (stands_still placed place i stands)
+    still i (inr may) = elim (cases_eq i place) [
+      | inl same ↦ inl (rw same (stands_here placed place inside))
+      | inr apart ↦ inr (record {
+        within = may.within;
+        missing = λ stands. elim (stands_cases placed place i stands) [
+          | inl old ↦ may.missing old
+          | inr same ↦ apart same
+        ];
+        steps = λ a s. stands_still placed place a (may.steps a s);
+      })
+    ]
+
+-- where none was ready, just those that may stand next are
+pub ready_first : (rs : List Record) (placed : List Bool) (none ready : List ℕ) → ((i : ℕ) → Contains none i → ⊥) → AreMore rs placed none ready → ((i : ℕ) → MayFollow rs placed i → Contains ready i) → AreReady rs placed ready
+ready_first rs placed none ready empty more all = record {
+  all = all;
+  only = λ i c. elim (more.only i c) [
+    | inl old ↦ absurd (empty i old)
+    | inr may ↦ inr may
+  ];
+}
+
+-- what the merge knows of what stands
+pub front_merged : (rs : List Record) (creations : List (Option ℕ)) (placed : List Bool) (heads order : List ℕ) (low : ℕ) → HaveCreations rs (length rs) creations → StartsOrFulfils rs → IsFreeOf rs Moved → IsMerging rs placed heads order → IsLow rs placed low → IsFront rs creations placed heads low
+front_merged rs creations placed heads order low awaits apart at_home merging is_low = record {
+  awaited = awaits;
+  apart = apart;
+  at_home = at_home;
+  closed = merging_closed rs placed heads order merging;
+  are_heads = merging.are_heads;
+  is_low = is_low;
+}

@@ -1,0 +1,17 @@
+use Rattle.std.proofs.Common.{◌≡◌, ◌<◌, ◌-◌, ℕ, Option, Some, length}
+use Rattle.std.specs.Prelude.{Contains}
+use Rattle.checker.specs.Lists.{AreLists}
+use Rattle.checker.specs.Merge.{MayFollow, AreMore}
+use Rattle.checker.proofs.front.Front.offer_list.Given as goal
+
+-- the places of the list before this one are offered
+abbrev pub invariant-list : goal.invariant-list
+invariant-list l = record {
+  more : AreMore l.self.records.now l.self.placed.now l.initial.ready l.ready;
+  offered : (of : ℕ → Option ℕ) → AreLists of (length l.self.records.now) 0 l.lists.firsts.items l.lists.nexts.items
+      → ((i : ℕ) → i < l.place → of i ≡ Some l.key → MayFollow l.self.records.now l.self.placed.now i → Contains l.ready i)
+      × (l.place < length l.self.records.now → of l.place ≡ Some l.key);
+}
+
+abbrev pub decreases-list : goal.decreases-list
+decreases-list l = length l.self.records.now - l.place

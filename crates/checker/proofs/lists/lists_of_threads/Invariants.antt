@@ -1,0 +1,12 @@
+use Rattle.std.proofs.Common.{◌≡◌, ◌<◌, ◌+◌, ℕ, Some, length}
+use Rattle.ompt_events.specs.Places.{thread_at}
+use Rattle.checker.specs.Lists.{AreLists, IsRising}
+use Rattle.checker.proofs.lists.lists_of_threads.Given as goal
+
+-- from the end on the records so far are in their lists
+abbrev pub invariant-loop-step : goal.invariant-loop-step
+invariant-loop-step l = record {
+  keys : (i thread : ℕ) → thread_at l.records i ≡ Some thread → thread < length l.lists.firsts.items;
+  lists : (from : ℕ) → from + l.step ≡ length l.records → AreLists (thread_at l.records) (length l.records) from l.lists.firsts.items l.lists.nexts.items;
+  rising : IsRising (length l.records) l.lists.nexts.items;
+}

@@ -1,0 +1,20 @@
+-- Places in lists, one list for each key, each in rising order.
+use Rattle.std.specs.Prelude.{ℕ, ◌≡◌, ◌<◌, ◌≤◌, ◌+◌, List, length, Option, Some, slice_index}
+
+-- the first of n places from one on that has the key; n where there is none
+pub record IsNextWith (key : ℕ → Option ℕ) (n k from next : ℕ) : Type 0 where
+  pub behind : from ≤ next
+  pub within : next ≤ n
+  pub none : (i : ℕ) → from ≤ i → i < next → key i ≡ Some k → ⊥
+  pub found : next < n → key next ≡ Some k
+
+-- of n places those from one on: by key the first, and by place the next with its key
+pub record AreLists (key : ℕ → Option ℕ) (n from : ℕ) (firsts nexts : List ℕ) : Type 0 where
+  pub first : (k : ℕ) → k < length firsts → IsNextWith key n k from (slice_index firsts k)
+  pub next : (i k : ℕ) → from ≤ i → i < n → key i ≡ Some k
+      → IsNextWith key n k (i + 1) (slice_index nexts i)
+
+-- each of n places has a later one behind it, or the end
+pub record IsRising (n : ℕ) (nexts : List ℕ) : Type 0 where
+  pub all : length nexts ≡ n
+  pub later : (i : ℕ) → i < n → i < slice_index nexts i

@@ -1,0 +1,176 @@
+//! Which records may stand next, while records are put in order.
+ghost use Rattle.std.specs.Prelude.{ℕ, ◌≡◌, ◌<◌, ◌≤◌, ◌↔◌, List, Option, Some, IsTrue, OnOk, IfNone, IfSome, Contains, length, slice_get, slice_index};
+ghost use Rattle.ompt_events.specs.declared.records.Record.{Record};
+ghost use Rattle.ompt_events.specs.Places.{thread_at};
+ghost use Rattle.checker.specs.Lists.{AreLists, IsRising};
+ghost use Rattle.checker.specs.Merge.{Stands, MayFollow, IsFront, IsReadyHead, AreReady, AreMore, IsTaken};
+
+use crate::lists::Lists;
+use crate::queue::Queue;
+use ompt_events::Record;
+use std::alloc::AllocError;
+use task_tree::Slot;
+
+/// How far the records are put in order: which stand, the first of each thread that does not, and the ledger
+/// length that is reached.
+#[derive(Clone, Copy)]
+pub(crate) struct Front<'a> {
+    pub(crate) records: &'a [Record],
+    pub(crate) creations: &'a [Slot],
+    pub(crate) placed: &'a [bool],
+    pub(crate) heads: &'a [u32],
+    pub(crate) low: usize,
+}
+
+impl Front<'_> {
+    /// Puts each record that may stand next to the others.
+    pub(crate) fn offer_heads(&self, ready: &mut Queue) -> Result<(), AllocError>
+        requires front { IsFront self.now.records.now self.now.creations.now self.now.placed.now
+            self.now.heads.now self.now.low }
+        ensures more { OnOk result (AreMore self.now.records.now self.now.placed.now ready.old ready.new) }
+        ensures all { OnOk result ((i : ℕ) → MayFollow self.now.records.now self.now.placed.now i
+            → Contains ready.new i) }
+    {
+        for head in self.heads {
+            self.offer(ready, *head as usize)?;
+        }
+        Ok(())
+    }
+
+    /// Puts the record to those that may stand next, if it may.
+    pub(crate) fn offer(&self, ready: &mut Queue, place: usize) -> Result<(), AllocError>
+        requires front { IsFront self.now.records.now self.now.creations.now self.now.placed.now
+            self.now.heads.now self.now.low }
+        ensures more { OnOk result (AreMore self.now.records.now self.now.placed.now ready.old ready.new) }
+        ensures offered { OnOk result (MayFollow self.now.records.now self.now.placed.now place
+            → Contains ready.new place) }
+    {
+        if place < self.records.len() && self.may_follow(place) {
+            ready.put(place)?;
+        }
+        Ok(())
+    }
+
+    /// Does that for each record of one list.
+    pub(crate) fn offer_list(
+        &self,
+        ready: &mut Queue,
+        lists: &Lists,
+        key: usize,
+    ) -> Result<(), AllocError>
+        requires front { IsFront self.now.records.now self.now.creations.now self.now.placed.now
+            self.now.heads.now self.now.low }
+        requires key { key < length lists.now.firsts.items }
+        requires rising { IsRising (length self.now.records.now) lists.now.nexts.items }
+        ensures more { OnOk result (AreMore self.now.records.now self.now.placed.now ready.old ready.new) }
+        ensures offered { OnOk result ((of : ℕ → Option ℕ)
+            → AreLists of (length self.now.records.now) 0 lists.now.firsts.items lists.now.nexts.items
+            → (i : ℕ) → of i ≡ Some key → MayFollow self.now.records.now self.now.placed.now i
+            → Contains ready.new i) }
+    {
+        let mut place = lists.firsts[key] as usize;
+        'list: while place < self.records.len() {
+            self.offer(ready, place)?;
+            place = lists.nexts[place] as usize;
+        }
+        Ok(())
+    }
+
+    /// Does that for each record of the lists from one to another.
+    pub(crate) fn offer_lists(
+        &self,
+        ready: &mut Queue,
+        lists: &Lists,
+        from: usize,
+        to: usize,
+    ) -> Result<(), AllocError>
+        requires front { IsFront self.now.records.now self.now.creations.now self.now.placed.now
+            self.now.heads.now self.now.low }
+        requires keys { to ≤ length lists.now.firsts.items }
+        requires rising { IsRising (length self.now.records.now) lists.now.nexts.items }
+        ensures more { OnOk result (AreMore self.now.records.now self.now.placed.now ready.old ready.new) }
+        ensures offered { OnOk result ((of : ℕ → Option ℕ)
+            → AreLists of (length self.now.records.now) 0 lists.now.firsts.items lists.now.nexts.items
+            → (i key : ℕ) → from ≤ key → key < to → of i ≡ Some key
+            → MayFollow self.now.records.now self.now.placed.now i → Contains ready.new i) }
+    {
+        for key in from..to {
+            self.offer_list(ready, lists, key)?;
+        }
+        Ok(())
+    }
+
+    /// Whether the record at a place is the first of its thread that does not stand, the creation that it
+    /// awaits stands, and the ledger length that it names is reached.
+    fn may_follow(&self, place: usize) -> bool
+        requires within { place < length self.now.records.now }
+        requires front { IsFront self.now.records.now self.now.creations.now self.now.placed.now
+            self.now.heads.now self.now.low }
+        ensures { IsTrue result ↔ MayFollow self.now.records.now self.now.placed.now place }
+    {
+        self.is_head(place) && self.is_ready(place)
+    }
+
+    /// Whether the record at a place is the first of its thread that does not stand.
+    fn is_head(&self, place: usize) -> bool
+        requires within { place < length self.now.records.now }
+        requires heads { (i thread : ℕ) → thread_at self.now.records.now i ≡ Some thread
+            → thread < length self.now.heads.now }
+        ensures { (thread : ℕ) → thread_at self.now.records.now place ≡ Some thread
+            → IsTrue result ↔ (slice_index self.now.heads.now thread ≡ place) }
+    {
+        self.heads[usize::from(self.records[place].thread)] as usize == place
+    }
+
+    /// Whether the creation that the record awaits stands, and the ledger length that it names is reached.
+    fn is_ready(&self, place: usize) -> bool
+        requires within { place < length self.now.records.now }
+        requires each { length self.now.creations.now ≡ length self.now.records.now }
+        ensures { IsTrue result ↔ IsReadyHead self.now.records.now self.now.creations.now
+            self.now.placed.now self.now.low place }
+    {
+        self.records[place].seen as usize <= self.low
+            && is_created(self.creations, self.placed, place)
+    }
+}
+
+/// Takes the first record in file order that may stand next.
+pub(crate) fn take_first(ready: &mut Queue, placed: &[bool]) -> Option<usize>
+    ensures none { IfNone result ((records : List Record) → AreReady records placed.now ready.old → (i : ℕ)
+        → MayFollow records placed.now i → ⊥) }
+    ensures taken { IfSome result (λ place. (records : List Record)
+        → AreReady records placed.now ready.old → IsTaken records placed.now place ready.new) }
+{
+    'ready: while let Some(place) = ready.take() {
+        if !stands(placed, place) {
+            return Some(place);
+        }
+    }
+    None
+}
+
+/// Whether the creation that the record awaits stands.
+fn is_created(creations: &[Slot], placed: &[bool], place: usize) -> bool
+    requires { place < length creations.now }
+    ensures { IsTrue result ↔ ((c : ℕ) → slice_get creations.now place ≡ Some (Some c) → Stands placed.now c) }
+{
+    match creation_at(creations, place) {
+        Some(creation) => stands(placed, creation),
+        None => true,
+    }
+}
+
+/// The creation that the record awaits, if it awaits one.
+fn creation_at(creations: &[Slot], place: usize) -> Option<usize>
+    requires { place < length creations.now }
+    ensures { (c : ℕ) → (result ≡ Some c) ↔ (slice_get creations.now place ≡ Some (Some c)) }
+{
+    creations[place].get()
+}
+
+/// Whether the record stands.
+pub(crate) fn stands(placed: &[bool], place: usize) -> bool
+    ensures { IsTrue result ↔ Stands placed.now place }
+{
+    place < placed.len() && placed[place]
+}

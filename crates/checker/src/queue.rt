@@ -1,0 +1,54 @@
+//! Places of records, of which the least is taken first.
+ghost use Rattle.std.specs.Prelude.{ℕ, ◌≡◌, ◌≤◌, ◌∷◌, IfNone, IfSome, OnOk, Contains, IsPermutation, length};
+
+use std::alloc::{AllocError, Global};
+use std::cmp::Reverse;
+use std::collections::BinaryHeap;
+use std::marker::Model;
+
+/// Places, of which the least is taken first. One may stand in it twice. Contracts see a list in no order.
+#[derive(Drop)]
+pub(crate) struct Queue {
+    heap: BinaryHeap<Reverse<usize>>,
+}
+
+impl Model for Queue {
+    ghost use Rattle.std.specs.Prelude.{List, ℕ};
+    ghost use Rattle.std.specs.BinaryHeap.{IsHeap, heap_items};
+    ghost use Rattle.checker.specs.Queue.{places_of, later};
+
+    ghost Value = { List ℕ };
+
+    ghost view = { λ queue. places_of (heap_items queue.heap) };
+
+    ghost invariant = { λ queue. IsHeap later (heap_items queue.heap) };
+}
+
+impl Queue {
+    /// No place. Takes no memory.
+    pub(crate) fn new(alloc: Global) -> Queue
+        ensures { (i : ℕ) → Contains result i → ⊥ }
+    {
+        Queue {
+            heap: BinaryHeap::new(alloc),
+        }
+    }
+
+    /// Puts the place in.
+    pub(crate) fn put(&mut self, place: usize) -> Result<(), AllocError>
+        ensures { OnOk result (IsPermutation (place ∷ self.old) self.new) }
+    {
+        self.heap.push(Reverse(place))?;
+        Ok(())
+    }
+
+    /// Takes the least place out.
+    pub(crate) fn take(&mut self) -> Option<usize>
+        ensures none { IfNone result (length self.old ≡ 0) }
+        ensures taken { IfSome result (λ place. IsPermutation self.old (place ∷ self.new)) }
+        ensures least { IfSome result (λ place. (i : ℕ) → Contains self.old i → place ≤ i) }
+    {
+        let Reverse(place) = self.heap.pop()?;
+        Some(place)
+    }
+}
