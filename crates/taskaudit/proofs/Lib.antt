@@ -1,3 +1,4 @@
 pub mod CommandLemmas
+mod CountLemmas
 mod PlaceLemmas
 mod HeadlineLemmas

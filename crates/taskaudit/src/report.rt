@@ -51,34 +51,42 @@ fn yes_text(alloc: Global, records: &[Record]) -> Result<String, AllocError>
     ensures { IfOk result (λ text. string_bytes text ≡ yes_text records.now) }
 {
     let count = records.len();
-    let entries = entries_in(records);
-    let tasks = creates_in(records);
-    let waits = waits_in(records);
+    let Counts {
+        entries,
+        tasks,
+        waits,
+    } = counts_of(records);
     format!(in alloc; "yes: {count} records, {entries} entries, {tasks} tasks, {waits} waits\n")
 }
 
-/// How many records finish a task, and so make an entry of the ledger.
-fn entries_in(records: &[Record]) -> usize
-    ensures { result ≡ entries_in records.now }
-{
-    records.iter().filter(|r| finish(r).is_some()).count()
+/// How many records finish a task, and so make an entry of the ledger; how many explicit tasks they create;
+/// and how many regions end that wait for tasks.
+struct Counts {
+    entries: usize,
+    tasks: usize,
+    waits: usize,
 }
 
-/// How many explicit tasks the records create.
-fn creates_in(records: &[Record]) -> usize
-    ensures { result ≡ creates_in records.now }
+/// All three in one walk.
+fn counts_of(records: &[Record]) -> Counts
+    ensures entries { result.entries ≡ entries_in records.now }
+    ensures tasks { result.tasks ≡ creates_in records.now }
+    ensures waits { result.waits ≡ waits_in records.now }
 {
-    records
-        .iter()
-        .filter(|r| r.body.creation().is_some())
-        .count()
-}
-
-/// How many regions end that wait for tasks.
-fn waits_in(records: &[Record]) -> usize
-    ensures { result ≡ waits_in records.now }
-{
-    records.iter().filter(|r| r.body.ends_wait()).count()
+    let mut entries = 0;
+    let mut tasks = 0;
+    let mut waits = 0;
+    for at in 0..records.len() {
+        let event = &records[at];
+        entries += usize::from(finish(event).is_some());
+        tasks += usize::from(event.body.creation().is_some());
+        waits += usize::from(event.body.ends_wait());
+    }
+    Counts {
+        entries,
+        tasks,
+        waits,
+    }
 }
 
 /// The report of a no: the task is unfinished at the record.

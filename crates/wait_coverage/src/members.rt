@@ -1,14 +1,14 @@
 //! The team of each task, and how many members each team has. The number of a team is the index of its first
 //! member.
-ghost use Rattle.std.specs.Prelude.{ℕ, ◌≡◌, ◌<◌, ◌≤◌, ◌+◌, ◌^◌, Some, None, IfOk, OnOk, MatchOption, length, slice_get, replicate};
+ghost use Rattle.std.specs.Prelude.{ℕ, ◌≡◌, ◌<◌, ◌≤◌, ◌+◌, ◌^◌, Some, None, IfOk, OnOk, MatchOption, false, length, slice_get, replicate};
 ghost use Rattle.ompt_events.specs.declared.records.Membership.{Membership};
-ghost use Rattle.ompt_events.specs.Records.{joined};
+ghost use Rattle.ompt_events.specs.Records.{joined, begun_initial};
 ghost use Rattle.ompt_events.specs.Places.{at as says_at};
 ghost use Rattle.task_tree.specs.Family.{IsFamilyOf};
 ghost use Rattle.task_tree.specs.Subjects.{subject};
 ghost use Rattle.wait_coverage.specs.Members.{AreLeads, IsLeadOf, IsTeamThere, AreInTeams, IsLeadAt, AreSizes};
 
-use ompt_events::Record;
+use ompt_events::{Body, Record};
 use std::alloc::{AllocError, Global};
 use std::collections::BTreeMap;
 use task_tree::{Family, Slot};
@@ -55,6 +55,9 @@ fn note_team(
     ensures leads { OnOk result (AreLeads records.now (at + 1) family.now.tasks leads.new) }
     ensures teams { OnOk result (AreInTeams records.now (at + 1) family.now.tasks teams.new.items) }
 {
+    if !may_join(&records[at].body) {
+        return Ok(());
+    }
     let Some(index) = family.subject(at) else {
         return Ok(());
     };
@@ -63,6 +66,16 @@ fn note_team(
         teams[index] = Slot::some(number);
     }
     Ok(())
+}
+
+/// Whether the record may begin an initial task or a member of a team.
+fn may_join(body: &Body) -> bool
+    ensures { result ≡ false → (joined body.now ≡ None) × (begun_initial body.now ≡ None) }
+{
+    match body {
+        Body::ImplicitTask { .. } => true,
+        _ => false,
+    }
 }
 
 /// The number of the team that the task at an index, of which the record at a place is, is in by it.

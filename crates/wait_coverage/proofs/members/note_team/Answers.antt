@@ -1,6 +1,8 @@
-use Rattle.std.proofs.Common.{◌<◌, length, arith, rules}
-use Rattle.std.proofs.lemmas.Option.{slice_get_within}
+use Rattle.std.proofs.Common.{◌<◌, ◌∙◌, length, sym, arith, rules}
+use Rattle.std.proofs.lemmas.Option.{none-some, slice_get_within}
+use Rattle.ompt_events.specs.Records.{joined, begun_initial}
 use Rattle.ompt_events.specs.Places.{at}
+use Rattle.ompt_events.proofs.PlaceLemmas.{at_index}
 use Rattle.task_tree.specs.Subjects.{subject}
 use Rattle.task_tree.proofs.SubjectLemmas.{call_task}
 use Rattle.wait_coverage.proofs.LengthLemmas.{call_same, call_never, index_within}
@@ -50,3 +52,17 @@ returns-in-Some-team-clause-teams c =
 
 pub returns-in_default-team-clause-teams : goal.returns-in_default-team-clause-teams
 returns-in_default-team-clause-teams c = teams_kept c.args.records.now c.args.at c.args.family.now.tasks c.in-Some.index c.in_ok-team.team c.args.teams.now.items c.requires.teams c.in_ok-team.ensures.team c.in_default-team.is
+
+pub returns-then-not-may_join-clause-leads : goal.returns-then-not-may_join-clause-leads
+returns-then-not-may_join-clause-leads c =
+    let rs = c.args.records.now in
+    let none = c.may_join.ensures c.if-not-may_join.true in
+    leads_same rs c.args.at c.args.family.now.tasks c.args.leads.now c.requires.leads (λ m joins. none-some m (sym (at_index joined rs c.args.at c.index-records-at.result c.requires.within ∙ none.0) ∙ joins))
+
+pub returns-then-not-may_join-clause-teams : goal.returns-then-not-may_join-clause-teams
+returns-then-not-may_join-clause-teams c =
+    let rs = c.args.records.now in
+    let none = c.may_join.ensures c.if-not-may_join.true in
+    teams_same rs c.args.at c.args.family.now.tasks c.args.teams.now.items c.requires.teams
+    (λ task is. none-some task (sym (at_index begun_initial rs c.args.at c.index-records-at.result c.requires.within ∙ none.1) ∙ is))
+    (λ m joins. none-some m (sym (at_index joined rs c.args.at c.index-records-at.result c.requires.within ∙ none.0) ∙ joins))

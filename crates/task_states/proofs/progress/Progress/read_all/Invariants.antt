@@ -1,6 +1,0 @@
-use Rattle.task_states.specs.Progress.{HasCome, moves_before}
-use Rattle.task_states.proofs.progress.Progress.read_all.Given as goal
-
--- the records so far that the pass reads were gone over
-abbrev pub invariant-loop-at : goal.invariant-loop-at
-invariant-loop-at l = HasCome l.records l.family.tasks (moves_before l.pass l.records l.at) l.self
