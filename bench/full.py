@@ -13,15 +13,17 @@ may have.
 import math
 import os
 import re
+import subprocess
 import sys
 import tempfile
 
-from bench import PROGRAM, best
+from bench import HERE, PROGRAM, best
 from phases import TIMING
 from shapes import HEADER, Thread, open_waits, team_of_256, waits, writers
 from traces import Run
 
 TASKS = 2**20
+RUNS = 7
 
 
 class LongRun(Run):
@@ -53,11 +55,19 @@ def write_shape(path, lines):
         file.writelines(line + "\n" for line in lines)
 
 
+def peak(path):
+    """The program's peak memory in MB; it is started by a Python that is small itself, since a child has its parent's at first."""
+    script = ("import os, sys; sys.path.insert(0, sys.argv[1]); from bench import PROGRAM, timed; "
+              "print(timed([PROGRAM, 'check'], sys.argv[2])[1])")
+    run = subprocess.run([sys.executable, "-c", script, HERE, path], capture_output=True, check=True)
+    return float(run.stdout)
+
+
 def row(path, size, commands):
-    """The seconds of each command, the memory of the first, and what it answers."""
-    runs = [best(command, path) for command in commands]
+    """The seconds of each command, and the memory of the program."""
+    runs = [best(command, path, RUNS) for command in commands]
     seconds = " | ".join("cut" if run[0] is None else f"{run[0]:.3f}" for run in runs)
-    print(f"| {size:,} | {os.path.getsize(path) / 1e6:.0f} | {seconds} | {runs[0][1]:.0f} | "
+    print(f"| {size:,} | {os.path.getsize(path) / 1e6:.0f} | {seconds} | {peak(path):.0f} | "
           f"{runs[0][0] / size * 1e9:.0f} |", flush=True)
     return runs[0][0]
 
@@ -173,9 +183,9 @@ def shapes(folder):
         size = len(lines) - 1
         write_shape(path, lines)
         del lines
-        seconds, memory, answer = best([PROGRAM, "check"], path)
+        seconds, _, answer = best([PROGRAM, "check"], path)
         usual = ordinary[min(22, max(18, round(math.log(size, 2))))]
-        print(f"| {name} | {size:,} | {os.path.getsize(path) / 1e6:.0f} | {seconds:.2f} | {memory:.0f} | {seconds / size * 1e9:.0f} | "
+        print(f"| {name} | {size:,} | {os.path.getsize(path) / 1e6:.0f} | {seconds:.2f} | {peak(path):.0f} | {seconds / size * 1e9:.0f} | "
               f"{seconds / size / usual:.2f} | {answer.split(':')[0]} |", flush=True)
 
 
