@@ -9,6 +9,7 @@ mod MakerLemmas
 mod MergingLemmas
 mod FrontLemmas
 mod ScheduleLemmas
+mod InOrderLemmas
 mod StartLemmas
 mod LateLemmas
 mod PhaseLemmas

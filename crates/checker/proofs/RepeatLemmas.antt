@@ -17,7 +17,7 @@ use Rattle.checker.specs.declared.repeats.Named.{Named}
 use Rattle.checker.specs.Repeats.{is_named, IsMadeBelow, AreNamed, IsNaming}
 use Rattle.checker.proofs.MakerLemmas.{makers_start, makers_other, makers_more}
 
-finishing_within : (rs : List Record) (i : ℕ) → IsFinishing rs i → i < length rs
+pub finishing_within : (rs : List Record) (i : ℕ) → IsFinishing rs i → i < length rs
 finishing_within rs i finishes = there (at finish rs i) refl finishes
   where
     there : (o : _) → at finish rs i ≡ o → is_some o ≡ true → i < length rs

@@ -238,15 +238,6 @@ nothing_awaited rs family i slot calls is c = (
 
 -- ---- when file order is an order
 
--- one more record that awaits only what stands before it
-pub awaits_more : (creations : List (Option ℕ)) (n : ℕ) → ((i c : ℕ) → i < n → slice_get creations i ≡ Some (Some c) → c < i) → ((c : ℕ) → slice_get creations n ≡ Some (Some c) → c < n) → (i c : ℕ) → i < n + 1 → slice_get creations i ≡ Some (Some c) → c < i
-awaits_more creations n before here i c below waits = elim (cases_eq i n) [
-  | inl same ↦
-      let less = here c (ap (slice_get creations) (sym same) ∙ waits) in
-      omega (arith, less, same)
-  | inr apart ↦ before i c (omega arith) waits
-]
-
 -- what steps do, what happens before does
 pub before_less : (rs : List Record) → ((a b : ℕ) → IsStep rs a b → a < b) → (a b : ℕ) → HappensBefore rs a b → a < b
 before_less rs steps a b (step s) = steps a b s

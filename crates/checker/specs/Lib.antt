@@ -9,4 +9,5 @@ pub mod Orders
 pub mod Lists
 pub mod Queue
 pub mod Merge
+pub mod InOrder
 pub mod Starts

@@ -16,10 +16,11 @@ ghost use Rattle.wait_coverage.specs.Waits.{IsFirstOpenEnd};
 ghost use Rattle.ompt_events.specs.declared.records.Record.{Record};
 
 use crate::claims::find_wrong_claim;
+use crate::in_order::is_in_order;
 use crate::lengths::find_back;
 use crate::merge::find_order;
 use crate::repeats::{find_ahead, find_makers};
-use crate::schedule::{creations_awaited, is_in_order};
+use crate::schedule::creations_awaited;
 use crate::search::SearchFault;
 use crate::starts::find_late_start;
 use crate::verdict::{CheckFault, Order, Verdict, Why};
@@ -57,11 +58,7 @@ fn verdict_of(alloc: Global, trace: &Trace) -> Result<Verdict, SearchFault>
     regions_are_not_nested(alloc, trace, &family)?;
     let edges = edges_of(alloc, trace, &family)?;
     claims_are_right(trace, &family)?;
-    let makers = makers_of(alloc, trace)?;
-    lengths_are_reached(trace, makers.len())?;
-    let creations = creations_of(alloc, trace, &family)?;
-    lengths_rise(trace, &creations)?;
-    let order = order_of(alloc, trace, &creations, &makers)?;
+    let order = order_of(alloc, trace, &family)?;
     no_task_is_for_a_device(trace)?;
     match violation_of(alloc, trace, &family, &states, &teams, &edges)? {
         Some((at, why)) => Ok(Verdict::No { at, why }),
@@ -188,6 +185,41 @@ fn claims_are_right(trace: &Trace, family: &Family) -> Result<(), SearchFault>
     }
 }
 
+/// The greedy order of all records. Excludes EntryTwice, LengthAhead, LengthBack and NoOrder.
+fn order_of(alloc: Global, trace: &Trace, family: &Family) -> Result<Order, SearchFault>
+    requires clear { IsClear trace.now.records 11 }
+    requires family { IsFamilyOf trace.now.records family.now }
+    requires at_home { IsFreeOf trace.now.records Moved }
+    ensures linearization { IfOk result (IsLinearization trace.now.records) }
+    ensures greedy { IfOk result (IsGreedy trace.now.records) }
+    ensures clear { OnOk result (IsClear trace.now.records 15) }
+    ensures least { IfErr result (IsLeastFound trace.now.records) }
+{
+    let records = trace.records();
+    // A file in the order of time costs one pass.
+    if is_in_order(records, family) {
+        return Ok(Order::in_file(records.len()));
+    }
+    order_by_merge(alloc, trace, family)
+}
+
+/// The same where file order doesn't show it. What is noted for the merge alone is let go at its end.
+fn order_by_merge(alloc: Global, trace: &Trace, family: &Family) -> Result<Order, SearchFault>
+    requires clear { IsClear trace.now.records 11 }
+    requires family { IsFamilyOf trace.now.records family.now }
+    requires at_home { IsFreeOf trace.now.records Moved }
+    ensures linearization { IfOk result (IsLinearization trace.now.records) }
+    ensures greedy { IfOk result (IsGreedy trace.now.records) }
+    ensures clear { OnOk result (IsClear trace.now.records 15) }
+    ensures least { IfErr result (IsLeastFound trace.now.records) }
+{
+    let makers = makers_of(alloc, trace)?;
+    lengths_are_reached(trace, makers.len())?;
+    let creations = creations_of(alloc, trace, family)?;
+    lengths_rise(trace, &creations)?;
+    merged(alloc, trace, &creations, &makers)
+}
+
 /// By entry of the ledger the record that makes it. Excludes EntryTwice.
 fn makers_of(alloc: Global, trace: &Trace) -> Result<Vec<usize>, SearchFault>
     requires { IsClear trace.now.records 11 }
@@ -242,8 +274,8 @@ fn lengths_rise(trace: &Trace, creations: &[Slot]) -> Result<(), SearchFault>
     }
 }
 
-/// The greedy order of all records. Excludes NoOrder.
-fn order_of(
+/// The records in the greedy order. Excludes NoOrder.
+fn merged(
     alloc: Global,
     trace: &Trace,
     creations: &[Slot],
@@ -259,12 +291,7 @@ fn order_of(
     ensures clear { OnOk result (IsClear trace.now.records 15) }
     ensures least { IfErr result (IsLeastFound trace.now.records) }
 {
-    let records = trace.records();
-    // A file in time order costs one pass.
-    if is_in_order(records, creations) {
-        return Ok(Order::in_file(records.len()));
-    }
-    match find_order(alloc, records, creations, makers) {
+    match find_order(alloc, trace.records(), creations, makers) {
         Ok(places) => Ok(Order::from_vec(places)),
         Err(fault) => Err(fault),
     }

@@ -32,7 +32,7 @@ pub(crate) fn find_back(records: &[Record], creations: &[Slot]) -> Option<usize>
 }
 
 /// The ledger length that is known after the record.
-fn length_after(event: &Record) -> u64
+pub(crate) fn length_after(event: &Record) -> u64
     ensures { (records : List Record) (i : ℕ) → slice_get records i ≡ Some event.now
         → result ≡ known_after records i }
 {

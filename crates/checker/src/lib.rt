@@ -8,6 +8,7 @@
 mod checking;
 mod claims;
 mod front;
+mod in_order;
 mod lengths;
 mod lists;
 mod merge;

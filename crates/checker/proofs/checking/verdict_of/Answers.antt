@@ -8,9 +8,6 @@ use Rattle.checker.proofs.checking.verdict_of.Goals as goal
 pub order_of-requires-clause-at_home : goal.order_of-requires-clause-at_home
 order_of-requires-clause-at_home c = c.in_ok-states.ensures.clear Moved (4, omega arith, refl)
 
-pub lengths_rise-requires-clause-at_home : goal.lengths_rise-requires-clause-at_home
-lengths_rise-requires-clause-at_home c = c.in_ok-states.ensures.clear Moved (4, omega arith, refl)
-
 pub returns-clause-verdict : goal.returns-clause-verdict
 returns-clause-verdict c =
     let rs = c.args.trace.now.records in

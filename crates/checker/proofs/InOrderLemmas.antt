@@ -1,0 +1,137 @@
+-- From the records so far in the order of the ledger to the causes that this excludes.
+use Rattle.std.proofs.Common.{◌≡◌, ◌∙◌, ℕ, ◌<◌, ◌≤◌, ◌+◌, Bool, true, false, cond, List, length, get_or, take, Option, Some, None, refl, sym, ap, subst, arith, inl, inr, ◌⊎◌}
+use Rattle.std.specs.Prelude.{◌↔◌, is_some, slice_get, option_and_then}
+use Rattle.std.proofs.lemmas.Bool.{false≢true, cases_eq, cases_lt}
+use Rattle.std.proofs.lemmas.Option.{none-some, same_Some, slice_get_within, slice_get-get_or}
+use Rattle.std.proofs.lemmas.List.{take-take}
+use Rattle.std.proofs.lemmas.List.Sums.{sum_by-take-le, count_by_more_yes, count_by_more_no}
+use Rattle.ompt_events.specs.declared.records.Record.{Record}
+use Rattle.ompt_events.specs.declared.cause.Cause.TheVariants.{EntryTwice, LengthAhead}
+use Rattle.ompt_events.specs.Records.{finish}
+use Rattle.ompt_events.specs.Places.{at, seen_at}
+use Rattle.ompt_events.specs.HappensBefore.{IsFinishing}
+use Rattle.ompt_events.specs.Causes.{RepeatsEntry, IsAhead, entry, ledger_length, entries_in, IsFreeOf}
+use Rattle.ompt_events.proofs.PlaceLemmas.{seen_within}
+use Rattle.checker.specs.Merge.{Awaits}
+use Rattle.checker.specs.InOrder.{entries_before, FitsBehind, AreInOrder}
+use Rattle.checker.proofs.RepeatLemmas.{finishing_within, free_of_repeats, free_of_ahead}
+
+-- ---- how many entries there are before a record
+
+abbrev finishes : Record → Bool
+finishes r = is_some (finish r.body)
+
+-- the record at a place, as it counts
+counts_there : (rs : List Record) (i : ℕ) (r : Record) (b : Bool) → i < length rs → is_some (at finish rs i) ≡ b → finishes (get_or rs i r) ≡ b
+counts_there rs i r b within is = sym (ap (λ o. is_some (option_and_then (λ (q : Record). finish q.body) o)) (slice_get-get_or rs i r within)) ∙ is
+
+pub entries_same : (rs : List Record) (i : ℕ) (r : Record) → i < length rs → is_some (at finish rs i) ≡ false → entries_before rs (i + 1) ≡ entries_before rs i
+entries_same rs i r within is = count_by_more_no finishes rs i r within (counts_there rs i r false within is)
+
+pub entries_more : (rs : List Record) (i : ℕ) (r : Record) → i < length rs → is_some (at finish rs i) ≡ true → entries_before rs (i + 1) ≡ entries_before rs i + 1
+entries_more rs i r within is = count_by_more_yes finishes rs i r within (counts_there rs i r true within is)
+
+-- with more records there are no fewer
+before_le : (rs : List Record) (k n : ℕ) → k ≤ n → entries_before rs k ≤ entries_before rs n
+before_le rs k n low =
+    let same : entries_in (take k (take n rs)) ≡ entries_before rs k = ap entries_in (take-take k n rs low) in
+    let fewer : entries_in (take k (take n rs)) ≤ entries_before rs n = sum_by-take-le (λ (r : Record). cond (is_some (finish r.body)) 1 0) (take n rs) k in
+    omega (arith, same, fewer)
+
+before_all : (rs : List Record) (n : ℕ) → entries_before rs n ≤ entries_in rs
+before_all rs n = sum_by-take-le (λ (r : Record). cond (is_some (finish r.body)) 1 0) rs n
+
+-- and behind one that makes an entry more
+before_less : (rs : List Record) (k n : ℕ) → IsFinishing rs k → k < n → entries_before rs k < entries_before rs n
+before_less rs k n makes low =
+    let more = entries_more rs k (get_or rs k (some_record rs k makes)) (finishing_within rs k makes) makes in
+    let most = before_le rs (k + 1) n (omega (arith, low)) in
+    omega (arith, more, most)
+  where
+    some_record : (rs : List Record) (k : ℕ) → IsFinishing rs k → Record
+    some_record rs k makes = there (slice_get rs k) makes
+      where
+        there : (o : Option Record) → is_some (option_and_then (λ (r : Record). finish r.body) o) ≡ true → Record
+        there None is = absurd (false≢true is)
+        there (Some r) is = r
+
+-- ---- one record more
+
+pub fit_more : (rs : List Record) (n entries : ℕ) → entries ≡ entries_before rs n → FitsBehind rs n entries → ((i : ℕ) → i < n → FitsBehind rs i (entries_before rs i)) → (i : ℕ) → i < n + 1 → FitsBehind rs i (entries_before rs i)
+fit_more rs n entries count fits before i below = elim (cases_eq i n) [
+  | inl same ↦ let P : ℕ → Type 0 = λ j. FitsBehind rs j (entries_before rs j) in subst P (sym same) (let Q : ℕ → Type 0 = FitsBehind rs n in subst Q count fits)
+  | inr apart ↦ before i (omega (arith, below, apart))
+]
+
+pub count_more : (rs : List Record) (n entries after : ℕ) (r : Record) → n < length rs → entries ≡ entries_before rs n → after ≡ cond (is_some (at finish rs n)) (entries + 1) entries → after ≡ entries_before rs (n + 1)
+count_more rs n entries after r within count is = of (is_some (at finish rs n)) refl is
+  where
+    of : (b : Bool) → is_some (at finish rs n) ≡ b → after ≡ cond b (entries + 1) entries → after ≡ entries_before rs (n + 1)
+    of true makes is' = is' ∙ ap (λ k. k + 1) count ∙ sym (entries_more rs n r within makes)
+    of false none is' = is' ∙ count ∙ sym (entries_same rs n r within none)
+
+pub entries_most : (rs : List Record) (n entries after : ℕ) → after ≡ cond (is_some (at finish rs n)) (entries + 1) entries → after ≤ entries + 1
+entries_most rs n entries after is = of (is_some (at finish rs n)) is
+  where
+    of : (b : Bool) → after ≡ cond b (entries + 1) entries → after ≤ entries + 1
+    of true is' = omega (arith, is')
+    of false is' = omega (arith, is')
+
+pub created_more : (rs : List Record) (n : ℕ) → ((i c : ℕ) → i < n → Awaits rs i c → c < i) → ((c : ℕ) → Awaits rs n c → c < n) → (i c : ℕ) → i < n + 1 → Awaits rs i c → c < i
+created_more rs n before here i c below waits = elim (cases_eq i n) [
+  | inl same ↦
+      let less = here c (let P : ℕ → Type 0 = λ j. Awaits rs j c in subst P same waits) in
+      omega (arith, less, same)
+  | inr apart ↦ before i c (omega (arith, below, apart)) waits
+]
+
+-- ---- what such an order excludes
+
+-- each record fits behind those before it
+abbrev pub AllFit : List Record → Type 0
+AllFit rs = (i : ℕ) → i < length rs → FitsBehind rs i (entries_before rs i)
+
+no_repeat : (rs : List Record) (i : ℕ) → AllFit rs → RepeatsEntry rs i → ⊥
+no_repeat rs i fit (k, below, earlier, own, same) =
+    let first = (fit k (finishing_within rs k earlier)).own earlier in
+    let second = (fit i (finishing_within rs i own)).own own in
+    let less = before_less rs k i earlier below in
+    omega (arith, first, second, less, same)
+
+pub fit_once : (rs : List Record) → AllFit rs → IsFreeOf rs EntryTwice
+fit_once rs fit = free_of_repeats rs (length rs) (λ k below. no_repeat rs k fit) (omega arith)
+
+not_ahead : (rs : List Record) (i : ℕ) → AllFit rs → IsAhead rs i → ⊥
+not_ahead rs i fit (entry makes most) =
+    let own = (fit i (finishing_within rs i makes)).own makes in
+    let less = before_less rs i (i + 1) makes (omega arith) in
+    let all = before_all rs (i + 1) in
+    omega (arith, own, less, all, most)
+not_ahead rs i fit (ledger_length most) =
+    let named = (fit i (seen_within rs i (entries_in rs) most)).named in
+    let all = before_all rs i in
+    omega (arith, named, all, most)
+
+pub fit_reached : (rs : List Record) → AllFit rs → IsFreeOf rs LengthAhead
+fit_reached rs fit = free_of_ahead rs (length rs) (λ k below. not_ahead rs k fit) (omega arith)
+
+pub fit_entered : (rs : List Record) → AllFit rs → (a b : ℕ) → IsFinishing rs a → seen_at rs a < seen_at rs b → a < b
+fit_entered rs fit a b makes less = elim (cases_lt a b) [
+  | inl is ↦ is
+  | inr past ↦
+      let own = (fit a (finishing_within rs a makes)).own makes in
+      let named = (fit b (seen_within rs b (seen_at rs a) less)).named in
+      let most = before_le rs b a past in
+      absurd (omega (arith, own, named, most, less))
+]
+
+-- ---- the creation that a record awaits
+
+pub creation_follows : (rs : List Record) (i place own other : ℕ) (found : Option ℕ) → ((c : ℕ) → (found ≡ Some c) ↔ Awaits rs i c) → found ≡ Some place → place < i → seen_at rs place ≡ other → seen_at rs i ≡ own → other ≤ own → (c : ℕ) → Awaits rs i c → (c < i) × (seen_at rs c ≤ seen_at rs i)
+creation_follows rs i place own other found awaits is less there here low c waits =
+    let same : c ≡ place = same_Some c place (sym ((awaits c).1 waits) ∙ is) in
+    let P : ℕ → Type 0 = λ k. (k < i) × (seen_at rs k ≤ seen_at rs i) in
+    subst P (sym same) (less, omega (arith, there, here, low))
+
+pub nothing_follows : (rs : List Record) (i : ℕ) (found : Option ℕ) → ((c : ℕ) → (found ≡ Some c) ↔ Awaits rs i c) → found ≡ None → (c : ℕ) → Awaits rs i c → (c < i) × (seen_at rs c ≤ seen_at rs i)
+nothing_follows rs i found awaits is c waits = absurd (none-some c (sym is ∙ (awaits c).1 waits))
