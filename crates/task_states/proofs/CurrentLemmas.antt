@@ -1,15 +1,25 @@
 -- When a record speaks for a task that its thread doesn't run.
-use Rattle.std.proofs.Common.{◌≡◌, ◌≢◌, ◌∙◌, ℕ, ◌<◌, ◌≤◌, List, length, get_or, take, Option, Some, None, refl, sym, subst, arith, inl, inr, ◌⊎◌}
-use Rattle.std.proofs.lemmas.Option.{none-some, same_Some, slice_get_within}
-use Rattle.std.specs.Prelude.{◌↔◌, slice_get, IsSomeAnd}
+use Rattle.std.proofs.Common.{◌≡◌, ◌≢◌, ◌∙◌, ℕ, ◌<◌, ◌≤◌, Bool, false, not, List, length, get_or, take, Option, Some, None, refl, sym, ap, subst, arith, inl, inr, ◌⊎◌}
+use Rattle.std.proofs.lemmas.Option.{none-some, same_Some, slice_get_within, slice_get-get_or}
+use Rattle.std.specs.Prelude.{◌↔◌, IsTrue, slice_get, IsSomeAnd}
 use Rattle.ompt_events.specs.declared.records.Record.{Record}
 use Rattle.ompt_events.specs.declared.records.Body.{Body}
+use Rattle.ompt_events.specs.declared.records.Body.TheVariants.{ImplicitTask, TaskSchedule}
+use Rattle.ompt_events.specs.declared.records.Claim.{Claim}
+use Rattle.ompt_events.specs.declared.flags.TaskFlags.{TaskFlags}
+use Rattle.ompt_events.specs.declared.names.Endpoint.{Endpoint}
+use Rattle.ompt_events.specs.declared.names.Status.{Status}
 use Rattle.ompt_events.specs.declared.cause.Cause.TheVariants.{NotCurrent}
 use Rattle.ompt_events.specs.Records.{running, ended_root, started, wait_completed}
-use Rattle.ompt_events.specs.Tree.{IsRoot, IsParent}
+use Rattle.ompt_events.specs.Places.{at}
+use Rattle.ompt_events.specs.Tree.{IsRoot, IsParent, IsExplicit}
 use Rattle.ompt_events.specs.Threads.{Walk, walk_of, Misfits, not_running, not_innermost, other_root, other_parent, MisfitsAt}
 use Rattle.ompt_events.specs.Causes.{HasCause, not_current, IsFirstWith, IsFreeOf}
-use Rattle.ompt_events.proofs.PlaceLemmas.{read_get}
+use Rattle.ompt_events.proofs.PlaceLemmas.{read_get, at_index}
+use Rattle.task_tree.specs.Family.{FamilyView, IsFamilyOf}
+use Rattle.task_tree.specs.Subjects.{object, Calls}
+use Rattle.task_tree.proofs.NamedLemmas.{object_index, started_object}
+use Rattle.task_tree.proofs.LookupLemmas.{root_or_explicit, root_is}
 
 pub some_and : {X : Type 0} (o : Option X) (P : X → Type 0) → IsSomeAnd o P → (x : X) × (o ≡ Some x) × P x
 some_and None P h = absurd h
@@ -74,3 +84,76 @@ parent_of_wait rs b task parent completes is p = (
   λ says. (task, completes, (is p).0 says),
   λ (t, completes', is_parent). let P : ℕ → Type 0 = λ u. IsParent rs p u in (is p).1 (subst P (same_Some t task (sym completes' ∙ completes)) is_parent),
 )
+
+-- ---- by the kind of the record
+
+-- a test of the body at a place is one of each record that stands there
+pub misfits_there : (rs : List Record) (w : Walk) (i : ℕ) (r : Record) (told : Bool) → i < length rs → (IsTrue told ↔ Misfits rs w (get_or rs i r).body) → (event : Record) → slice_get rs i ≡ Some event → IsTrue told ↔ Misfits rs w event.body
+misfits_there rs w i r told within is event stands =
+    let same : get_or rs i r ≡ event = same_Some (get_or rs i r) event (sym (slice_get-get_or rs i r within) ∙ stands) in
+    let P : Record → Type 0 = λ q. IsTrue told ↔ Misfits rs w q.body in
+    subst P same is
+
+-- no task is named that is not of its kind
+none_started : (rs : List Record) (b : Body) → started b ≡ None → (t : ℕ) → (None ≡ Some t) ↔ ((started b ≡ Some t) × IsRoot rs t)
+none_started rs b none t = (λ is. absurd (none-some t is), λ starts. absurd (none-some t (sym none ∙ starts.0)))
+
+none_completed : (rs : List Record) (b : Body) → wait_completed b ≡ None → (p : ℕ) → (None ≡ Some p) ↔ ((task : ℕ) × (wait_completed b ≡ Some task) × IsParent rs p task)
+none_completed rs b none p = (λ is. absurd (none-some p is), λ completes. absurd (none-some completes.0 (sym none ∙ completes.1)))
+
+-- the record of a root misfits as its end does
+pub root_misfits : (rs : List Record) (w : Walk) (b : Body) → started b ≡ None → wait_completed b ≡ None → (IsSomeAnd (running b) (λ t. w.current ≢ Some t) → ⊥) → Misfits rs w b → IsSomeAnd (ended_root b) (λ t. slice_get w.roots 0 ≢ Some t)
+root_misfits rs w b no_start no_wait fits misfit = elim (misfit_cases rs w b None None (none_started rs b no_start) (none_completed rs b no_wait) misfit) [
+  | inl runs ↦ absurd (fits runs)
+  | inr (inl ends) ↦ ends
+  | inr (inr (inl never)) ↦ absurd never
+  | inr (inr (inr never)) ↦ absurd never
+]
+
+-- a schedule as its start and its wait do
+pub schedule_misfits : (rs : List Record) (w : Walk) (b : Body) (next parent : Option ℕ) → ended_root b ≡ None → ((t : ℕ) → (next ≡ Some t) ↔ ((started b ≡ Some t) × IsRoot rs t)) → ((p : ℕ) → (parent ≡ Some p) ↔ ((task : ℕ) × (wait_completed b ≡ Some task) × IsParent rs p task)) → (IsSomeAnd (running b) (λ t. w.current ≢ Some t) → ⊥) → Misfits rs w b → IsSomeAnd next (λ t. slice_get w.roots 0 ≢ Some t) ⊎ IsSomeAnd parent (λ p. w.current ≢ Some p)
+schedule_misfits rs w b next parent no_end is_next is_parent fits misfit = elim (misfit_cases rs w b next parent is_next is_parent misfit) [
+  | inl runs ↦ absurd (fits runs)
+  | inr (inl ends) ↦ let found = some_and (ended_root b) (λ t. slice_get w.roots 0 ≢ Some t) ends in absurd (none-some found.0 (sym no_end ∙ found.1))
+  | inr (inr rest) ↦ rest
+]
+
+-- any other as the task does that it is of
+pub other_fits : (rs : List Record) (w : Walk) (b : Body) → ((endpoint : Endpoint) (actual index : ℕ) (flags : TaskFlags) (parallel task : ℕ) → b ≡ ImplicitTask endpoint actual index flags parallel task → ⊥) → ((status : Status) (prior : ℕ) (next : Option ℕ) (share : Option Claim) → b ≡ TaskSchedule status prior next share → ⊥) → (IsSomeAnd (running b) (λ t. w.current ≢ Some t) → ⊥) → Misfits rs w b → ⊥
+other_fits rs w (ImplicitTask endpoint actual index flags parallel task) no_root no_schedule fits misfit = no_root endpoint actual index flags parallel task refl
+other_fits rs w (TaskSchedule status prior next share) no_root no_schedule fits misfit = no_schedule status prior next share refl
+other_fits rs w b no_root no_schedule fits (not_running task is other) = fits (and_some (running b) (λ t. w.current ≢ Some t) task is other)
+other_fits rs w _ no_root no_schedule fits (not_innermost task is other) = none-some task is
+other_fits rs w _ no_root no_schedule fits (other_root task is root other) = none-some task is
+other_fits rs w _ no_root no_schedule fits (other_parent task i parent is creates other) = none-some task is
+
+-- ---- the root that runs next
+
+task_there : (rs : List Record) (family : FamilyView) (i index task : ℕ) → at started rs i ≡ Some task → Calls family.tasks (at object rs i) (Some index) → slice_get family.tasks index ≡ Some task
+task_there rs family i index task starts calls =
+    let found = object_index started task task rs i family.tasks (Some index) (started_object task) calls starts in
+    ap (slice_get family.tasks) (same_Some index found.0 found.1) ∙ found.2
+
+pub explicit_start_no_root : (rs : List Record) (family : FamilyView) (i index task : ℕ) → IsFamilyOf rs family → at started rs i ≡ Some task → Calls family.tasks (at object rs i) (Some index) → ((t : ℕ) → slice_get family.tasks index ≡ Some t → IsExplicit rs t) → (t : ℕ) → (None ≡ Some t) ↔ ((at started rs i ≡ Some t) × IsRoot rs t)
+explicit_start_no_root rs family i index task are starts calls explicit t = (
+  λ is. absurd (none-some t is),
+  λ (other, root).
+      let P : ℕ → Type 0 = IsRoot rs in
+      absurd (root_or_explicit rs task are.once (subst P (same_Some t task (sym other ∙ starts)) root) (explicit task (task_there rs family i index task starts calls))),
+)
+
+pub root_starts : (rs : List Record) (family : FamilyView) (i index task : ℕ) (told : Bool) → IsFamilyOf rs family → at started rs i ≡ Some task → Calls family.tasks (at object rs i) (Some index) → told ≡ false → ((t : ℕ) → slice_get family.tasks index ≡ Some t → IsTrue told ↔ IsExplicit rs t) → (t : ℕ) → (Some task ≡ Some t) ↔ ((at started rs i ≡ Some t) × IsRoot rs t)
+root_starts rs family i index task told are starts calls other_kind explicit t =
+    let stands = task_there rs family i index task starts calls in
+    let root : IsRoot rs task = (root_is rs family index task told are stands (explicit task stands)).0 (ap not other_kind) in (
+      λ same. let P : ℕ → Type 0 = λ k. (at started rs i ≡ Some k) × IsRoot rs k in subst P (same_Some task t same) (starts, root),
+      λ (other, _). sym starts ∙ other,
+    )
+
+-- what starts at a place is what the record there says
+pub root_start_there : (rs : List Record) (i : ℕ) (r : Record) (next : Option ℕ) → i < length rs → ((t : ℕ) → (next ≡ Some t) ↔ ((at started rs i ≡ Some t) × IsRoot rs t)) → (t : ℕ) → (next ≡ Some t) ↔ ((started (get_or rs i r).body ≡ Some t) × IsRoot rs t)
+root_start_there rs i r next within is t =
+    let there = at_index started rs i r within in (
+      λ says. let told = (is t).0 says in (sym there ∙ told.0, told.1),
+      λ (starts, root). (is t).1 (there ∙ starts, root),
+    )

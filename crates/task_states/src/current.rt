@@ -1,8 +1,9 @@
 //! Whether each record is of the task that its thread runs.
-ghost use Rattle.std.specs.Prelude.{◌≡◌, ◌≢◌, ◌↔◌, ℕ, List, Some, IsTrue, IsSomeAnd, IfErr, OnOk};
+ghost use Rattle.std.specs.Prelude.{◌≡◌, ◌≢◌, ◌<◌, ◌↔◌, ℕ, List, Some, IsTrue, IsSomeAnd, IfErr, OnOk, length, slice_get};
 ghost use Rattle.ompt_events.specs.declared.cause.Cause.TheVariants.{NotCurrent};
 ghost use Rattle.ompt_events.specs.declared.records.Record.{Record};
 ghost use Rattle.ompt_events.specs.Records.{started, wait_completed};
+ghost use Rattle.ompt_events.specs.Places.{at as says_at};
 ghost use Rattle.ompt_events.specs.Tree.{IsRoot, IsParent};
 ghost use Rattle.ompt_events.specs.Threads.{Misfits};
 ghost use Rattle.ompt_events.specs.Causes.{IsFreeOf};
@@ -28,7 +29,7 @@ pub(crate) fn find_misfit(
     let mut walks = new_walks(alloc)?;
     for (at, event) in records.iter().enumerate() {
         let walk = &mut walks[event.thread as usize];
-        if misfits(&event.body, walk, family) {
+        if misfits(records, family, walk, at) {
             return Err(StateFault::Malformed {
                 at,
                 cause: Cause::NotCurrent,
@@ -39,21 +40,25 @@ pub(crate) fn find_misfit(
     Ok(())
 }
 
-/// Whether the record speaks for a task that a thread which stands there does not run.
-fn misfits(body: &Body, walk: &ThreadWalk, family: &Family) -> bool
-    ensures { (records : List Record) → IsFamilyOf records family.now
-        → IsTrue result ↔ Misfits records walk.now body.now }
+/// Whether the record at a place speaks for a task that a thread which stands there does not run.
+fn misfits(records: &[Record], family: &Family, walk: &ThreadWalk, at: usize) -> bool
+    requires within { at < length records.now }
+    requires family { IsFamilyOf records.now family.now }
+    ensures { (event : Record) → slice_get records.now at ≡ Some event
+        → IsTrue result ↔ Misfits records.now walk.now event.body }
 {
+    let body = &records[at].body;
     if differs(body.running(), walk.current()) {
         return true;
     }
-    if differs(body.ended_root(), walk.innermost()) {
-        return true;
+    match body {
+        Body::ImplicitTask { .. } => differs(body.ended_root(), walk.innermost()),
+        Body::TaskSchedule { .. } => {
+            differs(root_start(records, family, at), walk.innermost())
+                || differs(wait_parent(family, body), walk.current())
+        }
+        _ => false,
     }
-    if differs(root_start(family, body), walk.innermost()) {
-        return true;
-    }
-    differs(wait_parent(family, body), walk.current())
 }
 
 /// Whether there is a task, and it is not the one that is given.
@@ -63,16 +68,19 @@ fn differs(task: Option<u64>, from: Option<u64>) -> bool
     task.is_some() && task != from
 }
 
-/// The root that runs next, if one does.
-fn root_start(family: &Family, body: &Body) -> Option<u64>
-    ensures { (records : List Record) → IsFamilyOf records family.now → (task : ℕ)
-        → (result ≡ Some task) ↔ ((started body.now ≡ Some task) × IsRoot records task) }
+/// The root that runs next after the record at a place, if one does.
+fn root_start(records: &[Record], family: &Family, at: usize) -> Option<u64>
+    requires within { at < length records.now }
+    requires family { IsFamilyOf records.now family.now }
+    ensures { (task : ℕ) → (result ≡ Some task)
+        ↔ ((says_at started records.now at ≡ Some task) × IsRoot records.now task) }
 {
-    let task = body.started()?;
-    if family.is_root(task) {
-        Some(task)
-    } else {
+    let task = records[at].body.started()?;
+    let index = family.object(at)?;
+    if family.is_explicit_at(index) {
         None
+    } else {
+        Some(task)
     }
 }
 

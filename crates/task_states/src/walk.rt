@@ -1,5 +1,6 @@
 //! Where a thread stands: its open roots, and the task that it runs.
-ghost use Rattle.std.specs.Prelude.{◌≡◌, IfOk, OnOk, replicate, slice_get};
+ghost use Rattle.std.specs.Prelude.{◌≡◌, None, IfOk, OnOk, replicate, slice_get};
+ghost use Rattle.ompt_events.specs.Records.{schedule};
 ghost use Rattle.ompt_events.specs.Threads.{at_start, after_body};
 
 use ompt_events::Body;
@@ -40,6 +41,21 @@ impl ThreadWalk {
     pub(crate) fn advance(&mut self, body: &Body) -> Result<(), AllocError>
         ensures { OnOk result (self.new ≡ after_body self.old body.now) }
     {
+        match body {
+            Body::ImplicitTask { .. } => self.advance_root(body),
+            Body::TaskSchedule { status, next, .. } if status.demands_next() => {
+                self.current = *next;
+                Ok(())
+            }
+            _ => Ok(()),
+        }
+    }
+
+    /// The same where a root begins or ends.
+    fn advance_root(&mut self, body: &Body) -> Result<(), AllocError>
+        requires { schedule body.now ≡ None }
+        ensures { OnOk result (self.new ≡ after_body self.old body.now) }
+    {
         if let Some(root) = body.begun_root() {
             self.roots.push(root)?;
             self.current = Some(root);
@@ -47,11 +63,6 @@ impl ThreadWalk {
         if body.ended_root().is_some() {
             self.roots.pop();
             self.current = self.roots.last().copied();
-        }
-        if let Some((status, _, next)) = body.schedule() {
-            if status.demands_next() {
-                self.current = next;
-            }
         }
         Ok(())
     }
