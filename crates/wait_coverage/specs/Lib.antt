@@ -4,6 +4,7 @@ pub mod Entries
 pub mod Teams
 pub mod Spans
 pub mod Lengths
+pub mod Codes
 pub mod Done
 pub mod Limits
 pub mod Meetings

@@ -16,6 +16,7 @@ mod fault;
 mod fewest;
 pub mod laws;
 mod lengths;
+mod limit;
 mod limits;
 mod meetings;
 mod members;

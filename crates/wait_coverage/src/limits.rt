@@ -11,6 +11,7 @@ ghost use Rattle.ompt_events.specs.Regions.{barrier_begun};
 
 use crate::begins::begins_barrier;
 use crate::done::Done;
+use crate::limit::Limit;
 use ompt_events::{Body, Endpoint, Record, SyncKind};
 use std::alloc::{AllocError, Global};
 use task_states::States;
@@ -22,7 +23,7 @@ pub(crate) struct Node {
     /// The ledger length from which on tasks are finished: of a creation, the child and its descendants; of
     /// the begin of a taskwait, the children so far; of the begin of a barrier, these and their descendants;
     /// of the end of a region, what it covers.
-    pub(crate) limit: u64,
+    pub(crate) limit: Limit,
     /// For a creation and the end of a taskgroup the one before of the same task, of those that are not in a
     /// taskgroup that ended since.
     previous: Slot,
@@ -41,7 +42,7 @@ struct Progress {
 
 impl Node {
     /// A node that no end of a taskgroup has to look at.
-    fn alone(limit: u64) -> Node
+    fn alone(limit: Limit) -> Node
         ensures limit { result.limit ≡ limit }
         ensures alone { result.previous ≡ None }
     {
@@ -172,17 +173,17 @@ fn create(
     ensures { AreNoted records.now (at + 1) family.now.tasks (nodes.now ++ result ∷ []) progress.new }
 {
     let Some(parent) = family.subject(at) else {
-        return Node::alone(0);
+        return Node::alone(Limit::zero());
     };
     let Some(child) = family.object(at) else {
-        return Node::alone(0);
+        return Node::alone(Limit::zero());
     };
     let previous = progress.heads[parent];
     progress.heads[parent] = Slot::some(at);
     progress.latest[parent] = progress.latest[parent].max(done.own[child]);
     progress.families[parent] = progress.families[parent].max(done.families[child]);
     Node {
-        limit: done.families[child],
+        limit: Limit::of(done.families[child]),
         previous,
     }
 }
@@ -206,10 +207,10 @@ fn close(
     ensures { AreNoted records.now (at + 1) family.now.tasks (nodes.now ++ result ∷ []) progress.new }
 {
     let Some(parent) = family.subject(at) else {
-        return Node::alone(0);
+        return Node::alone(Limit::zero());
     };
     let Some(begin) = states.begin(at) else {
-        return Node::alone(0);
+        return Node::alone(Limit::zero());
     };
     let node = gather(nodes, progress.heads[parent], begin);
     progress.heads[parent] = Slot::some(at);
@@ -222,7 +223,7 @@ fn gather(nodes: &[Node], head: Slot, begin: usize) -> Node
     requires known { (place : ℕ) → head ≡ Some place → place < length nodes.now }
     ensures { Gathers nodes.now head begin result }
 {
-    let mut limit: u64 = 0;
+    let mut limit = Limit::zero();
     let mut rest = head;
     'nodes: while let Some(place) = later(rest, begin) {
         limit = limit.max(nodes[place].limit);
@@ -245,7 +246,7 @@ fn later(slot: Slot, begin: usize) -> Option<usize>
 }
 
 /// The limit at the begin of the taskwait that ends at the place.
-fn limit_of_begin(records: &[Record], states: &States, nodes: &[Node], at: usize) -> u64
+fn limit_of_begin(records: &[Record], states: &States, nodes: &[Node], at: usize) -> Limit
     requires states { AreStatesOf records.now states.now }
     requires count { length nodes.now ≡ at }
     requires ends { (task : ℕ)
@@ -254,26 +255,26 @@ fn limit_of_begin(records: &[Record], states: &States, nodes: &[Node], at: usize
 {
     match states.begin(at) {
         Some(begin) => nodes[begin].limit,
-        None => 0,
+        None => Limit::zero(),
     }
 }
 
 /// The limit so far of the task that the record at a place is of; 0 where it is of none.
-fn latest_limit(records: &[Record], family: &Family, latest: &[u64], at: usize) -> u64
+fn latest_limit(records: &[Record], family: &Family, latest: &[u64], at: usize) -> Limit
     requires family { IsFamilyOf records.now family.now }
     requires latest { AreLatest records.now at family.now.tasks latest.now }
     ensures { (task : ℕ) → says_at subject records.now at ≡ Some task
         → IsChildLimit records.now at task result }
 {
     match family.subject(at) {
-        Some(index) => latest[index],
-        None => 0,
+        Some(index) => Limit::of(latest[index]),
+        None => Limit::zero(),
     }
 }
 
 /// The limit so far of the children of the task that begins a barrier at the place, and of their
 /// descendants; 0 where none does.
-fn begin_limit(records: &[Record], family: &Family, families: &[u64], at: usize) -> u64
+fn begin_limit(records: &[Record], family: &Family, families: &[u64], at: usize) -> Limit
     requires within { at < length records.now }
     requires family { IsFamilyOf records.now family.now }
     requires families { AreLatestFamilies records.now at family.now.tasks families.now }
@@ -281,10 +282,10 @@ fn begin_limit(records: &[Record], family: &Family, families: &[u64], at: usize)
         → IsFamiliesLimit records.now at task result }
 {
     if !begins_barrier(&records[at].body) {
-        return 0;
+        return Limit::zero();
     }
     match family.subject(at) {
-        Some(index) => families[index],
-        None => 0,
+        Some(index) => Limit::of(families[index]),
+        None => Limit::zero(),
     }
 }

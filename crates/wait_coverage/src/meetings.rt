@@ -10,6 +10,7 @@ ghost use Rattle.wait_coverage.specs.Limits.{IsEndLimit, AreNodes, AreEndLimits}
 ghost use Rattle.wait_coverage.specs.Meetings.{EndsBarrier, IsBarrierEnd, HaveTeams, AreMet, IsRaised, AreMeetingsAdded};
 
 use crate::begins::begins_barrier;
+use crate::limit::Limit;
 use crate::limits::Node;
 use crate::teams::Teams;
 use crate::waits::begin_of;
@@ -57,7 +58,7 @@ fn find_meetings(
     family: &Family,
     teams: &Teams,
     nodes: &[Node],
-) -> Result<Vec<Vec<u64>>, AllocError>
+) -> Result<Vec<Vec<Limit>>, AllocError>
     requires family { IsFamilyOf records.now family.now }
     requires teams { IsTeamsOf records.now family.now.tasks teams.now }
     requires nodes { AreNodes records.now nodes.now }
@@ -72,12 +73,12 @@ fn find_meetings(
 }
 
 /// No barrier of any team.
-fn no_meetings(alloc: Global, family: &Family, teams: &Teams) -> Result<Vec<Vec<u64>>, AllocError>
+fn no_meetings(alloc: Global, family: &Family, teams: &Teams) -> Result<Vec<Vec<Limit>>, AllocError>
     requires all { length teams.now.teams ≡ length family.now.tasks }
     ensures { IfOk result (λ meetings.
         HaveTeams (length family.now.tasks) teams.now.teams (length meetings.items)) }
 {
-    let mut meetings: Vec<Vec<u64>> = Vec::new(alloc);
+    let mut meetings: Vec<Vec<Limit>> = Vec::new(alloc);
     for index in 0..family.tasks().as_slice().len() {
         if let Some(team) = teams.team(index) {
             reach(alloc, &mut meetings, team)?;
@@ -87,7 +88,7 @@ fn no_meetings(alloc: Global, family: &Family, teams: &Teams) -> Result<Vec<Vec<
 }
 
 /// Room for the team with this number.
-fn reach(alloc: Global, meetings: &mut Vec<Vec<u64>>, team: usize) -> Result<(), AllocError>
+fn reach(alloc: Global, meetings: &mut Vec<Vec<Limit>>, team: usize) -> Result<(), AllocError>
     ensures { IfOk result (λ done. (team < length meetings.new.items)
         × (length meetings.old.items ≤ length meetings.new.items)) }
 {
@@ -103,7 +104,7 @@ fn meet(
     family: &Family,
     teams: &Teams,
     nodes: &[Node],
-    meetings: &mut Vec<Vec<u64>>,
+    meetings: &mut Vec<Vec<Limit>>,
     at: usize,
 ) -> Result<(), AllocError>
     requires within { at < length records.now }
@@ -131,11 +132,11 @@ fn meet(
 }
 
 /// The limit of the barrier with this number is at least the given one.
-fn raise(limits: &mut Vec<u64>, number: usize, limit: u64) -> Result<(), AllocError>
+fn raise(limits: &mut Vec<Limit>, number: usize, limit: Limit) -> Result<(), AllocError>
     ensures { IfOk result (λ done. IsRaised number limit limits.old.items limits.new.items) }
 {
     'room: while limits.len() <= number {
-        limits.push(0)?;
+        limits.push(Limit::zero())?;
     }
     limits[number] = limits[number].max(limit);
     Ok(())
@@ -157,7 +158,7 @@ fn add_meeting(
     family: &Family,
     states: &States,
     teams: &Teams,
-    meetings: &[Vec<u64>],
+    meetings: &[Vec<Limit>],
     nodes: &mut Vec<Node>,
     at: usize,
 )
@@ -180,9 +181,9 @@ fn end_limit(
     family: &Family,
     states: &States,
     teams: &Teams,
-    meetings: &[Vec<u64>],
+    meetings: &[Vec<Limit>],
     at: usize,
-) -> u64
+) -> Limit
     requires within { at < length records.now }
     requires ends { IsBarrierEnd records.now at }
     requires family { IsFamilyOf records.now family.now }
@@ -192,13 +193,13 @@ fn end_limit(
     ensures { IsEndLimit records.now at result }
 {
     let Some(index) = family.subject(at) else {
-        return 0;
+        return Limit::zero();
     };
     let Some(team) = teams.team(index) else {
-        return 0;
+        return Limit::zero();
     };
     let Some(begin) = begin_of(records, states, at) else {
-        return 0;
+        return Limit::zero();
     };
     meetings[team][teams.number(begin) as usize]
 }

@@ -108,7 +108,7 @@ fn open_at(
         (IsFirstOpen records.now at)) }
 {
     // Most waits end in time: only where this one did not is a late task looked for.
-    if known.nodes[at].limit <= u64::from(records[at].seen) {
+    if known.nodes[at].limit.is_reached(records[at].seen) {
         return Ok(None);
     }
     match wait_at(records, family, states, teams, at) {

@@ -30,5 +30,5 @@ returns c =
     let once = read_at c.args.done.now.families.items c.in-Some-object.child c.index-5.result.now (omega (arith, inside, families)) c.index-5.ensures in
     let same_limit = same_Some c.index-4.result.now c.index-5.result.now (sym again ∙ once) in
     let latest_families = λ (old : ℕ) (stands : slice_get c.args.progress.now.families.items c.in-Some.parent ≡ Some old). ap (set c.args.progress.now.families.items c.in-Some.parent) (c.max-2.ensures ∙ ap (max c.index-3.result.now) same_limit ∙ ap (λ n. max n c.index-5.result.now) (same_Some c.index-3.result.now old (sym (read_at c.args.progress.now.families.items c.in-Some.parent c.index-3.result.now (omega (arith, parents, family_lasts)) c.index-3.ensures) ∙ stands))) in
-    let new : Node = record { limit = c.index-5.result.now; previous = c.index-previous.result.now } in
-    created_noted rs i c.in-Some.parent creates.0 creates.1 c.index-2.result.now tasks c.args.nodes.now new c.args.progress.now _ c.requires.family.makers.apart c.requires.noted creates.2 own previous limit (λ m small low. (finished m small).0 low) (ap (λ x. set c.args.progress.now.heads.items c.in-Some.parent x) c.some.ensures) latest latest_families
+    let new : Node = record { limit = c.of.result; previous = c.index-previous.result.now } in
+    created_noted rs i c.in-Some.parent creates.0 creates.1 c.index-2.result.now c.index-5.result.now tasks c.args.nodes.now new c.args.progress.now _ c.requires.family.makers.apart c.requires.noted creates.2 own previous (λ m t small low of. limit m t small (c.of.ensures m small low) of) limit (λ m small low. (finished m small).0 low) (ap (λ x. set c.args.progress.now.heads.items c.in-Some.parent x) c.some.ensures) latest latest_families

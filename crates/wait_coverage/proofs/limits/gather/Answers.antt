@@ -6,7 +6,7 @@ use Rattle.wait_coverage.proofs.ChainLemmas.{gathered_start, gathered_more, smal
 use Rattle.wait_coverage.proofs.limits.gather.Goals as goal
 
 pub nodes-init : goal.nodes-init
-nodes-init c = record { gathered = gathered_start c.args.nodes.now c.args.head c.args.begin; known = c.requires.known }
+nodes-init c = record { gathered = rw c.zero-limit.ensures (gathered_start c.args.nodes.now c.args.head c.args.begin); known = c.requires.known }
 
 pub offset_bounds-nodes-place : goal.offset_bounds-nodes-place
 offset_bounds-nodes-place c =

@@ -12,7 +12,7 @@ returns-in_default-team c =
     let i = c.args.at in
     let ends = c.requires.ends in
     let own = region_index rs c.args.family.now.tasks i c.in-Some.index ends.0 ends.1 ends.2 c.subject.result (c.subject.ensures rs c.requires.family) c.in-Some.is ends.3 in
-    teamless_limit rs i c.in-Some.index ends.0 0 ends.1 ends.2 c.args.family.now.tasks c.args.teams.now.teams c.requires.teams.teams own (c.team.ensures ∙ ap Some (none_else c.in_default-team.not-Some)) ends.3 ends.5
+    teamless_limit rs i c.in-Some.index ends.0 c.zero-in_default-team.result ends.1 ends.2 c.args.family.now.tasks c.args.teams.now.teams c.requires.teams.teams own (c.team.ensures ∙ ap Some (none_else c.in_default-team.not-Some)) ends.3 ends.5
 
 pub number-requires : goal.number-requires
 number-requires c =

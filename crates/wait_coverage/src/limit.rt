@@ -1,0 +1,67 @@
+//! A ledger length in 32 bits.
+ghost use Rattle.std.specs.Prelude.{ℕ, ◌≡◌, ◌<◌, ◌≤◌, ◌^◌, IsTrue, max};
+
+use std::marker::Model;
+
+/// A ledger length from which on something is finished, in 32 bits: that length, or a greater one. No record
+/// can name a length of 2^32, so that stands for all greater ones, and for never.
+#[derive(Clone, Copy, Debug, PartialEq, Eq)]
+pub(crate) struct Limit {
+    code: u32,
+}
+
+impl Model for Limit {
+    ghost use Rattle.std.specs.Prelude.{ℕ, ◌≤◌};
+    ghost use Rattle.wait_coverage.specs.Codes.{length_of_code, code_of_length, code_again};
+
+    ghost Value = { ℕ };
+
+    ghost view = { λ limit. length_of_code limit.code };
+
+    ghost invariant = { λ limit. limit.code ≤ 4294967295 };
+
+    ghost inverse = { λ length. record { code = code_of_length length } };
+
+    ghost inverse_ok = { λ limit small. code_again (λ code. record { code = code }) limit.code small };
+}
+
+/// The code of 2^32.
+const NEVER: u32 = u32::MAX;
+
+impl Limit {
+    /// From the start on.
+    pub(crate) fn zero() -> Limit
+        ensures { result ≡ 0 }
+    {
+        Limit { code: 0 }
+    }
+
+    /// This length, or one that no record can name where it is one too.
+    pub(crate) fn of(length: u64) -> Limit
+        ensures { (m : ℕ) → m < 2 ^ 32 → result ≤ m → length ≤ m }
+    {
+        if length < u64::from(NEVER) {
+            Limit {
+                code: length as u32,
+            }
+        } else {
+            Limit { code: NEVER }
+        }
+    }
+
+    /// The greater of the two.
+    pub(crate) fn max(self, other: Limit) -> Limit
+        ensures { result ≡ max self other }
+    {
+        Limit {
+            code: self.code.max(other.code),
+        }
+    }
+
+    /// Whether it is reached where a record names this length.
+    pub(crate) fn is_reached(self, length: u32) -> bool
+        ensures { IsTrue result → self ≤ length }
+    {
+        self.code <= length && self.code < NEVER
+    }
+}
