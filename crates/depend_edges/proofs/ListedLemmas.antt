@@ -1,9 +1,9 @@
 -- Where the dependences of each task are listed.
-use Rattle.std.proofs.Common.{◌≡◌, ◌∙◌, ℕ, ◌+◌, List, Option, Some, None, true, false, refl, sym, ap, subst, arith, inl, inr, set}
+use Rattle.std.proofs.Common.{◌≡◌, ◌∙◌, ℕ, ◌+◌, List, length, Option, Some, None, true, false, refl, sym, ap, subst, arith, inl, inr, set}
 use Rattle.std.proofs.lemmas.Bool.{cases_eq, cases_lt, cases_order, false≢true}
 use Rattle.std.proofs.lemmas.Option.{none-some, same_Some, slice_get_within}
 use Rattle.std.proofs.lemmas.List.{length-set}
-use Rattle.std.specs.Prelude.{slice_get, is_some, option_map}
+use Rattle.std.specs.Prelude.{slice_get, is_some, option_map, replicate}
 use Rattle.ompt_events.specs.declared.records.Record.{Record}
 use Rattle.ompt_events.specs.declared.records.Body.{Body}
 use Rattle.ompt_events.specs.declared.records.Body.TheVariants.{TaskCreate}
@@ -18,7 +18,9 @@ use Rattle.task_tree.specs.Subjects.{subject, Calls}
 use Rattle.task_tree.proofs.NamedLemmas.{subject_index, dependences_subject}
 use Rattle.task_tree.proofs.OnceLemmas.{made_once}
 use Rattle.task_tree.proofs.LinkLemmas.{get_set_same, get_set_other}
+use Rattle.depend_edges.specs.Placement.{HasNoneAt}
 use Rattle.depend_edges.specs.Lists.{AreListed}
+use Rattle.depend_edges.proofs.PlacementLemmas.{no_slot, slots_long}
 
 -- ---- a task has one list
 
@@ -110,3 +112,11 @@ mapped_some f (Some x) = refl
 pub none_some : {X : Type 0} (o : Option X) → is_some o ≡ false → o ≡ None
 none_some None is = refl
 none_some (Some x) is = absurd (false≢true (sym is))
+
+-- where no record lists dependences no task has a list
+pub none_listed : (rs : List Record) (n : ℕ) (tasks : List ℕ) (lists : List (Option ℕ)) → lists ≡ replicate (length tasks) None → ((i : ℕ) → HasNoneAt rs i) → AreListed rs n tasks lists
+none_listed rs n tasks lists empty none = record {
+  all = slots_long (length tasks) lists empty;
+  each = λ index task i items is below says. absurd (false≢true (sym (none i).lists ∙ ap is_some says));
+  only = λ index i stands. absurd (none-some i (same_Some None (Some i) (sym (no_slot (length tasks) index lists empty (let within = slice_get_within lists index (Some i) stands in let count = slots_long (length tasks) lists empty in omega (arith, within, count))) ∙ stands)));
+}

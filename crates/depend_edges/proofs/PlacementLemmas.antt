@@ -13,7 +13,7 @@ use Rattle.ompt_events.specs.Places.{at, thread_at}
 use Rattle.ompt_events.specs.Causes.{IsNextInThread, AreFollowed, HasMisplacedDeps, stray, missing, HasCause, deps_place, IsFirstWith, IsFreeOf}
 use Rattle.ompt_events.proofs.PlaceLemmas.{at_index, at_within}
 use Rattle.task_tree.proofs.LinkLemmas.{get_set_same, get_set_other}
-use Rattle.depend_edges.specs.Placement.{IsLast, AreLast, BelongTogether, HasDependences, IsMarked, AreMarked}
+use Rattle.depend_edges.specs.Placement.{IsLast, AreLast, BelongTogether, HasDependences, HasNoneAt, IsMarked, AreMarked}
 
 -- ---- the last record of each thread
 
@@ -288,3 +288,36 @@ unmark_here marks i read stands =
 
 pub mark_here : (rs : List Record) (marks : List Bool) (i : ℕ) → i < length rs → length marks ≡ length rs → slice_index_or marks i false ≡ true → IsMarked marks i
 mark_here rs marks i within all read = slice_get-get_or marks i false (rw all within) ∙ ap Some read
+
+-- ---- no dependences at all
+
+pub none_here : (rs : List Record) (i : ℕ) (r : Record) → i < length rs → (HasDependences (get_or rs i r).body → ⊥) → HasNoneAt rs i
+none_here rs i r within none = record {
+  creates = ap is_some (at_index created_with_deps rs i r within) ∙ never (is_some (created_with_deps (get_or rs i r).body)) (λ is. none (inl is));
+  lists = ap is_some (at_index dependences rs i r within) ∙ never (is_some (dependences (get_or rs i r).body)) (λ is. none (inr is));
+}
+  where
+    never : (b : Bool) → (b ≡ true → ⊥) → b ≡ false
+    never true not_true = absurd (not_true refl)
+    never false not_true = refl
+
+nothing_past : {X : Type 0} (f : Body → Option X) (rs : List Record) (i : ℕ) → length rs ≤ i → is_some (at f rs i) ≡ false
+nothing_past {X} f rs i past_end = of (at f rs i) refl
+  where
+    of : (o : Option X) → at f rs i ≡ o → is_some o ≡ false
+    of None is = refl
+    of (Some x) is = absurd (let within = at_within f rs i x is in omega (arith, within, past_end))
+
+-- past the last record there is nothing either
+pub none_anywhere : (rs : List Record) (n : ℕ) → ((k : ℕ) → k < n → HasNoneAt rs k) → length rs ≤ n → (i : ℕ) → HasNoneAt rs i
+none_anywhere rs n none end i = elim (cases_lt i n) [
+  | inl less ↦ none i less
+  | inr past ↦ record { creates = nothing_past created_with_deps rs i (omega (arith, past, end)); lists = nothing_past dependences rs i (omega (arith, past, end)) }
+]
+
+pub none_misplaced : (rs : List Record) → ((i : ℕ) → HasNoneAt rs i) → IsFreeOf rs DepsPlace
+none_misplaced rs none i has = of (misplaced_of rs i has)
+  where
+    of : HasMisplacedDeps rs i → ⊥
+    of (stray says apart) = false≢true (sym (none i).lists ∙ says)
+    of (missing says apart) = false≢true (sym (none i).creates ∙ says)

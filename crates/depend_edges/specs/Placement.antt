@@ -1,10 +1,10 @@
 -- Which creations and lists of dependences belong together.
-use Rattle.std.specs.Prelude.{ℕ, ◌≡◌, ◌≢◌, ◌<◌, ◌↔◌, ◌⊎◌, List, length, Bool, true, Option, Some, slice_get, is_some}
+use Rattle.std.specs.Prelude.{ℕ, ◌≡◌, ◌≢◌, ◌<◌, ◌↔◌, ◌⊎◌, List, length, Bool, true, false, Option, Some, slice_get, is_some}
 use Rattle.ompt_events.specs.declared.records.Record.{Record}
 use Rattle.ompt_events.specs.declared.records.Body.{Body}
 use Rattle.ompt_events.specs.declared.deps.Dep.{Dep}
 use Rattle.ompt_events.specs.Records.{created_with_deps, dependences}
-use Rattle.ompt_events.specs.Places.{thread_at}
+use Rattle.ompt_events.specs.Places.{at, thread_at}
 use Rattle.ompt_events.specs.Causes.{AreFollowed}
 
 -- of the first n records the one at a is the last of the thread
@@ -37,3 +37,8 @@ pub record AreMarked (rs : List Record) (n : ℕ) (marks : List Bool) : Type 0 w
 -- the body creates a task with dependences, or lists them
 abbrev pub HasDependences : Body → Type 0
 HasDependences body = (is_some (created_with_deps body) ≡ true) ⊎ (is_some (dependences body) ≡ true)
+
+-- the record at the place creates no task with dependences, and lists none
+pub record HasNoneAt (rs : List Record) (i : ℕ) : Type 0 where
+  pub creates : is_some (at created_with_deps rs i) ≡ false
+  pub lists : is_some (at dependences rs i) ≡ false

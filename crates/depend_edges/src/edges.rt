@@ -7,8 +7,7 @@ ghost use Rattle.depend_edges.specs.declared.fault.EdgeFault.TheVariants.{Memory
 use crate::fault::EdgeFault;
 use crate::items::items_of;
 use crate::latest::find_latest;
-use crate::lists::find_lists;
-use crate::placement::{find_marks, first_misplaced};
+use crate::lists::find_placed;
 use crate::predecessors::select;
 use ompt_events::{Record, Trace};
 use std::alloc::Global;
@@ -56,11 +55,7 @@ impl<'a> Edges<'a> {
         ensures fault { IfErr result (IsEdgeFault trace.now.records) }
     {
         let records = trace.records();
-        let marks = find_marks(alloc, records)?;
-        if let Some(at) = first_misplaced(records, marks.as_slice()) {
-            return Err(EdgeFault::Misplaced(at));
-        }
-        let lists = find_lists(alloc, records, family)?;
+        let lists = find_placed(alloc, records, family)?;
         Ok(Edges {
             records,
             family,

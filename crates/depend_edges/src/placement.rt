@@ -3,7 +3,7 @@ ghost use Rattle.std.specs.Prelude.{ℕ, ◌≡◌, ◌↔◌, ◌<◌, ◌≤�
 ghost use Rattle.ompt_events.specs.Records.{dependences};
 ghost use Rattle.ompt_events.specs.declared.cause.Cause.TheVariants.{DepsPlace};
 ghost use Rattle.ompt_events.specs.Causes.{IsFirstWith, IsFreeOf, IsNextInThread, HasMisplacedDeps};
-ghost use Rattle.depend_edges.specs.Placement.{AreLast, AreMarked, BelongTogether, HasDependences};
+ghost use Rattle.depend_edges.specs.Placement.{AreLast, AreMarked, BelongTogether, HasDependences, HasNoneAt};
 
 use ompt_events::{Body, Record};
 use std::alloc::{AllocError, Global};
@@ -11,6 +11,18 @@ use task_tree::Slot;
 
 /// How many threads there are: their numbers have 8 bits.
 const THREADS: usize = 256;
+
+/// Whether no record creates a task with dependences, or lists some. Most files are such.
+pub(crate) fn has_none(records: &[Record]) -> bool
+    ensures { IsTrue result → (i : ℕ) → HasNoneAt records.now i }
+{
+    for at in 0..records.len() {
+        if has_dependences(&records[at].body) {
+            return false;
+        }
+    }
+    true
+}
 
 /// For each record whether it creates a task with dependences that follow, or lists those of the task that
 /// was created before it.
