@@ -229,11 +229,11 @@ creates_no_region rs i parent child own kind endpoint creates says = there (slic
     there None is is' = none-some (parent, child) is
     there (Some r) is is' = of r.body is is'
 
-pub created_noted : (rs : List Record) (n own parent child done family : ℕ) (tasks : List ℕ) (nodes : List Node) (new : Node) (before after : Progress) → AreApart tasks → AreNoted rs n tasks nodes before → at creation rs n ≡ Some (parent, child) → slice_get tasks own ≡ Some parent → slice_get before.heads.items own ≡ Some new.previous → IsFamilyLimit rs child new.limit → IsFamilyLimit rs child family → ((m : ℕ) → m < 2 ^ 32 → done ≤ m → IsDone rs m child) → after.heads.items ≡ set before.heads.items own (Some n) → ((old : ℕ) → slice_get before.latest.items own ≡ Some old → after.latest.items ≡ set before.latest.items own (max old done)) → ((old : ℕ) → slice_get before.families.items own ≡ Some old → after.families.items ≡ set before.families.items own (max old family)) → AreNoted rs (n + 1) tasks (nodes ++ new ∷ []) after
-created_noted rs n own parent child done family tasks nodes new before after apart are creates is_own head_there limit family_done finished heads latest families =
+pub created_noted : (rs : List Record) (n own parent child done : ℕ) (tasks : List ℕ) (nodes : List Node) (new : Node) (before after : Progress) → AreApart tasks → AreNoted rs n tasks nodes before → at creation rs n ≡ Some (parent, child) → slice_get tasks own ≡ Some parent → slice_get before.heads.items own ≡ Some new.previous → IsFamilyLimit rs child new.limit → ((m : ℕ) → m < 2 ^ 32 → done ≤ m → IsDone rs m child) → after.heads.items ≡ set before.heads.items own (Some n) → ((old : ℕ) → slice_get before.latest.items own ≡ Some old → after.latest.items ≡ set before.latest.items own (max old done)) → ((old : ℕ) → slice_get before.families.items own ≡ Some old → after.families.items ≡ set before.families.items own (max old new.limit)) → AreNoted rs (n + 1) tasks (nodes ++ new ∷ []) after
+created_noted rs n own parent child done tasks nodes new before after apart are creates is_own head_there limit finished heads latest families =
     noted_push rs n tasks nodes new before after are
     (subst (AreLatest rs (n + 1) tasks) (sym latest_are) (latest_more rs n own parent child (max (get_or before.latest.items own 0) done) done 0 tasks before.latest.items apart are.latest is_own creates refl finished))
-    (subst (AreLatestFamilies rs (n + 1) tasks) (sym families_are) (families_more rs n own parent child (max (get_or before.families.items own 0) family) family 0 tasks before.families.items apart are.families is_own creates refl family_done))
+    (subst (AreLatestFamilies rs (n + 1) tasks) (sym families_are) (families_more rs n own parent child (max (get_or before.families.items own 0) new.limit) new.limit 0 tasks before.families.items apart are.families is_own creates refl limit))
     (subst (AreChains rs tasks (nodes ++ new ∷ [])) (sym heads_are) (chains_more rs tasks nodes new before.heads.items own parent apart are.chains is_own known makes kept))
     (record {
       begins = λ task says. absurd (creates_no_region rs n parent child task Taskwait Begin creates says);
@@ -253,7 +253,7 @@ created_noted rs n own parent child done family tasks nodes new before after apa
     latest_are : after.latest.items ≡ set before.latest.items own (max (get_or before.latest.items own 0) done)
     latest_are = latest (get_or before.latest.items own 0) (slice_get-get_or before.latest.items own 0 (let inside = slice_get_within tasks own parent is_own in let count = are.latest.all in omega (arith, inside, count)))
 
-    families_are : after.families.items ≡ set before.families.items own (max (get_or before.families.items own 0) family)
+    families_are : after.families.items ≡ set before.families.items own (max (get_or before.families.items own 0) new.limit)
     families_are = families (get_or before.families.items own 0) (slice_get-get_or before.families.items own 0 (let inside = slice_get_within tasks own parent is_own in let count = are.families.all in omega (arith, inside, count)))
 
     known : (next : ℕ) → new.previous ≡ Some next → next < length nodes

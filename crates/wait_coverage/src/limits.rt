@@ -35,9 +35,9 @@ struct Progress {
     /// The last node of the task that an end of a taskgroup may have to look at.
     heads: Vec<Slot>,
     /// The ledger length from which on the children so far are finished.
-    latest: Vec<u64>,
+    latest: Vec<Limit>,
     /// The same of the children so far and their descendants.
-    families: Vec<u64>,
+    families: Vec<Limit>,
 }
 
 impl Node {
@@ -92,8 +92,8 @@ fn no_progress(alloc: Global, tasks: usize) -> Result<Progress, AllocError>
 {
     Ok(Progress {
         heads: vec![in alloc; Slot::none(); tasks]?,
-        latest: vec![in alloc; 0; tasks]?,
-        families: vec![in alloc; 0; tasks]?,
+        latest: vec![in alloc; Limit::zero(); tasks]?,
+        families: vec![in alloc; Limit::zero(); tasks]?,
     })
 }
 
@@ -180,12 +180,11 @@ fn create(
     };
     let previous = progress.heads[parent];
     progress.heads[parent] = Slot::some(at);
-    progress.latest[parent] = progress.latest[parent].max(done.own[child]);
-    progress.families[parent] = progress.families[parent].max(done.families[child]);
-    Node {
-        limit: Limit::of(done.families[child]),
-        previous,
-    }
+    let own = Limit::of(done.own[child]);
+    let limit = Limit::of(done.families[child]);
+    progress.latest[parent] = progress.latest[parent].max(own);
+    progress.families[parent] = progress.families[parent].max(limit);
+    Node { limit, previous }
 }
 
 /// The node of the end of a taskgroup, which stands for all that were created in it.
@@ -260,21 +259,21 @@ fn limit_of_begin(records: &[Record], states: &States, nodes: &[Node], at: usize
 }
 
 /// The limit so far of the task that the record at a place is of; 0 where it is of none.
-fn latest_limit(records: &[Record], family: &Family, latest: &[u64], at: usize) -> Limit
+fn latest_limit(records: &[Record], family: &Family, latest: &[Limit], at: usize) -> Limit
     requires family { IsFamilyOf records.now family.now }
     requires latest { AreLatest records.now at family.now.tasks latest.now }
     ensures { (task : ℕ) → says_at subject records.now at ≡ Some task
         → IsChildLimit records.now at task result }
 {
     match family.subject(at) {
-        Some(index) => Limit::of(latest[index]),
+        Some(index) => latest[index],
         None => Limit::zero(),
     }
 }
 
 /// The limit so far of the children of the task that begins a barrier at the place, and of their
 /// descendants; 0 where none does.
-fn begin_limit(records: &[Record], family: &Family, families: &[u64], at: usize) -> Limit
+fn begin_limit(records: &[Record], family: &Family, families: &[Limit], at: usize) -> Limit
     requires within { at < length records.now }
     requires family { IsFamilyOf records.now family.now }
     requires families { AreLatestFamilies records.now at family.now.tasks families.now }
@@ -285,7 +284,7 @@ fn begin_limit(records: &[Record], family: &Family, families: &[u64], at: usize)
         return Limit::zero();
     }
     match family.subject(at) {
-        Some(index) => Limit::of(families[index]),
+        Some(index) => families[index],
         None => Limit::zero(),
     }
 }
