@@ -23,8 +23,6 @@ use task_tree::Family;
 /// What is known of all tasks and records before an end is looked at.
 #[derive(Debug, Drop)]
 pub struct Known {
-    /// The indices of the tasks, each behind that of its parent.
-    pub(crate) order: Vec<usize>,
     pub(crate) done: Done,
     /// For each record that ends a region from which ledger length on what it covers is finished.
     pub(crate) nodes: Vec<Node>,
@@ -59,7 +57,7 @@ pub fn find_known(
     let done = find_done(alloc, records, family, order.as_slice())?;
     let mut nodes = find_limits(alloc, records, family, states, &done)?;
     add_meetings(alloc, records, family, states, teams, &mut nodes)?;
-    Ok(Known { order, done, nodes })
+    Ok(Known { done, nodes })
 }
 
 /// The first record that ends a region that waits for tasks, and that covers an unfinished one; and of the
@@ -135,7 +133,8 @@ pub(crate) fn open_of(
     ensures { IfOk result (λ found. MatchOption found (IsCoverComplete records.now at)
         (IsFirstOpen records.now at)) }
 {
-    let marks = find_awaited(alloc, records, family, teams, known.order.as_slice(), wait)?;
+    let order = parents_first(alloc, family)?;
+    let marks = find_awaited(alloc, records, family, teams, order.as_slice(), wait)?;
     let own = known.done.own.as_slice();
     Ok(first_late(records, family, own, marks.as_slice(), records[at].seen))
 }
