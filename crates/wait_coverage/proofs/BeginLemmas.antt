@@ -2,12 +2,12 @@
 use Rattle.std.proofs.Common.{◌≡◌, ◌∙◌, ℕ, zero, suc, ◌<◌, ◌≤◌, ◌+◌, List, [], ◌∷◌, ◌++◌, length, Option, Some, None, Bool, true, false, cond, refl, sym, ap, subst, arith, inl, inr, ◌⊎◌, add-one}
 use Rattle.std.proofs.lemmas.Bool.{cases_eq, cases_lt, eq-eqb, ne_eqb, false≢true}
 use Rattle.std.proofs.lemmas.Option.{none-some, same_Some, slice_get_within}
-use Rattle.std.proofs.lemmas.List.{length_push, length-set, append-nil}
+use Rattle.std.proofs.lemmas.List.{length_push, length-set, length-replicate, append-nil}
 use Rattle.std.proofs.lemmas.List.Elements.{filter-append}
 use Rattle.std.proofs.Math.ListN.{set}
 use Rattle.std.specs.Global.{Vec}
 use Rattle.std.specs.Option.{option_map_or}
-use Rattle.std.specs.Prelude.{◌==◌, slice_get, filter, is_some}
+use Rattle.std.specs.Prelude.{◌==◌, slice_get, filter, is_some, replicate}
 use Rattle.ompt_events.specs.declared.records.Record.{Record}
 use Rattle.ompt_events.specs.declared.names.Endpoint.{Endpoint}
 use Rattle.ompt_events.specs.declared.names.Endpoint.TheVariants.{Begin, End, BeginEnd}
@@ -22,7 +22,7 @@ use Rattle.task_tree.specs.Numbering.{AreApart}
 use Rattle.task_tree.specs.Subjects.{subject, Calls}
 use Rattle.task_tree.proofs.LinkLemmas.{get_set_same, get_set_other}
 use Rattle.task_tree.proofs.NamedLemmas.{region_subject}
-use Rattle.wait_coverage.specs.Begins.{AreEmpty}
+use Rattle.wait_coverage.specs.Begins.{AreEmpty, AreNumbered}
 use Rattle.wait_coverage.specs.Teams.{begins_before, AreBegins, IsNumberOf, AreBeginNumbers}
 use Rattle.wait_coverage.proofs.LengthLemmas.{call_same, call_never}
 
@@ -186,16 +186,42 @@ number_here rs n own parent number tasks begins old are within is_own stands beg
     let is_number : number ≡ length (begins_before rs parent n) = is ∙ ap length (are.each own parent old is_own stands) in
     subst P same (subst Q (sym is_number) (begun_number rs parent n within begun))
 
-pub begin_numbers_more : (rs : List Record) (n number : ℕ) (numbers : List ℕ) → AreBeginNumbers rs n numbers → IsNumberOf rs n number → AreBeginNumbers rs (n + 1) (numbers ++ number ∷ [])
-begin_numbers_more rs n number numbers are here = record {
-  all = length_push numbers number ∙ ap (λ k. k + 1) are.all;
-  each = λ i x stands. elim (pushed_cases numbers number x i stands) [
-    | inl old ↦ are.each i x old
-    | inr last ↦
-        let P : ℕ → Type 0 = λ k. IsNumberOf rs k x in
-        let Q : ℕ → Type 0 = IsNumberOf rs n in
-        subst P (sym (last.0 ∙ are.all)) (subst Q last.1 here)
+pub numbered_none : (rs : List Record) (numbers : List ℕ) → numbers ≡ replicate (length rs) 0 → AreNumbered rs 0 numbers
+numbered_none rs numbers empty = record {
+  all = ap length empty ∙ length-replicate {A = ℕ} (length rs) 0;
+  each = λ i number below stands. absurd (omega (arith, below));
+}
+
+pub never_begun : (found : Option ℕ) → ((task : ℕ) → found ≡ Some task → ⊥) → found ≡ None
+never_begun None never = refl
+never_begun (Some task) never = absurd (never task refl)
+
+pub numbered_other : (rs : List Record) (n : ℕ) (numbers : List ℕ) → AreNumbered rs n numbers → barrier_begun (at region rs n) ≡ None → AreNumbered rs (n + 1) numbers
+numbered_other rs n numbers are none = record {
+  all = are.all;
+  each = λ i number below stands. elim (cases_eq i n) [
+    | inl same ↦ let P : ℕ → Type 0 = λ k. IsNumberOf rs k number in subst P (sym same) (number_none rs n number none)
+    | inr apart ↦ are.each i number (omega (arith, below, apart)) stands
   ];
+}
+
+pub numbered_more : (rs : List Record) (n here : ℕ) (numbers : List ℕ) → AreNumbered rs n numbers → n < length rs → IsNumberOf rs n here → AreNumbered rs (n + 1) (set numbers n here)
+numbered_more rs n here numbers are within is = record {
+  all = length-set numbers n here ∙ are.all;
+  each = λ i number below stands. elim (cases_eq i n) [
+    | inl same ↦
+        let told : here ≡ number = same_Some here number (sym (get_set_same numbers n here (let all = are.all in omega (arith, within, all))) ∙ ap (slice_get (set numbers n here)) (sym same) ∙ stands) in
+        let P : ℕ → Type 0 = λ k. IsNumberOf rs k number in
+        let Q : ℕ → Type 0 = IsNumberOf rs n in
+        subst P (sym same) (subst Q told is)
+    | inr apart ↦ are.each i number (omega (arith, below, apart)) (sym (get_set_other numbers n i here apart) ∙ stands)
+  ];
+}
+
+pub numbered_all : (rs : List Record) (n : ℕ) (numbers : List ℕ) → AreNumbered rs n numbers → length rs ≤ n → AreBeginNumbers rs (length rs) numbers
+numbered_all rs n numbers are end = record {
+  all = are.all;
+  each = λ i number stands. are.each i number (let within = slice_get_within numbers i number stands in let all = are.all in omega (arith, end, within, all)) stands;
 }
 
 -- a record that begins a barrier, by a test of it

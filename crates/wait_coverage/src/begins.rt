@@ -1,5 +1,5 @@
 //! Where each task begins barriers, and how many it began before.
-ghost use Rattle.std.specs.Prelude.{ℕ, ◌≡◌, ◌↔◌, ◌<◌, ◌≤◌, ◌+◌, ◌^◌, ◌++◌, ◌∷◌, [], Some, IsTrue, IfOk, OnOk, length};
+ghost use Rattle.std.specs.Prelude.{ℕ, ◌≡◌, ◌↔◌, ◌<◌, ◌≤◌, ◌+◌, ◌^◌, ◌++◌, ◌∷◌, [], Some, IsTrue, IfOk, OnOk, length, replicate};
 ghost use Rattle.task_tree.specs.Family.{IsFamilyOf};
 ghost use Rattle.ompt_events.specs.Records.{region};
 ghost use Rattle.ompt_events.specs.Regions.{barrier_begun};
@@ -31,12 +31,20 @@ pub(crate) fn find_begins(
         (length records.now) found.numbers.items) }
 {
     let mut begins = no_places(alloc, family.tasks().as_slice().len())?;
-    let mut numbers = Vec::with_capacity(alloc, records.len())?;
+    let mut numbers = no_numbers(alloc, records.len())?;
     for at in 0..records.len() {
-        let number = note_begin(records, family, &mut begins, at)?;
-        numbers.push(number)?;
+        if begins_barrier(&records[at].body) {
+            numbers[at] = note_begin(records, family, &mut begins, at)?;
+        }
     }
     Ok(Begins { begins, numbers })
+}
+
+/// No barrier begins at any record.
+fn no_numbers(alloc: Global, records: usize) -> Result<Vec<u32>, AllocError>
+    ensures { IfOk result (λ numbers. numbers.items ≡ replicate records 0) }
+{
+    vec![in alloc; 0; records]
 }
 
 /// No place for any task.
