@@ -4,20 +4,23 @@ ghost use Rattle.ompt_events.specs.declared.cause.Cause.TheVariants.{Moved};
 ghost use Rattle.ompt_events.specs.Causes.{IsFreeOf};
 ghost use Rattle.task_tree.specs.Family.{IsFamilyOf};
 ghost use Rattle.task_states.specs.Fault.{IsFound};
-ghost use Rattle.task_states.specs.Homes.{IsExplicitStart};
+ghost use Rattle.task_states.specs.Homes.{IsExplicitStart, AreRunOn};
 
 use crate::fault::StateFault;
 use ompt_events::{Cause, Record};
 use std::alloc::{AllocError, Global};
 use task_tree::Family;
 
-/// Searches for the first record after which an explicit task runs on a second thread.
+/// For each explicit task, by its index, the thread on which it runs, if it does. Searches for the first record
+/// after which one runs on a second thread.
 pub(crate) fn find_moved(
     alloc: Global,
     records: &[Record],
     family: &Family,
-) -> Result<(), StateFault>
+) -> Result<Vec<Option<u8>>, StateFault>
     requires { IsFamilyOf records.now family.now }
+    ensures homes { IfOk result (λ homes. AreRunOn records.now family.now.tasks homes.items) }
+    ensures all { IfOk result (λ homes. length homes.items ≡ length family.now.tasks) }
     ensures free { OnOk result (IsFreeOf records.now Moved) }
     ensures found { IfErr result (IsFound records.now Moved) }
 {
@@ -33,7 +36,7 @@ pub(crate) fn find_moved(
             homes[index] = Some(event.thread);
         }
     }
-    Ok(())
+    Ok(homes)
 }
 
 /// No thread for any task.

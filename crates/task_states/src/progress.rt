@@ -6,6 +6,7 @@ ghost use Rattle.ompt_events.specs.States.{first_state, state_after, home_of, mo
 ghost use Rattle.task_tree.specs.Family.{IsFamilyOf};
 ghost use Rattle.task_tree.specs.Numbering.{AreApart};
 ghost use Rattle.task_tree.specs.Subjects.{Calls};
+ghost use Rattle.task_states.specs.Homes.{AreRunOn};
 ghost use Rattle.task_states.specs.declared.progress.Pass.TheVariants.{Early, Home, Rest};
 ghost use Rattle.task_states.specs.Progress.{the_nature, the_move, earlier, refused_after, is_read, is_read_for, early_for, fulfils_early, is_at, and_move, and_record, moves_before, IsReadWhole, AreLeft, HasCome, AreNatures, AreHomes};
 
@@ -270,16 +271,19 @@ impl Progress {
     }
 }
 
-/// How far each task comes by all its moves.
+/// How far each task comes by all its moves. Of each explicit task it is known already on which thread it runs.
 pub(crate) fn find_progress(
     alloc: Global,
     records: &[Record],
     family: &Family,
+    run_on: &[Option<u8>],
 ) -> Result<Progress, AllocError>
-    requires { IsFamilyOf records.now family.now }
+    requires family { IsFamilyOf records.now family.now }
+    requires homes { AreRunOn records.now family.now.tasks run_on.now }
+    requires all { length run_on.now ≡ length family.now.tasks }
     ensures { IfOk result (HasCome records.now family.now.tasks (moves_of records.now)) }
 {
-    let origins = find_origins(alloc, records, family)?;
+    let origins = find_origins(alloc, records, family, run_on)?;
     let mut progress = Progress::new(alloc, origins.natures.as_slice())?;
     progress.read_early(&origins, records, family);
     let left = progress.read_home(alloc, &origins, records, family)?;

@@ -6,6 +6,7 @@ ghost use Rattle.ompt_events.specs.declared.cause.Cause.TheVariants.{NotCurrent,
 ghost use Rattle.ompt_events.specs.Causes.{IsFreeOf};
 ghost use Rattle.task_tree.specs.Family.{IsFamilyOf};
 ghost use Rattle.task_states.specs.Fault.{IsStateFault};
+ghost use Rattle.task_states.specs.Homes.{AreRunOn};
 ghost use Rattle.task_states.specs.Regions.{AreLinked};
 ghost use Rattle.task_states.specs.States.{AreStates, AreStatesOf, IsLast, IsBegin};
 
@@ -59,8 +60,8 @@ pub fn run<'a>(alloc: Global, trace: &Trace, family: &'a Family) -> Result<State
 {
     let records = trace.records();
     find_misfit(alloc, records, family)?;
-    find_moved(alloc, records, family)?;
-    let states = find_states(alloc, records, family)?;
+    let run_on = find_moved(alloc, records, family)?;
+    let states = find_states(alloc, records, family, run_on.as_slice())?;
     let begins = find_begins(alloc, records, family)?;
     Ok(States {
         tasks: family.tasks(),
@@ -70,21 +71,24 @@ pub fn run<'a>(alloc: Global, trace: &Trace, family: &'a Family) -> Result<State
 }
 
 /// The state of each task after all its records. Searches for the first record that changes a task in a way
-/// that its state does not allow.
+/// that its state does not allow. Of each explicit task it is known already on which thread it runs.
 fn find_states(
     alloc: Global,
     records: &[Record],
     family: &Family,
+    run_on: &[Option<u8>],
 ) -> Result<Vec<Option<State>>, StateFault>
     requires family { IsFamilyOf records.now family.now }
     requires current { IsFreeOf records.now NotCurrent }
     requires stay { IsFreeOf records.now Moved }
+    requires homes { AreRunOn records.now family.now.tasks run_on.now }
+    requires all { length run_on.now ≡ length family.now.tasks }
     ensures states { IfOk result (λ states. AreStates records.now family.now.tasks states.items) }
     ensures all { IfOk result (λ states. length states.items ≡ length family.now.tasks) }
     ensures ordered { OnOk result (IsFreeOf records.now StatusOrder) }
     ensures fault { IfErr result (IsStateFault records.now) }
 {
-    let progress = find_progress(alloc, records, family)?;
+    let progress = find_progress(alloc, records, family, run_on)?;
     match progress.refused() {
         Some(at) => Err(StateFault::Malformed {
             at,

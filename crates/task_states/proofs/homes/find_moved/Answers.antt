@@ -6,7 +6,7 @@ use Rattle.ompt_events.specs.Records.{started}
 use Rattle.ompt_events.specs.Places.{at, thread_at}
 use Rattle.ompt_events.specs.Tree.{IsExplicit}
 use Rattle.ompt_events.proofs.PlaceLemmas.{thread_read}
-use Rattle.task_states.proofs.HomeLemmas.{explicit_index, free_of_moved, moves_here, moves_not, homes_more, homes_other, stays_put}
+use Rattle.task_states.proofs.HomeLemmas.{explicit_index, homes_end, free_of_moved, moves_here, moves_not, homes_more, homes_other, stays_put}
 use Rattle.task_states.proofs.homes.find_moved.Goals as goal
 use Rattle.task_states.proofs.homes.find_moved.Goals.{in-Some+else-is_other, in_default}
 
@@ -70,3 +70,6 @@ loop-at-preserved c =
 
 pub returns-clause-free : goal.returns-clause-free
 returns-clause-free c = free_of_moved c.args.records.now c.loop-at.at c.loop-at.invariant.free c.loop-at-test.false
+
+pub returns-clause-homes : goal.returns-clause-homes
+returns-clause-homes c = homes_end c.args.records.now c.loop-at.at c.args.family.now.tasks c.loop-at.homes.items c.requires.once c.loop-at-test.false c.loop-at.invariant.homes
