@@ -52,8 +52,8 @@ fn find_nested(
     Ok(None)
 }
 
-/// Whether the record is of a kind that begins a parallel region, or begins or ends a root. No other can put a
-/// region inside another, or changes which roots are open.
+/// Whether the record is of a kind that begins a parallel region, or begins or ends a root. No other can put
+/// a region inside another, or changes which roots are open.
 fn may_nest(body: &Body) -> bool
     ensures { result ≡ may_nest body.now }
 {
