@@ -1,16 +1,17 @@
 -- On which thread each explicit task runs, of the first records.
-use Rattle.std.proofs.Common.{◌≡◌, ◌≢◌, ◌∙◌, ℕ, ◌<◌, ◌≤◌, ◌+◌, List, length, Option, Some, None, refl, sym, ap, arith, inl, inr, set}
-use Rattle.std.proofs.lemmas.Bool.{cases_eq}
+use Rattle.std.proofs.Common.{◌≡◌, ◌≢◌, ◌∙◌, ℕ, ◌<◌, ◌≤◌, ◌+◌, List, length, get_or, Option, Some, None, Bool, refl, sym, ap, arith, inl, inr, set}
+use Rattle.std.proofs.lemmas.Bool.{cases_eq, false≢true}
 use Rattle.std.proofs.lemmas.Option.{none-some, same_Some, slice_get_within, slice_get-get_or}
 use Rattle.std.proofs.lemmas.List.{length-set, length-replicate, get_or-replicate}
-use Rattle.std.specs.Prelude.{◌↔◌, IsSomeAnd, replicate, slice_get}
+use Rattle.std.specs.Prelude.{◌↔◌, is_some, IsSomeAnd, replicate, slice_get, option_and_then}
 use Rattle.ompt_events.specs.declared.records.Record.{Record}
-use Rattle.ompt_events.specs.declared.cause.Cause.TheVariants.{Moved}
+use Rattle.ompt_events.specs.declared.cause.Cause.TheVariants.{Moved, CreatedTwice}
 use Rattle.ompt_events.specs.Records.{made, started}
-use Rattle.ompt_events.specs.Places.{at, thread_at}
+use Rattle.ompt_events.specs.Places.{at, thread_at, places}
 use Rattle.ompt_events.specs.Tree.{IsExplicit}
+use Rattle.ompt_events.specs.States.{is_task, home_of}
 use Rattle.ompt_events.specs.Causes.{IsMoved, HasCause, moved, IsFirstWith, IsFreeOf}
-use Rattle.ompt_events.proofs.PlaceLemmas.{at_within, thread_none}
+use Rattle.ompt_events.proofs.PlaceLemmas.{at_within, thread_none, contains_place, place_below}
 use Rattle.ompt_events.proofs.RecordLemmas.{created_at_made}
 use Rattle.ompt_events.proofs.ListLemmas.{contains_get}
 use Rattle.task_tree.specs.Numbering.{AreApart}
@@ -18,7 +19,9 @@ use Rattle.task_tree.specs.Family.{FamilyView, IsFamilyOf}
 use Rattle.task_tree.specs.Subjects.{object, Calls}
 use Rattle.task_tree.proofs.NamedLemmas.{object_index, started_object}
 use Rattle.task_tree.proofs.LinkLemmas.{get_set_same, get_set_other}
-use Rattle.task_states.specs.Homes.{IsExplicitStart}
+use Rattle.task_states.specs.Homes.{IsExplicitStart, AreRunOn}
+use Rattle.task_states.specs.Progress.{first_start}
+use Rattle.task_states.proofs.OriginLemmas.{found_some, found_passes, is_the_task, the_task, explicit_home, explicit_not_root}
 
 -- the task with the index is explicit
 abbrev pub IsExplicitAt : List Record → List ℕ → ℕ → Type 0
@@ -115,6 +118,37 @@ homes_more rs i index thread before tasks homes apart_all are start runs old at_
 
     not_here : (other task : ℕ) → other ≢ index → slice_get tasks other ≡ Some task → (k : ℕ) → at started rs k ≡ Some task → k ≢ i
     not_here other task apart is k starts_there is_i = apart (apart_all other index task is (start.indexed ∙ ap Some (same_Some start.task task (sym start.starts ∙ ap (at started rs) (sym is_i) ∙ starts_there))))
+
+-- after all records these are the homes of the explicit tasks
+pub homes_end : (rs : List Record) (n : ℕ) (tasks : List ℕ) (homes : List (Option ℕ)) → IsFreeOf rs CreatedTwice → length rs ≤ n → AreHomes rs n tasks homes → AreRunOn rs tasks homes
+homes_end rs n tasks homes once all are index task is explicit = of (first_start rs (length rs) task) refl
+  where
+    runs : ℕ → Bool
+    runs i = is_task task (at started rs i)
+
+    home : (o : Option ℕ) → first_start rs (length rs) task ≡ o → home_of rs task ≡ option_and_then (thread_at rs) o
+    home o e = explicit_home rs task (explicit_not_root rs task once explicit) ∙ ap (option_and_then (thread_at rs)) e
+
+    entry : slice_get homes index ≡ Some (get_or homes index None)
+    entry = slice_get-get_or homes index None (let inside = slice_get_within tasks index task is in let same = are.all in omega (arith, inside, same))
+
+    ran : (i : ℕ) → first_start rs (length rs) task ≡ Some i → (o : Option ℕ) → thread_at rs i ≡ o → slice_get homes index ≡ Some (home_of rs task)
+    ran i e None none = absurd (none-some task (sym (thread_none started rs i none) ∙ is_the_task task (at started rs i) (found_passes runs (places rs) i e).0))
+    ran i e (Some thread) there =
+        let found = found_passes runs (places rs) i e in
+        are.each index task i thread is explicit (let below = place_below rs i found.1 in omega (arith, below, all)) (is_the_task task (at started rs i) found.0) there
+        ∙ ap Some (sym (home (Some i) e ∙ there))
+
+    never : first_start rs (length rs) task ≡ None → (o : Option ℕ) → get_or homes index None ≡ o → slice_get homes index ≡ Some (home_of rs task)
+    never e None none = entry ∙ ap Some (none ∙ sym (home None e))
+    never e (Some thread) there =
+        let old = are.only index thread (entry ∙ ap Some there) in
+        let starts : at started rs old.1 ≡ Some task = old.4 ∙ ap Some (same_Some old.0 task (sym old.2 ∙ is)) in
+        absurd (false≢true (ap is_some (sym e) ∙ found_some runs (places rs) old.1 (contains_place rs old.1 (at_within started rs old.1 task starts)) (the_task task (at started rs old.1) starts)))
+
+    of : (o : Option ℕ) → first_start rs (length rs) task ≡ o → slice_get homes index ≡ Some (home_of rs task)
+    of None e = never e (get_or homes index None) refl
+    of (Some i) e = ran i e (thread_at rs i) refl
 
 -- a start on another thread is a move
 pub moves_here : (rs : List Record) (i index thread : ℕ) (before : Option ℕ) (tasks : List ℕ) (homes : List (Option ℕ)) → ((k : ℕ) → k < i → IsMoved rs k → ⊥) → AreHomes rs i tasks homes → IsExplicitStart rs tasks i index → thread_at rs i ≡ Some thread → slice_get homes index ≡ Some before → IsSomeAnd before (λ b. b ≢ thread) → IsFirstWith rs Moved i

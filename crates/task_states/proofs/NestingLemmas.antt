@@ -1,24 +1,28 @@
 -- Which records put a parallel region inside another.
-use Rattle.std.proofs.Common.{◌≡◌, ◌≢◌, ◌∙◌, ℕ, ◌<◌, ◌≤◌, List, [], ◌∷◌, length, take, get_or, Option, Some, None, Bool, true, false, cond, refl, sym, ap, subst, arith, inl, inr}
-use Rattle.std.proofs.lemmas.Bool.{false≢true}
+use Rattle.std.proofs.Common.{◌≡◌, ◌≢◌, ◌∙◌, ℕ, ◌<◌, ◌≤◌, ◌+◌, List, [], ◌∷◌, length, take, drop, get_or, Option, Some, None, Bool, true, false, cond, refl, sym, ap, subst, arith, inl, inr}
+use Rattle.std.proofs.lemmas.Bool.{false≢true, cases_eq}
+use Rattle.std.proofs.lemmas.List.{length-set, length-replicate, get_or-set_same, get_or-set_other}
+use Rattle.std.proofs.Math.ListN.{set}
 use Rattle.std.proofs.lemmas.Option.{none-some, same_Some}
-use Rattle.std.specs.Prelude.{◌↔◌, is_some, slice_get, option_and_then, IsSomeAnd}
+use Rattle.std.specs.Prelude.{◌↔◌, is_some, slice_get, option_and_then, replicate, IsSomeAnd}
 use Rattle.ompt_events.specs.declared.records.Record.{Record}
 use Rattle.ompt_events.specs.declared.records.Membership.{Membership}
 use Rattle.ompt_events.specs.declared.cause.Cause.TheVariants.{NestedParallel}
 use Rattle.ompt_events.specs.Records.{made, forked, joined, begun_initial}
 use Rattle.ompt_events.specs.declared.records.Body.{Body}
-use Rattle.ompt_events.specs.declared.records.Body.TheVariants.{ImplicitTask}
-use Rattle.ompt_events.specs.declared.names.Endpoint.TheVariants.{Begin}
+use Rattle.ompt_events.specs.declared.records.Body.TheVariants.{ParallelBegin, ImplicitTask, TaskSchedule}
+use Rattle.ompt_events.specs.declared.names.Endpoint.TheVariants.{Begin, End}
 use Rattle.ompt_events.specs.Flags as flag
 use Rattle.ompt_events.specs.Flags.{has_flag}
 use Rattle.ompt_events.proofs.RecordLemmas.{at_through}
 use Rattle.ompt_events.specs.Places.{at}
 use Rattle.ompt_events.specs.Teams.{IsInitial, IsMember}
-use Rattle.ompt_events.specs.Threads.{Walk, walk_of}
+use Rattle.ompt_events.specs.Names.{demands_next}
+use Rattle.ompt_events.specs.Threads.{Walk, at_start, after_body, walk_of}
 use Rattle.ompt_events.specs.Causes.{IsWalkAt, IsNested, forked_inside, joined_inside, initial_inside, HasCause, nested_parallel, IsFirstWith, IsFreeOf}
 use Rattle.ompt_events.proofs.PlaceLemmas.{read_get, at_read, at_within}
-use Rattle.task_states.specs.Nesting.{IsUnmade, IsMaker, IsInside}
+use Rattle.ompt_events.proofs.ThreadLemmas.{AreWalks, walks_none, walks_more, walk_is}
+use Rattle.task_states.specs.Nesting.{may_nest, IsUnmade, IsMaker, IsInside}
 use Rattle.task_states.proofs.CurrentLemmas.{some_and}
 
 and_some : {X : Type 0} (o : Option X) (P : X → Type 0) (x : X) → o ≡ Some x → P x → IsSomeAnd o P
@@ -77,6 +81,100 @@ maker_here rs task found place r is known stands = (
   λ i makes. ap (slice_get rs) (same_Some i place (sym ((is i).1 makes) ∙ known)) ∙ stands,
   (place, stands),
 )
+
+-- ---- the open roots of each thread
+
+-- each of these walks has the open roots of its thread after the first i records; the task that runs may be another
+pub record AreRoots (rs : List Record) (i : ℕ) (walks : List Walk) : Type 0 where
+  pub all : length walks ≡ 256
+  pub whole : List Walk
+  pub walked : AreWalks rs i whole
+  pub same : (thread : ℕ) → (get_or walks thread at_start).roots ≡ (get_or whole thread at_start).roots
+
+pub roots_none : (rs : List Record) → AreRoots rs 0 (replicate 256 at_start)
+roots_none rs = record {
+  all = length-replicate 256 at_start;
+  whole = replicate 256 at_start;
+  walked = walks_none rs;
+  same = λ thread. refl;
+}
+
+-- a record changes the open roots by what they were
+roots_after : (w v : Walk) (b : Body) → w.roots ≡ v.roots → (after_body w b).roots ≡ (after_body v b).roots
+roots_after w v (ImplicitTask Begin actual index flags parallel task) e = ap (λ l. task ∷ l) e
+roots_after w v (ImplicitTask End actual index flags parallel task) e = ap (drop 1) e
+roots_after w v (TaskSchedule status prior next share) e = by (demands_next status)
+  where
+    by : (b : Bool) → (cond b (record { roots = w.roots; current = next }) w).roots ≡ (cond b (record { roots = v.roots; current = next }) v).roots
+    by true = e
+    by false = e
+roots_after w v _ e = e
+
+-- one that begins no region and begins or ends no root leaves them
+roots_kept : (w : Walk) (b : Body) → may_nest b ≡ false → (after_body w b).roots ≡ w.roots
+roots_kept w (ImplicitTask endpoint actual index flags parallel task) none = absurd (false≢true (sym none))
+roots_kept w (TaskSchedule status prior next share) none = by (demands_next status)
+  where
+    by : (b : Bool) → (cond b (record { roots = w.roots; current = next }) w).roots ≡ w.roots
+    by true = refl
+    by false = refl
+roots_kept w _ none = refl
+
+set_own : (walks : List Walk) (thread own : ℕ) (x : Walk) → own < length walks → thread ≡ own → (get_or (set walks own x) thread at_start).roots ≡ x.roots
+set_own walks thread own x within same = ap (λ t. (get_or (set walks own x) t at_start).roots) same ∙ ap (λ (w : Walk). w.roots) (get_or-set_same walks own x at_start within)
+
+set_other : (walks : List Walk) (thread own : ℕ) (x : Walk) → thread ≢ own → (get_or (set walks own x) thread at_start).roots ≡ (get_or walks thread at_start).roots
+set_other walks thread own x apart = ap (λ (w : Walk). w.roots) (get_or-set_other walks own thread x at_start apart)
+
+-- the thread of a record goes on by it
+pub roots_more : (rs : List Record) (i : ℕ) (r : Record) (old new : List Walk) → i < length rs → r ≡ get_or rs i r → r.thread < 256 → AreRoots rs i old → new ≡ set old r.thread (after_body (get_or old r.thread at_start) r.body) → AreRoots rs (i + 1) new
+roots_more rs i r old new within read low are is = record {
+  all = ap length is ∙ length-set old r.thread (after_body (get_or old r.thread at_start) r.body) ∙ are.all;
+  whole = set are.whole r.thread (after_body (get_or are.whole r.thread at_start) r.body);
+  walked = walks_more rs i r are.whole (set are.whole r.thread (after_body (get_or are.whole r.thread at_start) r.body)) within read low are.walked refl;
+  same = λ thread. ap (λ ws. (get_or ws thread at_start).roots) is ∙ elim (cases_eq thread r.thread) [
+    | inl own ↦
+        set_own old thread r.thread (after_body (get_or old r.thread at_start) r.body) (rw are.all low) own
+        ∙ roots_after (get_or old r.thread at_start) (get_or are.whole r.thread at_start) r.body (are.same r.thread)
+        ∙ sym (set_own are.whole thread r.thread (after_body (get_or are.whole r.thread at_start) r.body) (rw are.walked.all low) own)
+    | inr apart ↦
+        set_other old thread r.thread (after_body (get_or old r.thread at_start) r.body) apart
+        ∙ are.same thread
+        ∙ sym (set_other are.whole thread r.thread (after_body (get_or are.whole r.thread at_start) r.body) apart)
+  ];
+}
+
+-- and need not where the record leaves its roots
+pub roots_same : (rs : List Record) (i : ℕ) (r : Record) (walks : List Walk) → i < length rs → r ≡ get_or rs i r → r.thread < 256 → may_nest r.body ≡ false → AreRoots rs i walks → AreRoots rs (i + 1) walks
+roots_same rs i r walks within read low none are = record {
+  all = are.all;
+  whole = set are.whole r.thread (after_body (get_or are.whole r.thread at_start) r.body);
+  walked = walks_more rs i r are.whole (set are.whole r.thread (after_body (get_or are.whole r.thread at_start) r.body)) within read low are.walked refl;
+  same = λ thread. are.same thread ∙ elim (cases_eq thread r.thread) [
+    | inl own ↦
+        ap (λ t. (get_or are.whole t at_start).roots) own
+        ∙ sym (roots_kept (get_or are.whole r.thread at_start) r.body none)
+        ∙ sym (set_own are.whole thread r.thread (after_body (get_or are.whole r.thread at_start) r.body) (rw are.walked.all low) own)
+    | inr apart ↦ sym (set_other are.whole thread r.thread (after_body (get_or are.whole r.thread at_start) r.body) apart)
+  ];
+}
+
+-- the walk that was read has the open roots of its thread
+pub roots_read : (rs : List Record) (i thread : ℕ) (walks : List Walk) (walk : Walk) → thread < 256 → AreRoots rs i walks → walk ≡ get_or walks thread walk → walk.roots ≡ (walk_of thread (take i rs)).roots
+roots_read rs i thread walks walk low are read =
+    ap (λ (w : Walk). w.roots) (walk_is walks thread walk (rw are.all low) read) ∙ are.same thread ∙ ap (λ (w : Walk). w.roots) (are.walked.each thread low)
+
+-- only the open roots matter
+pub inside_same : (rs : List Record) (w v : Walk) (b : Body) → w.roots ≡ v.roots → IsInside rs w b → IsInside rs v b
+inside_same rs w v b e h = let P : List ℕ → Type 0 = λ roots. IsInside rs (record { roots = roots; current = None }) b in subst P e h
+
+-- a record of another kind is inside none
+pub not_inside : (rs : List Record) (w : Walk) (b : Body) → may_nest b ≡ false → IsInside rs w b → ⊥
+not_inside rs w (ParallelBegin requested task parallel) none h = false≢true (sym none)
+not_inside rs w (ImplicitTask endpoint actual index flags parallel task) none h = false≢true (sym none)
+not_inside rs w _ none (inl h) = h
+not_inside rs w _ none (inr (inl h)) = h
+not_inside rs w _ none (inr (inr (begins, opened))) = false≢true begins
 
 -- ---- a record where its thread stands
 

@@ -1,36 +1,30 @@
 -- What each task is, and where it is at home.
-use Rattle.std.proofs.Common.{◌≡◌, ◌≢◌, ◌∙◌, ℕ, zero, suc, ◌<◌, ◌≤◌, ◌+◌, List, [], ◌∷◌, ◌++◌, length, get_or, Option, Some, None, Bool, true, false, cond, refl, sym, ap, subst, arith, inl, inr}
-use Rattle.std.proofs.lemmas.Bool.{cases_eq, eq-eqb, eqb-true, false≢true}
+use Rattle.std.proofs.Common.{◌≡◌, ◌∙◌, ℕ, zero, suc, ◌<◌, ◌≤◌, ◌+◌, List, [], ◌∷◌, ◌++◌, length, get_or, Option, Some, None, Bool, true, false, cond, refl, sym, ap, subst, arith, inl, inr}
+use Rattle.std.proofs.lemmas.Bool.{eq-eqb, eqb-true, false≢true}
 use Rattle.std.proofs.lemmas.Option.{none-some, same_Some, slice_get_within, slice_get-get_or, get_or_from_slice_get}
-use Rattle.std.proofs.lemmas.List.{length_push, length-set, length-replicate, get_or-replicate}
-use Rattle.std.proofs.lemmas.List.Folds.{find-append}
+use Rattle.std.proofs.lemmas.List.{length_push}
 use Rattle.std.proofs.Math.ListN.{set}
-use Rattle.std.specs.Prelude.{replicate, ◌==◌, ◌&&◌, if◌then◌else◌, is_some, find, slice_get, Contains, unwrap_or, option_and_then}
-use Rattle.std.specs.List.{range_with_len}
-use Rattle.std.specs.Option.{option_or}
+use Rattle.std.specs.Prelude.{◌==◌, ◌&&◌, if◌then◌else◌, is_some, find, slice_get, Contains, option_and_then}
 use Rattle.ompt_events.specs.declared.records.Record.{Record}
 use Rattle.ompt_events.specs.declared.records.Body.{Body}
-use Rattle.ompt_events.specs.declared.records.Body.TheVariants.{ImplicitTask, TaskCreate, TaskSchedule}
+use Rattle.ompt_events.specs.declared.records.Body.TheVariants.{ImplicitTask, TaskCreate}
 use Rattle.ompt_events.specs.declared.names.Endpoint.TheVariants.{Begin}
 use Rattle.ompt_events.specs.declared.cause.Cause.TheVariants.{CreatedTwice}
 use Rattle.ompt_events.specs.Causes.{IsFreeOf}
 use Rattle.ompt_events.specs.Flags as flag
 use Rattle.ompt_events.specs.Flags.{has_flag}
-use Rattle.ompt_events.specs.Records.{begun_root, created, made, started}
+use Rattle.ompt_events.specs.Records.{begun_root, created, made}
 use Rattle.ompt_events.specs.Places.{at, thread_at, places}
 use Rattle.ompt_events.specs.Tree.{IsRoot, IsExplicit}
 use Rattle.ompt_events.specs.States.{Root, Wait, Plain, is_task, creates_wait, is_made_so, nature_of, begun_on, run_on, home_of}
-use Rattle.ompt_events.proofs.PlaceLemmas.{thread_none, range_more, contains_place, at_within}
+use Rattle.ompt_events.proofs.PlaceLemmas.{thread_none, contains_place, at_within}
 use Rattle.ompt_events.proofs.RecordLemmas.{begun_made, made_cases, begun_at_made}
 use Rattle.ompt_events.proofs.ListLemmas.{pushed_cases, contains_get}
 use Rattle.task_tree.proofs.OnceLemmas.{made_once}
 use Rattle.task_tree.proofs.LookupLemmas.{root_or_explicit}
-use Rattle.task_tree.proofs.LinkLemmas.{get_set_same, get_set_other}
-use Rattle.task_tree.specs.Numbering.{AreApart}
-use Rattle.task_tree.specs.Subjects.{object, Calls}
 use Rattle.task_states.specs.declared.moves.Nature as code
 use Rattle.task_states.specs.declared.moves.Nature.TheVariants as variants
-use Rattle.task_states.specs.Progress.{nature_made, first_start, start_noted, the_nature, AreStarts, AreNatures, AreHomes}
+use Rattle.task_states.specs.Progress.{nature_made, first_start, the_nature, AreNatures, AreHomes}
 
 -- ---- the first that passes a test
 
@@ -68,7 +62,7 @@ pub is_the_task : (task : ℕ) (found : Option ℕ) → is_task task found ≡ t
 is_the_task task None is = absurd (false≢true is)
 is_the_task task (Some other) is = ap Some (eqb-true other task is)
 
-the_task : (task : ℕ) (found : Option ℕ) → found ≡ Some task → is_task task found ≡ true
+pub the_task : (task : ℕ) (found : Option ℕ) → found ≡ Some task → is_task task found ≡ true
 the_task task found is = ap (is_task task) is ∙ eq-eqb task task refl
 
 -- only the record that makes a task begins or creates it
@@ -156,63 +150,6 @@ explicit_home rs task no_root =
     ap (λ (o : Option ℕ). let begun = option_and_then (thread_at rs) o in if is_some begun then begun else run_on rs task)
     (found_none (λ i. is_task task (at begun_root rs i)) (places rs) (λ i passes. no_root (i, is_the_task task (at begun_root rs i) passes)))
 
--- one more record
-pub start_more : (rs : List Record) (n task : ℕ) → first_start rs (n + 1) task ≡ option_or (first_start rs n task) (cond (is_task task (at started rs n)) (Some n) None)
-start_more rs n task =
-    ap (find (λ i. is_task task (at started rs i))) (range_more n)
-    ∙ find-append (λ i. is_task task (at started rs i)) (range_with_len 0 n) (n ∷ [])
-
--- the task that runs next has this start, where it had none
-pub noted_own : (rs : List Record) (n task : ℕ) → at started rs n ≡ Some task → first_start rs (n + 1) task ≡ Some (unwrap_or (first_start rs n task) n)
-noted_own rs n task starts = start_more rs n task ∙ ap (λ b. option_or (first_start rs n task) (cond b (Some n) None)) (the_task task (at started rs n) starts) ∙ of (first_start rs n task)
-  where
-    of : (o : Option ℕ) → option_or o (Some n) ≡ Some (unwrap_or o n)
-    of None = refl
-    of (Some k) = refl
-
--- all others have what they had
-pub noted_other : (rs : List Record) (n task : ℕ) → at started rs n ≢ Some task → first_start rs (n + 1) task ≡ first_start rs n task
-noted_other rs n task not = start_more rs n task ∙ ap (λ b. option_or (first_start rs n task) (cond b (Some n) None)) (fails (is_task task (at started rs n)) refl) ∙ of (first_start rs n task)
-  where
-    fails : (b : Bool) → is_task task (at started rs n) ≡ b → is_task task (at started rs n) ≡ false
-    fails true e = absurd (not (is_the_task task (at started rs n) e))
-    fails false e = e
-
-    of : (o : Option ℕ) → option_or o None ≡ o
-    of None = refl
-    of (Some k) = refl
-
--- no record read, no start
-pub starts_none : (rs : List Record) (tasks : List ℕ) (starts : List (Option ℕ)) → starts ≡ replicate (length tasks) None → AreStarts rs 0 tasks starts
-starts_none rs tasks starts is index task stands =
-    let within = slice_get_within tasks index task stands in
-    let long = ap length is ∙ length-replicate (length tasks) None in
-    slice_get-get_or starts index None (omega (arith, within, long)) ∙ ap Some (ap (λ l. get_or l index None) is ∙ get_or-replicate (length tasks) index None None within)
-
--- a record that starts no task changes nothing
-pub starts_same : (rs : List Record) (n : ℕ) (tasks : List ℕ) (starts : List (Option ℕ)) → at started rs n ≡ None → AreStarts rs n tasks starts → AreStarts rs (n + 1) tasks starts
-starts_same rs n tasks starts none are index task stands =
-    are index task stands ∙ ap Some (sym (noted_other rs n task (λ some. none-some task (sym none ∙ some))))
-
--- a record that starts one notes it
-pub starts_more : (rs : List Record) (n : ℕ) (tasks : List ℕ) (starts : List (Option ℕ)) (slot : Option ℕ) (task : ℕ) → AreApart tasks → length starts ≡ length tasks → at started rs n ≡ Some task → Calls tasks (Some task) slot → AreStarts rs n tasks starts → AreStarts rs (n + 1) tasks (start_noted starts slot n)
-starts_more rs n tasks starts slot task apart all begins (index, is_slot, stands) are k other stands' = elim (cases_eq k index) [
-  | inl same ↦
-      let own : task ≡ other = same_Some task other (sym stands ∙ ap (slice_get tasks) (sym same) ∙ stands') in
-      let within = slice_get_within tasks index task stands in
-      ap (λ s. slice_get (start_noted starts s n) k) is_slot ∙ ap (slice_get (set starts index (Some (unwrap_or (get_or starts index None) n)))) same
-      ∙ get_set_same starts index (Some (unwrap_or (get_or starts index None) n)) (omega (arith, within, all))
-      ∙ ap (λ o. Some (Some (unwrap_or o n))) (get_or_from_slice_get starts index (first_start rs n task) None (are index task stands))
-      ∙ ap Some (sym (noted_own rs n task begins)) ∙ ap (λ t. Some (first_start rs (n + 1) t)) own
-  | inr differs ↦
-      ap (λ s. slice_get (start_noted starts s n) k) is_slot ∙ get_set_other starts index k (Some (unwrap_or (get_or starts index None) n)) differs
-      ∙ are k other stands' ∙ ap Some (sym (noted_other rs n other (λ some. differs (apart k index other stands' (stands ∙ ap Some (same_Some task other (sym begins ∙ some)))))))
-]
-
-pub noted_length : (starts : List (Option ℕ)) (slot : Option ℕ) (n : ℕ) → length (start_noted starts slot n) ≡ length starts
-noted_length starts None n = refl
-noted_length starts (Some k) n = length-set starts k (Some (unwrap_or (get_or starts k None) n))
-
 -- ---- tables that are filled in the order of the indices
 
 pub record IsFilled {X : Type 0} (says : ℕ → X → Type 0) (n : ℕ) (table : List X) : Type 0 where
@@ -248,25 +185,6 @@ homes_are rs tasks n homes filled all index task stands =
     here ∙ ap Some (filled.each index (get_or homes index None) here task stands)
 
 -- ---- the steps of the loops
-
--- the index of the task that runs next
-start_index : (tasks : List ℕ) (slot : Option ℕ) (b : Body) → Calls tasks (object b) slot → Calls tasks (started b) (if is_some (started b) then slot else None)
-start_index tasks slot (TaskSchedule status prior (Some next) share) calls = calls
-start_index tasks slot (TaskSchedule status prior None share) calls = refl
-start_index tasks slot _ calls = refl
-
-pub starts_next : (rs : List Record) (n : ℕ) (tasks : List ℕ) (starts : List (Option ℕ)) (r : Record) (slot : Option ℕ) → AreApart tasks → length starts ≡ length tasks → slice_get rs n ≡ Some r → Calls tasks (at object rs n) slot → AreStarts rs n tasks starts → AreStarts rs (n + 1) tasks (start_noted starts (if is_some (started r.body) then slot else None) n)
-starts_next rs n tasks starts r slot apart all stands calls are = of (started r.body) refl
-  where
-    here : at started rs n ≡ started r.body
-    here = read_made started rs n r stands
-
-    index : Calls tasks (started r.body) (if is_some (started r.body) then slot else None)
-    index = start_index tasks slot r.body (subst (λ o. Calls tasks o slot) (read_made object rs n r stands) calls)
-
-    of : (o : Option ℕ) → started r.body ≡ o → AreStarts rs (n + 1) tasks (start_noted starts (if is_some (started r.body) then slot else None) n)
-    of None e = subst (λ o. AreStarts rs (n + 1) tasks (start_noted starts (if is_some o then slot else None) n)) (sym e) (starts_same rs n tasks starts (here ∙ e) are)
-    of (Some task) e = starts_more rs n tasks starts (if is_some (started r.body) then slot else None) task apart all (here ∙ e) (subst (λ o. Calls tasks o (if is_some (started r.body) then slot else None)) e index) are
 
 -- what the record at a task's place says of it
 pub nature_there : (rs : List Record) (tasks : List ℕ) (index task place : ℕ) (r : Record) → IsFreeOf rs CreatedTwice → at made rs place ≡ slice_get tasks index → slice_get rs place ≡ Some r → slice_get tasks index ≡ Some task → nature_of rs task ≡ nature_made r.body

@@ -1,5 +1,5 @@
 -- What a pass over the records has read, one record on.
-use Rattle.std.proofs.Common.{◌≡◌, ◌∙◌, ℕ, ◌+◌, List, [], ◌∷◌, ◌++◌, length, Option, Some, None, Bool, true, false, cond, take, refl, sym, ap, arith, inl, inr, ◌<◌}
+use Rattle.std.proofs.Common.{◌≡◌, ◌∙◌, ℕ, zero, suc, ◌+◌, List, [], ◌∷◌, ◌++◌, length, Option, Some, None, Bool, true, false, cond, take, refl, sym, ap, arith, inl, inr, ◌<◌}
 use Rattle.std.proofs.lemmas.Option.{slice_get-map, slice_get_within, get_or_from_slice_get, none-some, same_Some}
 use Rattle.std.proofs.lemmas.Bool.{cases_eq, ne_eqb, false≢true}
 use Rattle.std.proofs.lemmas.List.{length-map, append-nil, append_assoc, take_more}
@@ -27,6 +27,7 @@ use Rattle.task_states.specs.declared.moves.Move.TheVariants as step
 use Rattle.task_states.specs.declared.progress.Pass.{Pass}
 use Rattle.task_states.specs.declared.progress.Pass.TheVariants.{Early, Home, Rest}
 use Rattle.task_states.specs.Progress.{the_nature, the_move, is_read, is_read_for, read_before, moves_read, moves_before, and_move, and_record, early_for, fulfils_early, IsReadWhole, AreLeft, AreNatures, HasCome}
+use Rattle.task_states.specs.Homes.{IsNeverEarly}
 use Rattle.task_states.proofs.ProgressLemmas.{come_same}
 
 -- ---- the task that a record names
@@ -179,16 +180,25 @@ whole_not_left rs i moves whole task = by (is_read Home rs task i) refl
     by false away = ap (λ l. moves task ++ cond (is_read Rest rs task i) l []) (whole task away) ∙ none (moves task) (is_read Rest rs task i)
 
 -- the first pass reads nothing where no event is fulfilled early
-pub early_unread : (rs : List Record) (i : ℕ) (r : Record) (moves : ℕ → List (ℕ × Move)) → slice_get rs i ≡ Some r → fulfils_early r.body ≡ false → (task : ℕ) → and_record Early rs i moves task ≡ moves task
-early_unread rs i r moves stands says task =
-    ap (λ b. moves task ++ cond (b && not (is_on rs (home_of rs task) i)) (moves_at rs task i) []) (early_there ∙ of r.body says) ∙ append-nil (moves task)
+pub not_early : (rs : List Record) (i : ℕ) (r : Record) → slice_get rs i ≡ Some r → fulfils_early r.body ≡ false → (task : ℕ) → is_early rs task i ≡ false
+not_early rs i r stands says task = ap (λ (o : Option Record). option_map_or (λ (q : Record). early_for task q.body) o false) stands ∙ of r.body says
   where
-    early_there : is_early rs task i ≡ early_for task r.body
-    early_there = ap (λ (o : Option Record). option_map_or (λ (q : Record). early_for task q.body) o false) stands
-
     of : (b : Body) → fulfils_early b ≡ false → early_for task b ≡ false
     of (TaskSchedule EarlyFulfill prior next share) is = absurd (false≢true (sym is))
     of _ is = refl
+
+unread_early : (rs : List Record) (i task : ℕ) (moves : ℕ → List (ℕ × Move)) → is_early rs task i ≡ false → and_record Early rs i moves task ≡ moves task
+unread_early rs i task moves none = ap (λ b. moves task ++ cond (b && not (is_on rs (home_of rs task) i)) (moves_at rs task i) []) none ∙ append-nil (moves task)
+
+pub early_unread : (rs : List Record) (i : ℕ) (r : Record) (moves : ℕ → List (ℕ × Move)) → slice_get rs i ≡ Some r → fulfils_early r.body ≡ false → (task : ℕ) → and_record Early rs i moves task ≡ moves task
+early_unread rs i r moves stands says task = unread_early rs i task moves (not_early rs i r stands says task)
+
+-- one more record that fulfils none
+pub never_more : (rs : List Record) (i : ℕ) → IsNeverEarly rs i → ((task : ℕ) → is_early rs task i ≡ false) → IsNeverEarly rs (i + 1)
+never_more rs i before here k task below = elim (cases_eq k i) [
+  | inl same ↦ ap (is_early rs task) same ∙ here task
+  | inr apart ↦ before k task (omega arith)
+]
 
 -- ---- the places that are left for the last pass
 
@@ -234,6 +244,15 @@ pub rest_more : (rs : List Record) (left : List ℕ) (k place : ℕ) → slice_g
 rest_more rs left k place stands task = ap (λ l. moves_read Rest rs l task) (take_more left k place (slice_get_within left k place stands) ∙ ap (λ p. take k left ++ p ∷ []) (get_or_from_slice_get left k place place stands)) ∙ read_more Rest rs (take k left) place task
 
 -- ---- the passes
+
+-- where no record fulfils an event early, the first pass reads nothing
+pub early_none : (rs : List Record) (n : ℕ) → IsNeverEarly rs n → (task : ℕ) → moves_before Early rs n task ≡ []
+early_none rs zero none task = refl
+early_none rs (suc n) none task =
+    let e : suc n ≡ n + 1 = omega arith in
+    ap (λ m. moves_before Early rs m task) e ∙ moves_more Early rs n task
+    ∙ unread_early rs n task (moves_before Early rs n) (none n task (omega arith))
+    ∙ early_none rs n (λ k other below. none k other (omega (arith, below))) task
 
 pub early_start : (rs : List Record) (task : ℕ) → moves_before Early rs 0 task ≡ []
 early_start rs task = refl

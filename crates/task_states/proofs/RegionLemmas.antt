@@ -1,8 +1,8 @@
 -- How the open regions change from record to record.
-use Rattle.std.proofs.Common.{◌≡◌, ◌≢◌, ◌∙◌, ℕ, ◌<◌, ◌≤◌, ◌+◌, List, [], ◌∷◌, ◌++◌, length, Option, Some, None, true, refl, sym, ap, subst, arith, inl, inr, set}
+use Rattle.std.proofs.Common.{◌≡◌, ◌≢◌, ◌∙◌, ℕ, ◌<◌, ◌≤◌, ◌+◌, List, [], ◌∷◌, length, Option, Some, None, true, refl, sym, ap, subst, arith, inl, inr, set}
 use Rattle.std.proofs.lemmas.Bool.{cases_eq}
-use Rattle.std.proofs.lemmas.Option.{none-some, same_Some, slice_get-get_or, slice_get_within}
-use Rattle.std.proofs.lemmas.List.{get_or_append_left, get_or_push, length_push, length-set, get_or-set_same, get_or-set_other, length-replicate, get_or-replicate}
+use Rattle.std.proofs.lemmas.Option.{none-some, same_Some, slice_get_within}
+use Rattle.std.proofs.lemmas.List.{length-set, get_or-set_same, get_or-set_other, length-replicate, get_or-replicate}
 use Rattle.std.specs.Prelude.{slice_get, slice_index_or, replicate}
 use Rattle.ompt_events.specs.declared.records.Record.{Record}
 use Rattle.ompt_events.specs.declared.names.Endpoint.{Endpoint}
@@ -17,14 +17,20 @@ use Rattle.ompt_events.specs.Causes.{HasCause, region_order, barrier_order, IsFi
 use Rattle.ompt_events.proofs.RegionLemmas.{open_none, open_other, open_own}
 use Rattle.ompt_events.proofs.PlaceLemmas.{at_within}
 use Rattle.task_tree.specs.Numbering.{AreApart}
+use Rattle.task_tree.proofs.LinkLemmas.{get_set_same, get_set_other}
 use Rattle.task_states.specs.Regions.{below_of, top_after, IsStack, AreLinked, IsRegionOf}
 
--- a stack stays when a link is added
-stack_more : (links : List (Option ℕ)) (link top : Option ℕ) (stack : List ℕ) → IsStack links top stack → IsStack (links ++ link ∷ []) top stack
-stack_more links link top [] is = is
-stack_more links link top (begin ∷ below) (is, within, rest) =
-    let same : below_of (links ++ link ∷ []) top ≡ below_of links top = ap (below_of (links ++ link ∷ [])) is ∙ get_or_append_left links (link ∷ []) None begin within ∙ ap (below_of links) (sym is) in
-    (is, rw (length_push links link) (omega arith), rw same (stack_more links link (below_of links top) below rest))
+-- a stack stays when one more link is written, or none
+stack_more : (links : List (Option ℕ)) (n : ℕ) (link top : Option ℕ) (stack : List ℕ) → IsStack links n top stack → IsStack (set links n link) (n + 1) top stack
+stack_more links n link top [] is = is
+stack_more links n link top (begin ∷ below) (is, within, rest) =
+    let apart : begin ≢ n = λ e. absurd (omega (arith, within, e)) in
+    let same : below_of (set links n link) top ≡ below_of links top = ap (below_of (set links n link)) is ∙ get_or-set_other links n begin link None apart ∙ ap (below_of links) (sym is) in
+    (is, omega (arith, within), rw same (stack_more links n link (below_of links top) below rest))
+
+stack_still : (links : List (Option ℕ)) (n : ℕ) (top : Option ℕ) (stack : List ℕ) → IsStack links n top stack → IsStack links (n + 1) top stack
+stack_still links n top [] is = is
+stack_still links n top (begin ∷ below) (is, within, rest) = (is, omega (arith, within), stack_still links n (below_of links top) below rest)
 
 -- the innermost open region of the task with this index
 abbrev pub top_of : List (Option ℕ) → ℕ → Option ℕ
@@ -32,74 +38,80 @@ top_of innermost index = slice_index_or innermost index None
 
 -- what is known of the open regions after n records
 pub record AreOpen (rs : List Record) (n : ℕ) (tasks : List ℕ) (innermost links : List (Option ℕ)) : Type 0 where
-  pub all : length links ≡ n
+  pub all : length links ≡ length rs
   pub tops : length innermost ≡ length tasks
-  pub stacks : (index task : ℕ) → slice_get tasks index ≡ Some task → IsStack links (top_of innermost index) (open_regions rs task n)
+  pub stacks : (index task : ℕ) → slice_get tasks index ≡ Some task → IsStack links n (top_of innermost index) (open_regions rs task n)
   pub linked : AreLinked rs n links
 
-pub open_start : (rs : List Record) (tasks : List ℕ) (innermost links : List (Option ℕ)) → innermost ≡ replicate (length tasks) None → links ≡ [] → AreOpen rs 0 tasks innermost links
+pub open_start : (rs : List Record) (tasks : List ℕ) (innermost links : List (Option ℕ)) → innermost ≡ replicate (length tasks) None → links ≡ replicate (length rs) None → AreOpen rs 0 tasks innermost links
 open_start rs tasks innermost links none empty = record {
-  all = ap length empty;
+  all = ap length empty ∙ length-replicate (length rs) None;
   tops = ap length none ∙ length-replicate (length tasks) None;
   stacks = λ index task is. ap (λ l. slice_index_or l index None) none ∙ get_or-replicate (length tasks) index None None (slice_get_within tasks index task is);
   linked = λ i task kind below. absurd (omega arith);
 }
 
-linked_more : (rs : List Record) (n : ℕ) (links : List (Option ℕ)) (link : Option ℕ) → length links ≡ n → AreLinked rs n links → ((task : ℕ) (kind : SyncKind) → at region rs n ≡ Some (task, kind, End) → (begin : ℕ) × (link ≡ Some begin) × EndsRegion rs n task kind begin) → AreLinked rs (n + 1) (links ++ link ∷ [])
-linked_more rs n links link all linked here i task kind below ends = elim (cases_eq i n) [
+linked_more : (rs : List Record) (n : ℕ) (links : List (Option ℕ)) (link : Option ℕ) → n < length links → AreLinked rs n links → ((task : ℕ) (kind : SyncKind) → at region rs n ≡ Some (task, kind, End) → (begin : ℕ) × (link ≡ Some begin) × EndsRegion rs n task kind begin) → AreLinked rs (n + 1) (set links n link)
+linked_more rs n links link low linked here i task kind below ends = elim (cases_eq i n) [
   | inl same ↦
       let h = here task kind (ap (at region rs) (sym same) ∙ ends) in
-      (h.0, last i same ∙ ap Some h.1, let P : ℕ → Type 0 = λ j. EndsRegion rs j task kind h.0 in subst P (sym same) h.2)
+      let P : ℕ → Type 0 = λ j. EndsRegion rs j task kind h.0 in
+      (h.0, ap (slice_get (set links n link)) same ∙ get_set_same links n link low ∙ ap Some h.1, subst P (sym same) h.2)
   | inr apart ↦
       let old = linked i task kind (omega arith) ends in
-      let inside = slice_get_within links i (Some old.0) old.1 in
-      (old.0, slice_get-get_or (links ++ link ∷ []) i None (rw (length_push links link) (omega arith)) ∙ ap Some (get_or_append_left links (link ∷ []) None i inside) ∙ sym (slice_get-get_or links i None inside) ∙ old.1, old.2)
+      (old.0, get_set_other links n i link apart ∙ old.1, old.2)
 ]
-  where
-    last : (j : ℕ) → j ≡ n → slice_get (links ++ link ∷ []) j ≡ Some link
-    last j same = slice_get-get_or (links ++ link ∷ []) j None (rw (length_push links link) (omega arith)) ∙ ap Some (get_or_push links link None j (all ∙ sym same))
+
+linked_still : (rs : List Record) (n : ℕ) (links : List (Option ℕ)) → AreLinked rs n links → at region rs n ≡ None → AreLinked rs (n + 1) links
+linked_still rs n links linked none i task kind below ends = elim (cases_eq i n) [
+  | inl same ↦ absurd (none-some (task, kind, End) (sym none ∙ ap (at region rs) (sym same) ∙ ends))
+  | inr apart ↦ linked i task kind (omega arith) ends
+]
 
 -- a record of no region
-pub open_more_none : (rs : List Record) (n : ℕ) (tasks : List ℕ) (innermost links : List (Option ℕ)) → AreOpen rs n tasks innermost links → at region rs n ≡ None → AreOpen rs (n + 1) tasks innermost (links ++ None ∷ [])
+pub open_more_none : (rs : List Record) (n : ℕ) (tasks : List ℕ) (innermost links : List (Option ℕ)) → AreOpen rs n tasks innermost links → at region rs n ≡ None → AreOpen rs (n + 1) tasks innermost links
 open_more_none rs n tasks innermost links are none = record {
-  all = length_push links None ∙ ap (λ k. k + 1) are.all;
+  all = are.all;
   tops = are.tops;
-  stacks = λ index task is. rw (open_none rs task n none) (stack_more links None (top_of innermost index) (open_regions rs task n) (are.stacks index task is));
-  linked = linked_more rs n links None are.all are.linked (λ task kind ends. absurd (none-some (task, kind, End) (sym none ∙ ends)));
+  stacks = λ index task is. rw (open_none rs task n none) (stack_still links n (top_of innermost index) (open_regions rs task n) (are.stacks index task is));
+  linked = linked_still rs n links are.linked none;
 }
 
 -- the stack of a task after its own record
-own_stack : (links : List (Option ℕ)) (n own : ℕ) (kind : SyncKind) (endpoint : Endpoint) (link : Option ℕ) (stack : List ℕ) → length links ≡ n → (endpoint ≡ End → (begin : ℕ) × (link ≡ Some begin)) → IsStack links link stack → IsStack (links ++ link ∷ []) (top_after links link n endpoint) (after_region stack n (Some (own, kind, endpoint)))
-own_stack links n own kind Begin link stack all found is =
-    let here : below_of (links ++ link ∷ []) (Some n) ≡ link = get_or_push links link None n all in
-    (refl, rw (length_push links link) (omega arith), rw here (stack_more links link link stack is))
-own_stack links n own kind BeginEnd link stack all found is = stack_more links link link stack is
-own_stack links n own kind End link [] all found is = let h = found refl in absurd (none-some h.0 (sym is ∙ h.1))
-own_stack links n own kind End link (begin ∷ below) all found (is, within, rest) = stack_more links link (below_of links link) below rest
+own_stack : (links : List (Option ℕ)) (n own : ℕ) (kind : SyncKind) (endpoint : Endpoint) (link : Option ℕ) (stack : List ℕ) → n < length links → (endpoint ≡ End → (begin : ℕ) × (link ≡ Some begin)) → IsStack links n link stack → IsStack (set links n link) (n + 1) (top_after links link n endpoint) (after_region stack n (Some (own, kind, endpoint)))
+own_stack links n own kind Begin link stack low found is =
+    let here : below_of (set links n link) (Some n) ≡ link = get_or-set_same links n link None low in
+    (refl, omega arith, rw here (stack_more links n link link stack is))
+own_stack links n own kind BeginEnd link stack low found is = stack_more links n link link stack is
+own_stack links n own kind End link [] low found is = let h = found refl in absurd (none-some h.0 (sym is ∙ h.1))
+own_stack links n own kind End link (begin ∷ below) low found (is, within, rest) = stack_more links n link (below_of links link) below rest
 
 -- a record that begins or ends a region
-pub open_more_own : (rs : List Record) (n index : ℕ) (kind : SyncKind) (endpoint : Endpoint) (tasks : List ℕ) (innermost links : List (Option ℕ)) (link : Option ℕ) → AreApart tasks → AreOpen rs n tasks innermost links → IsRegionOf rs tasks n index kind endpoint → link ≡ top_of innermost index → (endpoint ≡ End → (begin : ℕ) × (link ≡ Some begin) × (kind_at rs begin ≡ Some kind)) → AreOpen rs (n + 1) tasks (set innermost index (top_after links link n endpoint)) (links ++ link ∷ [])
-open_more_own rs n index kind endpoint tasks innermost links link apart_all are own is_top found = record {
-  all = length_push links link ∙ ap (λ k. k + 1) are.all;
+pub open_more_own : (rs : List Record) (n index : ℕ) (kind : SyncKind) (endpoint : Endpoint) (tasks : List ℕ) (innermost links : List (Option ℕ)) (link : Option ℕ) → AreApart tasks → AreOpen rs n tasks innermost links → IsRegionOf rs tasks n index kind endpoint → link ≡ top_of innermost index → n < length rs → (endpoint ≡ End → (begin : ℕ) × (link ≡ Some begin) × (kind_at rs begin ≡ Some kind)) → AreOpen rs (n + 1) tasks (set innermost index (top_after links link n endpoint)) (set links n link)
+open_more_own rs n index kind endpoint tasks innermost links link apart_all are own is_top inside found = record {
+  all = length-set links n link ∙ are.all;
   tops = length-set innermost index (top_after links link n endpoint) ∙ are.tops;
   stacks = λ other task is. elim (cases_eq other index) [
     | inl same ↦
         let is_task : task ≡ own.task = same_Some task own.task (sym is ∙ ap (slice_get tasks) same ∙ own.indexed) in
-        rw (same, get_or-set_same innermost index (top_after links link n endpoint) None within, is_task, open_own rs own.task n kind endpoint own.says) (own_stack links n own.task kind endpoint link (open_regions rs own.task n) are.all (λ e. let h = found e in (h.0, h.1)) own_one)
-    | inr apart ↦ rw (get_or-set_other innermost index other (top_after links link n endpoint) None apart, open_other rs task own.task n kind endpoint own.says (λ e. apart (apart_all other index own.task (is ∙ ap Some e) own.indexed))) (stack_more links link (top_of innermost other) (open_regions rs task n) (are.stacks other task is))
+        rw (same, get_or-set_same innermost index (top_after links link n endpoint) None within, is_task, open_own rs own.task n kind endpoint own.says) (own_stack links n own.task kind endpoint link (open_regions rs own.task n) low (λ e. let h = found e in (h.0, h.1)) own_one)
+    | inr apart ↦ rw (get_or-set_other innermost index other (top_after links link n endpoint) None apart, open_other rs task own.task n kind endpoint own.says (λ e. apart (apart_all other index own.task (is ∙ ap Some e) own.indexed))) (stack_more links n link (top_of innermost other) (open_regions rs task n) (are.stacks other task is))
   ];
-  linked = linked_more rs n links link are.all are.linked ends_here;
+  linked = linked_more rs n links link low are.linked ends_here;
 }
   where
+    low : n < length links
+    low = let all = are.all in omega (arith, all, inside)
+
     within : index < length innermost
     within = let inside = slice_get_within tasks index own.task own.indexed in let tops = are.tops in omega (arith, inside, tops)
 
-    own_one : IsStack links link (open_regions rs own.task n)
-    own_one = let P : Option ℕ → Type 0 = λ t. IsStack links t (open_regions rs own.task n) in subst P (sym is_top) (are.stacks index own.task own.indexed)
+    own_one : IsStack links n link (open_regions rs own.task n)
+    own_one = let P : Option ℕ → Type 0 = λ t. IsStack links n t (open_regions rs own.task n) in subst P (sym is_top) (are.stacks index own.task own.indexed)
 
-    head_of : (top : Option ℕ) (stack : List ℕ) (begin : ℕ) → IsStack links top stack → top ≡ Some begin → slice_get stack 0 ≡ Some begin
+    head_of : (top : Option ℕ) (stack : List ℕ) (begin : ℕ) → IsStack links n top stack → top ≡ Some begin → slice_get stack 0 ≡ Some begin
     head_of top [] begin is e = absurd (none-some begin (sym is ∙ e))
-    head_of top (b ∷ below) begin (is, inside, rest) e = sym is ∙ e
+    head_of top (b ∷ below) begin (is, before, rest) e = sym is ∙ e
 
     ends_here : (task : ℕ) (kind' : SyncKind) → at region rs n ≡ Some (task, kind', End) → (begin : ℕ) × (link ≡ Some begin) × EndsRegion rs n task kind' begin
     ends_here task kind' ends =
@@ -137,7 +149,7 @@ misses_here rs i index kind endpoint tasks innermost links link are own is_top (
   },
 )
   where
-    top_is : (top : Option ℕ) (stack : List ℕ) (begin : ℕ) → IsStack links top stack → slice_get stack 0 ≡ Some begin → top ≡ Some begin
+    top_is : (top : Option ℕ) (stack : List ℕ) (begin : ℕ) → IsStack links i top stack → slice_get stack 0 ≡ Some begin → top ≡ Some begin
     top_is top [] begin is e = absurd (none-some begin e)
     top_is top (b ∷ below) begin (is, within, rest) e = is ∙ e
 

@@ -1,12 +1,19 @@
 -- Which records put a parallel region inside another, by where their thread stands.
-use Rattle.std.specs.Prelude.{ℕ, ◌≡◌, ◌⊎◌, List, Some, true, is_some, IsSomeAnd, slice_get}
+use Rattle.std.specs.Prelude.{ℕ, ◌≡◌, ◌⊎◌, Bool, List, Some, true, false, is_some, IsSomeAnd, slice_get}
 use Rattle.ompt_events.specs.declared.records.Record.{Record}
 use Rattle.ompt_events.specs.declared.records.Body.{Body}
+use Rattle.ompt_events.specs.declared.records.Body.TheVariants.{ParallelBegin, ImplicitTask}
 use Rattle.ompt_events.specs.declared.records.Membership.{Membership}
 use Rattle.ompt_events.specs.Records.{made, forked, joined, begun_initial}
 use Rattle.ompt_events.specs.Places.{at}
 use Rattle.ompt_events.specs.Teams.{IsInitial, IsMember}
 use Rattle.ompt_events.specs.Threads.{Walk}
+
+-- whether a record with this body may put a region inside another, or changes which roots are open
+abbrev pub may_nest : Body → Bool
+may_nest (ParallelBegin requested task parallel) = true
+may_nest (ImplicitTask endpoint actual index flags parallel task) = true
+may_nest _ = false
 
 -- no record makes the task
 abbrev pub IsUnmade : List Record → ℕ → Type 0

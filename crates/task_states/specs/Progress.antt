@@ -1,5 +1,5 @@
 -- How far each task has come while the records are gone over in three passes.
-use Rattle.std.specs.Prelude.{ℕ, ◌≡◌, ◌<◌, ◌≤◌, ◌+◌, ◌++◌, ◌∷◌, ◌&&◌, ◌==◌, ltb, not, Bool, true, false, List, [], length, Option, Some, None, All, Contains, IsSomeAnd, is_some, if◌then◌else◌, filter, find, take, set, get_or, slice_get, unwrap_or}
+use Rattle.std.specs.Prelude.{ℕ, ◌≡◌, ◌<◌, ◌≤◌, ◌+◌, ◌++◌, ◌∷◌, ◌&&◌, ◌==◌, ltb, not, Bool, true, false, List, [], length, Option, Some, None, All, Contains, IsSomeAnd, is_some, if◌then◌else◌, filter, find, take, slice_get}
 use Rattle.std.specs.List.{flat_map, range_with_len}
 use Rattle.ompt_events.specs.declared.records.Record.{Record}
 use Rattle.ompt_events.specs.declared.state.State.{State}
@@ -133,17 +133,6 @@ nature_made _ = states.Plain
 -- the first place below n at which the task runs next
 abbrev pub first_start : List Record → ℕ → ℕ → Option ℕ
 first_start rs n task = find (λ i. is_task task (at started rs i)) (range_with_len 0 n)
-
--- by index of the task the first place below n at which it runs next
-abbrev pub AreStarts : List Record → ℕ → List ℕ → List (Option ℕ) → Type 0
-AreStarts rs n tasks starts =
-    (index task : ℕ) → slice_get tasks index ≡ Some task
-    → slice_get starts index ≡ Some (first_start rs n task)
-
--- the starts with this one, where the task at this index had none
-abbrev pub start_noted : List (Option ℕ) → Option ℕ → ℕ → List (Option ℕ)
-start_noted starts None place = starts
-start_noted starts (Some n) place = set starts n (Some (unwrap_or (get_or starts n None) place))
 
 -- whether the body fulfils the task's event early
 abbrev pub early_for : ℕ → Body → Bool

@@ -1,5 +1,5 @@
 -- The regions of each task while they open and close.
-use Rattle.std.specs.Prelude.{ℕ, ◌≡◌, ◌<◌, List, [], ◌∷◌, length, Option, Some, None, slice_get, slice_index_or}
+use Rattle.std.specs.Prelude.{ℕ, ◌≡◌, ◌<◌, List, [], ◌∷◌, Option, Some, None, slice_get, slice_index_or}
 use Rattle.ompt_events.specs.declared.records.Record.{Record}
 use Rattle.ompt_events.specs.declared.names.Endpoint.{Endpoint}
 use Rattle.ompt_events.specs.declared.names.Endpoint.TheVariants.{Begin, End, BeginEnd}
@@ -25,11 +25,11 @@ top_after links opened i Begin = Some i
 top_after links opened i End = below_of links opened
 top_after links opened i BeginEnd = opened
 
--- the regions that are open, the innermost first: each has the place of the one below it
-abbrev pub IsStack : List (Option ℕ) → Option ℕ → List ℕ → Type 0
-IsStack links top [] = top ≡ None
-IsStack links top (begin ∷ below) =
-    (top ≡ Some begin) × (begin < length links) × IsStack links (below_of links top) below
+-- the regions that are open, all begun before n, the innermost first: each has the place of the one below it
+abbrev pub IsStack : List (Option ℕ) → ℕ → Option ℕ → List ℕ → Type 0
+IsStack links n top [] = top ≡ None
+IsStack links n top (begin ∷ below) =
+    (top ≡ Some begin) × (begin < n) × IsStack links n (below_of links top) below
 
 -- the task with this index begins or ends a region there
 pub record IsRegionOf (rs : List Record) (tasks : List ℕ) (i index : ℕ) (kind : SyncKind)

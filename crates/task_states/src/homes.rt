@@ -1,28 +1,44 @@
 //! Which thread each explicit task runs on.
-ghost use Rattle.std.specs.Prelude.{ℕ, ◌≡◌, ◌≢◌, ◌<◌, ◌↔◌, Some, None, IsTrue, IsSomeAnd, IfOk, IfErr, OnOk, length, replicate};
+ghost use Rattle.std.specs.Prelude.{ℕ, ◌≡◌, ◌≢◌, ◌<◌, ◌↔◌, Some, None, false, IsTrue, IsSomeAnd, IfOk, IfErr, OnOk, length, replicate};
 ghost use Rattle.ompt_events.specs.declared.cause.Cause.TheVariants.{Moved};
 ghost use Rattle.ompt_events.specs.Causes.{IsFreeOf};
 ghost use Rattle.task_tree.specs.Family.{IsFamilyOf};
 ghost use Rattle.task_states.specs.Fault.{IsFound};
-ghost use Rattle.task_states.specs.Homes.{IsExplicitStart};
+ghost use Rattle.task_states.specs.Homes.{IsExplicitStart, AreRunOn, IsNeverEarly};
 
 use crate::fault::StateFault;
+use crate::moves::fulfils_early;
 use ompt_events::{Cause, Record};
 use std::alloc::{AllocError, Global};
 use task_tree::Family;
 
-/// Searches for the first record after which an explicit task runs on a second thread.
+/// What the schedules tell: by index of each explicit task the thread on which it runs, if it does, and
+/// whether the event of any task is fulfilled before that task's body has ended.
+#[derive(Debug, Drop)]
+pub(crate) struct Schedules {
+    pub(crate) homes: Vec<Option<u8>>,
+    pub(crate) any_early: bool,
+}
+
+/// What the schedules tell. Searches for the first record after which an explicit task runs on a second
+/// thread.
 pub(crate) fn find_moved(
     alloc: Global,
     records: &[Record],
     family: &Family,
-) -> Result<(), StateFault>
+) -> Result<Schedules, StateFault>
     requires { IsFamilyOf records.now family.now }
+    ensures homes { IfOk result (λ found. AreRunOn records.now family.now.tasks found.homes.items) }
+    ensures all { IfOk result (λ found. length found.homes.items ≡ length family.now.tasks) }
+    ensures early { IfOk result (λ found. found.any_early ≡ false
+        → IsNeverEarly records.now (length records.now)) }
     ensures free { OnOk result (IsFreeOf records.now Moved) }
     ensures found { IfErr result (IsFound records.now Moved) }
 {
     let mut homes = no_homes(alloc, family.tasks().as_slice().len())?;
+    let mut any_early = false;
     for (at, event) in records.iter().enumerate() {
+        any_early |= fulfils_early(&event.body);
         if let Some(index) = explicit_start(records, family, at) {
             if is_other(homes[index], event.thread) {
                 return Err(StateFault::Malformed {
@@ -33,7 +49,7 @@ pub(crate) fn find_moved(
             homes[index] = Some(event.thread);
         }
     }
-    Ok(())
+    Ok(Schedules { homes, any_early })
 }
 
 /// No thread for any task.

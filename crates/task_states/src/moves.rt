@@ -1,10 +1,10 @@
 //! What a record does to a task, and what the task's state then is.
 ghost use Rattle.std.specs.Prelude.{ℕ, ◌≡◌, Some};
 ghost use Rattle.ompt_events.specs.States.{may as may_move, state_after};
-ghost use Rattle.task_states.specs.Progress.{the_nature, the_move};
+ghost use Rattle.task_states.specs.Progress.{the_nature, the_move, fulfils_early};
 
 use crate::table::{discard_state, next_state, start_state};
-use ompt_events::{State, Status};
+use ompt_events::{Body, State, Status};
 
 /// What a task is: what may happen to it depends on that.
 #[derive(Clone, Copy, Debug, PartialEq, Eq)]
@@ -60,5 +60,18 @@ fn may(nature: Nature, step: Move) -> bool
             Move::Stopped(Status::TaskwaitComplete) => false,
             _ => true,
         },
+    }
+}
+
+/// Whether the record fulfils the event of any task before that task's body has ended.
+pub(crate) fn fulfils_early(body: &Body) -> bool
+    ensures { result ≡ fulfils_early body.now }
+{
+    match body {
+        Body::TaskSchedule {
+            status: Status::EarlyFulfill,
+            ..
+        } => true,
+        _ => false,
     }
 }

@@ -5,7 +5,7 @@ ghost use Rattle.ompt_events.specs.Teams.{IsInitial, IsMember};
 ghost use Rattle.ompt_events.specs.Causes.{IsFreeOf, IsFirstWith};
 ghost use Rattle.task_tree.specs.Family.{IsFamilyOf};
 ghost use Rattle.task_states.specs.declared.fault.StateFault.TheVariants.{Memory};
-ghost use Rattle.task_states.specs.Nesting.{IsUnmade, IsMaker, ForksInside, JoinsInside, InitialInside, IsInside};
+ghost use Rattle.task_states.specs.Nesting.{may_nest, IsUnmade, IsMaker, ForksInside, JoinsInside, InitialInside, IsInside};
 
 use crate::fault::StateFault;
 use crate::walk::{ThreadWalk, new_walks};
@@ -36,15 +36,31 @@ fn find_nested(
     ensures { IfOk result (λ found. MatchOption found
         (IsFreeOf records.now NestedParallel) (IsFirstWith records.now NestedParallel)) }
 {
+    // The walks are kept for their open roots alone: the tasks that run are not followed.
     let mut walks = new_walks(alloc)?;
     for (at, event) in records.iter().enumerate() {
-        let walk = &mut walks[event.thread as usize];
+        let thread = event.thread as usize;
+        if !may_nest(&event.body) {
+            continue;
+        }
+        let walk = &mut walks[thread];
         if is_inside(&event.body, walk, records, family) {
             return Ok(Some(at));
         }
         walk.advance(&event.body)?;
     }
     Ok(None)
+}
+
+/// Whether the record is of a kind that begins a parallel region, or begins or ends a root. No other can put
+/// a region inside another, or changes which roots are open.
+fn may_nest(body: &Body) -> bool
+    ensures { result ≡ may_nest body.now }
+{
+    match body {
+        Body::ParallelBegin { .. } | Body::ImplicitTask { .. } => true,
+        _ => false,
+    }
 }
 
 /// Whether the record, made where its thread stands, puts a parallel region inside another.

@@ -1,10 +1,10 @@
 //! What each task is, and the thread that is its home.
-ghost use Rattle.std.specs.Prelude.{ℕ, ◌≡◌, ◌<◌, IfOk, length, replicate, slice_get, is_some, if◌then◌else◌, option_and_then, Some, None};
-ghost use Rattle.ompt_events.specs.Records.{started};
+ghost use Rattle.std.specs.Prelude.{ℕ, ◌≡◌, ◌<◌, IfOk, length, slice_get, Some};
 ghost use Rattle.ompt_events.specs.Places.{thread_at};
 ghost use Rattle.ompt_events.specs.States.{nature_of, home_of};
 ghost use Rattle.task_tree.specs.Family.{IsFamilyOf};
-ghost use Rattle.task_states.specs.Progress.{nature_made, the_nature, start_noted, AreStarts, AreNatures, AreHomes};
+ghost use Rattle.task_states.specs.Homes.{AreRunOn};
+ghost use Rattle.task_states.specs.Progress.{nature_made, the_nature, AreNatures, AreHomes};
 
 use crate::moves::Nature;
 use bitflags::Flags;
@@ -19,20 +19,22 @@ pub(crate) struct Origins {
     pub(crate) homes: Vec<Option<u8>>,
 }
 
-/// What each task is, and its home.
+/// What each task is, and its home: of each explicit task it is known already on which thread it runs.
 pub(crate) fn find_origins(
     alloc: Global,
     records: &[Record],
     family: &Family,
+    run_on: &[Option<u8>],
 ) -> Result<Origins, AllocError>
-    requires { IsFamilyOf records.now family.now }
+    requires family { IsFamilyOf records.now family.now }
+    requires homes { AreRunOn records.now family.now.tasks run_on.now }
+    requires all { length run_on.now ≡ length family.now.tasks }
     ensures natures { IfOk result (λ found. AreNatures records.now family.now.tasks found.natures.items) }
     ensures homes { IfOk result (λ found. AreHomes records.now family.now.tasks found.homes.items) }
     ensures all { IfOk result (λ found. length found.natures.items ≡ length family.now.tasks) }
 {
     let natures = find_natures(alloc, records, family)?;
-    let starts = first_starts(alloc, records, family)?;
-    let homes = find_homes(alloc, records, family, starts.as_slice())?;
+    let homes = find_homes(alloc, records, family, run_on)?;
     Ok(Origins { natures, homes })
 }
 
@@ -82,96 +84,45 @@ fn nature_made(body: &Body) -> Nature
     }
 }
 
-/// For each task the first place at which it runs next.
-fn first_starts(
-    alloc: Global,
-    records: &[Record],
-    family: &Family,
-) -> Result<Vec<Option<usize>>, AllocError>
-    requires { IsFamilyOf records.now family.now }
-    ensures starts { IfOk result (λ starts. AreStarts records.now
-        (length records.now) family.now.tasks starts.items) }
-    ensures all { IfOk result (λ starts. length starts.items ≡ length family.now.tasks) }
-{
-    let mut starts = no_starts(alloc, family.tasks().as_slice().len())?;
-    for (at, event) in records.iter().enumerate() {
-        note_start(&mut starts, start_of(&event.body, family.object(at)), at);
-    }
-    Ok(starts)
-}
-
-/// No start for each of so many tasks.
-fn no_starts(alloc: Global, count: usize) -> Result<Vec<Option<usize>>, AllocError>
-    ensures { IfOk result (λ starts. starts.items ≡ replicate count None) }
-{
-    vec![in alloc; None; count]
-}
-
-/// The index of the task that runs next, where this is that of the second task that the record names.
-fn start_of(body: &Body, object: Option<usize>) -> Option<usize>
-    ensures { result ≡ if is_some (started body.now) then object else None }
-{
-    if body.started().is_some() {
-        object
-    } else {
-        None
-    }
-}
-
-/// Notes that the task at this index runs next at this place, where it did not before.
-fn note_start(starts: &mut Vec<Option<usize>>, index: Option<usize>, at: usize)
-    requires { (n : ℕ) → index ≡ Some n → n < length starts.old.items }
-    ensures { starts.new.items ≡ start_noted starts.old.items index at }
-{
-    if let Some(n) = index {
-        starts[n] = Some(starts[n].unwrap_or(at));
-    }
-}
-
 /// For each task its home: the thread of the record that makes it, where it is a root, else the one on which
-/// it first runs.
+/// it runs.
 fn find_homes(
     alloc: Global,
     records: &[Record],
     family: &Family,
-    starts: &[Option<usize>],
+    run_on: &[Option<u8>],
 ) -> Result<Vec<Option<u8>>, AllocError>
     requires family { IsFamilyOf records.now family.now }
-    requires starts { AreStarts records.now (length records.now) family.now.tasks starts.now }
-    requires all { length starts.now ≡ length family.now.tasks }
+    requires homes { AreRunOn records.now family.now.tasks run_on.now }
+    requires all { length run_on.now ≡ length family.now.tasks }
     ensures { IfOk result (λ homes. AreHomes records.now family.now.tasks homes.items) }
 {
     let count = family.tasks().as_slice().len();
     let mut homes = Vec::with_capacity(alloc, count)?;
     for index in 0..count {
-        homes.push(home_at(records, family, starts, index))?;
+        homes.push(home_at(records, family, run_on, index))?;
     }
     Ok(homes)
 }
 
 /// The home of the task at this index.
-fn home_at(
-    records: &[Record],
-    family: &Family,
-    starts: &[Option<usize>],
-    index: usize,
-) -> Option<u8>
+fn home_at(records: &[Record], family: &Family, run_on: &[Option<u8>], index: usize) -> Option<u8>
     requires family { IsFamilyOf records.now family.now }
-    requires starts { AreStarts records.now (length records.now) family.now.tasks starts.now }
-    requires all { length starts.now ≡ length family.now.tasks }
+    requires homes { AreRunOn records.now family.now.tasks run_on.now }
+    requires all { length run_on.now ≡ length family.now.tasks }
     requires within { index < length family.now.tasks }
     ensures { (task : ℕ) → slice_get family.now.tasks index ≡ Some task → result ≡ home_of records.now task }
 {
     if family.is_explicit_at(index) {
-        return thread_of(records, starts[index]);
+        return run_on[index];
     }
-    thread_of(records, Some(family.made_at(index)))
+    thread_of(records, family.made_at(index))
 }
 
 /// The thread of the record at the place, if there is one.
-fn thread_of(records: &[Record], place: Option<usize>) -> Option<u8>
-    ensures { result ≡ option_and_then (thread_at records.now) place }
+fn thread_of(records: &[Record], place: usize) -> Option<u8>
+    ensures { result ≡ thread_at records.now place }
 {
-    let event = records.get(place?)?;
+    let event = records.get(place)?;
     Some(event.thread)
 }

@@ -1,15 +1,17 @@
 //! How far each task comes by the moves that its state allows.
-ghost use Rattle.std.specs.Prelude.{ℕ, ◌≡◌, ◌<◌, List, Some, None, [], IsTrue, IfOk, OnOk, length, set, get_or, slice_get};
+ghost use Rattle.std.specs.Prelude.{ℕ, ◌≡◌, ◌<◌, List, Some, None, [], false, IsTrue, IfOk, OnOk, length, set, get_or, slice_get};
 ghost use Rattle.ompt_events.specs.declared.records.Record.{Record};
 ghost use Rattle.ompt_events.specs.States as states;
 ghost use Rattle.ompt_events.specs.States.{first_state, state_after, home_of, moves_of};
 ghost use Rattle.task_tree.specs.Family.{IsFamilyOf};
 ghost use Rattle.task_tree.specs.Numbering.{AreApart};
 ghost use Rattle.task_tree.specs.Subjects.{Calls};
+ghost use Rattle.task_states.specs.Homes.{AreRunOn, IsNeverEarly};
 ghost use Rattle.task_states.specs.declared.progress.Pass.TheVariants.{Early, Home, Rest};
-ghost use Rattle.task_states.specs.Progress.{the_nature, the_move, earlier, refused_after, is_read, is_read_for, early_for, fulfils_early, is_at, and_move, and_record, moves_before, IsReadWhole, AreLeft, HasCome, AreNatures, AreHomes};
+ghost use Rattle.task_states.specs.Progress.{the_nature, the_move, earlier, refused_after, is_read, is_read_for, early_for, is_at, and_move, and_record, moves_before, IsReadWhole, AreLeft, HasCome, AreNatures, AreHomes};
 
-use crate::moves::{Move, Nature, after_move};
+use crate::homes::Schedules;
+use crate::moves::{Move, Nature, after_move, fulfils_early};
 use crate::origins::{Origins, find_origins};
 use ompt_events::{Body, Record, State, Status};
 use std::alloc::{AllocError, Global};
@@ -275,13 +277,19 @@ pub(crate) fn find_progress(
     alloc: Global,
     records: &[Record],
     family: &Family,
+    schedules: &Schedules,
 ) -> Result<Progress, AllocError>
-    requires { IsFamilyOf records.now family.now }
+    requires family { IsFamilyOf records.now family.now }
+    requires homes { AreRunOn records.now family.now.tasks schedules.now.homes.items }
+    requires all { length schedules.now.homes.items ≡ length family.now.tasks }
+    requires early { schedules.now.any_early ≡ false → IsNeverEarly records.now (length records.now) }
     ensures { IfOk result (HasCome records.now family.now.tasks (moves_of records.now)) }
 {
-    let origins = find_origins(alloc, records, family)?;
+    let origins = find_origins(alloc, records, family, schedules.homes.as_slice())?;
     let mut progress = Progress::new(alloc, origins.natures.as_slice())?;
-    progress.read_early(&origins, records, family);
+    if schedules.any_early {
+        progress.read_early(&origins, records, family);
+    }
     let left = progress.read_home(alloc, &origins, records, family)?;
     progress.read_rest(&origins, records, family, left.as_slice());
     Ok(progress)
@@ -320,19 +328,6 @@ fn is_early(body: &Body, task: u64) -> bool
             prior,
             ..
         } => *prior == task,
-        _ => false,
-    }
-}
-
-/// Whether the record fulfils the event of any task before that task's body has ended.
-fn fulfils_early(body: &Body) -> bool
-    ensures { result ≡ fulfils_early body.now }
-{
-    match body {
-        Body::TaskSchedule {
-            status: Status::EarlyFulfill,
-            ..
-        } => true,
         _ => false,
     }
 }

@@ -1,5 +1,5 @@
 //! Which begin the end of each synchronisation region belongs to.
-ghost use Rattle.std.specs.Prelude.{ℕ, ◌≡◌, ◌≢◌, ◌<◌, ◌≤◌, ◌^◌, ◌++◌, ◌∷◌, [], ◌↔◌, List, Some, None, true, false, slice_get, slice_index_or, IsTrue, MatchOption, IfOk, IfErr, OnOk, length, replicate};
+ghost use Rattle.std.specs.Prelude.{ℕ, ◌≡◌, ◌≢◌, ◌<◌, ◌≤◌, ◌^◌, ◌↔◌, List, Some, None, true, false, slice_get, slice_index_or, IsTrue, MatchOption, IfOk, IfErr, OnOk, length, replicate};
 ghost use Rattle.ompt_events.specs.declared.records.Record.{Record};
 ghost use Rattle.ompt_events.specs.Tree.{IsExplicit};
 ghost use Rattle.ompt_events.specs.declared.cause.Cause.TheVariants.{RegionOrder};
@@ -39,39 +39,31 @@ pub(crate) fn find_links(
     ensures found { IfErr result (IsFound records.now RegionOrder) }
 {
     let mut innermost = no_places(alloc, family.tasks().as_slice().len())?;
-    let mut links = Vec::with_capacity(alloc, records.len())?;
+    let mut links = no_places(alloc, records.len())?;
     for at in 0..records.len() {
-        let mut link = Slot::none();
-        if let Some(event) = region_event(records, family, at) {
-            link = innermost[event.index];
-            if misses_begin(records, link.get(), event.kind, event.endpoint)
-                || is_barred(family, event.index, event.kind)
-            {
-                return Err(StateFault::Malformed {
-                    at,
-                    cause: Cause::RegionOrder,
-                });
-            }
-            innermost[event.index] = next_top(&links, link, at, event.endpoint);
+        let Some(event) = region_event(records, family, at) else {
+            continue;
+        };
+        let opened = innermost[event.index];
+        if misses_begin(records, opened.get(), event.kind, event.endpoint)
+            || is_barred(family, event.index, event.kind)
+        {
+            return Err(StateFault::Malformed {
+                at,
+                cause: Cause::RegionOrder,
+            });
         }
-        add_link(&mut links, link)?;
+        innermost[event.index] = next_top(&links, opened, at, event.endpoint);
+        links[at] = opened;
     }
     Ok(links)
 }
 
-/// Adds the link of one more record.
-fn add_link(links: &mut Vec<Slot>, link: Slot) -> Result<(), AllocError>
-    ensures { OnOk result (links.new.items ≡ links.old.items ++ link ∷ []) }
+/// A table of so many entries, each without a place.
+fn no_places(alloc: Global, count: usize) -> Result<Vec<Slot>, AllocError>
+    ensures { IfOk result (λ places. places.items ≡ replicate count None) }
 {
-    links.push(link)?;
-    Ok(())
-}
-
-/// No place for any task.
-fn no_places(alloc: Global, tasks: usize) -> Result<Vec<Slot>, AllocError>
-    ensures { IfOk result (λ innermost. innermost.items ≡ replicate tasks None) }
-{
-    vec![in alloc; Slot::none(); tasks]
+    vec![in alloc; Slot::none(); count]
 }
 
 /// The region that begins or ends there, if one does.

@@ -1,17 +1,18 @@
 //! The states of all tasks after all records.
-ghost use Rattle.std.specs.Prelude.{ℕ, ◌≡◌, ◌≤◌, ◌^◌, List, Some, None, IfOk, IfErr, OnOk, length};
+ghost use Rattle.std.specs.Prelude.{ℕ, ◌≡◌, ◌≤◌, ◌^◌, List, Some, None, false, IfOk, IfErr, OnOk, length};
 ghost use Rattle.ompt_events.specs.declared.records.Record.{Record};
 ghost use Rattle.ompt_events.specs.declared.names.SyncKind.{SyncKind};
 ghost use Rattle.ompt_events.specs.declared.cause.Cause.TheVariants.{NotCurrent, Moved, StatusOrder, RegionOrder};
 ghost use Rattle.ompt_events.specs.Causes.{IsFreeOf};
 ghost use Rattle.task_tree.specs.Family.{IsFamilyOf};
 ghost use Rattle.task_states.specs.Fault.{IsStateFault};
+ghost use Rattle.task_states.specs.Homes.{AreRunOn, IsNeverEarly};
 ghost use Rattle.task_states.specs.Regions.{AreLinked};
 ghost use Rattle.task_states.specs.States.{AreStates, AreStatesOf, IsLast, IsBegin};
 
 use crate::current::find_misfit;
 use crate::fault::StateFault;
-use crate::homes::find_moved;
+use crate::homes::{Schedules, find_moved};
 use crate::progress::find_progress;
 use crate::regions::find_links;
 use ompt_events::{Cause, Record, State, Trace};
@@ -59,8 +60,8 @@ pub fn run<'a>(alloc: Global, trace: &Trace, family: &'a Family) -> Result<State
 {
     let records = trace.records();
     find_misfit(alloc, records, family)?;
-    find_moved(alloc, records, family)?;
-    let states = find_states(alloc, records, family)?;
+    let schedules = find_moved(alloc, records, family)?;
+    let states = find_states(alloc, records, family, &schedules)?;
     let begins = find_begins(alloc, records, family)?;
     Ok(States {
         tasks: family.tasks(),
@@ -75,16 +76,20 @@ fn find_states(
     alloc: Global,
     records: &[Record],
     family: &Family,
+    schedules: &Schedules,
 ) -> Result<Vec<Option<State>>, StateFault>
     requires family { IsFamilyOf records.now family.now }
     requires current { IsFreeOf records.now NotCurrent }
     requires stay { IsFreeOf records.now Moved }
+    requires homes { AreRunOn records.now family.now.tasks schedules.now.homes.items }
+    requires all { length schedules.now.homes.items ≡ length family.now.tasks }
+    requires early { schedules.now.any_early ≡ false → IsNeverEarly records.now (length records.now) }
     ensures states { IfOk result (λ states. AreStates records.now family.now.tasks states.items) }
     ensures all { IfOk result (λ states. length states.items ≡ length family.now.tasks) }
     ensures ordered { OnOk result (IsFreeOf records.now StatusOrder) }
     ensures fault { IfErr result (IsStateFault records.now) }
 {
-    let progress = find_progress(alloc, records, family)?;
+    let progress = find_progress(alloc, records, family, schedules)?;
     match progress.refused() {
         Some(at) => Err(StateFault::Malformed {
             at,

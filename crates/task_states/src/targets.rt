@@ -1,14 +1,13 @@
 //! Whether a task is to run on a device.
-ghost use Rattle.std.specs.Prelude.{◌≡◌, MatchOption, IsTrue, IsSomeAnd, true, ◌↔◌};
+ghost use Rattle.std.specs.Prelude.{◌≡◌, MatchOption, IsTrue, ◌↔◌};
 ghost use Rattle.ompt_events.specs.Flags as flag;
 ghost use Rattle.ompt_events.specs.Flags.{has_flag};
-ghost use Rattle.ompt_events.specs.Records.{flags};
 ghost use Rattle.ompt_events.specs.declared.cause.Cause.TheVariants.{TargetTask};
 ghost use Rattle.ompt_events.specs.Causes.{IsFreeOf, IsFirstWith};
 ghost use Rattle.task_states.specs.Targets.{IsTargetMade};
 
 use bitflags::Flags;
-use ompt_events::{Body, TaskFlags, Trace};
+use ompt_events::{Body, Endpoint, TaskFlags, Trace};
 
 /// The first record that makes a target task, one with the flag `target` (OpenMP 5.2, 13.8 and
 /// `ompt_task_flag_t`). It runs on a device, whose events are no part of the file. Takes no memory from the
@@ -29,15 +28,20 @@ pub fn target(trace: &Trace) -> Option<usize>
 fn makes_target(body: &Body) -> bool
     ensures { IsTrue result ↔ IsTargetMade body.now }
 {
-    body.made().is_some() && has_target(body)
+    match body {
+        Body::TaskCreate { flags, .. } => is_target(*flags),
+        Body::ImplicitTask {
+            endpoint: Endpoint::Begin,
+            flags,
+            ..
+        } => is_target(*flags),
+        _ => false,
+    }
 }
 
-/// Whether the record speaks of a target task.
-fn has_target(body: &Body) -> bool
-    ensures { IsTrue result ↔ IsSomeAnd (flags body.now) (λ bits. has_flag bits flag.target ≡ true) }
+/// Whether these are the flags of a target task.
+fn is_target(flags: TaskFlags) -> bool
+    ensures { result ≡ has_flag flags.0 flag.target }
 {
-    match body.flags() {
-        Some(given) => given.contains(TaskFlags::TARGET),
-        None => false,
-    }
+    flags.contains(TaskFlags::TARGET)
 }

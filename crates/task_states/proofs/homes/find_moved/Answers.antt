@@ -1,12 +1,13 @@
-use Rattle.std.proofs.Common.{◌≡◌, ◌≢◌, ◌∙◌, ◌<◌, ℕ, Some, length, refl, sym, arith, rules, below_more}
-use Rattle.std.proofs.lemmas.Bool.{false≢true}
-use Rattle.std.specs.Prelude.{IsSomeAnd, slice_get}
+use Rattle.std.proofs.Common.{◌≡◌, ◌≢◌, ◌∙◌, ◌<◌, ℕ, Some, length, refl, sym, arith, rules, below_more, false}
+use Rattle.std.proofs.lemmas.Bool.{false≢true, or_parts}
+use Rattle.std.specs.Prelude.{◌||◌, IsSomeAnd, slice_get}
 use Rattle.std.proofs.lemmas.Option.{none-some, slice_get_within, slice_get_read}
 use Rattle.ompt_events.specs.Records.{started}
 use Rattle.ompt_events.specs.Places.{at, thread_at}
 use Rattle.ompt_events.specs.Tree.{IsExplicit}
-use Rattle.ompt_events.proofs.PlaceLemmas.{thread_read}
-use Rattle.task_states.proofs.HomeLemmas.{explicit_index, free_of_moved, moves_here, moves_not, homes_more, homes_other, stays_put}
+use Rattle.ompt_events.proofs.PlaceLemmas.{thread_read, read_get}
+use Rattle.task_states.proofs.PassLemmas.{not_early, never_more}
+use Rattle.task_states.proofs.HomeLemmas.{explicit_index, homes_end, free_of_moved, moves_here, moves_not, homes_more, homes_other, stays_put}
 use Rattle.task_states.proofs.homes.find_moved.Goals as goal
 use Rattle.task_states.proofs.homes.find_moved.Goals.{in-Some+else-is_other, in_default}
 
@@ -46,6 +47,10 @@ loop-at-preserved c =
     let tasks = c.args.family.now.tasks in
     let homes = c.loop-at.homes.items in
     let runs : thread_at rs i ≡ Some c.index-records-at.result.thread = thread_read rs i c.index-records-at.result c.loop-at-test.true c.index-records-at.is in
+    let still = λ (none : c.loop-at.any_early || c.fulfils_early-any_early.result ≡ false).
+    let parts = or_parts _ _ none in
+    let stands = read_get rs i c.index-records-at.result c.loop-at-test.true c.index-records-at.is in
+    never_more rs i (c.loop-at.invariant.early parts.0) (not_early rs i c.index-records-at.result stands (sym c.fulfils_early-any_early.ensures ∙ parts.1)) in
     elim c.match-explicit_start.branch [
       | in-Some+else-is_other w ↦
           let index = w.in-Some.index in
@@ -57,6 +62,7 @@ loop-at-preserved c =
           record {
             homes = rw w.homes-is (homes_more rs i index c.index-records-at.result.thread w.index.result.now tasks homes c.requires.makers.apart c.loop-at.invariant.homes start runs old at_home);
             free = below_more _ _ c.loop-at.invariant.free (moves_not rs i index c.index-records-at.result.thread w.index.result.now tasks homes c.loop-at.invariant.homes start runs old at_home);
+            early = still;
           }
       | in_default w ↦
           let none = λ (task : ℕ) (starts : at started rs i ≡ Some task) (explicit : IsExplicit rs task).
@@ -65,8 +71,12 @@ loop-at-preserved c =
           record {
             homes = rw w.homes-is (homes_other rs i tasks homes c.loop-at.invariant.homes none);
             free = below_more _ _ c.loop-at.invariant.free (stays_put rs i none);
+            early = still;
           }
     ]
 
 pub returns-clause-free : goal.returns-clause-free
 returns-clause-free c = free_of_moved c.args.records.now c.loop-at.at c.loop-at.invariant.free c.loop-at-test.false
+
+pub returns-clause-homes : goal.returns-clause-homes
+returns-clause-homes c = homes_end c.args.records.now c.loop-at.at c.args.family.now.tasks c.loop-at.homes.items c.requires.once c.loop-at-test.false c.loop-at.invariant.homes

@@ -1,11 +1,13 @@
-use Rattle.std.proofs.Common.{ℕ, ◌<◌}
+use Rattle.std.proofs.Common.{ℕ, ◌≡◌, ◌<◌, false}
 use Rattle.ompt_events.specs.Causes.{IsMoved}
+use Rattle.task_states.specs.Homes.{IsNeverEarly}
 use Rattle.task_states.proofs.HomeLemmas.{AreHomes}
 use Rattle.task_states.proofs.homes.find_moved.Given as goal
 
--- the homes so far are known, and no task has moved
+-- the homes so far are known, no task has moved, and it is known whether any event was fulfilled early
 abbrev pub invariant-loop-at : goal.invariant-loop-at
 invariant-loop-at l = record {
   homes : AreHomes l.records l.at l.family.tasks l.homes.items;
   free : (k : ℕ) → k < l.at → IsMoved l.records k → ⊥;
+  early : l.any_early ≡ false → IsNeverEarly l.records l.at;
 }
