@@ -2,7 +2,6 @@
 //! Nothing depends on a hint but the time.
 
 use crate::slot::Slot;
-use ompt_events::{Body, Endpoint, Record};
 
 /// What was seen of the threads so far.
 #[derive(Debug, Drop)]
@@ -22,33 +21,27 @@ impl Hints {
         }
     }
 
-    /// Where the task that the record is of may stand.
-    pub(crate) fn subject(&self, event: &Record) -> usize {
-        match &event.body {
-            Body::ImplicitTask {
-                endpoint: Endpoint::Begin,
-                ..
-            } => self.made,
-            _ => self.running[usize::from(event.thread)],
-        }
+    /// Where the task stands that the thread runs.
+    pub(crate) fn running(&self, thread: u8) -> usize {
+        self.running[usize::from(thread)]
     }
 
-    /// Where the second task may stand: a child is the next one that is made, any other is searched for.
-    pub(crate) fn object(&self) -> usize {
-        self.made
+    /// Where the task stands that was made last.
+    pub(crate) fn last_made(&self) -> usize {
+        self.made.wrapping_sub(1)
     }
 
-    /// Takes the record into account.
-    pub(crate) fn note(&mut self, event: &Record, subject: Slot, object: Slot) {
-        if event.body.made().is_some() {
-            self.made = self.made.wrapping_add(1);
-        }
-        let runs = match &event.body {
-            Body::TaskSchedule { .. } => object,
-            _ => subject,
-        };
-        if let Some(index) = runs.get() {
-            self.running[usize::from(event.thread)] = index;
+    /// Where the task stands that a record makes now.
+    pub(crate) fn take_made(&mut self) -> usize {
+        let next = self.made;
+        self.made = next.wrapping_add(1);
+        next
+    }
+
+    /// Takes into account that the thread runs the task from here on, if one was found.
+    pub(crate) fn note_running(&mut self, thread: u8, task: Slot) {
+        if let Some(index) = task.get() {
+            self.running[usize::from(thread)] = index;
         }
     }
 }

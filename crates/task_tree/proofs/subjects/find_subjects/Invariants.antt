@@ -1,9 +1,9 @@
-use Rattle.task_tree.specs.Subjects.{subject, object, AreFound}
+use Rattle.task_tree.specs.Subjects.{subject, object, AreFoundUpTo}
 use Rattle.task_tree.proofs.subjects.find_subjects.Given as goal
 
 -- the tasks that the records so far name are found
-abbrev pub invariant-loop-event : goal.invariant-loop-event
-invariant-loop-event l = record {
-  subjects : AreFound subject l.records l.event-index l.tasks l.subjects.items;
-  objects : AreFound object l.records l.event-index l.tasks l.objects.items;
+abbrev pub invariant-loop-at : goal.invariant-loop-at
+invariant-loop-at l = record {
+  subjects : AreFoundUpTo subject l.records l.at l.tasks l.subjects.items;
+  objects : AreFoundUpTo object l.records l.at l.tasks l.objects.items;
 }
