@@ -1,8 +1,15 @@
 //! The tasks that each record names, looked up once for all that comes after.
 ghost use Rattle.std.specs.Prelude.{◌≡◌, ◌≤◌, ◌^◌, Some, None, IfOk, length, replicate};
+ghost use Rattle.ompt_events.specs.declared.cause.Cause.TheVariants.{CreatedTwice};
+ghost use Rattle.ompt_events.specs.Records.{made};
+ghost use Rattle.ompt_events.specs.Causes.{IsFreeOf};
+ghost use Rattle.task_tree.specs.Makers.{AreNoted};
+ghost use Rattle.task_tree.specs.Numbering.{AreApart};
+ghost use Rattle.task_tree.specs.Links.{AreCounts, AreLinks};
 ghost use Rattle.task_tree.specs.Subjects.{subject, object, Finds, AreFound};
 
 use crate::hints::Hints;
+use crate::links::{Linked, link_child, no_counts, no_links};
 use crate::numbering::Numbering;
 use crate::slot::Slot;
 use ompt_events::{Body, Endpoint, Record};
@@ -15,48 +22,50 @@ pub(crate) struct Subjects {
     pub(crate) objects: Vec<Slot>,
 }
 
-impl Subjects {
-    /// Where the task that the record is of stands, as a hint.
-    pub(crate) fn near_subject(&self, at: usize) -> usize {
-        near(self.subjects.as_slice(), at)
-    }
-
-    /// Where the second task that it names stands, as a hint.
-    pub(crate) fn near_object(&self, at: usize) -> usize {
-        near(self.objects.as_slice(), at)
-    }
+/// What one pass over the records finds: the tasks that they name, and the links of those that they create.
+pub(crate) struct Lookup {
+    pub(crate) named: Subjects,
+    pub(crate) linked: Linked,
 }
 
-/// The index that stands there, or any other.
-fn near(slots: &[Slot], at: usize) -> usize {
-    if at < slots.len() {
-        slots[at].get().unwrap_or(0)
-    } else {
-        0
-    }
-}
-
-/// Looks up the tasks that the records name.
+/// Looks up the tasks that the records name, and links each task that they create to its parent.
 pub(crate) fn find_subjects(
     alloc: Global,
     records: &[Record],
     tasks: &Numbering,
-) -> Result<Subjects, AllocError>
-    requires few { length tasks.now ≤ 2 ^ 22 }
+) -> Result<Lookup, AllocError>
+    requires noted { AreNoted made records.now (length records.now) tasks.now }
+    requires apart { AreApart tasks.now }
+    requires once { IsFreeOf records.now CreatedTwice }
+    requires few { length records.now ≤ 2 ^ 22 }
+    requires few_tasks { length tasks.now ≤ 2 ^ 22 }
     ensures subjects { IfOk result (λ found. AreFound subject records.now
-        (length records.now) tasks.now found.subjects.items) }
+        (length records.now) tasks.now found.named.subjects.items) }
     ensures objects { IfOk result (λ found. AreFound object records.now
-        (length records.now) tasks.now found.objects.items) }
+        (length records.now) tasks.now found.named.objects.items) }
+    ensures counts { IfOk result (λ found. AreCounts records.now
+        (length records.now) tasks.now found.linked.counts.items) }
+    ensures links { IfOk result (λ found. AreLinks records.now
+        (length records.now) tasks.now found.linked.links.items) }
 {
     let mut subjects = no_slots(alloc, records.len())?;
     let mut objects = no_slots(alloc, records.len())?;
+    let mut counts = no_counts(alloc, tasks.as_slice().len())?;
+    let mut links = no_links(alloc, tasks.as_slice().len())?;
     let mut hints = Hints::new();
     for (at, event) in records.iter().enumerate() {
         let found = look_up(event, tasks, &mut hints);
         subjects[at] = found.subject;
         objects[at] = found.object;
+        if let Some((parent, child)) = event.body.creation() {
+            let near = (found.subject, found.object);
+            link_child(tasks, near, &mut counts, &mut links, parent, child);
+        }
     }
-    Ok(Subjects { subjects, objects })
+    Ok(Lookup {
+        named: Subjects { subjects, objects },
+        linked: Linked { counts, links },
+    })
 }
 
 /// No task for any record.

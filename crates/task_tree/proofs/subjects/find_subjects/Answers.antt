@@ -1,28 +1,54 @@
-use Rattle.std.proofs.Common.{◌≡◌, length, arith}
+use Rattle.std.proofs.Common.{◌≡◌, ◌∙◌, length, sym, arith}
+use Rattle.ompt_events.specs.Records.{creation}
 use Rattle.ompt_events.specs.Places.{at}
 use Rattle.ompt_events.proofs.PlaceLemmas.{at_read}
 use Rattle.task_tree.specs.Subjects.{subject, object}
 use Rattle.task_tree.proofs.SubjectLemmas.{up_to_start, up_to_more, up_to_end}
+use Rattle.task_tree.proofs.LinkLemmas.{counts_start, links_start, counts_other, links_other, counts_linked, links_linked, count_small}
 use Rattle.task_tree.proofs.subjects.find_subjects.Goals as goal
+use Rattle.task_tree.proofs.subjects.find_subjects.Goals.{in-Some, in_default}
 
 pub loop-at-init : goal.loop-at-init
 loop-at-init c = record {
   subjects = up_to_start subject c.args.records.now c.args.tasks.now c.in_ok-subjects.subjects.items c.in_ok-subjects.ensures;
   objects = up_to_start object c.args.records.now c.args.tasks.now c.in_ok-objects.objects.items c.in_ok-objects.ensures;
+  counts = counts_start c.args.records.now c.args.tasks.now c.in_ok-counts.counts.items (rw (c.as_slice.ensures) at c.in_ok-counts.ensures);
+  links = links_start c.args.records.now c.args.tasks.now c.in_ok-links.links.items (rw (c.as_slice-2.ensures) at c.in_ok-links.ensures);
 }
+
+pub link_child-requires-clause-room : goal.link_child-requires-clause-room
+link_child-requires-clause-room c = λ up is. let small = count_small c.args.records.now c.loop-at.at c.args.tasks.now c.loop-at.counts.items c.in-Some.parent up c.loop-at.invariant.counts is in omega (arith, small, c.loop-at-test.true, c.requires.few)
 
 pub loop-at-preserved : goal.loop-at-preserved
 loop-at-preserved c =
     let rs = c.args.records.now in
     let i = c.loop-at.at in
+    let tasks = c.args.tasks.now in
     let event = c.index-records-at.result in
     let of : at subject rs i ≡ subject event.body = at_read subject rs i event c.loop-at-test.true c.index-records-at.is in
     let names : at object rs i ≡ object event.body = at_read object rs i event c.loop-at-test.true c.index-records-at.is in
+    let says : at creation rs i ≡ c.creation.result = at_read creation rs i event c.loop-at-test.true c.index-records-at.is ∙ sym c.creation.ensures in
     let found = c.look_up-found.result in
-    record {
-      subjects = up_to_more subject rs i c.args.tasks.now c.loop-at.subjects.items found.subject c.loop-at-test.true c.loop-at.invariant.subjects (rw of c.look_up-found.ensures.subject);
-      objects = up_to_more object rs i c.args.tasks.now c.loop-at.objects.items found.object c.loop-at-test.true c.loop-at.invariant.objects (rw names c.look_up-found.ensures.object);
-    }
+    let subjects = up_to_more subject rs i tasks c.loop-at.subjects.items found.subject c.loop-at-test.true c.loop-at.invariant.subjects (rw of c.look_up-found.ensures.subject) in
+    let objects = up_to_more object rs i tasks c.loop-at.objects.items found.object c.loop-at-test.true c.loop-at.invariant.objects (rw names c.look_up-found.ensures.object) in
+    elim c.match-creation.branch [
+      | in-Some w ↦
+          let creates = says ∙ w.in-Some.is in
+          rw (w.counts-is, w.links-is) (record {
+            subjects = subjects;
+            objects = objects;
+            counts = counts_linked rs i tasks w.in-Some.parent w.in-Some.child c.loop-at.counts.items c.loop-at.links.items w.link_child.new.counts.items w.link_child.new.links.items c.loop-at.invariant.counts creates w.link_child.ensures;
+            links = links_linked rs i tasks w.in-Some.parent w.in-Some.child c.loop-at.counts.items c.loop-at.links.items w.link_child.new.counts.items w.link_child.new.links.items c.requires.once c.loop-at.invariant.counts c.loop-at.invariant.links creates w.link_child.ensures;
+          })
+      | in_default w ↦
+          let none = says ∙ w.in_default.is in
+          rw (w.counts-is, w.links-is) (record {
+            subjects = subjects;
+            objects = objects;
+            counts = counts_other rs i tasks c.loop-at.counts.items c.loop-at.invariant.counts none;
+            links = links_other rs i tasks c.loop-at.links.items c.loop-at.invariant.links none;
+          })
+    ]
 
 pub returns-clause-subjects : goal.returns-clause-subjects
 returns-clause-subjects c =
@@ -33,3 +59,13 @@ pub returns-clause-objects : goal.returns-clause-objects
 returns-clause-objects c =
     let all : c.loop-at.at ≡ length c.args.records.now = omega (arith, c.loop-at-test.false, c.loop-at.auto.at-end) in
     up_to_end object c.args.records.now c.loop-at.at c.args.tasks.now c.loop-at.objects.items all c.loop-at.invariant.objects
+
+pub returns-clause-counts : goal.returns-clause-counts
+returns-clause-counts c =
+    let all : c.loop-at.at ≡ length c.args.records.now = omega (arith, c.loop-at-test.false, c.loop-at.auto.at-end) in
+    rw all at c.loop-at.invariant.counts
+
+pub returns-clause-links : goal.returns-clause-links
+returns-clause-links c =
+    let all : c.loop-at.at ≡ length c.args.records.now = omega (arith, c.loop-at-test.false, c.loop-at.auto.at-end) in
+    rw all at c.loop-at.invariant.links
