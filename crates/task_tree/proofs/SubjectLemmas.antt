@@ -1,13 +1,13 @@
 -- How what is found of the records' tasks grows, and what it says.
-use Rattle.std.proofs.Common.{◌≡◌, ◌∙◌, ℕ, ◌<◌, ◌+◌, List, length, Option, Some, None, refl, sym, ap, subst, arith, inl, inr, set}
+use Rattle.std.proofs.Common.{◌≡◌, ◌∙◌, ℕ, ◌<◌, ◌≤◌, ◌^◌, ◌+◌, List, length, Option, Some, None, refl, sym, ap, subst, arith, rules, inl, inr, set}
 use Rattle.std.proofs.lemmas.Bool.{cases_eq}
-use Rattle.std.proofs.lemmas.Option.{none-some, same_Some}
+use Rattle.std.proofs.lemmas.Option.{none-some, same_Some, slice_get_within}
 use Rattle.std.proofs.lemmas.List.{length-set, length-replicate}
-use Rattle.std.specs.Prelude.{◌↔◌, slice_get, replicate, Contains}
+use Rattle.std.specs.Prelude.{◌↔◌, IfSome, slice_get, replicate, Contains}
 use Rattle.ompt_events.specs.declared.records.Record.{Record}
 use Rattle.ompt_events.specs.declared.records.Body.{Body}
 use Rattle.ompt_events.specs.Places.{at}
-use Rattle.ompt_events.proofs.ListLemmas.{contains_get}
+use Rattle.ompt_events.proofs.ListLemmas.{contains_get, get_contains}
 use Rattle.task_tree.proofs.LinkLemmas.{get_set_same, get_set_other}
 use Rattle.task_tree.specs.Subjects.{Finds, Calls, AreFound, AreFoundUpTo}
 
@@ -19,6 +19,19 @@ pub finds_none : (tasks : List ℕ) (task : ℕ) (index : Option ℕ) → ((k : 
 finds_none tasks task index is none other same has =
     let stands = contains_get tasks other has in
     none-some stands.0 (sym none ∙ (is stands.0).1 (stands.1 ∙ sym same))
+
+-- the index that a look-up gives
+pub index_small : (tasks : List ℕ) (task : ℕ) (index : Option ℕ) → ((k : ℕ) → (index ≡ Some k) ↔ (slice_get tasks k ≡ Some task)) → length tasks ≤ 2 ^ 22 → IfSome index (λ k. k < 4294967295)
+index_small tasks task None is few = search rules
+index_small tasks task (Some k) is few = let inside = slice_get_within tasks k task ((is k).0 refl) in omega (arith, inside, few)
+
+pub finds_index : (tasks : List ℕ) (task : ℕ) (index : Option ℕ) → ((k : ℕ) → (index ≡ Some k) ↔ (slice_get tasks k ≡ Some task)) → Finds tasks (Some task) index
+finds_index tasks task None is = finds_none tasks task None is refl
+finds_index tasks task (Some k) is = (task, refl, (is k).0 refl)
+
+pub index_contains : (tasks : List ℕ) (task : ℕ) (index : Option ℕ) → ((k : ℕ) → (index ≡ Some k) ↔ (slice_get tasks k ≡ Some task)) → (index ≡ None → ⊥) → Contains tasks task
+index_contains tasks task None is some = absurd (some refl)
+index_contains tasks task (Some k) is some = get_contains tasks task k ((is k).0 refl)
 
 -- where the task is in the list, its index is known
 pub finds_calls : (tasks : List ℕ) (found slot : Option ℕ) → Finds tasks found slot → ((task : ℕ) → found ≡ Some task → Contains tasks task) → Calls tasks found slot

@@ -1,5 +1,5 @@
 //! The children of each task, and where each created task stands among them.
-ghost use Rattle.std.specs.Prelude.{◌≤◌, ◌^◌, IfOk, length};
+ghost use Rattle.std.specs.Prelude.{◌≤◌, ◌^◌, IfOk, IsTrue, length};
 ghost use Rattle.ompt_events.specs.declared.cause.Cause.TheVariants.{CreatedTwice};
 ghost use Rattle.ompt_events.specs.Records.{made};
 ghost use Rattle.ompt_events.specs.Causes.{IsFreeOf};
@@ -7,6 +7,7 @@ ghost use Rattle.task_tree.specs.Makers.{AreNoted};
 ghost use Rattle.task_tree.specs.Numbering.{AreApart};
 ghost use Rattle.task_tree.specs.Links.{AreLinks};
 ghost use Rattle.task_tree.specs.Rows.{AreChildren};
+ghost use Rattle.task_tree.specs.Rootless.{AreKnown};
 ghost use Rattle.task_tree.specs.Subjects.{subject, object, AreFound};
 
 use crate::links::{Link, Linked};
@@ -30,6 +31,7 @@ pub(crate) fn find_children(
     alloc: Global,
     records: &[Record],
     tasks: &Numbering,
+    regions: &Numbering,
 ) -> Result<Children, AllocError>
     requires noted { AreNoted made records.now (length records.now) tasks.now }
     requires apart { AreApart tasks.now }
@@ -40,11 +42,13 @@ pub(crate) fn find_children(
         (length records.now) tasks.now found.named.subjects.items) }
     ensures objects { IfOk result (λ found. AreFound object records.now
         (length records.now) tasks.now found.named.objects.items) }
+    ensures known { IfOk result (λ found. IsTrue found.named.known
+        → AreKnown records.now (length records.now) tasks.now regions.now) }
     ensures rows { IfOk result (λ found. AreChildren records.now tasks.now found.rows) }
     ensures links { IfOk result (λ found. AreLinks records.now
         (length records.now) tasks.now found.links.items) }
 {
-    let Lookup { named, linked } = find_subjects(alloc, records, tasks)?;
+    let Lookup { named, linked } = find_subjects(alloc, records, tasks, regions)?;
     let Linked { counts, links } = linked;
     let rows = find_rows(alloc, tasks.as_slice(), counts.as_slice(), links.as_slice())?;
     Ok(Children { named, rows, links })

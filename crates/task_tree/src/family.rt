@@ -68,7 +68,7 @@ impl Family {
             places,
             regions,
         } = find_made(alloc, records)?;
-        let Children { named, rows, links } = find_children(alloc, records, &tasks)?;
+        let Children { named, rows, links } = find_children(alloc, records, &tasks, &regions)?;
         let roots = find_roots(alloc, records, &tasks, &places, &links, &rows)?;
         match find_rootless(records, &tasks, &named, &regions, roots.as_slice()) {
             Some(at) => Err(TreeFault::Malformed {

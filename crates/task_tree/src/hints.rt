@@ -2,6 +2,7 @@
 //! Nothing depends on a hint but the time.
 
 use crate::slot::Slot;
+use ompt_events::Endpoint;
 
 /// What was seen of the threads so far.
 #[derive(Debug, Drop)]
@@ -10,6 +11,8 @@ pub(crate) struct Hints {
     made: usize,
     /// By thread the index of the task that it runs.
     running: [usize; 256],
+    /// By thread the index of the root that it claimed last.
+    roots: [usize; 256],
 }
 
 impl Hints {
@@ -18,6 +21,7 @@ impl Hints {
         Hints {
             made: 0,
             running: [0; 256],
+            roots: [0; 256],
         }
     }
 
@@ -43,5 +47,23 @@ impl Hints {
         if let Some(index) = task.get() {
             self.running[usize::from(thread)] = index;
         }
+    }
+
+    /// Where an implicit task stands: a record makes it where it begins, and the thread runs it where it ends.
+    pub(crate) fn implicit(&mut self, endpoint: Endpoint, running: usize) -> usize {
+        match endpoint {
+            Endpoint::Begin => self.take_made(),
+            _ => running,
+        }
+    }
+
+    /// Where the root stands that the thread claims.
+    pub(crate) fn root(&self, thread: u8) -> usize {
+        self.roots[usize::from(thread)]
+    }
+
+    /// Takes into account that the thread claimed the root there.
+    pub(crate) fn note_root(&mut self, thread: u8, index: usize) {
+        self.roots[usize::from(thread)] = index;
     }
 }

@@ -1,18 +1,20 @@
 //! The tasks that each record names, looked up once for all that comes after.
-ghost use Rattle.std.specs.Prelude.{◌≡◌, ◌≤◌, ◌^◌, Some, None, IfOk, length, replicate};
+ghost use Rattle.std.specs.Prelude.{◌≡◌, ◌≤◌, ◌^◌, ◌<◌, Some, None, IfOk, IfSome, IsTrue, Contains, length, replicate};
 ghost use Rattle.ompt_events.specs.declared.cause.Cause.TheVariants.{CreatedTwice};
 ghost use Rattle.ompt_events.specs.Records.{made};
 ghost use Rattle.ompt_events.specs.Causes.{IsFreeOf};
 ghost use Rattle.task_tree.specs.Makers.{AreNoted};
 ghost use Rattle.task_tree.specs.Numbering.{AreApart};
 ghost use Rattle.task_tree.specs.Links.{AreCounts, AreLinks};
+ghost use Rattle.task_tree.specs.Rootless.{NamesNoRegion, NamesKnown, AreKnown};
 ghost use Rattle.task_tree.specs.Subjects.{subject, object, Finds, AreFound};
 
 use crate::hints::Hints;
 use crate::links::{Linked, link_child, no_counts, no_links};
 use crate::numbering::Numbering;
+use crate::rootless::names_no_region;
 use crate::slot::Slot;
-use ompt_events::{Body, Endpoint, Record};
+use ompt_events::{Body, Claim, Record};
 use std::alloc::{AllocError, Global};
 
 /// By place of the record the indices of the tasks that it names.
@@ -20,6 +22,8 @@ use std::alloc::{AllocError, Global};
 pub(crate) struct Subjects {
     pub(crate) subjects: Vec<Slot>,
     pub(crate) objects: Vec<Slot>,
+    /// Whether all tasks and parallel regions that the records name are known. It may be false where they are.
+    pub(crate) known: bool,
 }
 
 /// What one pass over the records finds: the tasks that they name, and the links of those that they create.
@@ -33,6 +37,7 @@ pub(crate) fn find_subjects(
     alloc: Global,
     records: &[Record],
     tasks: &Numbering,
+    regions: &Numbering,
 ) -> Result<Lookup, AllocError>
     requires noted { AreNoted made records.now (length records.now) tasks.now }
     requires apart { AreApart tasks.now }
@@ -43,6 +48,8 @@ pub(crate) fn find_subjects(
         (length records.now) tasks.now found.named.subjects.items) }
     ensures objects { IfOk result (λ found. AreFound object records.now
         (length records.now) tasks.now found.named.objects.items) }
+    ensures known { IfOk result (λ found. IsTrue found.named.known
+        → AreKnown records.now (length records.now) tasks.now regions.now) }
     ensures counts { IfOk result (λ found. AreCounts records.now
         (length records.now) tasks.now found.linked.counts.items) }
     ensures links { IfOk result (λ found. AreLinks records.now
@@ -53,8 +60,9 @@ pub(crate) fn find_subjects(
     let mut counts = no_counts(alloc, tasks.as_slice().len())?;
     let mut links = no_links(alloc, tasks.as_slice().len())?;
     let mut hints = Hints::new();
+    let mut known = true;
     for (at, event) in records.iter().enumerate() {
-        let found = look_up(event, tasks, &mut hints);
+        let found = look_up(event, tasks, regions, &mut hints, &mut known);
         subjects[at] = found.subject;
         objects[at] = found.object;
         if let Some((parent, child)) = event.body.creation() {
@@ -63,7 +71,11 @@ pub(crate) fn find_subjects(
         }
     }
     Ok(Lookup {
-        named: Subjects { subjects, objects },
+        named: Subjects {
+            subjects,
+            objects,
+            known,
+        },
         linked: Linked { counts, links },
     })
 }
@@ -82,81 +94,143 @@ struct Found {
     object: Slot,
 }
 
-/// Looks up the tasks that the record names, and notes what that says of where later ones stand. Part of the
-/// loop over all records, so that the hints stay in registers.
+/// Looks up the tasks that the record names, and notes what that says of where later ones stand. `known` stays
+/// true only where all tasks and regions that it names are known. Inlined, so that the loop keeps its state in
+/// registers.
 #[inline(always)]
-fn look_up(event: &Record, tasks: &Numbering, hints: &mut Hints) -> Found
+fn look_up(
+    event: &Record,
+    tasks: &Numbering,
+    regions: &Numbering,
+    hints: &mut Hints,
+    known: &mut bool,
+) -> Found
     requires few { length tasks.now ≤ 2 ^ 22 }
     ensures subject { Finds tasks.now (subject event.now.body) result.subject }
     ensures object { Finds tasks.now (object event.now.body) result.object }
+    ensures known { IsTrue known.new
+        → IsTrue known.old × NamesKnown tasks.now regions.now event.now.body }
 {
-    let object = Slot::none();
     let near = hints.running(event.thread);
     match &event.body {
-        Body::ThreadBegin { .. } | Body::ThreadEnd => Found {
-            subject: Slot::none(),
-            object,
-        },
-        Body::ImplicitTask {
-            endpoint: Endpoint::Begin,
-            task,
+        Body::ThreadBegin { .. } | Body::ThreadEnd => alone(Slot::none()),
+        Body::ParallelBegin { task, .. } => {
+            let subject = slot_near(tasks, *task, near, known);
+            hints.note_running(event.thread, subject);
+            alone(subject)
+        }
+        Body::ParallelEnd { task, .. } => {
+            check_region(&event.body, regions, known);
+            let subject = slot_near(tasks, *task, near, known);
+            hints.note_running(event.thread, subject);
+            alone(subject)
+        }
+        Body::ImplicitTask { endpoint, task, .. } => {
+            check_region(&event.body, regions, known);
+            let subject = slot_near(tasks, *task, hints.implicit(*endpoint, near), known);
+            hints.note_running(event.thread, subject);
+            alone(subject)
+        }
+        Body::TaskCreate { task, child, .. } => {
+            let subject = slot_near(tasks, *task, near, known);
+            let object = slot_near(tasks, *child, hints.take_made(), known);
+            Found { subject, object }
+        }
+        Body::Dependences { task, .. } => {
+            alone(slot_near(tasks, *task, hints.last_made(), known))
+        }
+        Body::TaskSchedule {
+            prior,
+            next,
+            share,
             ..
         } => {
-            let subject = slot_near(tasks, *task, hints.take_made());
-            hints.note_running(event.thread, subject);
-            Found { subject, object }
-        }
-        Body::ParallelBegin { task, .. } | Body::ParallelEnd { task, .. } => {
-            let subject = slot_near(tasks, *task, near);
-            hints.note_running(event.thread, subject);
-            Found { subject, object }
-        }
-        Body::Dependences { task, .. } => Found {
-            subject: slot_near(tasks, *task, hints.last_made()),
-            object,
-        },
-        Body::TaskCreate { task, child, .. } => Found {
-            subject: slot_near(tasks, *task, near),
-            object: slot_near(tasks, *child, hints.take_made()),
-        },
-        Body::TaskSchedule { prior, next, .. } => {
-            let subject = slot_near(tasks, *prior, near);
-            let object = slot_of(tasks, *next);
+            check_claim(share, event.thread, tasks, hints, known);
+            let subject = slot_near(tasks, *prior, near, known);
+            let object = slot_of(tasks, *next, known);
             hints.note_running(event.thread, object);
             Found { subject, object }
         }
-        Body::ImplicitTask { task, .. }
-        | Body::SyncRegion { task, .. }
-        | Body::Cancel { task, .. } => {
-            Found {
-                subject: slot_near(tasks, *task, near),
-                object,
-            }
+        Body::SyncRegion { task, .. } => alone(slot_near(tasks, *task, near, known)),
+        Body::Cancel { task, share, .. } => {
+            check_claim(share, event.thread, tasks, hints, known);
+            alone(slot_near(tasks, *task, near, known))
         }
+    }
+}
+
+/// One task, and no second one.
+fn alone(subject: Slot) -> Found
+    ensures subject { result.subject ≡ subject }
+    ensures object { result.object ≡ None }
+{
+    Found {
+        subject,
+        object: Slot::none(),
     }
 }
 
 /// The index of the task, looked for here first.
-fn slot_near(tasks: &Numbering, task: u64, near: usize) -> Slot
+fn slot_near(tasks: &Numbering, task: u64, near: usize, known: &mut bool) -> Slot
     requires few { length tasks.now ≤ 2 ^ 22 }
-    ensures { Finds tasks.now (Some task) result }
+    ensures found { Finds tasks.now (Some task) result }
+    ensures known { IsTrue known.new → IsTrue known.old × Contains tasks.now task }
 {
-    match tasks.index_near(task, near) {
-        Some(index) => Slot::some(index),
+    slot(tasks.index_near(task, near), known)
+}
+
+/// The index of the task, if there is one.
+fn slot_of(tasks: &Numbering, named: Option<u64>, known: &mut bool) -> Slot
+    requires few { length tasks.now ≤ 2 ^ 22 }
+    ensures found { Finds tasks.now named result }
+    ensures known { IsTrue known.new → IsTrue known.old × IfSome named (Contains tasks.now) }
+{
+    match named {
+        Some(task) => slot(tasks.index_of(task), known),
         None => Slot::none(),
     }
 }
 
-/// The index of the task, if there is one.
-fn slot_of(tasks: &Numbering, named: Option<u64>) -> Slot
-    requires few { length tasks.now ≤ 2 ^ 22 }
-    ensures { Finds tasks.now named result }
+/// The index of a task; one that was not found is not known.
+fn slot(index: Option<usize>, known: &mut bool) -> Slot
+    requires { IfSome index (λ i. i < 4294967295) }
+    ensures slot { result ≡ index }
+    ensures known { IsTrue known.new → IsTrue known.old × (index ≡ None → ⊥) }
 {
-    let Some(task) = named else {
-        return Slot::none();
-    };
-    match tasks.index_of(task) {
+    match index {
         Some(index) => Slot::some(index),
-        None => Slot::none(),
+        None => {
+            *known = false;
+            Slot::none()
+        }
+    }
+}
+
+/// Looks up the root that is claimed, where the thread's last claim found one first.
+fn check_claim(
+    share: &Option<Claim>,
+    thread: u8,
+    tasks: &Numbering,
+    hints: &mut Hints,
+    known: &mut bool,
+)
+    ensures { IsTrue known.new
+        → IsTrue known.old × IfSome share.now (λ claim. Contains tasks.now claim.root) }
+{
+    let Some(claim) = share else {
+        return;
+    };
+    match tasks.index_near(claim.root, hints.root(thread)) {
+        Some(index) => hints.note_root(thread, index),
+        None => *known = false,
+    }
+}
+
+/// Looks up the parallel region that ends, or whose team a task joins.
+fn check_region(body: &Body, regions: &Numbering, known: &mut bool)
+    ensures { IsTrue known.new → IsTrue known.old × (NamesNoRegion regions.now body.now → ⊥) }
+{
+    if names_no_region(body, regions) {
+        *known = false;
     }
 }

@@ -1,4 +1,6 @@
 use Rattle.task_tree.specs.Subjects.{subject, object, AreFoundUpTo}
+use Rattle.std.specs.Prelude.{IsTrue}
+use Rattle.task_tree.specs.Rootless.{AreKnown}
 use Rattle.task_tree.specs.Links.{AreCounts, AreLinks}
 use Rattle.task_tree.proofs.subjects.find_subjects.Given as goal
 
@@ -7,6 +9,7 @@ abbrev pub invariant-loop-at : goal.invariant-loop-at
 invariant-loop-at l = record {
   subjects : AreFoundUpTo subject l.records l.at l.tasks l.subjects.items;
   objects : AreFoundUpTo object l.records l.at l.tasks l.objects.items;
+  known : IsTrue l.known → AreKnown l.records l.at l.tasks l.regions;
   counts : AreCounts l.records l.at l.tasks l.counts.items;
   links : AreLinks l.records l.at l.tasks l.links.items;
 }

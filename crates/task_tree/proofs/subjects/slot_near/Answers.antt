@@ -1,12 +1,13 @@
-use Rattle.std.proofs.Common.{arith}
-use Rattle.std.proofs.lemmas.Option.{slice_get_within}
-use Rattle.task_tree.proofs.SubjectLemmas.{finds_none}
+use Rattle.task_tree.proofs.SubjectLemmas.{index_small, finds_index, index_contains}
 use Rattle.task_tree.proofs.subjects.slot_near.Goals as goal
 
-pub some-requires : goal.some-requires
-some-requires c =
-    let inside = slice_get_within c.args.tasks.now c.in-Some.index c.args.task ((c.index_near.ensures c.in-Some.index).0 c.in-Some.is) in
-    omega (arith, inside, c.requires.few)
+pub slot-requires : goal.slot-requires
+slot-requires c = index_small c.args.tasks.now c.args.task c.index_near.result c.index_near.ensures c.requires.few
 
-pub returns-in-None : goal.returns-in-None
-returns-in-None c = rw c.none.ensures (finds_none c.args.tasks.now c.args.task c.index_near.result c.index_near.ensures c.in-None.is)
+pub returns-clause-found : goal.returns-clause-found
+returns-clause-found c = rw c.slot.ensures.slot (finds_index c.args.tasks.now c.args.task c.index_near.result c.index_near.ensures)
+
+pub returns-clause-known : goal.returns-clause-known
+returns-clause-known c = λ yes.
+    let known = c.slot.ensures.known yes in
+    (known.0, index_contains c.args.tasks.now c.args.task c.index_near.result c.index_near.ensures known.1)

@@ -1,12 +1,13 @@
-use Rattle.std.proofs.Common.{arith}
-use Rattle.std.proofs.lemmas.Option.{slice_get_within}
-use Rattle.task_tree.proofs.SubjectLemmas.{finds_none}
+use Rattle.task_tree.proofs.SubjectLemmas.{index_small, finds_index, index_contains}
 use Rattle.task_tree.proofs.subjects.slot_of.Goals as goal
 
-pub some-requires : goal.some-requires
-some-requires c =
-    let inside = slice_get_within c.args.tasks.now c.in-Some-index_of.index c.in-Some.task ((c.index_of.ensures c.in-Some-index_of.index).0 c.in-Some-index_of.is) in
-    omega (arith, inside, c.requires.few)
+pub slot-requires : goal.slot-requires
+slot-requires c = index_small c.args.tasks.now c.in-Some.task c.index_of.result c.index_of.ensures c.requires.few
 
-pub returns-in-None : goal.returns-in-None
-returns-in-None c = rw (c.none-in-None.ensures, c.in-Some.is) (finds_none c.args.tasks.now c.in-Some.task c.index_of.result c.index_of.ensures c.in-None.is)
+pub returns-in-Some-clause-found : goal.returns-in-Some-clause-found
+returns-in-Some-clause-found c = rw (c.slot.ensures.slot, c.in-Some.is) (finds_index c.args.tasks.now c.in-Some.task c.index_of.result c.index_of.ensures)
+
+pub returns-in-Some-clause-known : goal.returns-in-Some-clause-known
+returns-in-Some-clause-known c = λ yes.
+    let known = c.slot.ensures.known yes in
+    (known.0, rw c.in-Some.is (index_contains c.args.tasks.now c.in-Some.task c.index_of.result c.index_of.ensures known.1))
