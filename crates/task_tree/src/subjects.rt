@@ -111,49 +111,40 @@ fn look_up(
     ensures known { IsTrue known.new
         → IsTrue known.old × NamesKnown tasks.now regions.now event.now.body }
 {
-    let near = hints.running(event.thread);
+    let thread = event.thread;
+    let near = hints.running(thread);
     match &event.body {
         Body::ThreadBegin { .. } | Body::ThreadEnd => alone(Slot::none()),
-        Body::ParallelBegin { task, .. } => {
-            let subject = slot_near(tasks, *task, near, known);
-            hints.note_running(event.thread, subject);
-            alone(subject)
-        }
+        Body::ParallelBegin { task, .. } => alone(run(tasks, *task, near, thread, hints, known)),
         Body::ParallelEnd { task, .. } => {
             check_region(&event.body, regions, known);
-            let subject = slot_near(tasks, *task, near, known);
-            hints.note_running(event.thread, subject);
-            alone(subject)
+            alone(run(tasks, *task, near, thread, hints, known))
         }
         Body::ImplicitTask { endpoint, task, .. } => {
             check_region(&event.body, regions, known);
-            let subject = slot_near(tasks, *task, hints.implicit(*endpoint, near), known);
-            hints.note_running(event.thread, subject);
-            alone(subject)
+            let near = hints.implicit(*endpoint, near);
+            alone(run(tasks, *task, near, thread, hints, known))
         }
-        Body::TaskCreate { task, child, .. } => {
-            let subject = slot_near(tasks, *task, near, known);
-            let object = slot_near(tasks, *child, hints.take_made(), known);
-            Found { subject, object }
-        }
-        Body::Dependences { task, .. } => {
-            alone(slot_near(tasks, *task, hints.last_made(), known))
-        }
+        Body::TaskCreate { task, child, .. } => Found {
+            subject: slot_near(tasks, *task, near, known),
+            object: slot_near(tasks, *child, hints.take_made(), known),
+        },
+        Body::Dependences { task, .. } => alone(slot_near(tasks, *task, hints.last_made(), known)),
         Body::TaskSchedule {
             prior,
             next,
             share,
             ..
         } => {
-            check_claim(share, event.thread, tasks, hints, known);
-            let subject = slot_near(tasks, *prior, near, known);
-            let object = slot_of(tasks, *next, known);
-            hints.note_running(event.thread, object);
-            Found { subject, object }
+            check_claim(share, thread, tasks, hints, known);
+            Found {
+                subject: slot_near(tasks, *prior, near, known),
+                object: start(tasks, *next, thread, hints, known),
+            }
         }
         Body::SyncRegion { task, .. } => alone(slot_near(tasks, *task, near, known)),
         Body::Cancel { task, share, .. } => {
-            check_claim(share, event.thread, tasks, hints, known);
+            check_claim(share, thread, tasks, hints, known);
             alone(slot_near(tasks, *task, near, known))
         }
     }
@@ -176,23 +167,49 @@ fn slot_near(tasks: &Numbering, task: u64, near: usize, known: &mut bool) -> Slo
     ensures found { Finds tasks.now (Some task) result }
     ensures known { IsTrue known.new → IsTrue known.old × Contains tasks.now task }
 {
-    slot(tasks.index_near(task, near), known)
+    checked(tasks.index_near(task, near), known)
 }
 
-/// The index of the task, if there is one.
-fn slot_of(tasks: &Numbering, named: Option<u64>, known: &mut bool) -> Slot
+/// The same of a task that the thread runs.
+fn run(
+    tasks: &Numbering,
+    task: u64,
+    near: usize,
+    thread: u8,
+    hints: &mut Hints,
+    known: &mut bool,
+) -> Slot
     requires few { length tasks.now ≤ 2 ^ 22 }
-    ensures found { Finds tasks.now named result }
-    ensures known { IsTrue known.new → IsTrue known.old × IfSome named (Contains tasks.now) }
+    ensures found { Finds tasks.now (Some task) result }
+    ensures known { IsTrue known.new → IsTrue known.old × Contains tasks.now task }
 {
-    match named {
-        Some(task) => slot(tasks.index_of(task), known),
-        None => Slot::none(),
-    }
+    let slot = slot_near(tasks, task, near, known);
+    hints.note_running(thread, slot);
+    slot
+}
+
+/// The index of the task that the thread runs next, if there is one.
+fn start(
+    tasks: &Numbering,
+    next: Option<u64>,
+    thread: u8,
+    hints: &mut Hints,
+    known: &mut bool,
+) -> Slot
+    requires few { length tasks.now ≤ 2 ^ 22 }
+    ensures found { Finds tasks.now next result }
+    ensures known { IsTrue known.new → IsTrue known.old × IfSome next (Contains tasks.now) }
+{
+    let Some(task) = next else {
+        return Slot::none();
+    };
+    let slot = checked(tasks.index_of(task), known);
+    hints.note_running(thread, slot);
+    slot
 }
 
 /// The index of a task; one that was not found is not known.
-fn slot(index: Option<usize>, known: &mut bool) -> Slot
+fn checked(index: Option<usize>, known: &mut bool) -> Slot
     requires { IfSome index (λ i. i < 4294967295) }
     ensures slot { result ≡ index }
     ensures known { IsTrue known.new → IsTrue known.old × (index ≡ None → ⊥) }
