@@ -1,7 +1,6 @@
 //! Where the tasks that a record names probably stand in the list of tasks, so that few are searched for.
 //! Nothing depends on a hint but the time.
 
-use crate::slot::Slot;
 use ompt_events::Endpoint;
 
 /// What was seen of the threads so far.
@@ -42,9 +41,9 @@ impl Hints {
         next
     }
 
-    /// Takes into account that the thread runs the task from here on, if one was found.
-    pub(crate) fn note_running(&mut self, thread: u8, task: Slot) {
-        if let Some(index) = task.get() {
+    /// Takes into account that the thread runs the task there from here on, if one was found.
+    pub(crate) fn note_running(&mut self, thread: u8, found: Option<usize>) {
+        if let Some(index) = found {
             self.running[usize::from(thread)] = index;
         }
     }

@@ -183,9 +183,9 @@ fn run(
     ensures found { Finds tasks.now (Some task) result }
     ensures known { IsTrue known.new → IsTrue known.old × Contains tasks.now task }
 {
-    let slot = slot_near(tasks, task, near, known);
-    hints.note_running(thread, slot);
-    slot
+    let index = tasks.index_near(task, near);
+    hints.note_running(thread, index);
+    checked(index, known)
 }
 
 /// The index of the task that the thread runs next, if there is one.
@@ -203,9 +203,9 @@ fn start(
     let Some(task) = next else {
         return Slot::none();
     };
-    let slot = checked(tasks.index_of(task), known);
-    hints.note_running(thread, slot);
-    slot
+    let index = tasks.index_of(task);
+    hints.note_running(thread, index);
+    checked(index, known)
 }
 
 /// The index of a task; one that was not found is not known.
