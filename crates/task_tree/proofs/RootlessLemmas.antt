@@ -1,8 +1,8 @@
 -- Which records speak of a task without a root.
-use Rattle.std.proofs.Common.{◌≡◌, ◌∙◌, ℕ, ◌<◌, ◌≤◌, List, [], ◌∷◌, ◌++◌, length, get_or, Option, Some, None, refl, sym, ap, subst, arith, inl, inr}
+use Rattle.std.proofs.Common.{◌≡◌, ◌∙◌, ℕ, ◌<◌, ◌≤◌, ◌+◌, List, [], ◌∷◌, ◌++◌, length, get_or, Option, Some, None, refl, sym, ap, subst, arith, inl, inr}
 use Rattle.std.proofs.lemmas.Option.{none-some, same_Some, slice_get_within, slice_get-get_or}
-use Rattle.std.proofs.lemmas.Bool.{false≢true}
-use Rattle.std.specs.Prelude.{◌↔◌, ◌⊎◌, zero, suc, is_some, true, false, slice_get, Contains, IsSomeAnd, option_map, option_to_list}
+use Rattle.std.proofs.lemmas.Bool.{false≢true, cases_eq}
+use Rattle.std.specs.Prelude.{◌↔◌, ◌⊎◌, zero, suc, is_some, true, false, slice_get, Contains, IsSomeAnd, option_map, option_and_then, option_to_list}
 use Rattle.ompt_events.specs.declared.records.Record.{Record}
 use Rattle.ompt_events.specs.declared.cause.Cause.TheVariants.{Rootless}
 use Rattle.ompt_events.specs.Records.{made, named, created, claim, region_named}
@@ -22,7 +22,7 @@ use Rattle.ompt_events.specs.declared.records.Body.TheVariants.{ParallelBegin, P
 use Rattle.ompt_events.specs.declared.records.Claim.{Claim}
 use Rattle.task_tree.specs.Numbering.{AreApart}
 use Rattle.task_tree.specs.Subjects.{subject, object, Finds, AreFound}
-use Rattle.task_tree.specs.Rootless.{AreRootsMade, CreatesUnrooted, NamesNoRegion, IsRootless}
+use Rattle.task_tree.specs.Rootless.{AreRootsMade, CreatesUnrooted, NamesNoRegion, IsRootless, NamesKnown, AreKnown}
 use Rattle.task_tree.proofs.MakerLemmas.{forked_at, region_at}
 
 -- a task that stands below a root is rooted
@@ -297,3 +297,34 @@ slot_finds says rs tasks slots i r slot are within read here =
     let Q : Option ℕ → Type 0 = λ o. Finds tasks o found.0 in
     let same : found.0 ≡ slot = same_Some found.0 slot (sym found.1 ∙ slice_get-get_or slots i slot (omega (arith, within, are.all)) ∙ ap Some (sym here)) in
     subst P same (subst Q (at_read says rs i r within read) found.2)
+
+-- ---- where all that the records name is known
+
+pub known_start : (rs : List Record) (tasks regions : List ℕ) → AreKnown rs 0 tasks regions
+known_start rs tasks regions i r low = absurd (omega arith)
+
+pub known_more : (rs : List Record) (n : ℕ) (tasks regions : List ℕ) (r : Record) → AreKnown rs n tasks regions → slice_get rs n ≡ Some r → NamesKnown tasks regions r.body → AreKnown rs (n + 1) tasks regions
+known_more rs n tasks regions r are here known i other low stands = elim (cases_eq i n) [
+  | inl same ↦ let P : Record → Type 0 = λ q. NamesKnown tasks regions q.body in subst P (same_Some r other (sym here ∙ ap (slice_get rs) (sym same) ∙ stands)) known
+  | inr apart ↦ are i other (omega arith) stands
+]
+
+-- and each root too, no record is rootless
+pub known_free : (rs : List Record) (tasks regions : List ℕ) (roots : List (Option Standing)) → AreNoted made rs (length rs) tasks → AreNoted forked_region rs (length rs) regions → AreRoots rs tasks roots → AreKnown rs (length rs) tasks regions → ((index : ℕ) → slice_get roots index ≡ Some None → ⊥) → IsFreeOf rs Rootless
+known_free rs tasks regions roots noted begun are known full i has = never (no_root_at rs i has)
+  where
+    rooted : (index task : ℕ) → slice_get tasks index ≡ Some task → (o : Option Standing) → slice_get roots index ≡ Some o → IsRooted rs task
+    rooted index task is None e = absurd (full index e)
+    rooted index task is (Some standing) e = let stands = are.rooted index task standing is e in path_rooted rs standing.root task stands.0 stands.1
+
+    named_there : (region : ℕ) → (IsForked rs region → ⊥) → i < length rs → (o : Option Record) → slice_get rs i ≡ o → option_and_then (λ (r : Record). region_named r.body) o ≡ Some region → ⊥
+    named_there region none low None e is = none-some region is
+    named_there region none low (Some r) e is = (known i r low e).1 (and_some (region_named r.body) (λ g. Contains regions g → ⊥) region is (λ noted_region. none (noted_forked rs regions region begun noted_region)))
+
+    never : HasNoRoot rs i → ⊥
+    never (unmade task (r, stands, names) fresh) = (known i r (slice_get_within rs i r stands) stands).0 (names.0, task, names.1, names.2, λ is_noted. fresh (noted_made rs tasks task noted is_noted))
+    never (unrooted task creates none) =
+        let low = at_within created rs i task creates in
+        let index = contains_get tasks task (noted.each i task low (created_at_made task rs i creates)) in
+        none (rooted index.0 task index.1 (get_or roots index.0 None) (slice_get-get_or roots index.0 None (let inside = slice_get_within tasks index.0 task index.1 in omega (arith, inside, are.all))))
+    never (no_region region names none) = named_there region none (at_within region_named rs i region names) (slice_get rs i) refl names

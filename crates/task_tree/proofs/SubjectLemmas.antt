@@ -1,31 +1,15 @@
 -- How what is found of the records' tasks grows, and what it says.
-use Rattle.std.proofs.Common.{◌≡◌, ◌∙◌, ℕ, ◌+◌, List, [], ◌∷◌, ◌++◌, length, Option, Some, None, refl, sym, ap, subst, arith, inl, inr}
+use Rattle.std.proofs.Common.{◌≡◌, ◌∙◌, ℕ, ◌<◌, ◌≤◌, ◌^◌, ◌+◌, List, length, Option, Some, None, refl, sym, ap, subst, arith, rules, inl, inr, set}
 use Rattle.std.proofs.lemmas.Bool.{cases_eq}
-use Rattle.std.proofs.lemmas.Option.{none-some, same_Some}
-use Rattle.std.proofs.lemmas.List.{length_push}
-use Rattle.std.specs.Prelude.{◌↔◌, slice_get, Contains}
+use Rattle.std.proofs.lemmas.Option.{none-some, same_Some, slice_get_within}
+use Rattle.std.proofs.lemmas.List.{length-set, length-replicate}
+use Rattle.std.specs.Prelude.{◌↔◌, IfSome, slice_get, replicate, Contains}
 use Rattle.ompt_events.specs.declared.records.Record.{Record}
 use Rattle.ompt_events.specs.declared.records.Body.{Body}
 use Rattle.ompt_events.specs.Places.{at}
-use Rattle.ompt_events.proofs.ListLemmas.{get_pushed, get_last, contains_get}
-use Rattle.task_tree.specs.Subjects.{Finds, Calls, AreFound}
-
--- nothing is found of no records
-pub found_none : (says : Body → Option ℕ) (rs : List Record) (tasks : List ℕ) (slots : List (Option ℕ)) → slots ≡ [] → AreFound says rs 0 tasks slots
-found_none says rs tasks slots empty = record {
-  all = ap length empty;
-  each = λ i below. absurd (omega arith);
-}
-
--- one record more
-pub found_more : (says : Body → Option ℕ) (rs : List Record) (n : ℕ) (tasks : List ℕ) (slots : List (Option ℕ)) (slot : Option ℕ) → AreFound says rs n tasks slots → Finds tasks (at says rs n) slot → AreFound says rs (n + 1) tasks (slots ++ slot ∷ [])
-found_more says rs n tasks slots slot are finds = record {
-  all = length_push slots slot ∙ ap (λ k. k + 1) are.all;
-  each = λ i below. elim (cases_eq i n) [
-    | inl same ↦ (slot, get_last slots slot i (same ∙ sym are.all), let P : ℕ → Type 0 = λ k. Finds tasks (at says rs k) slot in subst P (sym same) finds)
-    | inr apart ↦ let old = are.each i (omega arith) in (old.0, get_pushed slots slot old.0 i old.1, old.2)
-  ];
-}
+use Rattle.ompt_events.proofs.ListLemmas.{contains_get, get_contains}
+use Rattle.task_tree.proofs.LinkLemmas.{get_set_same, get_set_other}
+use Rattle.task_tree.specs.Subjects.{Finds, Calls, AreFound, AreFoundUpTo}
 
 -- what a look-up of the task gives
 pub finds_no_task : (tasks : List ℕ) → Finds tasks None None
@@ -35,6 +19,19 @@ pub finds_none : (tasks : List ℕ) (task : ℕ) (index : Option ℕ) → ((k : 
 finds_none tasks task index is none other same has =
     let stands = contains_get tasks other has in
     none-some stands.0 (sym none ∙ (is stands.0).1 (stands.1 ∙ sym same))
+
+-- the index that a look-up gives
+pub index_small : (tasks : List ℕ) (task : ℕ) (index : Option ℕ) → ((k : ℕ) → (index ≡ Some k) ↔ (slice_get tasks k ≡ Some task)) → length tasks ≤ 2 ^ 22 → IfSome index (λ k. k < 4294967295)
+index_small tasks task None is few = search rules
+index_small tasks task (Some k) is few = let inside = slice_get_within tasks k task ((is k).0 refl) in omega (arith, inside, few)
+
+pub finds_index : (tasks : List ℕ) (task : ℕ) (index : Option ℕ) → ((k : ℕ) → (index ≡ Some k) ↔ (slice_get tasks k ≡ Some task)) → Finds tasks (Some task) index
+finds_index tasks task None is = finds_none tasks task None is refl
+finds_index tasks task (Some k) is = (task, refl, (is k).0 refl)
+
+pub index_contains : (tasks : List ℕ) (task : ℕ) (index : Option ℕ) → ((k : ℕ) → (index ≡ Some k) ↔ (slice_get tasks k ≡ Some task)) → (index ≡ None → ⊥) → Contains tasks task
+index_contains tasks task None is some = absurd (some refl)
+index_contains tasks task (Some k) is some = get_contains tasks task k ((is k).0 refl)
 
 -- where the task is in the list, its index is known
 pub finds_calls : (tasks : List ℕ) (found slot : Option ℕ) → Finds tasks found slot → ((task : ℕ) → found ≡ Some task → Contains tasks task) → Calls tasks found slot
@@ -56,3 +53,26 @@ call_task tasks (Some task) slot index (other, here, stands) is = (task, refl, a
 pub call_none : (tasks : List ℕ) (found slot : Option ℕ) → Calls tasks found slot → slot ≡ None → found ≡ None
 call_none tasks None slot none is = refl
 call_none tasks (Some task) slot (index, here, stands) is = absurd (none-some index (sym is ∙ here))
+
+-- ---- a table that is filled record by record
+
+pub up_to_start : (says : Body → Option ℕ) (rs : List Record) (tasks : List ℕ) (slots : List (Option ℕ)) → slots ≡ replicate (length rs) None → AreFoundUpTo says rs 0 tasks slots
+up_to_start says rs tasks slots fresh = record {
+  all = ap length fresh ∙ length-replicate (length rs) None;
+  each = λ i below. absurd (omega arith);
+}
+
+pub up_to_more : (says : Body → Option ℕ) (rs : List Record) (n : ℕ) (tasks : List ℕ) (slots : List (Option ℕ)) (slot : Option ℕ) → n < length rs → AreFoundUpTo says rs n tasks slots → Finds tasks (at says rs n) slot → AreFoundUpTo says rs (n + 1) tasks (set slots n slot)
+up_to_more says rs n tasks slots slot within are finds = record {
+  all = length-set slots n slot ∙ are.all;
+  each = λ i below. elim (cases_eq i n) [
+    | inl same ↦ (slot, ap (slice_get (set slots n slot)) same ∙ get_set_same slots n slot (let all = are.all in omega (arith, all, within)), let P : ℕ → Type 0 = λ k. Finds tasks (at says rs k) slot in subst P (sym same) finds)
+    | inr apart ↦ let old = are.each i (omega arith) in (old.0, get_set_other slots n i slot apart ∙ old.1, old.2)
+  ];
+}
+
+pub up_to_end : (says : Body → Option ℕ) (rs : List Record) (n : ℕ) (tasks : List ℕ) (slots : List (Option ℕ)) → n ≡ length rs → AreFoundUpTo says rs n tasks slots → AreFound says rs (length rs) tasks slots
+up_to_end says rs n tasks slots at_end are = record {
+  all = are.all;
+  each = λ i below. are.each i (omega (arith, at_end, below));
+}

@@ -1,6 +1,7 @@
 -- Which records speak of a task without a root, by what is known of tasks and regions.
-use Rattle.std.specs.Prelude.{ℕ, ◌≡◌, ◌⊎◌, List, Option, Some, None, Contains, IsSomeAnd, slice_get}
+use Rattle.std.specs.Prelude.{ℕ, ◌≡◌, ◌<◌, ◌⊎◌, List, Option, Some, None, Contains, IsSomeAnd, slice_get}
 use Rattle.std.specs.List.{Any}
+use Rattle.ompt_events.specs.declared.records.Record.{Record}
 use Rattle.ompt_events.specs.declared.records.Body.{Body}
 use Rattle.ompt_events.specs.Records.{named, created, region_named}
 use Rattle.task_tree.specs.declared.roots.Standing.{Standing}
@@ -28,3 +29,12 @@ NamesNoRegion regions body = IsSomeAnd (region_named body) (λ region. Contains 
 abbrev pub IsRootless : List ℕ → List ℕ → List (Option Standing) → Body → Type 0
 IsRootless tasks regions roots body =
     NamesUnmade tasks body ⊎ (CreatesUnrooted tasks roots body ⊎ NamesNoRegion regions body)
+
+-- all that the body names was noted
+abbrev pub NamesKnown : List ℕ → List ℕ → Body → Type 0
+NamesKnown tasks regions body = (NamesUnmade tasks body → ⊥) × (NamesNoRegion regions body → ⊥)
+
+-- so it is with each of the first n records
+abbrev pub AreKnown : List Record → ℕ → List ℕ → List ℕ → Type 0
+AreKnown rs n tasks regions =
+    (i : ℕ) (r : Record) → i < n → slice_get rs i ≡ Some r → NamesKnown tasks regions r.body

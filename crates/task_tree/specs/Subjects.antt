@@ -40,3 +40,10 @@ pub record AreFound (says : Body → Option ℕ) (rs : List Record) (n : ℕ) (t
   pub all : length slots ≡ n
   pub each : (i : ℕ) → i < n → (slot : Option ℕ) × (slice_get slots i ≡ Some slot)
       × Finds tasks (at says rs i) slot
+
+-- the same in a table with a slot for each record, of which the first n are filled
+pub record AreFoundUpTo (says : Body → Option ℕ) (rs : List Record) (n : ℕ) (tasks : List ℕ)
+    (slots : List (Option ℕ)) : Type 0 where
+  pub all : length slots ≡ length rs
+  pub each : (i : ℕ) → i < n → (slot : Option ℕ) × (slice_get slots i ≡ Some slot)
+      × Finds tasks (at says rs i) slot

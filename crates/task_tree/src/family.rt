@@ -17,7 +17,6 @@ use crate::rootless::find_rootless;
 use crate::roots::{Standing, find_roots};
 use crate::rows::Rows;
 use crate::slot::Slot;
-use crate::subjects::{Subjects, find_subjects};
 use ompt_events::{Cause, Record, Trace};
 use std::alloc::Global;
 use std::marker::Model;
@@ -69,8 +68,7 @@ impl Family {
             places,
             regions,
         } = find_made(alloc, records)?;
-        let named = find_subjects(alloc, records, &tasks)?;
-        let Children { rows, links } = find_children(alloc, records, &tasks, &named)?;
+        let Children { named, rows, links } = find_children(alloc, records, &tasks, &regions)?;
         let roots = find_roots(alloc, records, &tasks, &places, &links, &rows)?;
         match find_rootless(records, &tasks, &named, &regions, roots.as_slice()) {
             Some(at) => Err(TreeFault::Malformed {

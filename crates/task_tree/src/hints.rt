@@ -1,8 +1,7 @@
 //! Where the tasks that a record names probably stand in the list of tasks, so that few are searched for.
 //! Nothing depends on a hint but the time.
 
-use crate::slot::Slot;
-use ompt_events::{Body, Endpoint, Record};
+use ompt_events::Endpoint;
 
 /// What was seen of the threads so far.
 #[derive(Debug, Drop)]
@@ -11,6 +10,8 @@ pub(crate) struct Hints {
     made: usize,
     /// By thread the index of the task that it runs.
     running: [usize; 256],
+    /// By thread the index of the root that it claimed last.
+    roots: [usize; 256],
 }
 
 impl Hints {
@@ -19,36 +20,49 @@ impl Hints {
         Hints {
             made: 0,
             running: [0; 256],
+            roots: [0; 256],
         }
     }
 
-    /// Where the task that the record is of may stand.
-    pub(crate) fn subject(&self, event: &Record) -> usize {
-        match &event.body {
-            Body::ImplicitTask {
-                endpoint: Endpoint::Begin,
-                ..
-            } => self.made,
-            _ => self.running[usize::from(event.thread)],
+    /// Where the task stands that the thread runs.
+    pub(crate) fn running(&self, thread: u8) -> usize {
+        self.running[usize::from(thread)]
+    }
+
+    /// Where the task stands that was made last.
+    pub(crate) fn last_made(&self) -> usize {
+        self.made.wrapping_sub(1)
+    }
+
+    /// Where the task stands that a record makes now.
+    pub(crate) fn take_made(&mut self) -> usize {
+        let next = self.made;
+        self.made = next.wrapping_add(1);
+        next
+    }
+
+    /// Takes into account that the thread runs the task there from here on, if one was found.
+    pub(crate) fn note_running(&mut self, thread: u8, found: Option<usize>) {
+        if let Some(index) = found {
+            self.running[usize::from(thread)] = index;
         }
     }
 
-    /// Where the second task may stand: a child is the next one that is made, any other is searched for.
-    pub(crate) fn object(&self) -> usize {
-        self.made
+    /// Where an implicit task stands: a record makes it where it begins, and the thread runs it where it ends.
+    pub(crate) fn implicit(&mut self, endpoint: Endpoint, running: usize) -> usize {
+        match endpoint {
+            Endpoint::Begin => self.take_made(),
+            _ => running,
+        }
     }
 
-    /// Takes the record into account.
-    pub(crate) fn note(&mut self, event: &Record, subject: Slot, object: Slot) {
-        if event.body.made().is_some() {
-            self.made = self.made.wrapping_add(1);
-        }
-        let runs = match &event.body {
-            Body::TaskSchedule { .. } => object,
-            _ => subject,
-        };
-        if let Some(index) = runs.get() {
-            self.running[usize::from(event.thread)] = index;
-        }
+    /// Where the root stands that the thread claims.
+    pub(crate) fn root(&self, thread: u8) -> usize {
+        self.roots[usize::from(thread)]
+    }
+
+    /// Takes into account that the thread claimed the root there.
+    pub(crate) fn note_root(&mut self, thread: u8, index: usize) {
+        self.roots[usize::from(thread)] = index;
     }
 }

@@ -2,7 +2,7 @@
 //!
 //! `Family` has parents, numbers, roots and children, and the index of each task that a record names, so
 //! that no later phase searches for a task again; `Tree` has the paths too. Read `family` and `tree` for
-//! what a caller sees, then `makers`, `subjects`, `children` (after `links` and `rows`), `roots` (after
+//! what a caller sees, then `makers`, `children` (after `links`, `subjects` and `rows`), `roots` (after
 //! `forward`) and `rootless`, the steps of a build. `numbering` is the list of ids that they share
 //! (`ranking` searches it), `slot` an index or none in 32 bits, and `hints` says where a task is looked for
 //! first.

@@ -86,7 +86,8 @@ impl Numbering {
         }
     }
 
-    /// The id's index, looked for here first.
+    /// The id's index, looked for here first. It mostly stands there, and a call would take longer than that.
+    #[inline(always)]
     pub(crate) fn index_near(&self, id: u64, near: usize) -> Option<usize>
         ensures { (index : ℕ) → (result ≡ Some index) ↔ (slice_get self.now index ≡ Some id) }
     {

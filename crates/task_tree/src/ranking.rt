@@ -71,14 +71,11 @@ pub(crate) fn search(ranked: &[Entry], id: u64) -> Option<usize>
 fn guess(ranked: &[Entry], id: u64) -> Option<usize>
     ensures { IfSome result (HasEntry ranked.now id) }
 {
-    let first = ranked.first()?.id;
-    if id < first {
+    // An id below the first one wraps to a place far behind the last.
+    let place = id.wrapping_sub(ranked.first()?.id) as usize;
+    if place >= ranked.len() {
         return None;
     }
-    if id - first >= ranked.len() as u64 {
-        return None;
-    }
-    let place = (id - first) as usize;
     if ranked[place].id == id {
         Some(ranked[place].index as usize)
     } else {

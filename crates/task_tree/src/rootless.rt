@@ -7,7 +7,7 @@ ghost use Rattle.task_tree.specs.Makers.{AreNoted, forked_region};
 ghost use Rattle.task_tree.specs.Numbering.{AreApart};
 ghost use Rattle.task_tree.specs.Roots.{AreRoots};
 ghost use Rattle.task_tree.specs.Subjects.{subject, object, Finds, AreFound};
-ghost use Rattle.task_tree.specs.Rootless.{AreRootsMade, NamesNoRegion, IsRootless};
+ghost use Rattle.task_tree.specs.Rootless.{AreKnown, AreRootsMade, NamesNoRegion, IsRootless};
 
 use crate::numbering::Numbering;
 use crate::roots::Standing;
@@ -18,6 +18,42 @@ use ompt_events::{Body, Claim, Record};
 /// The first record that names a task which no record makes, creates one whose chain of parents reaches no
 /// root, or ends or joins a parallel region that no record begins.
 pub(crate) fn find_rootless(
+    records: &[Record],
+    tasks: &Numbering,
+    named: &Subjects,
+    regions: &Numbering,
+    roots: &[Option<Standing>],
+) -> Option<usize>
+    requires apart { AreApart tasks.now }
+    requires tasks { AreNoted made records.now (length records.now) tasks.now }
+    requires regions { AreNoted forked_region records.now (length records.now) regions.now }
+    requires roots { AreRoots records.now tasks.now roots.now }
+    requires subjects { AreFound subject records.now (length records.now) tasks.now named.now.subjects.items }
+    requires objects { AreFound object records.now (length records.now) tasks.now named.now.objects.items }
+    requires known { IsTrue named.now.known
+        → AreKnown records.now (length records.now) tasks.now regions.now }
+    ensures { MatchOption result (IsFreeOf records.now Rootless) (IsFirstWith records.now Rootless) }
+{
+    if named.known && are_known(roots) {
+        return None;
+    }
+    first_rootless(records, tasks, named, regions, roots)
+}
+
+/// Whether the root of each task is known.
+fn are_known(roots: &[Option<Standing>]) -> bool
+    ensures { IsTrue result → (index : ℕ) → slice_get roots.now index ≡ Some None → ⊥ }
+{
+    for root in roots {
+        if root.is_none() {
+            return false;
+        }
+    }
+    true
+}
+
+/// The same record by record.
+fn first_rootless(
     records: &[Record],
     tasks: &Numbering,
     named: &Subjects,
@@ -126,7 +162,7 @@ fn is_root_of(root: u64, task: Slot, roots: &[Option<Standing>]) -> bool
 }
 
 /// Whether the record ends or joins a parallel region that no record begins.
-fn names_no_region(body: &Body, regions: &Numbering) -> bool
+pub(crate) fn names_no_region(body: &Body, regions: &Numbering) -> bool
     ensures { IsTrue result ↔ NamesNoRegion regions.now body.now }
 {
     match body.region_named() {

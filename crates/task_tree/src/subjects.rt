@@ -1,11 +1,20 @@
 //! The tasks that each record names, looked up once for all that comes after.
-ghost use Rattle.std.specs.Prelude.{◌≡◌, ◌≤◌, ◌^◌, IfOk, length};
+ghost use Rattle.std.specs.Prelude.{◌≡◌, ◌≤◌, ◌^◌, ◌<◌, Some, None, IfOk, IfSome, IsTrue, Contains, length, replicate};
+ghost use Rattle.ompt_events.specs.declared.cause.Cause.TheVariants.{CreatedTwice};
+ghost use Rattle.ompt_events.specs.Records.{made};
+ghost use Rattle.ompt_events.specs.Causes.{IsFreeOf};
+ghost use Rattle.task_tree.specs.Makers.{AreNoted};
+ghost use Rattle.task_tree.specs.Numbering.{AreApart};
+ghost use Rattle.task_tree.specs.Links.{AreCounts, AreLinks};
+ghost use Rattle.task_tree.specs.Rootless.{NamesNoRegion, NamesKnown, AreKnown};
 ghost use Rattle.task_tree.specs.Subjects.{subject, object, Finds, AreFound};
 
 use crate::hints::Hints;
+use crate::links::{Linked, link_child, no_counts, no_links};
 use crate::numbering::Numbering;
+use crate::rootless::names_no_region;
 use crate::slot::Slot;
-use ompt_events::{Body, Record};
+use ompt_events::{Body, Claim, Record};
 use std::alloc::{AllocError, Global};
 
 /// By place of the record the indices of the tasks that it names.
@@ -13,92 +22,232 @@ use std::alloc::{AllocError, Global};
 pub(crate) struct Subjects {
     pub(crate) subjects: Vec<Slot>,
     pub(crate) objects: Vec<Slot>,
+    /// Whether all tasks and parallel regions that the records name are known. It may be false where they are.
+    pub(crate) known: bool,
 }
 
-impl Subjects {
-    /// Where the task that the record is of stands, as a hint.
-    pub(crate) fn near_subject(&self, at: usize) -> usize {
-        near(self.subjects.as_slice(), at)
-    }
-
-    /// Where the second task that it names stands, as a hint.
-    pub(crate) fn near_object(&self, at: usize) -> usize {
-        near(self.objects.as_slice(), at)
-    }
+/// What one pass over the records finds: the tasks that they name, and the links of those that they create.
+pub(crate) struct Lookup {
+    pub(crate) named: Subjects,
+    pub(crate) linked: Linked,
 }
 
-/// The index that stands there, or any other.
-fn near(slots: &[Slot], at: usize) -> usize {
-    if at < slots.len() {
-        slots[at].get().unwrap_or(0)
-    } else {
-        0
-    }
-}
-
-/// Looks up the tasks that the records name.
+/// Looks up the tasks that the records name, and links each task that they create to its parent.
 pub(crate) fn find_subjects(
     alloc: Global,
     records: &[Record],
     tasks: &Numbering,
-) -> Result<Subjects, AllocError>
-    requires few { length tasks.now ≤ 2 ^ 22 }
+    regions: &Numbering,
+) -> Result<Lookup, AllocError>
+    requires noted { AreNoted made records.now (length records.now) tasks.now }
+    requires apart { AreApart tasks.now }
+    requires once { IsFreeOf records.now CreatedTwice }
+    requires few { length records.now ≤ 2 ^ 22 }
+    requires few_tasks { length tasks.now ≤ 2 ^ 22 }
     ensures subjects { IfOk result (λ found. AreFound subject records.now
-        (length records.now) tasks.now found.subjects.items) }
+        (length records.now) tasks.now found.named.subjects.items) }
     ensures objects { IfOk result (λ found. AreFound object records.now
-        (length records.now) tasks.now found.objects.items) }
+        (length records.now) tasks.now found.named.objects.items) }
+    ensures known { IfOk result (λ found. IsTrue found.named.known
+        → AreKnown records.now (length records.now) tasks.now regions.now) }
+    ensures counts { IfOk result (λ found. AreCounts records.now
+        (length records.now) tasks.now found.linked.counts.items) }
+    ensures links { IfOk result (λ found. AreLinks records.now
+        (length records.now) tasks.now found.linked.links.items) }
 {
-    let mut subjects = Vec::with_capacity(alloc, records.len())?;
-    let mut objects = Vec::with_capacity(alloc, records.len())?;
+    let mut subjects = no_slots(alloc, records.len())?;
+    let mut objects = no_slots(alloc, records.len())?;
+    let mut counts = no_counts(alloc, tasks.as_slice().len())?;
+    let mut links = no_links(alloc, tasks.as_slice().len())?;
     let mut hints = Hints::new();
-    for event in records {
-        let first = slot_of(tasks, subject(&event.body), hints.subject(event));
-        let second = slot_of(tasks, object(&event.body), hints.object());
-        hints.note(event, first, second);
-        subjects.push(first)?;
-        objects.push(second)?;
+    let mut known = true;
+    for (at, event) in records.iter().enumerate() {
+        let found = look_up(event, tasks, regions, &mut hints, &mut known);
+        subjects[at] = found.subject;
+        objects[at] = found.object;
+        if let Some((parent, child)) = event.body.creation() {
+            let near = (found.subject, found.object);
+            link_child(tasks, near, &mut counts, &mut links, parent, child);
+        }
     }
-    Ok(Subjects { subjects, objects })
+    Ok(Lookup {
+        named: Subjects {
+            subjects,
+            objects,
+            known,
+        },
+        linked: Linked { counts, links },
+    })
+}
+
+/// No task for any record.
+fn no_slots(alloc: Global, records: usize) -> Result<Vec<Slot>, AllocError>
+    ensures { IfOk result (λ slots. slots.items ≡ replicate records None) }
+{
+    vec![in alloc; Slot::none(); records]
+}
+
+/// The indices of the tasks that one record names.
+#[derive(Clone, Copy)]
+struct Found {
+    subject: Slot,
+    object: Slot,
+}
+
+/// Looks up the tasks that the record names, and notes what that says of where later ones stand. `known` stays
+/// true only where all tasks and regions that it names are known. Inlined, so that the loop keeps its state in
+/// registers.
+#[inline(always)]
+fn look_up(
+    event: &Record,
+    tasks: &Numbering,
+    regions: &Numbering,
+    hints: &mut Hints,
+    known: &mut bool,
+) -> Found
+    requires few { length tasks.now ≤ 2 ^ 22 }
+    ensures subject { Finds tasks.now (subject event.now.body) result.subject }
+    ensures object { Finds tasks.now (object event.now.body) result.object }
+    ensures known { IsTrue known.new
+        → IsTrue known.old × NamesKnown tasks.now regions.now event.now.body }
+{
+    let thread = event.thread;
+    let near = hints.running(thread);
+    match &event.body {
+        Body::ThreadBegin { .. } | Body::ThreadEnd => alone(Slot::none()),
+        Body::ParallelBegin { task, .. } => alone(run(tasks, *task, near, thread, hints, known)),
+        Body::ParallelEnd { task, .. } => {
+            check_region(&event.body, regions, known);
+            alone(run(tasks, *task, near, thread, hints, known))
+        }
+        Body::ImplicitTask { endpoint, task, .. } => {
+            check_region(&event.body, regions, known);
+            let near = hints.implicit(*endpoint, near);
+            alone(run(tasks, *task, near, thread, hints, known))
+        }
+        Body::TaskCreate { task, child, .. } => Found {
+            subject: slot_near(tasks, *task, near, known),
+            object: slot_near(tasks, *child, hints.take_made(), known),
+        },
+        Body::Dependences { task, .. } => alone(slot_near(tasks, *task, hints.last_made(), known)),
+        Body::TaskSchedule {
+            prior,
+            next,
+            share,
+            ..
+        } => {
+            check_claim(share, thread, tasks, hints, known);
+            Found {
+                subject: slot_near(tasks, *prior, near, known),
+                object: start(tasks, *next, thread, hints, known),
+            }
+        }
+        Body::SyncRegion { task, .. } => alone(slot_near(tasks, *task, near, known)),
+        Body::Cancel { task, share, .. } => {
+            check_claim(share, thread, tasks, hints, known);
+            alone(slot_near(tasks, *task, near, known))
+        }
+    }
+}
+
+/// One task, and no second one.
+fn alone(subject: Slot) -> Found
+    ensures subject { result.subject ≡ subject }
+    ensures object { result.object ≡ None }
+{
+    Found {
+        subject,
+        object: Slot::none(),
+    }
 }
 
 /// The index of the task, looked for here first.
-fn slot_of(tasks: &Numbering, named: Option<u64>, near: usize) -> Slot
+fn slot_near(tasks: &Numbering, task: u64, near: usize, known: &mut bool) -> Slot
     requires few { length tasks.now ≤ 2 ^ 22 }
-    ensures { Finds tasks.now named result }
+    ensures found { Finds tasks.now (Some task) result }
+    ensures known { IsTrue known.new → IsTrue known.old × Contains tasks.now task }
 {
-    let Some(task) = named else {
+    checked(tasks.index_near(task, near), known)
+}
+
+/// The same of a task that the thread runs.
+fn run(
+    tasks: &Numbering,
+    task: u64,
+    near: usize,
+    thread: u8,
+    hints: &mut Hints,
+    known: &mut bool,
+) -> Slot
+    requires few { length tasks.now ≤ 2 ^ 22 }
+    ensures found { Finds tasks.now (Some task) result }
+    ensures known { IsTrue known.new → IsTrue known.old × Contains tasks.now task }
+{
+    let index = tasks.index_near(task, near);
+    hints.note_running(thread, index);
+    checked(index, known)
+}
+
+/// The index of the task that the thread runs next, if there is one.
+fn start(
+    tasks: &Numbering,
+    next: Option<u64>,
+    thread: u8,
+    hints: &mut Hints,
+    known: &mut bool,
+) -> Slot
+    requires few { length tasks.now ≤ 2 ^ 22 }
+    ensures found { Finds tasks.now next result }
+    ensures known { IsTrue known.new → IsTrue known.old × IfSome next (Contains tasks.now) }
+{
+    let Some(task) = next else {
         return Slot::none();
     };
-    match tasks.index_near(task, near) {
+    let index = tasks.index_of(task);
+    hints.note_running(thread, index);
+    checked(index, known)
+}
+
+/// The index of a task; one that was not found is not known.
+fn checked(index: Option<usize>, known: &mut bool) -> Slot
+    requires { IfSome index (λ i. i < 4294967295) }
+    ensures slot { result ≡ index }
+    ensures known { IsTrue known.new → IsTrue known.old × (index ≡ None → ⊥) }
+{
+    match index {
         Some(index) => Slot::some(index),
-        None => Slot::none(),
+        None => {
+            *known = false;
+            Slot::none()
+        }
     }
 }
 
-/// The task that the record is of.
-fn subject(body: &Body) -> Option<u64>
-    ensures { result ≡ subject body.now }
+/// Looks up the root that is claimed, where the thread's last claim found one first.
+fn check_claim(
+    share: &Option<Claim>,
+    thread: u8,
+    tasks: &Numbering,
+    hints: &mut Hints,
+    known: &mut bool,
+)
+    ensures { IsTrue known.new
+        → IsTrue known.old × IfSome share.now (λ claim. Contains tasks.now claim.root) }
 {
-    match body {
-        Body::ThreadBegin { .. } | Body::ThreadEnd => None,
-        Body::ParallelBegin { task, .. }
-        | Body::ParallelEnd { task, .. }
-        | Body::ImplicitTask { task, .. }
-        | Body::TaskCreate { task, .. }
-        | Body::Dependences { task, .. }
-        | Body::SyncRegion { task, .. }
-        | Body::Cancel { task, .. } => Some(*task),
-        Body::TaskSchedule { prior, .. } => Some(*prior),
+    let Some(claim) = share else {
+        return;
+    };
+    match tasks.index_near(claim.root, hints.root(thread)) {
+        Some(index) => hints.note_root(thread, index),
+        None => *known = false,
     }
 }
 
-/// The second task that it names.
-fn object(body: &Body) -> Option<u64>
-    ensures { result ≡ object body.now }
+/// Looks up the parallel region that ends, or whose team a task joins.
+fn check_region(body: &Body, regions: &Numbering, known: &mut bool)
+    ensures { IsTrue known.new → IsTrue known.old × (NamesNoRegion regions.now body.now → ⊥) }
 {
-    match body {
-        Body::TaskCreate { child, .. } => Some(*child),
-        Body::TaskSchedule { next, .. } => *next,
-        _ => None,
+    if names_no_region(body, regions) {
+        *known = false;
     }
 }

@@ -1,17 +1,85 @@
-use Rattle.std.proofs.Common.{◌≡◌, ◌∙◌, sym}
+use Rattle.std.proofs.Common.{◌≡◌, ◌∙◌, ◌+◌, length, sym, arith}
+use Rattle.std.specs.Prelude.{IsTrue}
+use Rattle.ompt_events.specs.Records.{creation}
 use Rattle.ompt_events.specs.Places.{at}
-use Rattle.ompt_events.proofs.PlaceLemmas.{at_read}
+use Rattle.ompt_events.proofs.PlaceLemmas.{at_read, read_get}
+use Rattle.task_tree.specs.Rootless.{AreKnown}
+use Rattle.task_tree.proofs.RootlessLemmas.{known_start, known_more}
 use Rattle.task_tree.specs.Subjects.{subject, object}
-use Rattle.task_tree.proofs.SubjectLemmas.{found_more}
+use Rattle.task_tree.proofs.SubjectLemmas.{up_to_start, up_to_more, up_to_end}
+use Rattle.task_tree.proofs.LinkLemmas.{counts_start, links_start, counts_other, links_other, counts_linked, links_linked, count_small}
 use Rattle.task_tree.proofs.subjects.find_subjects.Goals as goal
+use Rattle.task_tree.proofs.subjects.find_subjects.Goals.{in-Some, in_default}
 
-pub loop-event-preserved : goal.loop-event-preserved
-loop-event-preserved c =
+pub loop-at-init : goal.loop-at-init
+loop-at-init c = record {
+  subjects = up_to_start subject c.args.records.now c.args.tasks.now c.in_ok-subjects.subjects.items c.in_ok-subjects.ensures;
+  objects = up_to_start object c.args.records.now c.args.tasks.now c.in_ok-objects.objects.items c.in_ok-objects.ensures;
+  known = λ yes. known_start c.args.records.now c.args.tasks.now c.args.regions.now;
+  counts = counts_start c.args.records.now c.args.tasks.now c.in_ok-counts.counts.items (rw (c.as_slice.ensures) at c.in_ok-counts.ensures);
+  links = links_start c.args.records.now c.args.tasks.now c.in_ok-links.links.items (rw (c.as_slice-2.ensures) at c.in_ok-links.ensures);
+}
+
+pub link_child-requires-clause-room : goal.link_child-requires-clause-room
+link_child-requires-clause-room c = λ up is. let small = count_small c.args.records.now c.loop-at.at c.args.tasks.now c.loop-at.counts.items c.in-Some.parent up c.loop-at.invariant.counts is in omega (arith, small, c.loop-at-test.true, c.requires.few)
+
+pub loop-at-preserved : goal.loop-at-preserved
+loop-at-preserved c =
     let rs = c.args.records.now in
-    let i = c.loop-event.event-index in
-    let says : at subject rs i ≡ c.subject.result = at_read subject rs i c.event-item.result c.loop-event-test.true c.event-item.is ∙ sym c.subject.ensures in
-    let names : at object rs i ≡ c.object.result = at_read object rs i c.event-item.result c.loop-event-test.true c.event-item.is ∙ sym c.object.ensures in
-    record {
-      subjects = rw c.in_ok-push.ensures.items (found_more subject rs i c.args.tasks.now c.loop-event.subjects.items c.slot_of-first.result c.loop-event.invariant.subjects (rw says c.slot_of-first.ensures));
-      objects = rw c.in_ok-push-2.ensures.items (found_more object rs i c.args.tasks.now c.loop-event.objects.items c.slot_of-second.result c.loop-event.invariant.objects (rw names c.slot_of-second.ensures));
-    }
+    let i = c.loop-at.at in
+    let tasks = c.args.tasks.now in
+    let event = c.index-records-at.result in
+    let of : at subject rs i ≡ subject event.body = at_read subject rs i event c.loop-at-test.true c.index-records-at.is in
+    let names : at object rs i ≡ object event.body = at_read object rs i event c.loop-at-test.true c.index-records-at.is in
+    let says : at creation rs i ≡ c.creation.result = at_read creation rs i event c.loop-at-test.true c.index-records-at.is ∙ sym c.creation.ensures in
+    let found = c.look_up-found.result in
+    let subjects = up_to_more subject rs i tasks c.loop-at.subjects.items found.subject c.loop-at-test.true c.loop-at.invariant.subjects (rw of c.look_up-found.ensures.subject) in
+    let objects = up_to_more object rs i tasks c.loop-at.objects.items found.object c.loop-at-test.true c.loop-at.invariant.objects (rw names c.look_up-found.ensures.object) in
+    let known : IsTrue c.look_up-found.new.known → AreKnown rs (i + 1) tasks c.args.regions.now = λ yes.
+    let both = c.look_up-found.ensures.known yes in
+    known_more rs i tasks c.args.regions.now event (c.loop-at.invariant.known both.0) (read_get rs i event c.loop-at-test.true c.index-records-at.is) both.1 in
+    elim c.match-creation.branch [
+      | in-Some w ↦
+          let creates = says ∙ w.in-Some.is in
+          rw (w.counts-is, w.links-is) (record {
+            subjects = subjects;
+            objects = objects;
+            known = known;
+            counts = counts_linked rs i tasks w.in-Some.parent w.in-Some.child c.loop-at.counts.items c.loop-at.links.items w.link_child.new.counts.items w.link_child.new.links.items c.loop-at.invariant.counts creates w.link_child.ensures;
+            links = links_linked rs i tasks w.in-Some.parent w.in-Some.child c.loop-at.counts.items c.loop-at.links.items w.link_child.new.counts.items w.link_child.new.links.items c.requires.once c.loop-at.invariant.counts c.loop-at.invariant.links creates w.link_child.ensures;
+          })
+      | in_default w ↦
+          let none = says ∙ w.in_default.is in
+          rw (w.counts-is, w.links-is) (record {
+            subjects = subjects;
+            objects = objects;
+            known = known;
+            counts = counts_other rs i tasks c.loop-at.counts.items c.loop-at.invariant.counts none;
+            links = links_other rs i tasks c.loop-at.links.items c.loop-at.invariant.links none;
+          })
+    ]
+
+pub returns-clause-subjects : goal.returns-clause-subjects
+returns-clause-subjects c =
+    let all : c.loop-at.at ≡ length c.args.records.now = omega (arith, c.loop-at-test.false, c.loop-at.auto.at-end) in
+    up_to_end subject c.args.records.now c.loop-at.at c.args.tasks.now c.loop-at.subjects.items all c.loop-at.invariant.subjects
+
+pub returns-clause-objects : goal.returns-clause-objects
+returns-clause-objects c =
+    let all : c.loop-at.at ≡ length c.args.records.now = omega (arith, c.loop-at-test.false, c.loop-at.auto.at-end) in
+    up_to_end object c.args.records.now c.loop-at.at c.args.tasks.now c.loop-at.objects.items all c.loop-at.invariant.objects
+
+pub returns-clause-known : goal.returns-clause-known
+returns-clause-known c = λ yes.
+    let all : c.loop-at.at ≡ length c.args.records.now = omega (arith, c.loop-at-test.false, c.loop-at.auto.at-end) in
+    rw all at (c.loop-at.invariant.known yes)
+
+pub returns-clause-counts : goal.returns-clause-counts
+returns-clause-counts c =
+    let all : c.loop-at.at ≡ length c.args.records.now = omega (arith, c.loop-at-test.false, c.loop-at.auto.at-end) in
+    rw all at c.loop-at.invariant.counts
+
+pub returns-clause-links : goal.returns-clause-links
+returns-clause-links c =
+    let all : c.loop-at.at ≡ length c.args.records.now = omega (arith, c.loop-at-test.false, c.loop-at.auto.at-end) in
+    rw all at c.loop-at.invariant.links
