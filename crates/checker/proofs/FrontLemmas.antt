@@ -12,7 +12,7 @@ use Rattle.ompt_events.specs.declared.records.Record.{Record}
 use Rattle.ompt_events.specs.Places.{thread_at, seen_at}
 use Rattle.ompt_events.specs.declared.cause.Cause.TheVariants.{Moved}
 use Rattle.ompt_events.specs.Causes.{IsFreeOf}
-use Rattle.checker.specs.Merge.{HaveCreations, StartsOrFulfils, Stands, MayFollow, AreHeads, IsLow, IsFront, IsReadyHead, AreReady, AreMore, IsTaken, creation_of, length_of}
+use Rattle.checker.specs.Merge.{HaveCreations, StartsOrFulfils, Stands, MayFollow, AreHeads, IsLow, IsFront, IsReadyHead, AreOffered, AreMore, IsTaken, creation_of, length_of}
 use Rattle.checker.proofs.MergeLemmas.{may_follow, ready_head, is_head, thread_of}
 use Rattle.checker.proofs.MergingLemmas.{IsMerging, merging_closed, stands_here, stands_still, stands_cases}
 
@@ -69,7 +69,7 @@ pub one_less : (place : ℕ) (old new : List ℕ) → IsPermutation old (place �
 one_less place old new moved = let same = length_permutation old (place ∷ new) moved in omega (arith, same)
 
 -- a place that stands is taken out
-pub ready_less : (rs : List Record) (placed : List Bool) (place : ℕ) (old new : List ℕ) → IsPermutation old (place ∷ new) → Stands placed place → AreReady rs placed old → AreReady rs placed new
+pub ready_less : (rs : List Record) (placed : List Bool) (place : ℕ) (old new : List ℕ) → IsPermutation old (place ∷ new) → Stands placed place → AreOffered rs placed old → AreOffered rs placed new
 ready_less rs placed place old new moved stands ready = record {
   all = λ i may. elim (contains_cases i place new (Contains-permutation old (place ∷ new) i moved (ready.all i may))) [
     | inl same ↦ absurd (may.missing (rw same stands))
@@ -79,7 +79,7 @@ ready_less rs placed place old new moved stands ready = record {
 }
 
 -- one that does not stand is taken out, the least
-pub ready_taken : (rs : List Record) (placed : List Bool) (place : ℕ) (old new : List ℕ) → IsPermutation old (place ∷ new) → (Stands placed place → ⊥) → ((i : ℕ) → Contains old i → place ≤ i) → AreReady rs placed old → IsTaken rs placed place new
+pub ready_taken : (rs : List Record) (placed : List Bool) (place : ℕ) (old new : List ℕ) → IsPermutation old (place ∷ new) → (Stands placed place → ⊥) → ((i : ℕ) → Contains old i → place ≤ i) → AreOffered rs placed old → IsTaken rs placed place new
 ready_taken rs placed place old new moved missing least ready = record {
   next = elim (ready.only place (Contains-permutation (place ∷ new) old place (IsPermutation-sym old (place ∷ new) moved) (contains_first place new))) [
     | inl stands ↦ absurd (missing stands)
@@ -93,7 +93,7 @@ ready_taken rs placed place old new moved missing least ready = record {
   only = λ i c. ready.only i (Contains-permutation (place ∷ new) old i (IsPermutation-sym old (place ∷ new) moved) (contains_behind i place new c));
 }
 
-pub none_ready_here : (rs : List Record) (placed : List Bool) (ready : List ℕ) → length ready ≡ 0 → AreReady rs placed ready → (i : ℕ) → MayFollow rs placed i → ⊥
+pub none_ready_here : (rs : List Record) (placed : List Bool) (ready : List ℕ) → length ready ≡ 0 → AreOffered rs placed ready → (i : ℕ) → MayFollow rs placed i → ⊥
 none_ready_here rs placed ready none are i may =
     let c = are.all i may in
     let low = c.1 in
@@ -161,7 +161,7 @@ let_stand rs creations placed heads low now_low place thread next i before after
     ]
 
 -- all that may stand next are among those that were ready and those that were offered
-pub ready_more : (rs : List Record) (creations : List (Option ℕ)) (placed : List Bool) (heads : List ℕ) (low now_low place thread next : ℕ) (rest ready : List ℕ) → IsFront rs creations placed heads low → IsFront rs creations (set placed place true) (set heads thread next) now_low → thread_at rs place ≡ Some thread → slice_index (set heads thread next) thread ≡ next → place < length placed → IsTaken rs placed place rest → AreMore rs (set placed place true) rest ready → (MayFollow rs (set placed place true) next → Contains ready next) → ((i : ℕ) → creation_of creations i ≡ Some place → MayFollow rs (set placed place true) i → Contains ready i) → ((i k : ℕ) → low + 1 ≤ k → k < now_low + 1 → length_of rs i ≡ Some k → MayFollow rs (set placed place true) i → Contains ready i) → AreReady rs (set placed place true) ready
+pub ready_more : (rs : List Record) (creations : List (Option ℕ)) (placed : List Bool) (heads : List ℕ) (low now_low place thread next : ℕ) (rest ready : List ℕ) → IsFront rs creations placed heads low → IsFront rs creations (set placed place true) (set heads thread next) now_low → thread_at rs place ≡ Some thread → slice_index (set heads thread next) thread ≡ next → place < length placed → IsTaken rs placed place rest → AreMore rs (set placed place true) rest ready → (MayFollow rs (set placed place true) next → Contains ready next) → ((i : ℕ) → creation_of creations i ≡ Some place → MayFollow rs (set placed place true) i → Contains ready i) → ((i k : ℕ) → low + 1 ≤ k → k < now_low + 1 → length_of rs i ≡ Some k → MayFollow rs (set placed place true) i → Contains ready i) → AreOffered rs (set placed place true) ready
 ready_more rs creations placed heads low now_low place thread next rest ready before after runs is_next inside taken more of_thread of_creation of_length = record {
   all = λ i may. elim (let_stand rs creations placed heads low now_low place thread next i before after runs is_next inside may) [
     | inl same ↦ let P : ℕ → Type 0 = λ j. Contains ready j in subst P (sym same) (of_thread (rw same at may))
@@ -190,7 +190,7 @@ ready_more rs creations placed heads low now_low place thread next rest ready be
     ]
 
 -- where none was ready, just those that may stand next are
-pub ready_first : (rs : List Record) (placed : List Bool) (none ready : List ℕ) → ((i : ℕ) → Contains none i → ⊥) → AreMore rs placed none ready → ((i : ℕ) → MayFollow rs placed i → Contains ready i) → AreReady rs placed ready
+pub ready_first : (rs : List Record) (placed : List Bool) (none ready : List ℕ) → ((i : ℕ) → Contains none i → ⊥) → AreMore rs placed none ready → ((i : ℕ) → MayFollow rs placed i → Contains ready i) → AreOffered rs placed ready
 ready_first rs placed none ready empty more all = record {
   all = all;
   only = λ i c. elim (more.only i c) [

@@ -83,7 +83,7 @@ pub record IsFront (rs : List Record) (creations : List (Option ℕ)) (placed : 
   pub is_low : IsLow rs placed low
 
 -- the places are those that may stand next, and perhaps some that stand already
-pub record AreReady (rs : List Record) (placed : List Bool) (ready : List ℕ) : Type 0 where
+pub record AreOffered (rs : List Record) (placed : List Bool) (ready : List ℕ) : Type 0 where
   pub all : (i : ℕ) → MayFollow rs placed i → Contains ready i
   pub only : (i : ℕ) → Contains ready i → Stands placed i ⊎ MayFollow rs placed i
 

@@ -3,7 +3,7 @@ ghost use Rattle.std.specs.Prelude.{ℕ, ◌≡◌, ◌<◌, ◌≤◌, ◌↔�
 ghost use Rattle.ompt_events.specs.declared.records.Record.{Record};
 ghost use Rattle.ompt_events.specs.Places.{thread_at};
 ghost use Rattle.checker.specs.Lists.{AreLists, IsRising};
-ghost use Rattle.checker.specs.Merge.{Stands, MayFollow, IsFront, IsReadyHead, AreReady, AreMore, IsTaken};
+ghost use Rattle.checker.specs.Merge.{Stands, MayFollow, IsFront, IsReadyHead, AreOffered, AreMore, IsTaken};
 
 use crate::lists::Lists;
 use crate::queue::Queue;
@@ -136,10 +136,10 @@ impl Front<'_> {
 
 /// Takes the first record in file order that may stand next.
 pub(crate) fn take_first(ready: &mut Queue, placed: &[bool]) -> Option<usize>
-    ensures none { IfNone result ((records : List Record) → AreReady records placed.now ready.old → (i : ℕ)
+    ensures none { IfNone result ((records : List Record) → AreOffered records placed.now ready.old → (i : ℕ)
         → MayFollow records placed.now i → ⊥) }
     ensures taken { IfSome result (λ place. (records : List Record)
-        → AreReady records placed.now ready.old → IsTaken records placed.now place ready.new) }
+        → AreOffered records placed.now ready.old → IsTaken records placed.now place ready.new) }
 {
     'ready: while let Some(place) = ready.take() {
         if !stands(placed, place) {

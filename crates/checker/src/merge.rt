@@ -5,7 +5,7 @@ ghost use Rattle.ompt_events.specs.Linearization.{IsLinearization, IsGreedy};
 ghost use Rattle.ompt_events.specs.Causes.{entries_in, IsFreeOf};
 ghost use Rattle.checker.specs.Entries.{AreMakers};
 ghost use Rattle.checker.specs.Search.{IsFound};
-ghost use Rattle.checker.specs.Merge.{HaveCreations, StartsOrFulfils, Stands, IsUnplaced, IsFront, AreReady};
+ghost use Rattle.checker.specs.Merge.{HaveCreations, StartsOrFulfils, Stands, IsUnplaced, IsFront, AreOffered};
 
 use crate::front::{Front, stands, take_first};
 use crate::lists::{Lists, lists_of_threads};
@@ -81,7 +81,7 @@ fn first_ready(
     low: usize,
 ) -> Result<Queue, AllocError>
     requires front { IsFront records.now creations.now placed.now heads.now low }
-    ensures ready { IfOk result (AreReady records.now placed.now) }
+    ensures ready { IfOk result (AreOffered records.now placed.now) }
 {
     let mut ready = Queue::new(alloc);
     let front = Front {

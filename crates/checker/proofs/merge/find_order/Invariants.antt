@@ -1,6 +1,6 @@
 use Rattle.std.proofs.Common.{◌<◌, ◌≤◌, ℕ, length}
 use Rattle.std.specs.Prelude.{slice_index, sum_by}
-use Rattle.checker.specs.Merge.{Stands, IsUnplaced, AreReady}
+use Rattle.checker.specs.Merge.{Stands, IsUnplaced, AreOffered}
 use Rattle.checker.proofs.MergingLemmas.{IsMerging, is_missing}
 use Rattle.checker.proofs.merge.find_order.Given as goal
 
@@ -11,7 +11,7 @@ invariant-merge l = record {
   within : l.low ≤ length l.makers;
   passed : (k : ℕ) → k < l.low → slice_index l.makers k < length l.placed.items → Stands l.placed.items (slice_index l.makers k);
   missing : l.low < length l.makers → IsUnplaced l.placed.items (slice_index l.makers l.low);
-  ready : AreReady l.records l.placed.items l.ready;
+  ready : AreOffered l.records l.placed.items l.ready;
 }
 
 -- each turn leaves one record less to place
