@@ -65,9 +65,8 @@ pub(crate) fn find_subjects(
         let found = look_up(event, tasks, regions, &mut hints, &mut known);
         subjects[at] = found.subject;
         objects[at] = found.object;
-        if let Some((parent, child)) = event.body.creation() {
-            let near = (found.subject, found.object);
-            link_child(tasks, near, &mut counts, &mut links, parent, child);
+        if event.body.creation().is_some() {
+            link_child(found.subject, found.object, &mut counts, &mut links);
         }
     }
     Ok(Lookup {
