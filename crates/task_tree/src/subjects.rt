@@ -94,8 +94,8 @@ struct Found {
 }
 
 /// Looks up the tasks that the record names, and notes what that says of where later ones stand. `known` stays
-/// true only where all tasks and regions that it names are known. Inlined, so that the loop keeps its state in
-/// registers.
+/// true only where all tasks and regions that it names are known. Inlined into the loop over all records, since
+/// a call would pass its state through memory.
 #[inline(always)]
 fn look_up(
     event: &Record,
