@@ -1,11 +1,11 @@
 -- How the counts of children and the links grow.
-use Rattle.std.proofs.Common.{◌≡◌, ◌≢◌, ◌∙◌, ℕ, ◌<◌, ◌≤◌, ◌+◌, ◌*◌, List, length, get_or, Option, Some, None, refl, sym, ap, subst, arith, inl, inr, set}
+use Rattle.std.proofs.Common.{◌≡◌, ◌≢◌, ◌∙◌, ℕ, ◌<◌, ◌≤◌, ◌+◌, ◌*◌, List, length, get_or, Option, Some, None, sym, ap, subst, arith, inl, inr, set}
 use Rattle.std.proofs.lemmas.Bool.{cases_eq, cases_lt}
 use Rattle.std.proofs.lemmas.Option.{none-some, same_Some, slice_get_within, slice_get-get_or, slice_get_past}
 use Rattle.std.proofs.lemmas.List.{get_or-set_same, get_or-set_other, length-set, length-replicate, get_or-replicate, get_or_default, length_push}
 use Rattle.std.proofs.lemmas.List.Sums.{sum_by-set}
 use Rattle.std.proofs.lemmas.List.Folds.{sum_by-replicate}
-use Rattle.std.specs.Prelude.{◌↔◌, slice_get, slice_index, replicate, sum}
+use Rattle.std.specs.Prelude.{IfSome, slice_get, slice_index, replicate, sum}
 use Rattle.task_tree.specs.declared.links.Link.{Link}
 use Rattle.ompt_events.specs.declared.records.Record.{Record}
 use Rattle.ompt_events.specs.declared.cause.Cause.TheVariants.{CreatedTwice}
@@ -16,7 +16,7 @@ use Rattle.ompt_events.specs.Causes.{created_twice, IsFreeOf}
 use Rattle.ompt_events.proofs.RecordLemmas.{created_at_made, creation_at_created}
 use Rattle.ompt_events.proofs.ListLemmas.{get_last}
 use Rattle.ompt_events.proofs.TreeLemmas.{children_same, children_more, children_few, children_stay, child_at_none, child_at_other}
-use Rattle.task_tree.specs.Links.{AreCounts, IsLink, AreLinks, IsIndex, IsLinked, unmade, counted, linked}
+use Rattle.task_tree.specs.Links.{AreCounts, IsLink, AreLinks, IsIndex, IsSlotOf, IsLinked, unmade, counted, linked}
 
 -- what stands at an index of a list in which one element was written
 pub get_set_same : {X : Type 0} (xs : List X) (i : ℕ) (x : X) → i < length xs → slice_get (set xs i x) i ≡ Some x
@@ -29,19 +29,24 @@ get_set_other xs i k x apart = elim (cases_lt k (length xs)) [
   | inr past ↦ slice_get_past (set xs i x) k (rw (length-set xs i x) past) ∙ sym (slice_get_past xs k past)
 ]
 
--- an index that was found is that of the task
-pub index_found : (tasks : List ℕ) (task found : ℕ) → ((k : ℕ) → (Some found ≡ Some k) ↔ (slice_get tasks k ≡ Some task)) → IsIndex tasks task found
-index_found tasks task found is = record {
-  here = (is found).0 refl;
-  alone = λ other stands. sym (same_Some found other ((is other).1 stands));
+-- the index in the slot of a task is that of the task
+pub slot_index : (tasks : List ℕ) (task k : ℕ) (slot : Option ℕ) → IsSlotOf tasks task slot → slot ≡ Some k → IsIndex tasks task k
+slot_index tasks task k slot is holds = record {
+  here = (is k).0 holds;
+  alone = λ other stands. sym (same_Some k other (sym holds ∙ (is other).1 stands));
 }
 
-pub none_found : (tasks : List ℕ) (task : ℕ) → ((k : ℕ) → (None ≡ Some k) ↔ (slice_get tasks k ≡ Some task)) → (k : ℕ) → slice_get tasks k ≡ Some task → ⊥
-none_found tasks task is k stands = none-some k ((is k).1 stands)
+pub slot_empty : (tasks : List ℕ) (task : ℕ) (slot : Option ℕ) → IsSlotOf tasks task slot → slot ≡ None → (k : ℕ) → slice_get tasks k ≡ Some task → ⊥
+slot_empty tasks task slot is none k stands = none-some k (sym none ∙ (is k).1 stands)
+
+-- what is said of the slot is so of its index
+pub some_holds : (o : Option ℕ) (P : ℕ → Type 0) (k : ℕ) → IfSome o P → o ≡ Some k → P k
+some_holds None P k all is = absurd (none-some k is)
+some_holds (Some x) P k all is = subst P (same_Some x k is) all
 
 -- the number that was read is the parent's count
-pub number_read : (counts tasks : List ℕ) (up parent number : ℕ) → length counts ≡ length tasks → slice_get tasks up ≡ Some parent → number ≡ get_or counts up number → slice_index counts up ≡ number
-number_read counts tasks up parent number all is read = get_or_default counts up 0 number (let inside = slice_get_within tasks up parent is in omega (arith, inside, all)) ∙ sym read
+pub number_read : (counts : List ℕ) (parent : Option ℕ) (up number : ℕ) → IfSome parent (λ k. k < length counts) → parent ≡ Some up → number ≡ get_or counts up number → number ≡ slice_index counts up
+number_read counts parent up number within is read = read ∙ sym (get_or_default counts up 0 number (some_holds parent (λ k. k < length counts) up within is))
 
 -- what one more child changes, by the number that was read
 pub linked_read : (tasks : List ℕ) (parent child up own number : ℕ) (counts : List ℕ) (links : List (Option Link)) → IsIndex tasks parent up → IsIndex tasks child own → number ≡ slice_index counts up → IsLinked tasks parent child counts links (set counts up (number + 1)) (set links own (Some (record { number = number; parent = up })))

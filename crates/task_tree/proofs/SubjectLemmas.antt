@@ -1,15 +1,20 @@
 -- How what is found of the records' tasks grows, and what it says.
 use Rattle.std.proofs.Common.{◌≡◌, ◌∙◌, ℕ, ◌<◌, ◌≤◌, ◌^◌, ◌+◌, List, length, Option, Some, None, refl, sym, ap, subst, arith, rules, inl, inr, set}
-use Rattle.std.proofs.lemmas.Bool.{cases_eq}
+use Rattle.std.proofs.lemmas.Bool.{cases_eq, false≢true}
 use Rattle.std.proofs.lemmas.Option.{none-some, same_Some, slice_get_within}
 use Rattle.std.proofs.lemmas.List.{length-set, length-replicate}
-use Rattle.std.specs.Prelude.{◌↔◌, IfSome, slice_get, replicate, Contains}
+use Rattle.std.specs.Prelude.{◌↔◌, IfSome, true, false, is_some, slice_get, replicate, Contains}
 use Rattle.ompt_events.specs.declared.records.Record.{Record}
 use Rattle.ompt_events.specs.declared.records.Body.{Body}
+use Rattle.ompt_events.specs.declared.records.Body.TheVariants.{TaskCreate}
+use Rattle.ompt_events.specs.Records.{creation}
 use Rattle.ompt_events.specs.Places.{at}
 use Rattle.ompt_events.proofs.ListLemmas.{contains_get, get_contains}
 use Rattle.task_tree.proofs.LinkLemmas.{get_set_same, get_set_other}
-use Rattle.task_tree.specs.Subjects.{Finds, Calls, AreFound, AreFoundUpTo}
+use Rattle.task_tree.specs.Numbering.{AreApart}
+use Rattle.task_tree.specs.Links.{IsSlotOf}
+use Rattle.task_tree.proofs.NumberingLemmas.{index_is}
+use Rattle.task_tree.specs.Subjects.{subject, object, Finds, Calls, AreFound, AreFoundUpTo}
 
 -- what a look-up of the task gives
 pub finds_no_task : (tasks : List ℕ) → Finds tasks None None
@@ -76,3 +81,28 @@ up_to_end says rs n tasks slots at_end are = record {
   all = are.all;
   each = λ i below. are.each i (omega (arith, at_end, below));
 }
+
+-- ---- the slots of a record that creates a task
+
+pub created_names : (b : Body) (parent child : ℕ) → creation b ≡ Some (parent, child) → (subject b ≡ Some parent) × (object b ≡ Some child)
+created_names (TaskCreate deps flags task own) parent child is =
+    let same : (task, own) ≡ (parent, child) = same_Some (task, own) (parent, child) is in
+    (ap (λ (p : ℕ × ℕ). Some p.0) same, ap (λ (p : ℕ × ℕ). Some p.1) same)
+created_names _ parent child is = absurd (none-some (parent, child) is)
+
+pub finds_slot : (tasks : List ℕ) (found slot : Option ℕ) (task : ℕ) → AreApart tasks → Finds tasks found slot → found ≡ Some task → IsSlotOf tasks task slot
+finds_slot tasks found None task apart finds is = λ k. (λ holds. absurd (none-some k holds), λ stands. absurd (finds task is (get_contains tasks task k stands)))
+finds_slot tasks found (Some index) task apart (other, names, stands) is = index_is tasks task index apart (stands ∙ sym names ∙ is)
+
+-- what is so of each task's index is so of the one in the slot
+pub slot_holds : (tasks : List ℕ) (found slot : Option ℕ) (P : ℕ → Type 0) → Finds tasks found slot → ((task k : ℕ) → slice_get tasks k ≡ Some task → P k) → IfSome slot P
+slot_holds tasks found None P finds all = search rules
+slot_holds tasks found (Some k) P (task, is, stands) all = all task k stands
+
+pub some_there : {X : Type 0} (o : Option X) → is_some o ≡ true → (x : X) × (o ≡ Some x)
+some_there None is = absurd (false≢true is)
+some_there (Some x) is = (x, refl)
+
+pub none_there : {X : Type 0} (o : Option X) → is_some o ≡ false → o ≡ None
+none_there None is = refl
+none_there (Some x) is = absurd (false≢true (sym is))

@@ -1,5 +1,5 @@
 -- How many children each task has, and the links of the created ones, by index of the task.
-use Rattle.std.specs.Prelude.{ℕ, ◌≡◌, ◌<◌, ◌≤◌, ◌+◌, List, length, sum, Option, Some, slice_get, slice_set, slice_index}
+use Rattle.std.specs.Prelude.{ℕ, ◌≡◌, ◌↔◌, ◌<◌, ◌≤◌, ◌+◌, List, length, sum, Option, Some, slice_get, slice_set, slice_index}
 use Rattle.ompt_events.specs.declared.records.Record.{Record}
 use Rattle.ompt_events.specs.Records.{creation}
 use Rattle.ompt_events.specs.Places.{at}
@@ -32,6 +32,10 @@ pub record AreLinks (rs : List Record) (n : ℕ) (tasks : List ℕ) (links : Lis
 pub record IsIndex (tasks : List ℕ) (task index : ℕ) : Type 0 where
   pub here : slice_get tasks index ≡ Some task
   pub alone : (other : ℕ) → slice_get tasks other ≡ Some task → other ≡ index
+
+-- the slot has the index of the task in the list of tasks, and nothing else
+abbrev pub IsSlotOf : List ℕ → ℕ → Option ℕ → Type 0
+IsSlotOf tasks task slot = (k : ℕ) → (slot ≡ Some k) ↔ (slice_get tasks k ≡ Some task)
 
 -- one child more of the parent: it is counted, and has its link; where no record makes the parent, nothing
 -- changes

@@ -1,8 +1,7 @@
 //! The parent and number of each created task, and how many children each task has.
-ghost use Rattle.std.specs.Prelude.{ℕ, ◌≡◌, ◌<◌, ◌≤◌, ◌^◌, Some, None, IfOk, length, slice_get, slice_index, replicate};
-ghost use Rattle.task_tree.specs.Links.{IsLinked};
+ghost use Rattle.std.specs.Prelude.{ℕ, ◌≡◌, ◌<◌, ◌≤◌, ◌^◌, List, None, IfOk, IfSome, length, slice_index, replicate};
+ghost use Rattle.task_tree.specs.Links.{IsLinked, IsSlotOf};
 
-use crate::numbering::Numbering;
 use crate::slot::Slot;
 use std::alloc::{AllocError, Global};
 
@@ -20,29 +19,27 @@ pub(crate) struct Linked {
     pub(crate) links: Vec<Option<Link>>,
 }
 
-/// Counts the child for its parent, and notes its link. The two are looked for there first.
+/// Counts the child for its parent, and notes its link. A parent that no record makes is found later, as a cause
+/// of malformed records.
 pub(crate) fn link_child(
-    tasks: &Numbering,
-    near: (Slot, Slot),
+    parent: Slot,
+    child: Slot,
     counts: &mut Vec<u32>,
     links: &mut Vec<Option<Link>>,
-    parent: u64,
-    child: u64,
 )
-    requires counts { length counts.old.items ≡ length tasks.now }
-    requires links { length links.old.items ≡ length tasks.now }
-    requires few { length tasks.now ≤ 2 ^ 22 }
-    requires room { (up : ℕ) → slice_get tasks.now up ≡ Some parent
-        → slice_index counts.old.items up < 2 ^ 22 }
-    ensures { IsLinked tasks.now parent child counts.old.items links.old.items counts.new.items links.new.items }
+    requires counts { IfSome parent (λ up. up < length counts.old.items) }
+    requires links { IfSome child (λ own. own < length links.old.items) }
+    requires few { length counts.old.items ≤ 2 ^ 22 }
+    requires room { IfSome parent (λ up. slice_index counts.old.items up < 2 ^ 22) }
+    ensures { (tasks : List ℕ) → (above task : ℕ) → IsSlotOf tasks above parent → IsSlotOf tasks task child
+        → IsLinked tasks above task counts.old.items links.old.items counts.new.items links.new.items }
 {
-    // A parent that no record makes is found later, as a cause of malformed records.
-    let Some(up) = tasks.index_near(parent, near.0.near()) else {
+    let Some(up) = parent.get() else {
         return;
     };
     let number = counts[up];
     counts[up] = number + 1;
-    if let Some(own) = tasks.index_near(child, near.1.near()) {
+    if let Some(own) = child.get() {
         let parent = up as u32;
         links[own] = Some(Link { number, parent });
     }

@@ -34,6 +34,7 @@ pub(crate) fn find_rootless(
         → AreKnown records.now (length records.now) tasks.now regions.now }
     ensures { MatchOption result (IsFreeOf records.now Rootless) (IsFirstWith records.now Rootless) }
 {
+    // Nearly each file ends here: what the records name was looked up before.
     if named.known && are_known(roots) {
         return None;
     }

@@ -58,9 +58,4 @@ impl Slot {
             Some(self.code as usize)
         }
     }
-
-    /// Where to look first for what has this index: at none, behind the end of any list.
-    pub(crate) fn near(self) -> usize {
-        self.code as usize
-    }
 }

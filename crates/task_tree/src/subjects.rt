@@ -65,9 +65,8 @@ pub(crate) fn find_subjects(
         let found = look_up(event, tasks, regions, &mut hints, &mut known);
         subjects[at] = found.subject;
         objects[at] = found.object;
-        if let Some((parent, child)) = event.body.creation() {
-            let near = (found.subject, found.object);
-            link_child(tasks, near, &mut counts, &mut links, parent, child);
+        if event.body.creation().is_some() {
+            link_child(found.subject, found.object, &mut counts, &mut links);
         }
     }
     Ok(Lookup {
@@ -95,8 +94,8 @@ struct Found {
 }
 
 /// Looks up the tasks that the record names, and notes what that says of where later ones stand. `known` stays
-/// true only where all tasks and regions that it names are known. Inlined, so that the loop keeps its state in
-/// registers.
+/// true only where all tasks and regions that it names are known. Inlined into the loop over all records, since
+/// a call would pass its state through memory.
 #[inline(always)]
 fn look_up(
     event: &Record,

@@ -1,41 +1,17 @@
-use Rattle.std.proofs.Common.{sym, arith, rules}
-use Rattle.std.proofs.lemmas.Option.{slice_get_within}
+use Rattle.std.proofs.Common.{◌∙◌, sym}
 use Rattle.task_tree.specs.Links.{unmade}
-use Rattle.task_tree.proofs.LinkLemmas.{index_found, none_found, number_read, linked_read, counted_read}
+use Rattle.task_tree.proofs.LinkLemmas.{slot_index, slot_empty, number_read, linked_read, counted_read}
 use Rattle.task_tree.proofs.links.link_child.Goals as goal
 
 pub returns-in_default : goal.returns-in_default
-returns-in_default c = unmade (none_found c.args.tasks.now c.args.parent (rw c.in_default.is at c.index_near.ensures))
+returns-in_default c = λ tasks above task is_above is_task. unmade (slot_empty tasks above c.args.parent is_above (sym c.get.ensures ∙ c.in_default.is))
 
-pub index-number-requires : goal.index-number-requires
-index-number-requires c =
-    let within = slice_get_within c.args.tasks.now c.in-Some.up c.args.parent ((c.index_near.ensures c.in-Some.up).0 c.in-Some.is) in
-    search rules
+pub returns-in-Some-get : goal.returns-in-Some-get
+returns-in-Some-get c = λ tasks above task is_above is_task.
+    let up = sym c.get.ensures ∙ c.in-Some.is in
+    linked_read tasks above task c.in-Some.up c.in-Some-get.own _ c.args.counts.now.items c.args.links.now.items (slot_index tasks above c.in-Some.up c.args.parent is_above up) (slot_index tasks task c.in-Some-get.own c.args.child is_task (sym c.get-2.ensures ∙ c.in-Some-get.is)) (number_read c.args.counts.now.items c.args.parent c.in-Some.up c.index-number.result.now c.requires.counts up c.index-number.ensures)
 
-pub overflow_add-number : goal.overflow_add-number
-overflow_add-number c =
-    let is = (c.index_near.ensures c.in-Some.up).0 c.in-Some.is in
-    let read = number_read c.args.counts.now.items c.args.tasks.now c.in-Some.up c.args.parent c.index-number.result.now c.requires.counts is c.index-number.ensures in
-    let room = c.requires.room c.in-Some.up is in
-    omega (arith, read, room)
-
-pub index_mut-requires : goal.index_mut-requires
-index_mut-requires c =
-    let within = slice_get_within c.args.tasks.now c.in-Some.up c.args.parent ((c.index_near.ensures c.in-Some.up).0 c.in-Some.is) in
-    search rules
-
-pub overflow_cast-parent : goal.overflow_cast-parent
-overflow_cast-parent c =
-    let within = slice_get_within c.args.tasks.now c.in-Some.up c.args.parent ((c.index_near.ensures c.in-Some.up).0 c.in-Some.is) in
-    omega (arith, within, c.requires.few)
-
-pub index_mut-requires-in-Some-index_near : goal.index_mut-requires-in-Some-index_near
-index_mut-requires-in-Some-index_near c =
-    let within = slice_get_within c.args.tasks.now c.in-Some-index_near.own c.args.child ((c.index_near-2.ensures c.in-Some-index_near.own).0 c.in-Some-index_near.is) in
-    search rules
-
-pub returns-in-Some-index_near : goal.returns-in-Some-index_near
-returns-in-Some-index_near c = linked_read c.args.tasks.now c.args.parent c.args.child c.in-Some.up c.in-Some-index_near.own _ c.args.counts.now.items c.args.links.now.items (index_found c.args.tasks.now c.args.parent c.in-Some.up (rw c.in-Some.is at c.index_near.ensures)) (index_found c.args.tasks.now c.args.child c.in-Some-index_near.own (rw c.in-Some-index_near.is at c.index_near-2.ensures)) (sym (number_read c.args.counts.now.items c.args.tasks.now c.in-Some.up c.args.parent c.index-number.result.now c.requires.counts ((c.index_near.ensures c.in-Some.up).0 c.in-Some.is) c.index-number.ensures))
-
-pub returns-in_default-index_near : goal.returns-in_default-index_near
-returns-in_default-index_near c = counted_read c.args.tasks.now c.args.parent c.args.child c.in-Some.up _ c.args.counts.now.items c.args.links.now.items (index_found c.args.tasks.now c.args.parent c.in-Some.up (rw c.in-Some.is at c.index_near.ensures)) (none_found c.args.tasks.now c.args.child (rw c.in_default-index_near.is at c.index_near-2.ensures)) (sym (number_read c.args.counts.now.items c.args.tasks.now c.in-Some.up c.args.parent c.index-number.result.now c.requires.counts ((c.index_near.ensures c.in-Some.up).0 c.in-Some.is) c.index-number.ensures))
+pub returns-in_default-get : goal.returns-in_default-get
+returns-in_default-get c = λ tasks above task is_above is_task.
+    let up = sym c.get.ensures ∙ c.in-Some.is in
+    counted_read tasks above task c.in-Some.up _ c.args.counts.now.items c.args.links.now.items (slot_index tasks above c.in-Some.up c.args.parent is_above up) (slot_empty tasks task c.args.child is_task (sym c.get-2.ensures ∙ c.in_default-get.is)) (number_read c.args.counts.now.items c.args.parent c.in-Some.up c.index-number.result.now c.requires.counts up c.index-number.ensures)

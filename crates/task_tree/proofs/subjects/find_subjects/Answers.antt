@@ -1,15 +1,16 @@
 use Rattle.std.proofs.Common.{◌≡◌, ◌∙◌, ◌+◌, length, sym, arith}
 use Rattle.std.specs.Prelude.{IsTrue}
+use Rattle.std.proofs.lemmas.Option.{slice_get_within}
 use Rattle.ompt_events.specs.Records.{creation}
 use Rattle.ompt_events.specs.Places.{at}
 use Rattle.ompt_events.proofs.PlaceLemmas.{at_read, read_get}
 use Rattle.task_tree.specs.Rootless.{AreKnown}
 use Rattle.task_tree.proofs.RootlessLemmas.{known_start, known_more}
 use Rattle.task_tree.specs.Subjects.{subject, object}
-use Rattle.task_tree.proofs.SubjectLemmas.{up_to_start, up_to_more, up_to_end}
+use Rattle.task_tree.proofs.SubjectLemmas.{up_to_start, up_to_more, up_to_end, created_names, finds_slot, slot_holds, some_there, none_there}
 use Rattle.task_tree.proofs.LinkLemmas.{counts_start, links_start, counts_other, links_other, counts_linked, links_linked, count_small}
 use Rattle.task_tree.proofs.subjects.find_subjects.Goals as goal
-use Rattle.task_tree.proofs.subjects.find_subjects.Goals.{in-Some, in_default}
+use Rattle.task_tree.proofs.subjects.find_subjects.Goals.{then-is_some, else-is_some}
 
 pub loop-at-init : goal.loop-at-init
 loop-at-init c = record {
@@ -20,8 +21,17 @@ loop-at-init c = record {
   links = links_start c.args.records.now c.args.tasks.now c.in_ok-links.links.items (rw (c.as_slice-2.ensures) at c.in_ok-links.ensures);
 }
 
+pub link_child-requires-clause-counts : goal.link_child-requires-clause-counts
+link_child-requires-clause-counts c = slot_holds c.args.tasks.now _ c.look_up-found.result.subject _ c.look_up-found.ensures.subject (λ task k is. let inside = slice_get_within c.args.tasks.now k task is in let all = c.loop-at.invariant.counts.all in omega (arith, inside, all))
+
+pub link_child-requires-clause-links : goal.link_child-requires-clause-links
+link_child-requires-clause-links c = slot_holds c.args.tasks.now _ c.look_up-found.result.object _ c.look_up-found.ensures.object (λ task k is. let inside = slice_get_within c.args.tasks.now k task is in let all = c.loop-at.invariant.links.all in omega (arith, inside, all))
+
+pub link_child-requires-clause-few : goal.link_child-requires-clause-few
+link_child-requires-clause-few c = let all = c.loop-at.invariant.counts.all in omega (arith, all, c.requires.few_tasks)
+
 pub link_child-requires-clause-room : goal.link_child-requires-clause-room
-link_child-requires-clause-room c = λ up is. let small = count_small c.args.records.now c.loop-at.at c.args.tasks.now c.loop-at.counts.items c.in-Some.parent up c.loop-at.invariant.counts is in omega (arith, small, c.loop-at-test.true, c.requires.few)
+link_child-requires-clause-room c = slot_holds c.args.tasks.now _ c.look_up-found.result.subject _ c.look_up-found.ensures.subject (λ task up is. let small = count_small c.args.records.now c.loop-at.at c.args.tasks.now c.loop-at.counts.items task up c.loop-at.invariant.counts is in omega (arith, small, c.loop-at-test.true, c.requires.few))
 
 pub loop-at-preserved : goal.loop-at-preserved
 loop-at-preserved c =
@@ -38,18 +48,23 @@ loop-at-preserved c =
     let known : IsTrue c.look_up-found.new.known → AreKnown rs (i + 1) tasks c.args.regions.now = λ yes.
     let both = c.look_up-found.ensures.known yes in
     known_more rs i tasks c.args.regions.now event (c.loop-at.invariant.known both.0) (read_get rs i event c.loop-at-test.true c.index-records-at.is) both.1 in
-    elim c.match-creation.branch [
-      | in-Some w ↦
-          let creates = says ∙ w.in-Some.is in
+    elim c.if-is_some.branch [
+      | then-is_some w ↦
+          let made = some_there c.creation.result (sym c.is_some.ensures ∙ w.if-is_some.true) in
+          let parent = made.0.0 in
+          let child = made.0.1 in
+          let creates = says ∙ made.1 in
+          let both = created_names event.body parent child (sym c.creation.ensures ∙ made.1) in
+          let linked = w.link_child.ensures tasks parent child (finds_slot tasks _ found.subject parent c.requires.apart c.look_up-found.ensures.subject both.0) (finds_slot tasks _ found.object child c.requires.apart c.look_up-found.ensures.object both.1) in
           rw (w.counts-is, w.links-is) (record {
             subjects = subjects;
             objects = objects;
             known = known;
-            counts = counts_linked rs i tasks w.in-Some.parent w.in-Some.child c.loop-at.counts.items c.loop-at.links.items w.link_child.new.counts.items w.link_child.new.links.items c.loop-at.invariant.counts creates w.link_child.ensures;
-            links = links_linked rs i tasks w.in-Some.parent w.in-Some.child c.loop-at.counts.items c.loop-at.links.items w.link_child.new.counts.items w.link_child.new.links.items c.requires.once c.loop-at.invariant.counts c.loop-at.invariant.links creates w.link_child.ensures;
+            counts = counts_linked rs i tasks parent child c.loop-at.counts.items c.loop-at.links.items w.link_child.new.counts.items w.link_child.new.links.items c.loop-at.invariant.counts creates linked;
+            links = links_linked rs i tasks parent child c.loop-at.counts.items c.loop-at.links.items w.link_child.new.counts.items w.link_child.new.links.items c.requires.once c.loop-at.invariant.counts c.loop-at.invariant.links creates linked;
           })
-      | in_default w ↦
-          let none = says ∙ w.in_default.is in
+      | else-is_some w ↦
+          let none = says ∙ none_there c.creation.result (sym c.is_some.ensures ∙ w.if-is_some.false) in
           rw (w.counts-is, w.links-is) (record {
             subjects = subjects;
             objects = objects;
