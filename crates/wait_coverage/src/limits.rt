@@ -8,10 +8,14 @@ ghost use Rattle.wait_coverage.specs.Done.{AreDone};
 ghost use Rattle.task_tree.specs.Subjects.{subject};
 ghost use Rattle.wait_coverage.specs.Limits.{IsChildLimit, IsFamiliesLimit, IsLimitOfBegin, AreFalling, Gathers, AreLatest, AreLatestFamilies, AreNoted, AreNodes};
 ghost use Rattle.ompt_events.specs.Regions.{barrier_begun};
+ghost use Rattle.wait_coverage.specs.Meetings.{AreMet};
+ghost use Rattle.wait_coverage.specs.Teams.{IsTeamsOf};
 
 use crate::begins::begins_barrier;
 use crate::done::Done;
 use crate::limit::Limit;
+use crate::meetings::{meet, no_meetings};
+use crate::teams::Teams;
 use ompt_events::{Body, Endpoint, Record, SyncKind};
 use std::alloc::{AllocError, Global};
 use task_states::States;
@@ -53,20 +57,33 @@ impl Node {
     }
 }
 
-/// What is noted at each record, but for the ends of barriers.
+/// What is noted at each record, but for the ends of barriers; and by number of the team and number of the
+/// barrier from which ledger length on the children are finished that each member created before its barrier
+/// began, with their descendants.
+pub(crate) struct Noted {
+    pub(crate) nodes: Vec<Node>,
+    pub(crate) meetings: Vec<Vec<Limit>>,
+}
+
+/// What is noted at the records.
 pub(crate) fn find_limits(
     alloc: Global,
     records: &[Record],
     family: &Family,
     states: &States,
+    teams: &Teams,
     done: &Done,
-) -> Result<Vec<Node>, AllocError>
+) -> Result<Noted, AllocError>
     requires few { length records.now ≤ 2 ^ 22 }
     requires family { IsFamilyOf records.now family.now }
     requires states { AreStatesOf records.now states.now }
+    requires teams { IsTeamsOf records.now family.now.tasks teams.now }
     requires done { AreDone records.now family.now.tasks done.now }
-    ensures { IfOk result (λ nodes. AreNodes records.now nodes.items) }
+    ensures nodes { IfOk result (λ noted. AreNodes records.now noted.nodes.items) }
+    ensures met { IfOk result (λ noted. AreMet records.now (length records.now)
+        family.now.tasks teams.now.teams noted.meetings.items) }
 {
+    let mut meetings = no_meetings(alloc, family, teams)?;
     let mut progress = no_progress(alloc, family.tasks().as_slice().len())?;
     let mut nodes: Vec<Node> = Vec::with_capacity(alloc, records.len())?;
     for at in 0..records.len() {
@@ -79,9 +96,10 @@ pub(crate) fn find_limits(
             &mut progress,
             at,
         );
+        meet(records, family, teams, node.limit, &mut meetings, at)?;
         nodes.push(node)?;
     }
-    Ok(nodes)
+    Ok(Noted { nodes, meetings })
 }
 
 /// No record is gone over.

@@ -3,10 +3,11 @@
 ghost use Rattle.std.specs.Prelude.{ℕ, ◌≡◌, ◌<◌, ◌≤◌, ◌+◌, ◌↔◌, IfOk, IsTrue, Some, length, slice_get};
 ghost use Rattle.ompt_events.specs.Records.{region};
 ghost use Rattle.ompt_events.specs.Places.{at as says_at};
+ghost use Rattle.ompt_events.specs.Regions.{barrier_begun};
 ghost use Rattle.task_tree.specs.Family.{IsFamilyOf};
 ghost use Rattle.task_states.specs.States.{AreStatesOf};
 ghost use Rattle.wait_coverage.specs.Teams.{IsTeamsOf};
-ghost use Rattle.wait_coverage.specs.Limits.{IsEndLimit, AreNodes, AreEndLimits};
+ghost use Rattle.wait_coverage.specs.Limits.{IsFamiliesLimit, IsEndLimit, AreNodes, AreEndLimits};
 ghost use Rattle.wait_coverage.specs.Meetings.{EndsBarrier, IsBarrierEnd, HaveTeams, AreMet, IsRaised, AreMeetingsAdded};
 
 use crate::begins::begins_barrier;
@@ -22,58 +23,31 @@ use task_tree::Family;
 /// Makes the nodes of the ends of barriers right; those of all other records stay as they are. It takes a
 /// few steps for each record.
 pub(crate) fn add_meetings(
-    alloc: Global,
     records: &[Record],
     family: &Family,
     states: &States,
     teams: &Teams,
+    meetings: &[Vec<Limit>],
     nodes: &mut Vec<Node>,
-) -> Result<(), AllocError>
+)
     requires family { IsFamilyOf records.now family.now }
     requires states { AreStatesOf records.now states.now }
     requires teams { IsTeamsOf records.now family.now.tasks teams.now }
+    requires met { AreMet records.now (length records.now) family.now.tasks teams.now.teams meetings.now }
     requires nodes { AreNodes records.now nodes.old.items }
-    ensures { IfOk result (λ done. AreEndLimits records.now nodes.new.items) }
+    ensures { AreEndLimits records.now nodes.new.items }
 {
-    let meetings = find_meetings(alloc, records, family, teams, nodes.as_slice())?;
     for at in 0..records.len() {
-        add_meeting(
-            records,
-            family,
-            states,
-            teams,
-            meetings.as_slice(),
-            nodes,
-            at,
-        );
+        add_meeting(records, family, states, teams, meetings, nodes, at);
     }
-    Ok(())
-}
-
-/// By number of the team and number of the barrier from which ledger length on the children are finished
-/// that each member created before its barrier began, with their descendants.
-fn find_meetings(
-    alloc: Global,
-    records: &[Record],
-    family: &Family,
-    teams: &Teams,
-    nodes: &[Node],
-) -> Result<Vec<Vec<Limit>>, AllocError>
-    requires family { IsFamilyOf records.now family.now }
-    requires teams { IsTeamsOf records.now family.now.tasks teams.now }
-    requires nodes { AreNodes records.now nodes.now }
-    ensures { IfOk result (λ meetings.
-        AreMet records.now (length records.now) family.now.tasks teams.now.teams meetings.items) }
-{
-    let mut meetings = no_meetings(alloc, family, teams)?;
-    for at in 0..records.len() {
-        meet(records, family, teams, nodes, &mut meetings, at)?;
-    }
-    Ok(meetings)
 }
 
 /// No barrier of any team.
-fn no_meetings(alloc: Global, family: &Family, teams: &Teams) -> Result<Vec<Vec<Limit>>, AllocError>
+pub(crate) fn no_meetings(
+    alloc: Global,
+    family: &Family,
+    teams: &Teams,
+) -> Result<Vec<Vec<Limit>>, AllocError>
     requires all { length teams.now.teams ≡ length family.now.tasks }
     ensures { IfOk result (λ meetings.
         HaveTeams (length family.now.tasks) teams.now.teams (length meetings.items)) }
@@ -98,19 +72,21 @@ fn reach(alloc: Global, meetings: &mut Vec<Vec<Limit>>, team: usize) -> Result<(
     Ok(())
 }
 
-/// The meeting with the member that begins a barrier at the place, if one does.
-fn meet(
+/// The meeting with the member that begins a barrier at the place, if one does. The limit is that of what it
+/// created before.
+pub(crate) fn meet(
     records: &[Record],
     family: &Family,
     teams: &Teams,
-    nodes: &[Node],
+    limit: Limit,
     meetings: &mut Vec<Vec<Limit>>,
     at: usize,
 ) -> Result<(), AllocError>
     requires within { at < length records.now }
     requires family { IsFamilyOf records.now family.now }
     requires teams { IsTeamsOf records.now family.now.tasks teams.now }
-    requires nodes { AreNodes records.now nodes.now }
+    requires limit { (task : ℕ) → barrier_begun (says_at region records.now at) ≡ Some task
+        → IsFamiliesLimit records.now at task limit }
     requires met { AreMet records.now at family.now.tasks teams.now.teams meetings.old.items }
     ensures { IfOk result (λ done.
         AreMet records.now (at + 1) family.now.tasks teams.now.teams meetings.new.items) }
@@ -124,11 +100,7 @@ fn meet(
     let Some(team) = teams.team(index) else {
         return Ok(());
     };
-    raise(
-        &mut meetings[team],
-        teams.number(at) as usize,
-        nodes[at].limit,
-    )
+    raise(&mut meetings[team], teams.number(at) as usize, limit)
 }
 
 /// The limit of the barrier with this number is at least the given one.

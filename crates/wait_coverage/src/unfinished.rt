@@ -10,7 +10,7 @@ ghost use Rattle.wait_coverage.specs.Waits.{IsWaitAt, IsFirstOpen, IsFirstOpenEn
 ghost use Rattle.wait_coverage.specs.Known.{IsKnown};
 
 use crate::done::{Done, find_done};
-use crate::limits::{Node, find_limits};
+use crate::limits::{Node, Noted, find_limits};
 use crate::meetings::add_meetings;
 use crate::order::parents_first;
 use crate::teams::Teams;
@@ -55,8 +55,12 @@ pub fn find_known(
 {
     let order = parents_first(alloc, family)?;
     let done = find_done(alloc, records, family, order.as_slice())?;
-    let mut nodes = find_limits(alloc, records, family, states, &done)?;
-    add_meetings(alloc, records, family, states, teams, &mut nodes)?;
+    let noted = find_limits(alloc, records, family, states, teams, &done)?;
+    let Noted {
+        mut nodes,
+        meetings,
+    } = noted;
+    add_meetings(records, family, states, teams, &meetings, &mut nodes);
     Ok(Known { done, nodes })
 }
 

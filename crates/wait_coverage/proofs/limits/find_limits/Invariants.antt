@@ -1,6 +1,10 @@
 use Rattle.wait_coverage.specs.Limits.{AreNoted}
+use Rattle.wait_coverage.specs.Meetings.{AreMet}
 use Rattle.wait_coverage.proofs.limits.find_limits.Given as goal
 
--- what is known behind the records so far
+-- what is known behind the records so far, and the begins so far have met
 abbrev pub invariant-loop-at : goal.invariant-loop-at
-invariant-loop-at l = AreNoted l.records l.at l.family.tasks l.nodes.items l.progress
+invariant-loop-at l = record {
+  noted : AreNoted l.records l.at l.family.tasks l.nodes.items l.progress;
+  met : AreMet l.records l.at l.family.tasks l.teams.teams l.meetings.items;
+}

@@ -1,6 +1,6 @@
-use Rattle.std.proofs.Common.{◌∙◌, get_or, Some, sym, ap, arith}
+use Rattle.std.proofs.Common.{◌∙◌, Some, sym, ap}
 use Rattle.std.proofs.lemmas.Bool.{false≢true}
-use Rattle.std.proofs.lemmas.Option.{same_Some, slice_get-get_or}
+use Rattle.std.proofs.lemmas.Option.{same_Some}
 use Rattle.std.specs.Prelude.{slice_get}
 use Rattle.ompt_events.specs.Records.{region}
 use Rattle.ompt_events.specs.Places.{at}
@@ -42,7 +42,6 @@ returns c =
     let rs = c.args.records.now in
     let i = c.args.at in
     let tasks = c.args.family.now.tasks in
-    let nodes = c.args.nodes.now in
     let meetings = c.args.meetings.now.items in
     let known = c.begins_barrier.ensures.0 c.if-not-begins_barrier.false in
     let task = known.0 in
@@ -50,9 +49,6 @@ returns c =
     let own = call_same tasks (at subject rs i) c.subject.result c.in-Some.index task (c.subject.ensures rs c.requires.family) c.in-Some.is (begun_subject rs i task begun) in
     let in_team = c.team.ensures ∙ ap Some c.in-Some-team.is in
     let row = read_at meetings c.in-Some-team.team c.index_mut.result.now (c.requires.met.within c.in-Some.index c.in-Some-team.team in_team) c.index_mut.ensures.value in
-    let count = c.requires.nodes.count in
-    let within = c.requires.within in
-    let node = slice_get-get_or nodes i c.index-nodes-at.result (omega (arith, count, within)) in
-    let families = (c.requires.nodes.marks i (get_or nodes i c.index-nodes-at.result) node).meets task begun in
+    let families = c.requires.limit task begun in
     let begins = c.requires.teams.numbers.each i c.number.result c.number.ensures task begun in
-    if_ok-map (λ done raised. met_more rs i c.in-Some.index task c.in-Some-team.team c.number.result (get_or nodes i c.index-nodes-at.result).limit tasks c.args.teams.now.teams meetings c.index_mut.result.now _ c.requires.family.makers.apart c.requires.met own in_team row begins families raised) c.raise.result c.raise.ensures
+    if_ok-map (λ done raised. met_more rs i c.in-Some.index task c.in-Some-team.team c.number.result c.args.limit tasks c.args.teams.now.teams meetings c.index_mut.result.now _ c.requires.family.makers.apart c.requires.met own in_team row begins families raised) c.raise.result c.raise.ensures
