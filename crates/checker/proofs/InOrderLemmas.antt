@@ -1,8 +1,8 @@
 -- From the records so far in the order of the ledger to the causes that this excludes.
-use Rattle.std.proofs.Common.{◌≡◌, ◌∙◌, ℕ, ◌<◌, ◌≤◌, ◌+◌, Bool, true, false, cond, List, length, get_or, take, Option, Some, None, refl, sym, ap, subst, arith, inl, inr, ◌⊎◌}
+use Rattle.std.proofs.Common.{◌≡◌, ◌∙◌, ℕ, ◌<◌, ◌≤◌, ◌+◌, Bool, true, false, cond, List, length, get_or, take, Option, Some, None, refl, sym, ap, subst, arith, inl, inr}
 use Rattle.std.specs.Prelude.{◌↔◌, is_some, slice_get, option_and_then}
 use Rattle.std.proofs.lemmas.Bool.{false≢true, cases_eq, cases_lt}
-use Rattle.std.proofs.lemmas.Option.{none-some, same_Some, slice_get_within, slice_get-get_or}
+use Rattle.std.proofs.lemmas.Option.{none-some, same_Some, slice_get-get_or}
 use Rattle.std.proofs.lemmas.List.{take-take}
 use Rattle.std.proofs.lemmas.List.Sums.{sum_by-take-le, count_by_more_yes, count_by_more_no}
 use Rattle.ompt_events.specs.declared.records.Record.{Record}
@@ -13,7 +13,7 @@ use Rattle.ompt_events.specs.HappensBefore.{IsFinishing}
 use Rattle.ompt_events.specs.Causes.{RepeatsEntry, IsAhead, entry, ledger_length, entries_in, IsFreeOf}
 use Rattle.ompt_events.proofs.PlaceLemmas.{seen_within}
 use Rattle.checker.specs.Merge.{Awaits}
-use Rattle.checker.specs.InOrder.{entries_before, FitsBehind, AreInOrder}
+use Rattle.checker.specs.InOrder.{entries_before, FitsBehind}
 use Rattle.checker.proofs.RepeatLemmas.{finishing_within, free_of_repeats, free_of_ahead}
 
 -- ---- how many entries there are before a record

@@ -13,7 +13,7 @@ use Rattle.ompt_events.specs.Places.{seen_at}
 use Rattle.ompt_events.specs.Causes.{entries_in, ledger_length, length_ahead, IsFreeOf}
 use Rattle.ompt_events.proofs.PlaceLemmas.{at_within}
 use Rattle.checker.specs.Merge.{HaveCreations, creation_of, length_of}
-use Rattle.checker.specs.Lists.{AreLists, IsNextWith, IsRising}
+use Rattle.checker.specs.Lists.{AreLists, IsRising}
 
 -- behind the last place there is none
 pub lists_start : (key : ℕ → Option ℕ) (n keys : ℕ) → AreLists key n n (replicate keys n) (replicate n n)

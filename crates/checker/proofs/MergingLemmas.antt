@@ -1,5 +1,5 @@
 -- The merge of the threads, one record on.
-use Rattle.std.proofs.Common.{zero, suc, ◌≡◌, ◌≢◌, ◌∙◌, ℕ, ◌<◌, ◌≤◌, ◌+◌, List, [], ◌∷◌, ◌++◌, length, get_or, Option, Some, None, Bool, true, false, refl, sym, ap, subst, arith, inl, inr, ◌⊎◌}
+use Rattle.std.proofs.Common.{zero, suc, ◌≡◌, ◌≢◌, ◌∙◌, ℕ, ◌<◌, ◌≤◌, ◌+◌, List, [], ◌∷◌, ◌++◌, length, get_or, Some, Bool, true, false, refl, sym, ap, subst, arith, inl, inr, ◌⊎◌}
 use Rattle.std.proofs.lemmas.Bool.{cases_eq, cases_lt, false≢true}
 use Rattle.std.proofs.lemmas.Option.{same_Some, slice_get-get_or, slice_get_within}
 use Rattle.std.proofs.lemmas.List.{length-set, length-replicate, get_or-set_same, get_or-set_other, get_or-replicate, get_or_default, get_or-take, length-take, append-nil}
@@ -9,18 +9,17 @@ use Rattle.std.specs.List.Sorted.{IsPermutation}
 use Rattle.std.specs.List.{remove}
 use Rattle.ompt_events.proofs.PlaceLemmas.{contains_place, nothing_left}
 use Rattle.std.proofs.Math.ListN.{set}
-use Rattle.std.specs.Prelude.{IfSome, slice_get, slice_index, Contains, ⊤, replicate, sum_by}
+use Rattle.std.specs.Prelude.{slice_get, slice_index, Contains, ⊤, replicate, sum_by}
 use Rattle.std.proofs.lemmas.List.Sums.{sum_by-set}
 use Rattle.ompt_events.specs.declared.records.Record.{Record}
-use Rattle.ompt_events.specs.Places.{places, thread_at, seen_at}
-use Rattle.ompt_events.specs.HappensBefore.{thread_order, creation, discard, fulfilment, IsStep, program, ledger, step}
+use Rattle.ompt_events.specs.Places.{places, thread_at}
+use Rattle.ompt_events.specs.HappensBefore.{step}
 use Rattle.ompt_events.specs.declared.cause.Cause.TheVariants.{NoOrder}
 use Rattle.ompt_events.specs.Causes.{HasCause, no_order, HasNoOrder, IsFirstWith}
 use Rattle.ompt_events.specs.Linearization.{IsDue, IsReady, IsFirstReady, IsGreedy, IsGrounded, IsLinearization}
-use Rattle.checker.specs.Merge.{HaveCreations, StartsOrFulfils, IsLow, AreClosed, Stands, MayFollow, AreHeads}
+use Rattle.checker.specs.Merge.{AreClosed, Stands, MayFollow, AreHeads}
 use Rattle.checker.specs.Lists.{AreLists, IsNextWith}
-use Rattle.checker.proofs.ScheduleLemmas.{step_awaits}
-use Rattle.checker.proofs.MergeLemmas.{stands_same, stands_or_not, is_head}
+use Rattle.checker.proofs.MergeLemmas.{stands_or_not, is_head}
 use Rattle.ompt_events.proofs.LinearizationLemmas.{IsClosed, due_from_steps, closed_more, greedy_more, greedy_grounded, grounded_rising}
 use Rattle.ompt_events.proofs.HappensBeforeLemmas.{before_to, before_from}
 

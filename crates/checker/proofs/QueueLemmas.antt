@@ -1,5 +1,5 @@
 -- A heap of places with the least on top.
-use Rattle.std.proofs.Common.{◌≡◌, ℕ, ◌≤◌, List, [], ◌∷◌, All}
+use Rattle.std.proofs.Common.{ℕ, ◌≤◌, List, [], ◌∷◌, All}
 use Rattle.std.proofs.lemmas.List.Elements.{All-nil, All-cons, All-contains}
 use Rattle.std.proofs.lemmas.Map.Keys.{ge_from_not_lt}
 use Rattle.std.specs.Prelude.{Contains}

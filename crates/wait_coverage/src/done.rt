@@ -6,6 +6,7 @@ ghost use Rattle.task_tree.specs.Lineage.{parent_index};
 ghost use Rattle.wait_coverage.specs.Done.{AreOwn, AreFamilies, AreDone, IsParentsFirst, raised, AreRaised};
 
 use crate::lengths::find_lengths;
+use crate::order::parents_first;
 use ompt_events::Record;
 use std::alloc::{AllocError, Global};
 use task_tree::Family;
@@ -19,19 +20,18 @@ pub(crate) struct Done {
     pub(crate) families: Vec<u64>,
 }
 
-/// From which ledger lengths on the tasks are finished. The order has each task behind its parent.
+/// From which ledger lengths on the tasks are finished.
 pub(crate) fn find_done(
     alloc: Global,
     records: &[Record],
     family: &Family,
-    order: &[usize],
 ) -> Result<Done, AllocError>
-    requires family { IsFamilyOf records.now family.now }
-    requires order { IsParentsFirst family.now order.now }
+    requires { IsFamilyOf records.now family.now }
     ensures { IfOk result (AreDone records.now family.now.tasks) }
 {
     let own = find_own(alloc, records, family)?;
-    let families = find_families(alloc, records, family, own.as_slice(), order)?;
+    let order = parents_first(alloc, family)?;
+    let families = find_families(alloc, records, family, own.as_slice(), order.as_slice())?;
     Ok(Done { own, families })
 }
 

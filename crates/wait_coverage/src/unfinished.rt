@@ -53,8 +53,7 @@ pub fn find_known(
     requires teams { IsTeamsOf records.now family.now.tasks teams.now }
     ensures { IfOk result (IsKnown records.now family.now) }
 {
-    let order = parents_first(alloc, family)?;
-    let done = find_done(alloc, records, family, order.as_slice())?;
+    let done = find_done(alloc, records, family)?;
     let noted = find_limits(alloc, records, family, states, teams, &done)?;
     let Noted {
         mut nodes,

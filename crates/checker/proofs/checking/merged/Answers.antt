@@ -1,4 +1,4 @@
-use Rattle.std.proofs.Common.{ℕ, ◌≡◌, refl, arith}
+use Rattle.std.proofs.Common.{refl, arith}
 use Rattle.ompt_events.specs.declared.cause.Cause.TheVariants.{LengthAhead, NoOrder}
 use Rattle.checker.proofs.PhaseLemmas.{least_more, clear_more, only_least, only_clear}
 use Rattle.checker.proofs.ScheduleLemmas.{trace_apart}

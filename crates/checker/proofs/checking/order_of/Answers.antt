@@ -1,4 +1,4 @@
-use Rattle.std.proofs.Common.{ℕ, ◌≡◌, ◌<◌, [], ◌∷◌}
+use Rattle.std.proofs.Common.{ℕ, ◌<◌, [], ◌∷◌}
 use Rattle.ompt_events.specs.declared.cause.Cause.TheVariants.{EntryTwice, LengthAhead, LengthBack, NoOrder}
 use Rattle.ompt_events.specs.HappensBefore.{IsStep}
 use Rattle.checker.proofs.PhaseLemmas.{clear_more, one_clear, only_clear}

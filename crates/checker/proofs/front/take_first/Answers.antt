@@ -1,6 +1,6 @@
-use Rattle.std.proofs.Common.{◌≡◌, ◌∙◌, ◌∷◌, length, sym, arith}
+use Rattle.std.proofs.Common.{◌∙◌, sym}
 use Rattle.std.proofs.lemmas.Bool.{false≢true}
-use Rattle.checker.proofs.FrontLemmas.{ready_less, ready_taken, none_ready_here, one_less}
+use Rattle.checker.proofs.FrontLemmas.{ready_less, ready_taken, one_less}
 use Rattle.checker.proofs.front.take_first.Goals as goal
 
 pub returns-then-not-stands-clause-taken : goal.returns-then-not-stands-clause-taken

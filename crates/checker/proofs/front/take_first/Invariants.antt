@@ -1,4 +1,4 @@
-use Rattle.std.proofs.Common.{ℕ, List, length}
+use Rattle.std.proofs.Common.{List, length}
 use Rattle.ompt_events.specs.declared.records.Record.{Record}
 use Rattle.checker.specs.Merge.{AreOffered}
 use Rattle.checker.proofs.front.take_first.Given as goal

@@ -1,4 +1,4 @@
-use Rattle.std.proofs.Common.{◌≡◌, ◌∙◌, ℕ, ◌<◌, ◌≤◌, List, length, Some, refl, sym, ap, arith, below_more}
+use Rattle.std.proofs.Common.{◌≡◌, ◌∙◌, ℕ, ◌≤◌, List, length, Some, refl, sym, ap, arith, below_more}
 use Rattle.ompt_events.specs.declared.records.Record.{Record}
 use Rattle.ompt_events.specs.Places.{thread_at, seen_at}
 use Rattle.ompt_events.proofs.PlaceLemmas.{at_within, read_get, thread_read, seen_read}
@@ -52,8 +52,8 @@ returns-clause-steps c = λ _.
     let rs = c.args.records.now in
     let fit = all_fit rs c.loop-at.at c.loop-at.entries c.loop-at.known (omega arith) c.loop-at.invariant in
     steps_less rs c.requires.apart
-        (λ i place waits. c.loop-at.invariant.created i place (let within = at_within awaited rs i waits.0 waits.1 in omega (arith, within)) waits)
-        (fit_entered rs fit)
+    (λ i place waits. c.loop-at.invariant.created i place (let within = at_within awaited rs i waits.0 waits.1 in omega (arith, within)) waits)
+    (fit_entered rs fit)
 
 pub returns-clause-once : goal.returns-clause-once
 returns-clause-once c = λ _. fit_once c.args.records.now (all_fit c.args.records.now c.loop-at.at c.loop-at.entries c.loop-at.known (omega arith) c.loop-at.invariant)

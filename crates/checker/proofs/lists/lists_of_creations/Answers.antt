@@ -1,4 +1,4 @@
-use Rattle.std.proofs.Common.{◌≡◌, ◌∙◌, ◌<◌, ◌+◌, ◌-◌, ℕ, Option, None, Some, length, refl, sym, ap, arith}
+use Rattle.std.proofs.Common.{◌≡◌, ◌∙◌, ◌+◌, ◌-◌, Some, length, sym, arith}
 use Rattle.checker.specs.Merge.{creation_of}
 use Rattle.checker.proofs.ListsLemmas.{lists_other, creation_read, creation_within, no_some}
 use Rattle.checker.proofs.lists.lists_of_creations.Goals as goal

@@ -1,4 +1,4 @@
-use Rattle.std.proofs.Common.{◌≡◌, ◌∙◌, ◌<◌, ◌+◌, ◌-◌, ℕ, Some, length, sym, ap, arith}
+use Rattle.std.proofs.Common.{◌≡◌, ◌∙◌, ◌+◌, ◌-◌, Some, length, ap, arith}
 use Rattle.std.specs.Prelude.{option_map}
 use Rattle.ompt_events.specs.declared.records.Record.{Record}
 use Rattle.ompt_events.proofs.PlaceLemmas.{read_get}

@@ -1,7 +1,6 @@
-use Rattle.std.proofs.Common.{◌≡◌, ◌∙◌, ◌<◌, ◌+◌, ◌-◌, ℕ, Some, length, sym, ap, arith}
+use Rattle.std.proofs.Common.{◌≡◌, ◌∙◌, ◌+◌, ◌-◌, Some, length, sym, ap, arith}
 use Rattle.ompt_events.specs.Places.{thread_at}
 use Rattle.ompt_events.proofs.PlaceLemmas.{thread_read}
-use Rattle.checker.specs.Lists.{AreLists}
 use Rattle.checker.proofs.lists.lists_of_threads.Goals as goal
 
 pub loop-step-init : goal.loop-step-init

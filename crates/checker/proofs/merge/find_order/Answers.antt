@@ -4,7 +4,7 @@ use Rattle.std.proofs.lemmas.List.{get_or_default, get_or-set_same, length-set}
 use Rattle.std.specs.Prelude.{slice_index}
 use Rattle.ompt_events.specs.Places.{thread_at}
 use Rattle.checker.specs.Lists.{IsNextWith}
-use Rattle.checker.specs.Merge.{Stands, IsUnplaced, IsLow, IsFront, IsTaken, MayFollow}
+use Rattle.checker.specs.Merge.{Stands, IsUnplaced, IsFront, IsTaken, MayFollow}
 use Rattle.ompt_events.proofs.PlaceLemmas.{thread_read}
 use Rattle.checker.proofs.MakerLemmas.{low_reached}
 use Rattle.checker.proofs.MergingLemmas.{IsMerging, merging_start, merging_more, missing_less, passed_more, first_unordered, all_ordered, stands_ordered, unordered_within}

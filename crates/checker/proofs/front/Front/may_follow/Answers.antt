@@ -1,4 +1,4 @@
-use Rattle.std.proofs.Common.{◌≡◌, ◌∙◌, sym}
+use Rattle.std.proofs.Common.{◌∙◌, sym}
 use Rattle.std.proofs.lemmas.Bool.{false≢true}
 use Rattle.checker.proofs.MergeLemmas.{thread_of, is_head}
 use Rattle.checker.proofs.FrontLemmas.{follows, passes}

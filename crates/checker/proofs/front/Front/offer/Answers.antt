@@ -1,4 +1,4 @@
-use Rattle.checker.proofs.FrontLemmas.{more_put, more_refl, has_put}
+use Rattle.checker.proofs.FrontLemmas.{more_put, has_put}
 use Rattle.checker.proofs.front.Front.offer.Goals as goal
 
 pub returns-in_ok-put-clause-more : goal.returns-in_ok-put-clause-more

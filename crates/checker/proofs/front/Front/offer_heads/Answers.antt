@@ -1,6 +1,6 @@
 use Rattle.std.proofs.Common.{ℕ, arith, subst}
 use Rattle.std.specs.Prelude.{Contains}
-use Rattle.checker.proofs.FrontLemmas.{head_of, more_then, more_refl}
+use Rattle.checker.proofs.FrontLemmas.{head_of}
 use Rattle.checker.proofs.front.Front.offer_heads.Goals as goal
 
 pub returns-clause-all : goal.returns-clause-all

@@ -1,8 +1,7 @@
-use Rattle.std.proofs.Common.{◌≡◌, ◌∙◌, ◌<◌, ℕ, sym, subst, arith, inl, inr}
+use Rattle.std.proofs.Common.{◌≡◌, ◌∙◌, ℕ, sym, subst, arith, inl, inr}
 use Rattle.std.proofs.lemmas.Bool.{cases_eq, cases_lt}
 use Rattle.std.proofs.lemmas.List.{get_or_default}
 use Rattle.std.specs.Prelude.{Contains, slice_index}
-use Rattle.checker.specs.Merge.{MayFollow}
 use Rattle.checker.proofs.FrontLemmas.{more_then, more_refl}
 use Rattle.checker.proofs.front.Front.offer_list.Goals as goal
 

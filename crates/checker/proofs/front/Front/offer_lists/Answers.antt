@@ -1,6 +1,6 @@
-use Rattle.std.proofs.Common.{◌≡◌, ◌∙◌, Some, ap, arith, inl, inr}
+use Rattle.std.proofs.Common.{◌∙◌, Some, ap, arith, inl, inr}
 use Rattle.std.proofs.lemmas.Bool.{cases_lt}
-use Rattle.checker.proofs.FrontLemmas.{more_then, more_refl}
+use Rattle.checker.proofs.FrontLemmas.{more_then}
 use Rattle.checker.proofs.front.Front.offer_lists.Goals as goal
 
 pub loop-key-preserved : goal.loop-key-preserved

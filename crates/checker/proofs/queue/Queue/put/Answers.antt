@@ -1,4 +1,3 @@
-use Rattle.std.proofs.Common.{◌∷◌}
 use Rattle.std.proofs.lemmas.List.Sorted.{IsPermutation-map}
 use Rattle.checker.proofs.queue.Queue.put.Goals as goal
 
