@@ -8,34 +8,34 @@ use Rattle.std.specs.Ordering.{nat_cmp}
 use Rattle.std.specs.BTreeMap.{BTreeMap, get, Updates}
 use Rattle.ompt_events.proofs.ListLemmas.{get_pushed, get_last, pushed_cases, get_contains, contains_get}
 use Rattle.ompt_events.proofs.NumberMaps.{updated_here, updated_there}
-use Rattle.task_tree.specs.declared.ranking.Entry.{Entry}
-use Rattle.task_tree.specs.Ranking.{IsRanked, HasNoEntry}
+use Rattle.task_tree.specs.Ranking.{IsRanked, IsUnranked}
 use Rattle.task_tree.specs.Numbering.{AreIndices, AreApart}
-use Rattle.task_tree.proofs.RankingLemmas.{ranked_apart}
+use Rattle.task_tree.proofs.RankingLemmas.{ranked_apart, order_kept}
 
 -- before the first id
-pub indices_none : (ids : List ℕ) (ranked : List Entry) (indices : BTreeMap ℕ ℕ) → ids ≡ [] → ranked ≡ [] → ((id : ℕ) → get nat_cmp indices id ≡ None) → AreIndices ids ranked indices
-indices_none ids ranked indices empty unranked none = record {
+pub indices_none : (ids order : List ℕ) (indices : BTreeMap ℕ ℕ) → ids ≡ [] → order ≡ [] → ((id : ℕ) → get nat_cmp indices id ≡ None) → AreIndices ids order indices
+indices_none ids order indices empty unranked none = record {
   apart = λ a b id is. absurd (none-some id (sym (ap (λ l. slice_get l a) empty) ∙ is));
-  rising = λ a b first second less within is. absurd (none-some first (sym (ap (λ l. slice_get l a) unranked) ∙ is));
-  ranked_right = λ entry has. absurd (let P : List Entry → Type 0 = λ l. Contains l entry in let nothing = subst P unranked has in let low = nothing.1 in omega arith);
+  ranked = record {
+    within = λ rank inside. absurd (let nothing = ap length unranked in omega (arith, inside, nothing));
+    rising = λ a b less inside. absurd (let nothing = ap length unranked in omega (arith, inside, nothing));
+  };
   noted_right = λ id index found. absurd (none-some index (sym (none id) ∙ found));
   all = λ index id is. absurd (none-some id (sym (ap (λ l. slice_get l index) empty) ∙ is));
 }
 
 -- ids that were ranked at once
-pub indices_ranked : (ids : List ℕ) (ranked : List Entry) (indices : BTreeMap ℕ ℕ) → IsRanked ids ranked → ((id : ℕ) → get nat_cmp indices id ≡ None) → AreIndices ids ranked indices
-indices_ranked ids ranked indices are none = record {
-  apart = ranked_apart ids ranked are;
-  rising = are.rising;
-  ranked_right = are.entries.only;
+pub indices_ranked : (ids order : List ℕ) (indices : BTreeMap ℕ ℕ) → IsRanked ids order → ((id : ℕ) → get nat_cmp indices id ≡ None) → AreIndices ids order indices
+indices_ranked ids order indices are none = record {
+  apart = ranked_apart ids order are;
+  ranked = are.known;
   noted_right = λ id index found. absurd (none-some index (sym (none id) ∙ found));
-  all = λ index id is. inr (are.entries.all index id (slice_get_within ids index id is) is);
+  all = λ index id is. inr (are.all index (slice_get_within ids index id is));
 }
 
 -- one more id stands under the next index
-pub indices_more : (ids : List ℕ) (ranked : List Entry) (old new : BTreeMap ℕ ℕ) (id : ℕ) → AreIndices ids ranked old → (Contains ids id → ⊥) → Updates nat_cmp old new id (Some (length ids)) → AreIndices (ids ++ id ∷ []) ranked new
-indices_more ids ranked old new id are fresh updates = record {
+pub indices_more : (ids order : List ℕ) (old new : BTreeMap ℕ ℕ) (id : ℕ) → AreIndices ids order old → (Contains ids id → ⊥) → Updates nat_cmp old new id (Some (length ids)) → AreIndices (ids ++ id ∷ []) order new
+indices_more ids order old new id are fresh updates = record {
   apart = λ a b other at_a at_b. elim (pushed_cases ids id other a at_a) [
     | inl before_a ↦ elim (pushed_cases ids id other b at_b) [
       | inl before_b ↦ are.apart a b other before_a before_b
@@ -46,8 +46,7 @@ indices_more ids ranked old new id are fresh updates = record {
       | inr last_b ↦ last_a.0 ∙ sym last_b.0
     ]
   ];
-  rising = are.rising;
-  ranked_right = λ entry has. get_pushed ids id entry.id entry.index (are.ranked_right entry has);
+  ranked = order_kept ids order id are.ranked;
   noted_right = λ other index found. elim (cases_eq other id) [
     | inl same ↦
         let last : length ids ≡ index = same_Some (length ids) index (sym here ∙ ap (get nat_cmp new) (sym same) ∙ found) in
@@ -67,12 +66,12 @@ indices_more ids ranked old new id are fresh updates = record {
     here = updated_here old new id (Some (length ids)) updates
 
 -- a search that fails among the ranked ids goes on among the others
-pub search_on : (ids : List ℕ) (ranked : List Entry) (indices : BTreeMap ℕ ℕ) (id : ℕ) (found : Option ℕ) → AreIndices ids ranked indices → HasNoEntry ranked id → found ≡ get nat_cmp indices id → (index : ℕ) → (found ≡ Some index) ↔ (slice_get ids index ≡ Some id)
-search_on ids ranked indices id found are none is index = (
+pub search_on : (ids order : List ℕ) (indices : BTreeMap ℕ ℕ) (id : ℕ) (found : Option ℕ) → AreIndices ids order indices → IsUnranked ids order id → found ≡ get nat_cmp indices id → (index : ℕ) → (found ≡ Some index) ↔ (slice_get ids index ≡ Some id)
+search_on ids order indices id found are none is index = (
   λ says. are.noted_right id index (sym is ∙ says),
   λ stands. elim (are.all index id stands) [
     | inl noted ↦ is ∙ noted
-    | inr has ↦ let there = contains_get ranked (record { index = index; id = id }) has in absurd (none there.0 (record { index = index; id = id }) there.1 refl)
+    | inr has ↦ absurd (none index has stands)
   ],
 )
 

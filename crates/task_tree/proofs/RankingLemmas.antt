@@ -1,130 +1,161 @@
 -- How ids are put in the order of their values and found there.
-use Rattle.std.proofs.Common.{◌≡◌, ◌≢◌, ◌∙◌, ℕ, ◌<◌, ◌≤◌, ◌+◌, ◌-◌, List, [], ◌∷◌, ◌++◌, length, get_or, Some, sym, ap, subst, arith, inl, inr}
+use Rattle.std.proofs.Common.{◌≡◌, ◌≢◌, ◌∙◌, ℕ, zero, suc, ◌<◌, ◌≤◌, ◌+◌, ◌-◌, List, [], ◌∷◌, ◌++◌, length, Some, sym, ap, subst, arith, inl, inr}
 use Rattle.std.proofs.lemmas.Bool.{cases_eq, cases_order}
 use Rattle.std.proofs.lemmas.Option.{same_Some, slice_get_within, slice_get-get_or}
-use Rattle.std.proofs.lemmas.List.Elements.{Contains-push, Contains-push_cases, Contains-append_left}
+use Rattle.std.proofs.lemmas.List.FromFn.{length-range_with_len, get_or-range_with_len}
 use Rattle.std.proofs.lemmas.List.Sorted.{Contains-permutation, IsPermutation-sym}
-use Rattle.std.specs.List.Sorted.{IsPermutation}
-use Rattle.std.specs.Prelude.{slice_get, Contains}
-use Rattle.ompt_events.proofs.ListLemmas.{contains_get}
-use Rattle.task_tree.specs.declared.ranking.Entry.{Entry}
+use Rattle.std.proofs.lemmas.List.{get_or_append_left, length_push}
+use Rattle.std.specs.List.{range_with_len}
+use Rattle.std.specs.Prelude.{slice_get, slice_index, Contains, IsPermutation}
 use Rattle.task_tree.specs.Numbering.{AreApart}
-use Rattle.task_tree.specs.Ranking.{AreEntries, IsRising, IsRanked, HasNoEntry}
+use Rattle.task_tree.specs.Ranking.{AreWithin, ranked_id, IsRising, IsOrder, IsRanked, IsUnranked}
 
-pub entries_none : (ids : List ℕ) (ranked : List Entry) → ranked ≡ [] → AreEntries ids 0 ranked
-entries_none ids ranked empty = record {
-  all = λ index id low. absurd (omega arith);
-  only = λ entry has. absurd (let P : List Entry → Type 0 = λ l. Contains l entry in let none = subst P empty has in let low = none.1 in omega arith);
+-- ---- the orders that are tried
+
+-- one number more
+range_longer : (a n : ℕ) → range_with_len a n ++ (a + n) ∷ [] ≡ range_with_len a (n + 1)
+range_longer a zero = let e : a + 0 ≡ a = omega arith in ap (λ x. x ∷ []) e
+range_longer a (suc n) = let e : a + suc n ≡ a + 1 + n = omega arith in let f : suc n + 1 ≡ suc (n + 1) = omega arith in rw (e, f) (ap (λ l. a ∷ l) (range_longer (a + 1) n))
+
+pub range_more : (n : ℕ) → range_with_len 0 n ++ n ∷ [] ≡ range_with_len 0 (n + 1)
+range_more n = let e : n ≡ 0 + n = omega arith in ap (λ k. range_with_len 0 n ++ k ∷ []) e ∙ range_longer 0 n
+
+-- the indices below n are the numbers below n
+in_range : (n index : ℕ) → index < n → Contains (range_with_len 0 n) index
+in_range n index low = let e : 0 + index ≡ index = omega arith in (index, rw (length-range_with_len 0 n) low, get_or-range_with_len 0 n index index low ∙ e)
+
+below_range : (n index : ℕ) → Contains (range_with_len 0 n) index → index < n
+below_range n index (k, inside, is) =
+    let low : k < n = rw (length-range_with_len 0 n) at inside in
+    let same = get_or-range_with_len 0 n k index low in
+    omega (arith, low, same, is)
+
+pub range_read : (n rank : ℕ) → rank < n → rank ≡ slice_index (range_with_len 0 n) rank
+range_read n rank low = let same = get_or-range_with_len 0 n rank 0 low in omega (arith, same)
+
+pub range_within : (ids : List ℕ) → AreWithin ids (range_with_len 0 (length ids))
+range_within ids rank inside =
+    let low : rank < length ids = rw (length-range_with_len 0 (length ids)) at inside in
+    let same = get_or-range_with_len 0 (length ids) rank 0 low in
+    omega (arith, low, same)
+
+pub permutation_within : (ids order : List ℕ) → IsPermutation (range_with_len 0 (length ids)) order → AreWithin ids order
+permutation_within ids order moved rank inside =
+    let has : Contains order (slice_index order rank) = (rank, inside, same_Some _ _ (sym (slice_get-get_or order rank (slice_index order rank) inside) ∙ slice_get-get_or order rank 0 inside)) in
+    below_range (length ids) (slice_index order rank) (Contains-permutation order (range_with_len 0 (length ids)) (slice_index order rank) (IsPermutation-sym (range_with_len 0 (length ids)) order moved) has)
+
+pub range_ranked : (ids : List ℕ) → IsRising ids (range_with_len 0 (length ids)) (length (range_with_len 0 (length ids))) → IsRanked ids (range_with_len 0 (length ids))
+range_ranked ids rising = record {
+  known = record { within = range_within ids; rising = rising };
+  all = λ index low. in_range (length ids) index low;
 }
 
-pub entries_more : (ids : List ℕ) (n id : ℕ) (ranked : List Entry) → AreEntries ids n ranked → slice_get ids n ≡ Some id → AreEntries ids (n + 1) (ranked ++ record { index = n; id = id } ∷ [])
-entries_more ids n id ranked are here = record {
-  all = λ index other low is. elim (cases_eq index n) [
-    | inl same ↦
-        let same_id : id ≡ other = same_Some id other (sym here ∙ ap (slice_get ids) (sym same) ∙ is) in
-        let P : Entry → Type 0 = Contains (ranked ++ record { index = n; id = id } ∷ []) in
-        let f : ℕ → Entry = λ i. record { index = i; id = id } in
-        let g : ℕ → Entry = λ d. record { index = index; id = d } in
-        subst P (ap f (sym same) ∙ ap g same_id) (Contains-push ranked (record { index = n; id = id }))
-    | inr apart ↦ Contains-append_left ranked (record { index = n; id = id } ∷ []) (record { index = index; id = other }) (are.all index other (omega arith) is)
-  ];
-  only = λ entry has. elim (Contains-push_cases ranked (record { index = n; id = id }) entry has) [
-    | inl before ↦ are.only entry before
-    | inr last ↦ let P : Entry → Type 0 = λ e. slice_get ids e.index ≡ Some e.id in subst P last here
-  ];
+pub permutation_ranked : (ids order : List ℕ) → IsPermutation (range_with_len 0 (length ids)) order → IsRising ids order (length order) → IsRanked ids order
+permutation_ranked ids order moved rising = record {
+  known = record { within = permutation_within ids order moved; rising = rising };
+  all = λ index low. Contains-permutation (range_with_len 0 (length ids)) order index moved (in_range (length ids) index low);
 }
 
--- in another order they are the same
-pub entries_moved : (ids : List ℕ) (n : ℕ) (old new : List Entry) → AreEntries ids n old → IsPermutation old new → AreEntries ids n new
-entries_moved ids n old new are moved = record {
-  all = λ index id low is. Contains-permutation old new (record { index = index; id = id }) moved (are.all index id low is);
-  only = λ entry has. are.only entry (Contains-permutation new old entry (IsPermutation-sym old new moved) has);
-}
-
--- one entry more is greater than the last, and so than all before it
-pub rising_more : (ranked : List Entry) (n : ℕ) → IsRising ranked n → ((first second : Entry) → 0 < n → slice_get ranked (n - 1) ≡ Some first → slice_get ranked n ≡ Some second → first.id < second.id) → IsRising ranked (n + 1)
-rising_more ranked n rising last a b first second less low at_a at_b = elim (cases_eq b n) [
-  | inr apart ↦ rising a b first second less (omega arith) at_a at_b
+-- one id more is greater than the last, and so than all before it
+pub rising_more : (ids order : List ℕ) (n : ℕ) → IsRising ids order n → (0 < n → ranked_id ids order (n - 1) < ranked_id ids order n) → IsRising ids order (n + 1)
+rising_more ids order n rising last a b less low = elim (cases_eq b n) [
+  | inr apart ↦ rising a b less (omega (arith, low, apart))
   | inl same ↦
-      let here : slice_get ranked n ≡ Some second = ap (slice_get ranked) (sym same) ∙ at_b in
-      elim (cases_eq a (n - 1)) [
-        | inl next ↦ last first second (omega (arith, less, same)) (ap (slice_get ranked) (sym next) ∙ at_a) here
-        | inr further ↦
-            let within = slice_get_within ranked b second at_b in
-            let middle : slice_get ranked (n - 1) ≡ Some (get_or ranked (n - 1) first) = slice_get-get_or ranked (n - 1) first (omega (arith, within, same)) in
-            let below = rising a (n - 1) first (get_or ranked (n - 1) first) (omega (arith, less, same, further)) (omega (arith, less, same)) at_a middle in
-            let above = last (get_or ranked (n - 1) first) second (omega (arith, less, same)) middle here in
-            omega (arith, below, above)
-      ]
+      let next = last (omega (arith, less, same)) in
+      let P : ℕ → Type 0 = λ k. ranked_id ids order a < ranked_id ids order k in
+      subst P (sym same) (elim (cases_eq a (n - 1)) [
+        | inl before ↦ let Q : ℕ → Type 0 = λ k. ranked_id ids order k < ranked_id ids order n in subst Q (sym before) next
+        | inr further ↦ let below = rising a (n - 1) (omega (arith, less, same, further)) (omega (arith, less, same)) in omega (arith, below, next)
+      ])
 ]
 
+-- ---- an order of ids that are added to
+
+-- the id at the index of a rank
+at_rank : (ids order : List ℕ) (index id rank : ℕ) → slice_index order rank ≡ index → slice_get ids index ≡ Some id → ranked_id ids order rank ≡ id
+at_rank ids order index id rank here is = ap (slice_index ids) here ∙ same_Some (slice_index ids index) id (sym (slice_get-get_or ids index 0 (slice_get_within ids index id is)) ∙ is)
+
+-- the rank of an index
+rank_of : (order : List ℕ) (index : ℕ) → Contains order index → (rank : ℕ) × (rank < length order) × (slice_index order rank ≡ index)
+rank_of order index (rank, inside, is) = (rank, inside, same_Some _ _ (sym (slice_get-get_or order rank 0 inside) ∙ slice_get-get_or order rank index inside) ∙ is)
+
 -- an id that is ranked stands at one index
-pub ranked_apart : (ids : List ℕ) (ranked : List Entry) → IsRanked ids ranked → AreApart ids
-ranked_apart ids ranked are a b id at_a at_b =
-    let first = contains_get ranked (record { index = a; id = id }) (are.entries.all a id (slice_get_within ids a id at_a) at_a) in
-    let second = contains_get ranked (record { index = b; id = id }) (are.entries.all b id (slice_get_within ids b id at_b) at_b) in
+pub ranked_apart : (ids order : List ℕ) → IsRanked ids order → AreApart ids
+ranked_apart ids order are a b id at_a at_b =
+    let first = rank_of order a (are.all a (slice_get_within ids a id at_a)) in
+    let second = rank_of order b (are.all b (slice_get_within ids b id at_b)) in
+    let id_a = at_rank ids order a id first.0 first.2 at_a in
+    let id_b = at_rank ids order b id second.0 second.2 at_b in
     elim (cases_order first.0 second.0) [
-      | inl same ↦ ap (λ (e : Entry). e.index) (same_Some (record { index = a; id = id }) (record { index = b; id = id }) (sym first.1 ∙ ap (slice_get ranked) same ∙ second.1))
-      | inr (inl less) ↦ absurd (let low = are.rising first.0 second.0 (record { index = a; id = id }) (record { index = b; id = id }) less (slice_get_within ranked second.0 (record { index = b; id = id }) second.1) first.1 second.1 in omega (arith, low))
-      | inr (inr more) ↦ absurd (let low = are.rising second.0 first.0 (record { index = b; id = id }) (record { index = a; id = id }) more (slice_get_within ranked first.0 (record { index = a; id = id }) first.1) second.1 first.1 in omega (arith, low))
+      | inl same ↦ sym first.2 ∙ ap (slice_index order) same ∙ second.2
+      | inr (inl less) ↦ absurd (let low = are.known.rising first.0 second.0 less second.1 in omega (arith, low, id_a, id_b))
+      | inr (inr more) ↦ absurd (let low = are.known.rising second.0 first.0 more first.1 in omega (arith, low, id_a, id_b))
     ]
+
+-- ids that are added do not change the order of the others
+pub order_kept : (ids order : List ℕ) (id : ℕ) → IsOrder ids order → IsOrder (ids ++ id ∷ []) order
+order_kept ids order id are = record {
+  within = λ rank inside. let low = are.within rank inside in let longer = length_push ids id in omega (arith, low, longer);
+  rising = λ a b less inside. rw (same a (omega (arith, less, inside)), same b inside) (are.rising a b less inside);
+}
+  where
+    same : (rank : ℕ) → rank < length order → ranked_id (ids ++ id ∷ []) order rank ≡ ranked_id ids order rank
+    same rank inside = get_or_append_left ids (id ∷ []) 0 (slice_index order rank) (are.within rank inside)
 
 -- ---- the search
 
--- what is known of the id's place
-pub record IsBetween (ranked : List Entry) (id low high : ℕ) : Type 0 where
-  pub order : low ≤ high
-  pub within : high ≤ length ranked
-  pub below : (k : ℕ) (entry : Entry) → k < low → slice_get ranked k ≡ Some entry → entry.id < id
-  pub above : (k : ℕ) (entry : Entry) → high ≤ k → slice_get ranked k ≡ Some entry → id ≤ entry.id
+-- what is known of the id's rank
+pub record IsBetween (ids order : List ℕ) (id low high : ℕ) : Type 0 where
+  pub ordered : low ≤ high
+  pub within : high ≤ length order
+  pub below : (k : ℕ) → k < low → ranked_id ids order k < id
+  pub above : (k : ℕ) → high ≤ k → k < length order → id ≤ ranked_id ids order k
 
-pub between_start : (ranked : List Entry) (id : ℕ) → IsBetween ranked id 0 (length ranked)
-between_start ranked id = record {
-  order = omega arith;
+pub between_start : (ids order : List ℕ) (id : ℕ) → IsBetween ids order id 0 (length order)
+between_start ids order id = record {
+  ordered = omega arith;
   within = omega arith;
-  below = λ k entry low. absurd (omega arith);
-  above = λ k entry past is. absurd (let inside = slice_get_within ranked k entry is in omega (arith, inside, past));
+  below = λ k low. absurd (omega (arith, low));
+  above = λ k past inside. absurd (omega (arith, inside, past));
 }
 
-pub between_above : (ranked : List Entry) (id low high middle : ℕ) (entry : Entry) → IsRising ranked (length ranked) → IsBetween ranked id low high → low ≤ middle → middle < high → slice_get ranked middle ≡ Some entry → entry.id < id → IsBetween ranked id (middle + 1) high
-between_above ranked id low high middle entry rising are from_low to_high is less = record {
-  order = omega arith;
-  within = are.within;
-  below = λ k other before at_k. elim (cases_eq k middle) [
-    | inl same ↦
-        let same_entry : entry ≡ other = same_Some entry other (sym is ∙ ap (slice_get ranked) (sym same) ∙ at_k) in
-        let P : Entry → Type 0 = λ e. e.id < id in subst P same_entry less
+pub between_above : (ids order : List ℕ) (id low high middle : ℕ) → IsOrder ids order → IsBetween ids order id low high → low ≤ middle → middle < high → ranked_id ids order middle < id → IsBetween ids order id (middle + 1) high
+between_above ids order id low high middle are between from_low to_high less = record {
+  ordered = omega (arith, to_high);
+  within = between.within;
+  below = λ k before. elim (cases_eq k middle) [
+    | inl same ↦ let P : ℕ → Type 0 = λ r. ranked_id ids order r < id in subst P (sym same) less
     | inr apart ↦
-        let lower = rising k middle other entry (omega arith) (slice_get_within ranked middle entry is) at_k is in
+        let lower = are.rising k middle (omega (arith, before, apart)) (let all = between.within in omega (arith, all, to_high)) in
         omega (arith, lower, less)
   ];
-  above = are.above;
+  above = between.above;
 }
 
-pub between_below : (ranked : List Entry) (id low high middle : ℕ) (entry : Entry) → IsRising ranked (length ranked) → IsBetween ranked id low high → low ≤ middle → middle < high → slice_get ranked middle ≡ Some entry → id ≤ entry.id → IsBetween ranked id low middle
-between_below ranked id low high middle entry rising are from_low to_high is more = record {
-  order = from_low;
-  within = let all = are.within in omega (arith, all);
-  below = are.below;
-  above = λ k other past at_k. elim (cases_eq k middle) [
-    | inl same ↦
-        let same_entry : entry ≡ other = same_Some entry other (sym is ∙ ap (slice_get ranked) (sym same) ∙ at_k) in
-        let P : Entry → Type 0 = λ e. id ≤ e.id in subst P same_entry more
+pub between_below : (ids order : List ℕ) (id low high middle : ℕ) → IsOrder ids order → IsBetween ids order id low high → low ≤ middle → middle < high → id ≤ ranked_id ids order middle → IsBetween ids order id low middle
+between_below ids order id low high middle are between from_low to_high more = record {
+  ordered = from_low;
+  within = let all = between.within in omega (arith, all, to_high);
+  below = between.below;
+  above = λ k past inside. elim (cases_eq k middle) [
+    | inl same ↦ let P : ℕ → Type 0 = λ r. id ≤ ranked_id ids order r in subst P (sym same) more
     | inr apart ↦
-        let higher = rising middle k entry other (omega arith) (slice_get_within ranked k other at_k) is at_k in
+        let higher = are.rising middle k (omega (arith, past, apart)) inside in
         omega (arith, higher, more)
   ];
 }
 
 -- the end of the search: all below are less, and the one there is another
-pub not_there : (ranked : List Entry) (id low : ℕ) → IsRising ranked (length ranked) → IsBetween ranked id low low → ((entry : Entry) → slice_get ranked low ≡ Some entry → entry.id ≢ id) → HasNoEntry ranked id
-not_there ranked id low rising are other k entry at_k is = elim (cases_order k low) [
-  | inl same ↦ other entry (ap (slice_get ranked) (sym same) ∙ at_k) is
-  | inr (inl less) ↦ let lower = are.below k entry less at_k in absurd (omega (arith, lower, is))
-  | inr (inr more) ↦
-      let inside = slice_get_within ranked k entry at_k in
-      let here : slice_get ranked low ≡ Some (get_or ranked low entry) = slice_get-get_or ranked low entry (omega (arith, inside, more)) in
-      let lower = are.above low (get_or ranked low entry) (omega arith) here in
-      let higher = rising low k (get_or ranked low entry) entry more inside here at_k in
-      absurd (omega (arith, lower, higher, is))
-]
+pub not_there : (ids order : List ℕ) (id low : ℕ) → IsOrder ids order → IsBetween ids order id low low → (low < length order → ranked_id ids order low ≢ id) → IsUnranked ids order id
+not_there ids order id low are between other index has is =
+    let place = rank_of order index has in
+    let same_id = at_rank ids order index id place.0 place.2 is in
+    elim (cases_order place.0 low) [
+      | inl same ↦ other (let inside = place.1 in omega (arith, inside, same)) (ap (ranked_id ids order) (sym same) ∙ same_id)
+      | inr (inl less) ↦ let lower = between.below place.0 less in omega (arith, lower, same_id)
+      | inr (inr more) ↦
+          let inside = place.1 in
+          let lower = between.above low (omega arith) (omega (arith, inside, more)) in
+          let higher = are.rising low place.0 more inside in
+          omega (arith, lower, higher, same_id)
+    ]

@@ -1,22 +1,20 @@
 -- A list of ids, each once, with the index of each.
-use Rattle.std.specs.Prelude.{ℕ, ◌≡◌, ◌⊎◌, ◌++◌, ◌∷◌, [], List, length, Option, Some, None, Bool, true, false, Contains, slice_get}
+use Rattle.std.specs.Prelude.{ℕ, ◌≡◌, ◌⊎◌, ◌++◌, ◌∷◌, [], List, Option, Some, None, Bool, true, false, Contains, slice_get}
 use Rattle.std.specs.Ordering.{nat_cmp}
 use Rattle.std.specs.BTreeMap.{BTreeMap, get}
-use Rattle.task_tree.specs.declared.ranking.Entry.{Entry}
-use Rattle.task_tree.specs.Ranking.{IsRising, HasEntry}
+use Rattle.task_tree.specs.Ranking.{IsOrder}
 
 -- no id stands at two indices
 abbrev pub AreApart : List ℕ → Type 0
 AreApart ids = (a b id : ℕ) → slice_get ids a ≡ Some id → slice_get ids b ≡ Some id → a ≡ b
 
 -- each id stands once and has its index, among those that were ranked or under the id
-pub record AreIndices (ids : List ℕ) (ranked : List Entry) (indices : BTreeMap ℕ ℕ) : Type 0 where
+pub record AreIndices (ids order : List ℕ) (indices : BTreeMap ℕ ℕ) : Type 0 where
   pub apart : AreApart ids
-  pub rising : IsRising ranked (length ranked)
-  pub ranked_right : (entry : Entry) → Contains ranked entry → slice_get ids entry.index ≡ Some entry.id
+  pub ranked : IsOrder ids order
   pub noted_right : (id index : ℕ) → get nat_cmp indices id ≡ Some index → slice_get ids index ≡ Some id
   pub all : (index id : ℕ) → slice_get ids index ≡ Some id
-      → (get nat_cmp indices id ≡ Some index) ⊎ HasEntry ranked id index
+      → (get nat_cmp indices id ≡ Some index) ⊎ Contains order index
 
 -- the new list has the id that was found, if one was; and whether the old one had it
 abbrev pub IsNoted : List ℕ → List ℕ → Option ℕ → Bool → Type 0

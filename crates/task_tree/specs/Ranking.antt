@@ -1,28 +1,36 @@
 -- Ids in the order of their values.
-use Rattle.std.specs.Prelude.{ℕ, ◌≡◌, ◌<◌, List, length, Some, Contains, slice_get}
-use Rattle.task_tree.specs.declared.ranking.Entry.{Entry}
+use Rattle.std.specs.Prelude.{ℕ, ◌≡◌, ◌<◌, List, length, Some, Contains, slice_get, slice_index}
+use Rattle.std.specs.List.{range_with_len}
+use Rattle.task_tree.specs.declared.ranking.Ranks.{Ranks}
+use Rattle.task_tree.specs.declared.ranking.Ranks.TheVariants.{Rising, Listed}
 
--- the first n ids, each with its index
-pub record AreEntries (ids : List ℕ) (n : ℕ) (ranked : List Entry) : Type 0 where
-  pub all : (index id : ℕ) → index < n → slice_get ids index ≡ Some id
-      → Contains ranked (record { index = index; id = id })
-  pub only : (entry : Entry) → Contains ranked entry → slice_get ids entry.index ≡ Some entry.id
+-- by rank the index of the id
+abbrev pub order_of : Ranks → List ℕ
+order_of (Rising ids) = range_with_len 0 ids
+order_of (Listed order) = order.items
 
--- of the first n entries each is greater than those before it
-abbrev pub IsRising : List Entry → ℕ → Type 0
-IsRising ranked n =
-    (a b : ℕ) (first second : Entry) → a < b → b < n → slice_get ranked a ≡ Some first
-    → slice_get ranked b ≡ Some second → first.id < second.id
+-- each index is that of an id
+abbrev pub AreWithin : List ℕ → List ℕ → Type 0
+AreWithin ids order = (rank : ℕ) → rank < length order → slice_index order rank < length ids
 
--- all ids in the order of their values, none of them twice
-pub record IsRanked (ids : List ℕ) (ranked : List Entry) : Type 0 where
-  pub entries : AreEntries ids (length ids) ranked
-  pub rising : IsRising ranked (length ranked)
+-- the id of this rank
+abbrev pub ranked_id : List ℕ → List ℕ → ℕ → ℕ
+ranked_id ids order rank = slice_index ids (slice_index order rank)
 
--- the id has this index
-abbrev pub HasEntry : List Entry → ℕ → ℕ → Type 0
-HasEntry ranked id index = Contains ranked (record { index = index; id = id })
+-- of the first n ids in this order each is greater than those before it
+abbrev pub IsRising : List ℕ → List ℕ → ℕ → Type 0
+IsRising ids order n = (a b : ℕ) → a < b → b < n → ranked_id ids order a < ranked_id ids order b
 
--- the id is not among them
-abbrev pub HasNoEntry : List Entry → ℕ → Type 0
-HasNoEntry ranked id = (k : ℕ) (entry : Entry) → slice_get ranked k ≡ Some entry → entry.id ≡ id → ⊥
+-- some of the ids are in the order of their values
+pub record IsOrder (ids order : List ℕ) : Type 0 where
+  pub within : AreWithin ids order
+  pub rising : IsRising ids order (length order)
+
+-- all of them are, and none stands there twice
+pub record IsRanked (ids order : List ℕ) : Type 0 where
+  pub known : IsOrder ids order
+  pub all : (index : ℕ) → index < length ids → Contains order index
+
+-- the id is not among those that are ranked
+abbrev pub IsUnranked : List ℕ → List ℕ → ℕ → Type 0
+IsUnranked ids order id = (index : ℕ) → Contains order index → slice_get ids index ≡ Some id → ⊥

@@ -2,7 +2,7 @@
 ghost use Rattle.std.specs.Prelude.{◌≡◌, ◌↔◌, ◌++◌, ◌∷◌, Some, [], ℕ, slice_get, Contains, IsTrue, IfOk, IfSome, OnOk, ◌≤◌, ◌^◌, length};
 ghost use Rattle.task_tree.specs.Numbering.{AreApart, IsNoted};
 
-use crate::ranking::{Entry, rank, search};
+use crate::ranking::{Ranks, rank, search};
 use std::alloc::{AllocError, Global};
 use std::collections::BTreeMap;
 use std::marker::Model;
@@ -12,8 +12,8 @@ use std::marker::Model;
 #[derive(Debug, Drop)]
 pub struct Numbering {
     ids: Vec<u64>,
-    /// The ids that were there from the start, in the order of their values.
-    ranked: Vec<Entry>,
+    /// The order of the ids that were there from the start.
+    ranks: Ranks,
     /// The index of each id that was noted since.
     indices: BTreeMap<u64, usize>,
 }
@@ -21,13 +21,14 @@ pub struct Numbering {
 impl Model for Numbering {
     ghost use Rattle.std.specs.Prelude.{List, ℕ};
     ghost use Rattle.task_tree.specs.Numbering.{AreIndices};
+    ghost use Rattle.task_tree.specs.Ranking.{order_of};
 
     ghost Value = { List ℕ };
 
     ghost view = { λ numbering. numbering.ids.items };
 
     ghost invariant = { λ numbering.
-        AreIndices numbering.ids.items numbering.ranked.items numbering.indices };
+        AreIndices numbering.ids.items (order_of numbering.ranks) numbering.indices };
 }
 
 impl Numbering {
@@ -37,7 +38,7 @@ impl Numbering {
     {
         Numbering {
             ids: Vec::new(alloc),
-            ranked: Vec::new(alloc),
+            ranks: Ranks::Rising(0),
             indices: BTreeMap::new(alloc),
         }
     }
@@ -49,9 +50,9 @@ impl Numbering {
         ensures apart { IfOk result (λ found. IfSome found (λ _. AreApart ids.items)) }
     {
         match rank(alloc, ids.as_slice())? {
-            Some(ranked) => Ok(Some(Numbering {
+            Some(ranks) => Ok(Some(Numbering {
                 ids,
-                ranked,
+                ranks,
                 indices: BTreeMap::new(alloc),
             })),
             None => Ok(None),
@@ -80,7 +81,7 @@ impl Numbering {
     pub fn index_of(&self, id: u64) -> Option<usize>
         ensures { (index : ℕ) → (result ≡ Some index) ↔ (slice_get self.now index ≡ Some id) }
     {
-        match search(&self.ranked, id) {
+        match search(self.ids.as_slice(), &self.ranks, id) {
             Some(index) => Some(index),
             None => self.indices.get(&id).copied(),
         }

@@ -1,106 +1,134 @@
-//! Ids in the order of their values, each with its index, and a search in them.
-ghost use Rattle.std.specs.Prelude.{ℕ, ◌≡◌, ◌≤◌, ◌^◌, Some, None, IfOk, IfSome, OnOk, IsTrue, MatchOption, length, slice_get};
-ghost use Rattle.task_tree.specs.Ranking.{AreEntries, IsRising, IsRanked, HasEntry, HasNoEntry};
+//! The order of ids by their values, and a search in it.
+ghost use Rattle.std.specs.Prelude.{ℕ, ◌≡◌, ◌<◌, ◌≤◌, ◌^◌, Some, IfOk, IfSome, IsTrue, IsPermutation, MatchOption, length, slice_get, slice_index};
+ghost use Rattle.std.specs.List.{range_with_len};
+ghost use Rattle.task_tree.specs.Ranking.{order_of, AreWithin, IsRising, IsOrder, IsRanked, IsUnranked};
 
 use std::alloc::{AllocError, Global};
 
-/// An id and its index in the list of ids.
-#[derive(Clone, Copy, Debug, PartialEq, Eq)]
-pub(crate) struct Entry {
-    pub(crate) index: u32,
-    pub(crate) id: u64,
+/// The indices of ids in the order of the ids' values. The rank of an id is its place in that order.
+#[derive(Debug, Drop)]
+pub(crate) enum Ranks {
+    /// So many ids stand in that order already.
+    Rising(usize),
+    /// By rank the index of the id.
+    Listed(Vec<u32>),
 }
 
-/// The ids in the order of their values; none where an id stands there twice.
-pub(crate) fn rank(alloc: Global, ids: &[u64]) -> Result<Option<Vec<Entry>>, AllocError>
-    requires few { length ids.now ≤ 2 ^ 22 }
-    ensures { IfOk result (λ found. IfSome found (λ ranked. IsRanked ids.now ranked.items)) }
-{
-    let mut ranked = entries(alloc, ids)?;
-    if is_rising(&ranked) {
-        return Ok(Some(ranked));
+impl Ranks {
+    /// How many ids are ranked.
+    #[inline]
+    fn len(&self) -> usize
+        ensures { result ≡ length (order_of self.now) }
+    {
+        match self {
+            Ranks::Rising(ids) => *ids,
+            Ranks::Listed(order) => order.len(),
+        }
     }
-    ranked.sort_by_key(|entry| entry.id)?;
-    if is_rising(&ranked) {
-        return Ok(Some(ranked));
+
+    /// The index of the id that has this rank.
+    #[inline]
+    fn index_at(&self, rank: usize) -> usize
+        requires { rank < length (order_of self.now) }
+        ensures { result ≡ slice_index (order_of self.now) rank }
+    {
+        match self {
+            Ranks::Rising(_) => rank,
+            Ranks::Listed(order) => order[rank] as usize,
+        }
+    }
+}
+
+/// The order of the ids by their values; none where an id stands there twice. Takes no memory where the ids
+/// stand in that order already.
+pub(crate) fn rank(alloc: Global, ids: &[u64]) -> Result<Option<Ranks>, AllocError>
+    requires few { length ids.now ≤ 2 ^ 22 }
+    ensures { IfOk result (λ found. IfSome found (λ ranks. IsRanked ids.now (order_of ranks))) }
+{
+    let standing = Ranks::Rising(ids.len());
+    if is_rising(ids, &standing) {
+        return Ok(Some(standing));
+    }
+    let sorted = Ranks::Listed(sort(alloc, ids)?);
+    if is_rising(ids, &sorted) {
+        return Ok(Some(sorted));
     }
     Ok(None)
 }
 
-/// The ids as they stand, each with its index.
-fn entries(alloc: Global, ids: &[u64]) -> Result<Vec<Entry>, AllocError>
+/// The indices of the ids, sorted by the ids.
+fn sort(alloc: Global, ids: &[u64]) -> Result<Vec<u32>, AllocError>
     requires few { length ids.now ≤ 2 ^ 22 }
-    ensures { IfOk result (λ found. AreEntries ids.now (length ids.now) found.items) }
+    ensures { IfOk result (λ order. IsPermutation (range_with_len 0 (length ids.now)) order.items) }
 {
-    let mut ranked = Vec::with_capacity(alloc, ids.len())?;
-    for at in 0..ids.len() {
-        ranked.push(Entry {
-            index: at as u32,
-            id: ids[at],
-        })?;
+    let mut order = Vec::with_capacity(alloc, ids.len())?;
+    for index in 0..ids.len() {
+        order.push(index as u32)?;
     }
-    Ok(ranked)
+    order.sort_by_key(|index| ids.get(*index as usize).copied())?;
+    Ok(order)
 }
 
-/// Whether each id is greater than the one before it.
-fn is_rising(ranked: &[Entry]) -> bool
-    ensures { IsTrue result → IsRising ranked.now (length ranked.now) }
+/// Whether each id in this order is greater than the one before it.
+fn is_rising(ids: &[u64], ranks: &Ranks) -> bool
+    requires { AreWithin ids.now (order_of ranks.now) }
+    ensures { IsTrue result → IsRising ids.now (order_of ranks.now) (length (order_of ranks.now)) }
 {
-    for at in 0..ranked.len() {
-        if at > 0 {
-            if ranked[at - 1].id >= ranked[at].id {
-                return false;
-            }
+    for rank in 1..ranks.len() {
+        if ids[ranks.index_at(rank - 1)] >= ids[ranks.index_at(rank)] {
+            return false;
         }
     }
     true
 }
 
-/// The index of the id.
-pub(crate) fn search(ranked: &[Entry], id: u64) -> Option<usize>
-    requires { IsRising ranked.now (length ranked.now) }
-    ensures { MatchOption result (HasNoEntry ranked.now id) (HasEntry ranked.now id) }
+/// The index of the id, if it is ranked.
+pub(crate) fn search(ids: &[u64], ranks: &Ranks, id: u64) -> Option<usize>
+    requires { IsOrder ids.now (order_of ranks.now) }
+    ensures { MatchOption result (IsUnranked ids.now (order_of ranks.now) id) (λ index. slice_get ids.now index ≡ Some id) }
 {
-    match guess(ranked, id) {
+    match guess(ids, ranks, id) {
         Some(index) => Some(index),
-        None => bisect(ranked, id),
+        None => bisect(ids, ranks, id),
     }
 }
 
 /// The index of the id, where the ids below it have no gap: runtimes often count their tasks.
-fn guess(ranked: &[Entry], id: u64) -> Option<usize>
-    ensures { IfSome result (HasEntry ranked.now id) }
+fn guess(ids: &[u64], ranks: &Ranks, id: u64) -> Option<usize>
+    requires { AreWithin ids.now (order_of ranks.now) }
+    ensures { IfSome result (λ index. slice_get ids.now index ≡ Some id) }
 {
-    // An id below the first one wraps to a place far behind the last.
-    let place = id.wrapping_sub(ranked.first()?.id) as usize;
-    if place >= ranked.len() {
+    if ranks.len() == 0 {
         return None;
     }
-    if ranked[place].id == id {
-        Some(ranked[place].index as usize)
-    } else {
-        None
+    // An id below the first one wraps to a rank far behind the last.
+    let rank = id.wrapping_sub(ids[ranks.index_at(0)]) as usize;
+    if rank >= ranks.len() {
+        return None;
     }
+    let index = ranks.index_at(rank);
+    if ids[index] == id { Some(index) } else { None }
 }
 
 /// The index of the id, by halves.
-fn bisect(ranked: &[Entry], id: u64) -> Option<usize>
-    requires { IsRising ranked.now (length ranked.now) }
-    ensures { MatchOption result (HasNoEntry ranked.now id) (HasEntry ranked.now id) }
+fn bisect(ids: &[u64], ranks: &Ranks, id: u64) -> Option<usize>
+    requires { IsOrder ids.now (order_of ranks.now) }
+    ensures { MatchOption result (IsUnranked ids.now (order_of ranks.now) id) (λ index. slice_get ids.now index ≡ Some id) }
 {
     let mut low = 0;
-    let mut high = ranked.len();
+    let mut high = ranks.len();
     while low < high {
         let middle = low + (high - low) / 2;
-        if ranked[middle].id < id {
+        if ids[ranks.index_at(middle)] < id {
             low = middle + 1;
         } else {
             high = middle;
         }
     }
-    if low < ranked.len() {
-        if ranked[low].id == id {
-            return Some(ranked[low].index as usize);
+    if low < ranks.len() {
+        let found = ranks.index_at(low);
+        if ids[found] == id {
+            return Some(found);
         }
     }
     None
