@@ -19,6 +19,11 @@ use Rattle.task_tree.specs.Makers.{AreNoted}
 use Rattle.task_tree.specs.Roots.{StandsAt, AreRoots, Reaches, known, new, Spreads, none, more, missing, IsReach, IsSeeded}
 use Rattle.task_tree.proofs.LinkLemmas.{get_set_same, get_set_other}
 
+-- before any is known all are missing
+missing_none : (n : ℕ) → missing (replicate n None) ≡ n
+missing_none zero = refl
+missing_none (suc n) = ap suc (missing_none n)
+
 -- one root more is known
 missing_set : (roots : List (Option Standing)) (index : ℕ) (task : Standing) → index < length roots → get_or roots index None ≡ None → missing (set roots index (Some task)) + 1 ≡ missing roots
 missing_set [] index task within is = absurd (omega arith)
@@ -85,6 +90,7 @@ reach_is rs tasks task r roots order roots_now order_now are stands deep (new in
         let P : Reached → Type 0 = λ e. slice_get (set roots index (Some r)) e.index ≡ Some (Some e.standing) in
         subst P last (get_set_same roots index (Some r) within)
   ];
+  total = (reach_keeps tasks task r roots order (set roots index (Some r)) (order ++ record { index = index; standing = r } ∷ []) (new index is only no_root)).total ∙ are.total;
   shallow = λ k entry has. elim (pushed_cases order (record { index = index; standing = r }) entry k has) [
     | inl before ↦ are.shallow k entry before
     | inr last ↦ let P : Reached → Type 0 = λ e. e.standing.depth ≤ k in subst P last.1 (let at_end = last.0 in omega (arith, deep, at_end))
@@ -143,6 +149,7 @@ reach_start rs tasks roots order is empty = record {
   all = ap length is ∙ length-replicate (length tasks) nothing;
   sound = λ index task r is_task has. absurd (no_root index r has);
   listed = λ index r has. absurd (no_root index r has);
+  total = let no_order = ap length empty in let none_known = ap missing is in let each = missing_none (length tasks) in omega (arith, no_order, none_known, each);
   shallow = λ k entry has. absurd (none-some entry (ap (λ l. slice_get l k) (sym empty) ∙ has));
   known = λ entry has. absurd (let P : List Reached → Type 0 = λ l. Contains l entry in let here : Contains [] entry = subst P empty has in let low = here.1 in omega arith);
 }

@@ -1,5 +1,5 @@
 -- The root of each task, by index of the task, while the tree is gone down from its roots.
-use Rattle.std.specs.Prelude.{◌≤◌, ℕ, zero, suc, ◌≡◌, ◌<◌, ◌++◌, ◌∷◌, [], List, length, Option, Some, None, Contains, slice_get, slice_set}
+use Rattle.std.specs.Prelude.{◌≤◌, ◌+◌, ℕ, zero, suc, ◌≡◌, ◌<◌, ◌++◌, ◌∷◌, [], List, length, Option, Some, None, Contains, slice_get, slice_set}
 use Rattle.ompt_events.specs.declared.records.Record.{Record}
 use Rattle.ompt_events.specs.Records.{begun_root}
 use Rattle.ompt_events.specs.Places.{at}
@@ -58,6 +58,7 @@ pub record IsReach (rs : List Record) (tasks : List ℕ) (roots : List (Option S
       → Contains order (record { index = index; standing = standing })
   pub known : (entry : Reached) → Contains order entry → slice_get roots entry.index ≡ Some
       (Some entry.standing)
+  pub total : missing roots + length order ≡ length tasks
   -- a task is reached behind all above it
   pub shallow : (k : ℕ) (entry : Reached) → slice_get order k ≡ Some entry → entry.standing.depth ≤ k
 

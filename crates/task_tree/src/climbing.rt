@@ -20,7 +20,7 @@ impl Family {
         if standing.root != root {
             return false;
         }
-        if standing.depth != path.len() {
+        if standing.depth as usize != path.len() {
             return false;
         }
         self.climbs(index, path)

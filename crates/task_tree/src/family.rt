@@ -17,6 +17,7 @@ use crate::rootless::find_rootless;
 use crate::roots::{Standing, find_roots};
 use crate::rows::Rows;
 use crate::slot::Slot;
+use crate::standing_slot::StandingSlot;
 use ompt_events::{Cause, Record, Trace};
 use std::alloc::Global;
 use std::marker::Model;
@@ -31,7 +32,7 @@ pub struct Family {
     objects: Vec<Slot>,
     rows: Rows,
     links: Vec<Option<Link>>,
-    roots: Vec<Option<Standing>>,
+    roots: Vec<StandingSlot>,
 }
 
 impl Model for Family {
@@ -237,7 +238,7 @@ impl Family {
             ↔ (slice_get self.now.roots index ≡ Some (Some standing)) }
     {
         if index < self.roots.len() {
-            self.roots[index]
+            self.roots[index].get()
         } else {
             None
         }

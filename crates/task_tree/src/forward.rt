@@ -9,6 +9,7 @@ ghost use Rattle.task_tree.specs.Forward.{AreStanding, StandsBelow, IsStood};
 
 use crate::links::Link;
 use crate::roots::Standing;
+use crate::standing_slot::StandingSlot;
 use ompt_events::Record;
 use std::alloc::{AllocError, Global};
 
@@ -19,7 +20,7 @@ pub(crate) fn find_forward(
     tasks: &[u64],
     places: &[u32],
     links: &[Option<Link>],
-) -> Result<Option<Vec<Option<Standing>>>, AllocError>
+) -> Result<Option<Vec<StandingSlot>>, AllocError>
     requires places { AreMade records.now (length records.now) tasks.now places.now }
     requires links { AreLinks records.now (length records.now) tasks.now links.now }
     requires few { length records.now ≤ 2 ^ 22 }
@@ -31,7 +32,7 @@ pub(crate) fn find_forward(
         let Some(standing) = found else {
             return Ok(None);
         };
-        roots.push(Some(standing))?;
+        roots.push(StandingSlot::some(standing))?;
     }
     Ok(Some(roots))
 }
@@ -42,7 +43,7 @@ fn standing_at(
     tasks: &[u64],
     places: &[u32],
     links: &[Option<Link>],
-    roots: &[Option<Standing>],
+    roots: &[StandingSlot],
     index: usize,
 ) -> Option<Standing>
     requires within { index < length tasks.now }
@@ -60,11 +61,11 @@ fn standing_at(
 }
 
 /// One step below the task at this index, where it is known where that stands.
-fn below(roots: &[Option<Standing>], parent: usize) -> Option<Standing>
+fn below(roots: &[StandingSlot], parent: usize) -> Option<Standing>
     requires { (above : Standing) → slice_get roots.now parent ≡ Some (Some above) → above.depth < 2 ^ 22 }
     ensures { IfSome result (StandsBelow roots.now parent) }
 {
-    let above = (*roots.get(parent)?)?;
+    let above = roots.get(parent)?.get()?;
     Some(Standing {
         depth: above.depth + 1,
         root: above.root,

@@ -4,8 +4,8 @@
 //! that no later phase searches for a task again; `Tree` has the paths too. Read `family` and `tree` for
 //! what a caller sees, then `makers`, `children` (after `links`, `subjects` and `rows`), `roots` (after
 //! `forward`) and `rootless`, the steps of a build. `numbering` is the list of ids that they share
-//! (`ranking` searches it), `slot` an index or none in 32 bits, and `hints` says where a task is looked for
-//! first.
+//! (`ranking` searches it), `slot` an index or none in 32 bits, `standing_slot` where a task stands or
+//! nothing, and `hints` says where a task is looked for first.
 #![tactic(auto)]
 
 mod children;
@@ -24,6 +24,7 @@ mod rootless;
 mod roots;
 mod rows;
 mod slot;
+mod standing_slot;
 mod subjects;
 mod tree;
 

@@ -20,7 +20,7 @@ impl Family {
         ensures { result ≡ depth_in self.now index }
     {
         match self.standing_at(index) {
-            Some(standing) => standing.depth,
+            Some(standing) => standing.depth as usize,
             None => 0,
         }
     }

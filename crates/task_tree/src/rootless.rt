@@ -8,10 +8,11 @@ ghost use Rattle.task_tree.specs.Numbering.{AreApart};
 ghost use Rattle.task_tree.specs.Roots.{AreRoots};
 ghost use Rattle.task_tree.specs.Subjects.{subject, object, Finds, AreFound};
 ghost use Rattle.task_tree.specs.Rootless.{AreKnown, AreRootsMade, NamesNoRegion, IsRootless};
+ghost use Rattle.task_tree.specs.declared.roots.Standing.{Standing};
 
 use crate::numbering::Numbering;
-use crate::roots::Standing;
 use crate::slot::Slot;
+use crate::standing_slot::StandingSlot;
 use crate::subjects::Subjects;
 use ompt_events::{Body, Claim, Record};
 
@@ -22,7 +23,7 @@ pub(crate) fn find_rootless(
     tasks: &Numbering,
     named: &Subjects,
     regions: &Numbering,
-    roots: &[Option<Standing>],
+    roots: &[StandingSlot],
 ) -> Option<usize>
     requires apart { AreApart tasks.now }
     requires tasks { AreNoted made records.now (length records.now) tasks.now }
@@ -42,7 +43,7 @@ pub(crate) fn find_rootless(
 }
 
 /// Whether the root of each task is known.
-fn are_known(roots: &[Option<Standing>]) -> bool
+fn are_known(roots: &[StandingSlot]) -> bool
     ensures { IsTrue result → (index : ℕ) → slice_get roots.now index ≡ Some None → ⊥ }
 {
     for root in roots {
@@ -59,7 +60,7 @@ fn first_rootless(
     tasks: &Numbering,
     named: &Subjects,
     regions: &Numbering,
-    roots: &[Option<Standing>],
+    roots: &[StandingSlot],
 ) -> Option<usize>
     requires apart { AreApart tasks.now }
     requires tasks { AreNoted made records.now (length records.now) tasks.now }
@@ -93,7 +94,7 @@ fn is_rootless(
     second: Slot,
     tasks: &Numbering,
     regions: &Numbering,
-    roots: &[Option<Standing>],
+    roots: &[StandingSlot],
 ) -> bool
     requires apart { AreApart tasks.now }
     requires all { length roots.now ≡ length tasks.now }
@@ -123,7 +124,7 @@ fn is_rootless(
 }
 
 /// Whether no root of the task is known.
-fn has_no_root(task: Slot, roots: &[Option<Standing>]) -> bool
+fn has_no_root(task: Slot, roots: &[StandingSlot]) -> bool
     requires { IfSome task (λ index. index < length roots.now) }
     ensures { IsTrue result ↔ ((index : ℕ) → task ≡ Some index → slice_get roots.now index ≡ Some None) }
 {
@@ -138,7 +139,7 @@ fn claims_unmade(
     share: &Option<Claim>,
     task: Slot,
     tasks: &Numbering,
-    roots: &[Option<Standing>],
+    roots: &[StandingSlot],
 ) -> bool
     requires { AreRootsMade tasks.now roots.now }
     ensures { IsTrue result ↔ IsSomeAnd share.now (λ claim. Contains tasks.now claim.root → ⊥) }
@@ -150,13 +151,15 @@ fn claims_unmade(
 }
 
 /// Whether the task is known to stand below this root, as a right claim says.
-fn is_root_of(root: u64, task: Slot, roots: &[Option<Standing>]) -> bool
+fn is_root_of(root: u64, task: Slot, roots: &[StandingSlot]) -> bool
     ensures { IsTrue result → (index : ℕ) × (standing : Standing)
         × (slice_get roots.now index ≡ Some (Some standing)) × (standing.root ≡ root) }
 {
     match task.get() {
         Some(index) if index < roots.len() => {
-            roots[index].is_some_and(|standing| standing.root == root)
+            roots[index]
+                .get()
+                .is_some_and(|standing| standing.root == root)
         }
         _ => false,
     }

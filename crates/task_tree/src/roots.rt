@@ -10,13 +10,14 @@ use crate::forward::find_forward;
 use crate::links::Link;
 use crate::numbering::Numbering;
 use crate::rows::Rows;
+use crate::standing_slot::StandingSlot;
 use ompt_events::Record;
 use std::alloc::{AllocError, Global};
 
 /// Where a task stands: its root, and how many steps below it.
 #[derive(Clone, Copy, Debug, PartialEq, Eq)]
 pub(crate) struct Standing {
-    pub(crate) depth: usize,
+    pub(crate) depth: u32,
     pub(crate) root: u64,
 }
 
@@ -36,7 +37,7 @@ pub(crate) fn find_roots(
     places: &[u32],
     links: &[Option<Link>],
     rows: &Rows,
-) -> Result<Vec<Option<Standing>>, AllocError>
+) -> Result<Vec<StandingSlot>, AllocError>
     requires noted { AreNoted made records.now (length records.now) tasks.now }
     requires places { AreMade records.now (length records.now) tasks.now places.now }
     requires links { AreLinks records.now (length records.now) tasks.now links.now }
@@ -56,9 +57,10 @@ fn find_downward(
     records: &[Record],
     tasks: &Numbering,
     rows: &Rows,
-) -> Result<Vec<Option<Standing>>, AllocError>
+) -> Result<Vec<StandingSlot>, AllocError>
     requires noted { AreNoted made records.now (length records.now) tasks.now }
     requires rows { AreChildren records.now tasks.now rows.now }
+    requires few { length tasks.now ≤ 2 ^ 22 }
     ensures { IfOk result (λ roots. AreRoots records.now tasks.now roots.items) }
 {
     let mut roots = no_roots(alloc, tasks.as_slice().len())?;
@@ -79,17 +81,17 @@ fn find_downward(
 }
 
 /// No root for any task.
-fn no_roots(alloc: Global, tasks: usize) -> Result<Vec<Option<Standing>>, AllocError>
+fn no_roots(alloc: Global, tasks: usize) -> Result<Vec<StandingSlot>, AllocError>
     ensures { IfOk result (λ roots. roots.items ≡ replicate tasks None) }
 {
-    vec![in alloc; None; tasks]
+    vec![in alloc; StandingSlot::none(); tasks]
 }
 
 /// Reaches the roots themselves.
 fn reach_roots(
     records: &[Record],
     tasks: &Numbering,
-    roots: &mut Vec<Option<Standing>>,
+    roots: &mut Vec<StandingSlot>,
     order: &mut Vec<Reached>,
 ) -> Result<(), AllocError>
     requires roots { roots.old.items ≡ replicate (length tasks.now) None }
@@ -111,7 +113,7 @@ fn reach_children(
     tasks: &Numbering,
     children: &[u64],
     standing: Standing,
-    roots: &mut Vec<Option<Standing>>,
+    roots: &mut Vec<StandingSlot>,
     order: &mut Vec<Reached>,
 ) -> Result<(), AllocError>
     requires { length roots.old.items ≡ length tasks.now }
@@ -133,7 +135,7 @@ fn reach(
     task: u64,
     near: usize,
     standing: Standing,
-    roots: &mut Vec<Option<Standing>>,
+    roots: &mut Vec<StandingSlot>,
     order: &mut Vec<Reached>,
 ) -> Result<usize, AllocError>
     requires { length roots.old.items ≡ length tasks.now }
@@ -144,10 +146,10 @@ fn reach(
         return Ok(near);
     };
     let next = index.wrapping_add(1);
-    if roots[index].is_some() {
+    if roots[index].get().is_some() {
         return Ok(next);
     }
     order.push(Reached { index, standing })?;
-    roots[index] = Some(standing);
+    roots[index] = StandingSlot::some(standing);
     Ok(next)
 }
