@@ -6,6 +6,7 @@ pub mod Fault
 pub mod Ranking
 pub mod Numbering
 pub mod Slots
+pub mod LinkSlots
 pub mod StandingSlots
 pub mod Makers
 pub mod Subjects

@@ -10,7 +10,8 @@ ghost use Rattle.task_tree.specs.Rows.{AreChildren};
 ghost use Rattle.task_tree.specs.Rootless.{AreKnown};
 ghost use Rattle.task_tree.specs.Subjects.{subject, object, AreFound};
 
-use crate::links::{Link, Linked};
+use crate::link_slot::LinkSlot;
+use crate::links::Linked;
 use crate::numbering::Numbering;
 use crate::rows::{Rows, find_rows};
 use crate::subjects::{Lookup, Subjects, find_subjects};
@@ -23,7 +24,7 @@ use std::alloc::{AllocError, Global};
 pub(crate) struct Children {
     pub(crate) named: Subjects,
     pub(crate) rows: Rows,
-    pub(crate) links: Vec<Option<Link>>,
+    pub(crate) links: Vec<LinkSlot>,
 }
 
 /// The tasks that the records name, and the children of each task that they make.

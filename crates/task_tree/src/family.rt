@@ -10,6 +10,7 @@ ghost use Rattle.task_tree.specs.Fault.{IsTreeFault};
 
 use crate::children::{Children, find_children};
 use crate::fault::TreeFault;
+use crate::link_slot::LinkSlot;
 use crate::links::Link;
 use crate::makers::{Made, find_made};
 use crate::numbering::Numbering;
@@ -31,7 +32,7 @@ pub struct Family {
     subjects: Vec<Slot>,
     objects: Vec<Slot>,
     rows: Rows,
-    links: Vec<Option<Link>>,
+    links: Vec<LinkSlot>,
     roots: Vec<StandingSlot>,
 }
 
@@ -162,7 +163,7 @@ impl Family {
         ensures { (records : List Record) → IsFamilyOf records self.now → (task : ℕ)
             → slice_get self.now.tasks index ≡ Some task → IsTrue result ↔ IsExplicit records task }
     {
-        self.links[index].is_some()
+        self.links[index].get().is_some()
     }
 
     /// The task that created this one; none for a root, or where no record makes the task.
@@ -219,7 +220,7 @@ impl Family {
         ensures { (link : Link) → (result ≡ Some link) ↔ (slice_get self.now.links index ≡ Some (Some link)) }
     {
         if index < self.links.len() {
-            self.links[index]
+            self.links[index].get()
         } else {
             None
         }

@@ -7,7 +7,7 @@ ghost use Rattle.task_tree.specs.Links.{AreLinks};
 ghost use Rattle.task_tree.specs.Roots.{AreRoots};
 ghost use Rattle.task_tree.specs.Forward.{AreStanding, StandsBelow, IsStood};
 
-use crate::links::Link;
+use crate::link_slot::LinkSlot;
 use crate::roots::Standing;
 use crate::standing_slot::StandingSlot;
 use ompt_events::Record;
@@ -19,7 +19,7 @@ pub(crate) fn find_forward(
     records: &[Record],
     tasks: &[u64],
     places: &[u32],
-    links: &[Option<Link>],
+    links: &[LinkSlot],
 ) -> Result<Option<Vec<StandingSlot>>, AllocError>
     requires places { AreMade records.now (length records.now) tasks.now places.now }
     requires links { AreLinks records.now (length records.now) tasks.now links.now }
@@ -42,7 +42,7 @@ fn standing_at(
     records: &[Record],
     tasks: &[u64],
     places: &[u32],
-    links: &[Option<Link>],
+    links: &[LinkSlot],
     roots: &[StandingSlot],
     index: usize,
 ) -> Option<Standing>
@@ -54,7 +54,7 @@ fn standing_at(
     ensures { IfSome result (λ standing. (task : ℕ) → slice_get tasks.now index ≡ Some task
         → IsStood records.now index task standing) }
 {
-    match links[index] {
+    match links[index].get() {
         Some(link) => below(roots, link.parent as usize),
         None => root_made(&records[places[index] as usize]),
     }

@@ -4,8 +4,8 @@
 //! that no later phase searches for a task again; `Tree` has the paths too. Read `family` and `tree` for
 //! what a caller sees, then `makers`, `children` (after `links`, `subjects` and `rows`), `roots` (after
 //! `forward`) and `rootless`, the steps of a build. `numbering` is the list of ids that they share
-//! (`ranking` searches it), `slot` an index or none in 32 bits, `standing_slot` where a task stands or
-//! nothing, and `hints` says where a task is looked for first.
+//! (`ranking` searches it), `slot` an index or none in 32 bits, `link_slot` a link or none, `standing_slot`
+//! where a task stands or nothing, and `hints` says where a task is looked for first.
 #![tactic(auto)]
 
 mod children;
@@ -15,6 +15,7 @@ mod fault;
 mod forward;
 mod hints;
 mod lineage;
+mod link_slot;
 mod links;
 mod makers;
 mod numbering;

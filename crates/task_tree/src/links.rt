@@ -2,6 +2,7 @@
 ghost use Rattle.std.specs.Prelude.{ℕ, ◌≡◌, ◌<◌, ◌≤◌, ◌^◌, List, None, IfOk, IfSome, length, slice_index, replicate};
 ghost use Rattle.task_tree.specs.Links.{IsLinked, IsSlotOf};
 
+use crate::link_slot::LinkSlot;
 use crate::slot::Slot;
 use std::alloc::{AllocError, Global};
 
@@ -16,7 +17,7 @@ pub(crate) struct Link {
 #[derive(Debug, Drop)]
 pub(crate) struct Linked {
     pub(crate) counts: Vec<u32>,
-    pub(crate) links: Vec<Option<Link>>,
+    pub(crate) links: Vec<LinkSlot>,
 }
 
 /// Counts the child for its parent, and notes its link. A parent that no record makes is found later, as a cause
@@ -25,7 +26,7 @@ pub(crate) fn link_child(
     parent: Slot,
     child: Slot,
     counts: &mut Vec<u32>,
-    links: &mut Vec<Option<Link>>,
+    links: &mut Vec<LinkSlot>,
 )
     requires counts { IfSome parent (λ up. up < length counts.old.items) }
     requires links { IfSome child (λ own. own < length links.old.items) }
@@ -41,7 +42,7 @@ pub(crate) fn link_child(
     counts[up] = number + 1;
     if let Some(own) = child.get() {
         let parent = up as u32;
-        links[own] = Some(Link { number, parent });
+        links[own] = LinkSlot::some(Link { number, parent });
     }
 }
 
@@ -53,8 +54,8 @@ pub(crate) fn no_counts(alloc: Global, tasks: usize) -> Result<Vec<u32>, AllocEr
 }
 
 /// No link for any task.
-pub(crate) fn no_links(alloc: Global, tasks: usize) -> Result<Vec<Option<Link>>, AllocError>
+pub(crate) fn no_links(alloc: Global, tasks: usize) -> Result<Vec<LinkSlot>, AllocError>
     ensures { IfOk result (λ links. links.items ≡ replicate tasks None) }
 {
-    vec![in alloc; None; tasks]
+    vec![in alloc; LinkSlot::none(); tasks]
 }

@@ -7,7 +7,7 @@ ghost use Rattle.task_tree.specs.Rows.{AreChildren};
 ghost use Rattle.task_tree.specs.Roots.{AreRoots, Reaches, Spreads, IsSeeded};
 
 use crate::forward::find_forward;
-use crate::links::Link;
+use crate::link_slot::LinkSlot;
 use crate::numbering::Numbering;
 use crate::rows::Rows;
 use crate::standing_slot::StandingSlot;
@@ -35,7 +35,7 @@ pub(crate) fn find_roots(
     records: &[Record],
     tasks: &Numbering,
     places: &[u32],
-    links: &[Option<Link>],
+    links: &[LinkSlot],
     rows: &Rows,
 ) -> Result<Vec<StandingSlot>, AllocError>
     requires noted { AreNoted made records.now (length records.now) tasks.now }

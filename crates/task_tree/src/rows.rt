@@ -2,7 +2,7 @@
 ghost use Rattle.std.specs.Prelude.{ℕ, ◌≡◌, ◌<◌, ◌≤◌, ◌+◌, ◌^◌, IfOk, length, slice_index, sum, replicate};
 ghost use Rattle.task_tree.specs.Rows.{row, AreRising, AreWithin, AreOffsets, AreCounted, AreFitting, AreSingle, AreFilled};
 
-use crate::links::Link;
+use crate::link_slot::LinkSlot;
 use std::alloc::{AllocError, Global};
 use std::marker::Model;
 
@@ -41,7 +41,7 @@ pub(crate) fn find_rows(
     alloc: Global,
     tasks: &[u64],
     counts: &[u32],
-    links: &[Option<Link>],
+    links: &[LinkSlot],
 ) -> Result<Rows, AllocError>
     requires all { length links.now ≡ length tasks.now }
     requires short { length counts.now ≤ 2 ^ 22 }
@@ -84,7 +84,7 @@ fn no_ids(alloc: Global, children: usize) -> Result<Vec<u64>, AllocError>
 }
 
 /// Writes each created task to its place.
-fn fill(tasks: &[u64], links: &[Option<Link>], offsets: &[u32], ids: &mut Vec<u64>)
+fn fill(tasks: &[u64], links: &[LinkSlot], offsets: &[u32], ids: &mut Vec<u64>)
     requires all { length links.now ≡ length tasks.now }
     requires rising { AreRising offsets.now }
     requires within { (index : ℕ) → index < length offsets.now
@@ -95,7 +95,7 @@ fn fill(tasks: &[u64], links: &[Option<Link>], offsets: &[u32], ids: &mut Vec<u6
     ensures filled { AreFilled (length tasks.now) tasks.now links.now offsets.now ids.new.items }
 {
     for index in 0..links.len() {
-        if let Some(link) = links[index] {
+        if let Some(link) = links[index].get() {
             let place = offsets[link.parent as usize] + link.number;
             ids[place as usize] = tasks[index];
         }

@@ -14,7 +14,9 @@ bounds-records-places c =
     omega (arith, read, maker.2)
 
 pub returns-in-Some : goal.returns-in-Some
-returns-in-Some c = below_stood c.args.records.now c.args.index c.in-Some.link c.args.tasks.now c.args.links.now c.args.roots.now c.below.result c.requires.links c.requires.roots (slice_get-get_or c.args.links.now c.args.index _ (omega (arith, c.requires.within, c.requires.links.all)) ∙ ap Some c.in-Some.is) c.below.ensures
+returns-in-Some c =
+    let within : c.args.index < length c.args.links.now = omega (arith, c.requires.within, c.requires.links.all) in
+    below_stood c.args.records.now c.args.index c.in-Some.link c.args.tasks.now c.args.links.now c.args.roots.now c.below.result c.requires.links c.requires.roots (slice_get_read c.args.links.now (length c.args.links.now) c.args.index c.index-links-index.result refl within c.index-links-index.is ∙ ap Some (sym c.get.ensures ∙ c.in-Some.is)) c.below.ensures
 
 pub returns-in-None : goal.returns-in-None
 returns-in-None c =
