@@ -1,7 +1,7 @@
 -- Which records may stand next, and what a record more lets stand.
 use Rattle.std.proofs.Common.{◌≡◌, ◌≢◌, ◌∙◌, ◌<◌, ◌≤◌, ◌+◌, ℕ, List, [], ◌∷◌, length, Option, Some, None, Bool, true, refl, sym, ap, subst, arith, inl, inr, ◌⊎◌, set}
 use Rattle.std.proofs.lemmas.Bool.{cases_eq, cases_lt}
-use Rattle.std.proofs.lemmas.Option.{none-some, same_Some, slice_get-get_or, slice_get_within}
+use Rattle.std.proofs.lemmas.Option.{none-some}
 use Rattle.std.proofs.lemmas.List.{get_or-set_other}
 use Rattle.std.proofs.lemmas.List.Sorted.{Contains-permutation, IsPermutation-sym, length_permutation}
 use Rattle.std.proofs.lemmas.List.Elements.{Contains-append_right}
@@ -12,17 +12,19 @@ use Rattle.ompt_events.specs.declared.records.Record.{Record}
 use Rattle.ompt_events.specs.Places.{thread_at, seen_at}
 use Rattle.ompt_events.specs.declared.cause.Cause.TheVariants.{Moved}
 use Rattle.ompt_events.specs.Causes.{IsFreeOf}
-use Rattle.checker.specs.Merge.{HaveCreations, StartsOrFulfils, Stands, MayFollow, AreHeads, IsLow, IsFront, IsReadyHead, AreOffered, AreMore, IsTaken, creation_of, length_of}
+use Rattle.checker.specs.Merge.{Awaits, StartsOrFulfils, Stands, MayFollow, AreHeads, IsLow, IsFront, IsReadyHead, AreOffered, AreMore, IsTaken, length_of}
+use Rattle.task_tree.specs.Family.{FamilyView, IsFamilyOf}
+use Rattle.checker.proofs.ScheduleLemmas.{awaits_or_not}
 use Rattle.checker.proofs.MergeLemmas.{may_follow, ready_head, is_head, thread_of}
 use Rattle.checker.proofs.MergingLemmas.{IsMerging, merging_closed, stands_here, stands_still, stands_cases}
 
 -- ---- the test
 
-pub follows : (rs : List Record) (creations : List (Option ℕ)) (placed : List Bool) (heads : List ℕ) (low thread i : ℕ) → IsFront rs creations placed heads low → thread_at rs i ≡ Some thread → slice_index heads thread ≡ i → IsReadyHead rs creations placed low i → MayFollow rs placed i
-follows rs creations placed heads low thread i front runs is ready = may_follow rs front.apart creations placed heads low thread i front.awaited front.are_heads front.is_low (front.are_heads.all i thread runs) is ready
+pub follows : (rs : List Record) (family : FamilyView) (placed : List Bool) (heads : List ℕ) (low thread i : ℕ) → IsFront rs family placed heads low → thread_at rs i ≡ Some thread → slice_index heads thread ≡ i → IsReadyHead rs placed low i → MayFollow rs placed i
+follows rs family placed heads low thread i front runs is ready = may_follow rs front.apart placed heads low thread i front.are_heads front.is_low (front.are_heads.all i thread runs) is ready
 
-pub passes : (rs : List Record) (creations : List (Option ℕ)) (placed : List Bool) (heads : List ℕ) (low i : ℕ) → IsFront rs creations placed heads low → MayFollow rs placed i → IsReadyHead rs creations placed low i
-passes rs creations placed heads low i front may = ready_head rs creations placed low i front.at_home front.closed front.awaited front.is_low may
+pub passes : (rs : List Record) (family : FamilyView) (placed : List Bool) (heads : List ℕ) (low i : ℕ) → IsFront rs family placed heads low → MayFollow rs placed i → IsReadyHead rs placed low i
+passes rs family placed heads low i front may = ready_head rs placed low i front.at_home front.closed front.is_low may
 
 -- ---- the queue
 
@@ -107,16 +109,6 @@ head_of rs placed heads i are may =
 
 -- ---- one record more
 
-cases_option : (o : Option ℕ) (x : ℕ) → (o ≡ Some x) ⊎ (o ≡ Some x → ⊥)
-cases_option None x = inr (λ e. none-some x e)
-cases_option (Some y) x = elim (cases_eq y x) [
-  | inl same ↦ inl (ap Some same)
-  | inr apart ↦ inr (λ e. apart (same_Some y x e))
-]
-
-creation_got : (creations : List (Option ℕ)) (i c : ℕ) → slice_get creations i ≡ Some (Some c) → creation_of creations i ≡ Some c
-creation_got creations i c awaits = same_Some (creation_of creations i) (Some c) (sym (slice_get-get_or creations i None (slice_get_within creations i (Some c) awaits)) ∙ awaits)
-
 length_named : (rs : List Record) (i : ℕ) → i < length rs → length_of rs i ≡ Some (seen_at rs i)
 length_named rs i within = named (slice_get rs i) refl
   where
@@ -126,8 +118,8 @@ length_named rs i within = named (slice_get rs i) refl
 
 -- one that may stand next once the place does could do so before, or follows it in its thread, or awaits it,
 -- or names a ledger length that was not reached
-let_stand : (rs : List Record) (creations : List (Option ℕ)) (placed : List Bool) (heads : List ℕ) (low now_low place thread next i : ℕ) → IsFront rs creations placed heads low → IsFront rs creations (set placed place true) (set heads thread next) now_low → thread_at rs place ≡ Some thread → slice_index (set heads thread next) thread ≡ next → place < length placed → MayFollow rs (set placed place true) i → (i ≡ next) ⊎ ((creation_of creations i ≡ Some place) ⊎ (((k : ℕ) × (low < k) × (k ≤ now_low) × (length_of rs i ≡ Some k)) ⊎ MayFollow rs placed i))
-let_stand rs creations placed heads low now_low place thread next i before after runs is_next inside may = elim (cases_eq own.0 thread) [
+let_stand : (rs : List Record) (family : FamilyView) (placed : List Bool) (heads : List ℕ) (low now_low place thread next i : ℕ) → IsFront rs family placed heads low → IsFront rs family (set placed place true) (set heads thread next) now_low → thread_at rs place ≡ Some thread → slice_index (set heads thread next) thread ≡ next → place < length placed → MayFollow rs (set placed place true) i → (i ≡ next) ⊎ ((Awaits rs i place) ⊎ (((k : ℕ) × (low < k) × (k ≤ now_low) × (length_of rs i ≡ Some k)) ⊎ MayFollow rs placed i))
+let_stand rs family placed heads low now_low place thread next i before after runs is_next inside may = elim (cases_eq own.0 thread) [
   | inl same ↦ inl (sym head_is ∙ ap (slice_index (set heads thread next)) same ∙ is_next)
   | inr apart ↦ of_another apart
 ]
@@ -138,21 +130,21 @@ let_stand rs creations placed heads low now_low place thread next i before after
     head_is : slice_index (set heads thread next) own.0 ≡ i
     head_is = is_head rs (set placed place true) (set heads thread next) i own.0 after.are_heads own.1 may
 
-    passes_now : IsReadyHead rs creations (set placed place true) now_low i
-    passes_now = passes rs creations (set placed place true) (set heads thread next) now_low i after may
+    passes_now : IsReadyHead rs (set placed place true) now_low i
+    passes_now = passes rs family (set placed place true) (set heads thread next) now_low i after may
 
-    stood : (creation_of creations i ≡ Some place → ⊥) → (c : ℕ) → slice_get creations i ≡ Some (Some c) → Stands placed c
+    stood : (Awaits rs i place → ⊥) → (c : ℕ) → Awaits rs i c → Stands placed c
     stood other c awaits = elim (stands_cases placed place c (passes_now.is_created c awaits)) [
       | inl old ↦ old
-      | inr same ↦ absurd (other (creation_got creations i c awaits ∙ ap Some same))
+      | inr same ↦ let P : ℕ → Type 0 = λ d. Awaits rs i d in absurd (other (subst P same awaits))
     ]
 
-    of_another : own.0 ≢ thread → (i ≡ next) ⊎ ((creation_of creations i ≡ Some place) ⊎ (((k : ℕ) × (low < k) × (k ≤ now_low) × (length_of rs i ≡ Some k)) ⊎ MayFollow rs placed i))
-    of_another apart = elim (cases_option (creation_of creations i) place) [
+    of_another : own.0 ≢ thread → (i ≡ next) ⊎ ((Awaits rs i place) ⊎ (((k : ℕ) × (low < k) × (k ≤ now_low) × (length_of rs i ≡ Some k)) ⊎ MayFollow rs placed i))
+    of_another apart = elim (awaits_or_not rs i place) [
       | inl awaits ↦ inr (inl awaits)
       | inr other ↦ elim (cases_lt low (seen_at rs i)) [
         | inl more ↦ inr (inr (inl (seen_at rs i, more, passes_now.is_entered, length_named rs i may.within)))
-        | inr reached ↦ inr (inr (inr (follows rs creations placed heads low own.0 i before own.1 (sym (get_or-set_other heads thread own.0 next 0 apart) ∙ head_is) (record {
+        | inr reached ↦ inr (inr (inr (follows rs family placed heads low own.0 i before own.1 (sym (get_or-set_other heads thread own.0 next 0 apart) ∙ head_is) (record {
           within = may.within;
           is_created = stood other;
           is_entered = reached;
@@ -161,9 +153,9 @@ let_stand rs creations placed heads low now_low place thread next i before after
     ]
 
 -- all that may stand next are among those that were ready and those that were offered
-pub ready_more : (rs : List Record) (creations : List (Option ℕ)) (placed : List Bool) (heads : List ℕ) (low now_low place thread next : ℕ) (rest ready : List ℕ) → IsFront rs creations placed heads low → IsFront rs creations (set placed place true) (set heads thread next) now_low → thread_at rs place ≡ Some thread → slice_index (set heads thread next) thread ≡ next → place < length placed → IsTaken rs placed place rest → AreMore rs (set placed place true) rest ready → (MayFollow rs (set placed place true) next → Contains ready next) → ((i : ℕ) → creation_of creations i ≡ Some place → MayFollow rs (set placed place true) i → Contains ready i) → ((i k : ℕ) → low + 1 ≤ k → k < now_low + 1 → length_of rs i ≡ Some k → MayFollow rs (set placed place true) i → Contains ready i) → AreOffered rs (set placed place true) ready
-ready_more rs creations placed heads low now_low place thread next rest ready before after runs is_next inside taken more of_thread of_creation of_length = record {
-  all = λ i may. elim (let_stand rs creations placed heads low now_low place thread next i before after runs is_next inside may) [
+pub ready_more : (rs : List Record) (family : FamilyView) (placed : List Bool) (heads : List ℕ) (low now_low place thread next : ℕ) (rest ready : List ℕ) → IsFront rs family placed heads low → IsFront rs family (set placed place true) (set heads thread next) now_low → thread_at rs place ≡ Some thread → slice_index (set heads thread next) thread ≡ next → place < length placed → IsTaken rs placed place rest → AreMore rs (set placed place true) rest ready → (MayFollow rs (set placed place true) next → Contains ready next) → ((i : ℕ) → Awaits rs i place → MayFollow rs (set placed place true) i → Contains ready i) → ((i k : ℕ) → low + 1 ≤ k → k < now_low + 1 → length_of rs i ≡ Some k → MayFollow rs (set placed place true) i → Contains ready i) → AreOffered rs (set placed place true) ready
+ready_more rs family placed heads low now_low place thread next rest ready before after runs is_next inside taken more of_thread of_creation of_length = record {
+  all = λ i may. elim (let_stand rs family placed heads low now_low place thread next i before after runs is_next inside may) [
     | inl same ↦ let P : ℕ → Type 0 = λ j. Contains ready j in subst P (sym same) (of_thread (rw same at may))
     | inr (inl awaits) ↦ of_creation i awaits may
     | inr (inr (inl names)) ↦ of_length i names.0 (let l = names.1 in omega (arith, l)) (let l = names.2 in omega (arith, l)) names.3 may
@@ -200,9 +192,9 @@ ready_first rs placed none ready empty more all = record {
 }
 
 -- what the merge knows of what stands
-pub front_merged : (rs : List Record) (creations : List (Option ℕ)) (placed : List Bool) (heads order : List ℕ) (low : ℕ) → HaveCreations rs (length rs) creations → StartsOrFulfils rs → IsFreeOf rs Moved → IsMerging rs placed heads order → IsLow rs placed low → IsFront rs creations placed heads low
-front_merged rs creations placed heads order low awaits apart at_home merging is_low = record {
-  awaited = awaits;
+pub front_merged : (rs : List Record) (family : FamilyView) (placed : List Bool) (heads order : List ℕ) (low : ℕ) → IsFamilyOf rs family → StartsOrFulfils rs → IsFreeOf rs Moved → IsMerging rs placed heads order → IsLow rs placed low → IsFront rs family placed heads low
+front_merged rs family placed heads order low family_of apart at_home merging is_low = record {
+  family_of = family_of;
   apart = apart;
   at_home = at_home;
   closed = merging_closed rs placed heads order merging;

@@ -1,18 +1,15 @@
 -- A place more at the start of a list of places.
-use Rattle.std.proofs.Common.{◌≡◌, ◌∙◌, ◌<◌, ◌≤◌, ◌+◌, ℕ, List, length, get_or, Option, Some, None, refl, sym, ap, arith, inl, inr, set}
+use Rattle.std.proofs.Common.{◌≡◌, ◌∙◌, ◌<◌, ◌≤◌, ◌+◌, ℕ, List, length, Option, Some, None, refl, sym, ap, arith, inl, inr, set}
 use Rattle.std.proofs.lemmas.Bool.{cases_eq, cases_lt}
-use Rattle.std.proofs.lemmas.Option.{none-some, same_Some, slice_get-get_or}
+use Rattle.std.proofs.lemmas.Option.{none-some, same_Some}
 use Rattle.std.proofs.lemmas.List.{length-set, length-replicate, get_or-set_same, get_or-set_other, get_or-replicate}
-use Rattle.std.proofs.lemmas.List.{get_or_default, get_or_past}
 use Rattle.std.specs.Option.{option_map_or}
 use Rattle.std.specs.Prelude.{slice_get, slice_index, replicate, option_map}
 use Rattle.ompt_events.specs.declared.records.Record.{Record}
 use Rattle.ompt_events.specs.declared.cause.Cause.TheVariants.{LengthAhead}
-use Rattle.ompt_events.specs.Records.{created}
 use Rattle.ompt_events.specs.Places.{seen_at}
 use Rattle.ompt_events.specs.Causes.{entries_in, ledger_length, length_ahead, IsFreeOf}
-use Rattle.ompt_events.proofs.PlaceLemmas.{at_within}
-use Rattle.checker.specs.Merge.{HaveCreations, creation_of, length_of}
+use Rattle.checker.specs.Merge.{length_of}
 use Rattle.checker.specs.Lists.{AreLists, IsRising}
 
 -- behind the last place there is none
@@ -107,21 +104,6 @@ length_within rs i k reached names = elim (cases_lt (entries_in rs) (seen_at rs 
   | inl past ↦ absurd (reached i (length_ahead (ledger_length past)))
   | inr bound ↦ let is = seen_is rs i k names in omega (arith, bound, is)
 ]
-
--- each record awaits a creation that there is
-pub creation_read : (creations : List (Option ℕ)) (i : ℕ) (found : Option ℕ) → i < length creations → found ≡ get_or creations i found → creation_of creations i ≡ found
-creation_read creations i found within is = get_or_default creations i None found within ∙ sym is
-
-pub creation_awaited : (creations : List (Option ℕ)) (i c : ℕ) → creation_of creations i ≡ Some c → slice_get creations i ≡ Some (Some c)
-creation_awaited creations i c awaits = elim (cases_lt i (length creations)) [
-  | inl within ↦ slice_get-get_or creations i None within ∙ ap Some awaits
-  | inr past ↦ absurd (none-some c (sym (get_or_past creations i None past) ∙ awaits))
-]
-
-pub creation_within : (rs : List Record) (creations : List (Option ℕ)) (i c : ℕ) → HaveCreations rs (length rs) creations → creation_of creations i ≡ Some c → c < length rs
-creation_within rs creations i c have awaits =
-    let there = have.only i c (creation_awaited creations i c awaits) in
-    at_within created rs c there.0 there.2
 
 pub no_some : (o : Option ℕ) → ((k : ℕ) → o ≡ Some k → ⊥) → o ≡ None
 no_some None none = refl

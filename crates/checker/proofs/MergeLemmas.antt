@@ -9,7 +9,7 @@ use Rattle.ompt_events.specs.declared.cause.Cause.TheVariants.{Moved}
 use Rattle.ompt_events.specs.Causes.{IsFreeOf}
 use Rattle.ompt_events.specs.HappensBefore.{thread_order, creation, discard, fulfilment, IsStep, program, ledger, HappensBefore, step, chain}
 use Rattle.checker.proofs.ScheduleLemmas.{step_awaits, awaits_before}
-use Rattle.checker.specs.Merge.{HaveCreations, AreClosed, StartsOrFulfils, Stands, MayFollow, AreHeads, IsLow, IsReadyHead}
+use Rattle.checker.specs.Merge.{AreClosed, StartsOrFulfils, Stands, MayFollow, AreHeads, IsLow, IsReadyHead}
 
 pub stands_same : (placed : List Bool) (a b : ℕ) → a ≡ b → Stands placed a → Stands placed b
 stands_same placed a b same stands = ap (slice_get placed) (sym same) ∙ stands
@@ -24,8 +24,8 @@ stands_or_not placed i = stands (slice_get placed i)
     stands (Some false) = inr (λ e. let b : false ≡ true = same_Some false true e in cc)
 
 -- the head of a thread that passes the test may stand next
-pub may_follow : (rs : List Record) → StartsOrFulfils rs → (awaited : List (Option ℕ)) (placed : List Bool) (heads : List ℕ) (low : ℕ) (thread head : ℕ) → HaveCreations rs (length rs) awaited → AreHeads rs placed heads → IsLow rs placed low → thread < length heads → slice_index heads thread ≡ head → IsReadyHead rs awaited placed low head → MayFollow rs placed head
-may_follow rs apart awaited placed heads low thread head awaits are is_low inside is ready = record {
+pub may_follow : (rs : List Record) → StartsOrFulfils rs → (placed : List Bool) (heads : List ℕ) (low : ℕ) (thread head : ℕ) → AreHeads rs placed heads → IsLow rs placed low → thread < length heads → slice_index heads thread ≡ head → IsReadyHead rs placed low head → MayFollow rs placed head
+may_follow rs apart placed heads low thread head are is_low inside is ready = record {
   within = ready.within;
   missing = λ standing. are.missing thread inside (stands_same placed head (slice_index heads thread) (sym is) standing);
   steps = λ a step. stands_before a step;
@@ -36,9 +36,9 @@ may_follow rs apart awaited placed heads low thread head awaits are is_low insid
 
     stands_before : (a : ℕ) → IsStep rs a head → Stands placed a
     stands_before a (program (thread_order earlier within same)) = are.below thread a (same ∙ runs) (rw is earlier)
-    stands_before a (program (creation task creates starts)) = ready.is_created a (awaits.each head a ready.within (step_awaits rs apart a head (inr (inl (task, creates, starts.starts)))))
-    stands_before a (program (discard task creates gone)) = ready.is_created a (awaits.each head a ready.within (step_awaits rs apart a head (inr (inr (task, creates, gone)))))
-    stands_before a (program (fulfilment task creates done)) = ready.is_created a (awaits.each head a ready.within (step_awaits rs apart a head (inl (task, creates, done))))
+    stands_before a (program (creation task creates starts)) = ready.is_created a (step_awaits rs apart a head (inr (inl (task, creates, starts.starts))))
+    stands_before a (program (discard task creates gone)) = ready.is_created a (step_awaits rs apart a head (inr (inr (task, creates, gone))))
+    stands_before a (program (fulfilment task creates done)) = ready.is_created a (step_awaits rs apart a head (inl (task, creates, done)))
     stands_before a (ledger finishes less) = is_low.below a finishes (let bound = ready.is_entered in omega (arith, bound, less))
 
 -- where each step leads from a record that stands, all that happens before stands
@@ -47,10 +47,10 @@ all_before rs placed a i closed steps (step s) = steps a s
 all_before rs placed a i closed steps (chain {b = mid} first second) = closed a mid first (all_before rs placed mid i closed steps second)
 
 -- a record that may stand next passes the test
-pub ready_head : (rs : List Record) (awaited : List (Option ℕ)) (placed : List Bool) (low : ℕ) (i : ℕ) → IsFreeOf rs Moved → AreClosed rs placed → HaveCreations rs (length rs) awaited → IsLow rs placed low → MayFollow rs placed i → IsReadyHead rs awaited placed low i
-ready_head rs awaited placed low i at_home closed awaits is_low may = record {
+pub ready_head : (rs : List Record) (placed : List Bool) (low : ℕ) (i : ℕ) → IsFreeOf rs Moved → AreClosed rs placed → IsLow rs placed low → MayFollow rs placed i → IsReadyHead rs placed low i
+ready_head rs placed low i at_home closed is_low may = record {
   within = may.within;
-  is_created = λ c found. all_before rs placed c i closed may.steps (awaits_before rs i c at_home (awaits.only i c found));
+  is_created = λ c awaits. all_before rs placed c i closed may.steps (awaits_before rs i c at_home awaits);
   is_entered = elim (cases_lt low (seen_at rs i)) [
     | inl less ↦
         let next = is_low.next i less in

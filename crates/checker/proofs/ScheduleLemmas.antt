@@ -1,9 +1,10 @@
 -- Which creations are awaited, and when file order is an order.
-use Rattle.std.proofs.Common.{◌≡◌, ◌≢◌, ◌∙◌, ℕ, zero, suc, ◌<◌, ◌≤◌, ◌+◌, ◌^◌, List, [], ◌∷◌, ◌++◌, length, get_or, Option, Some, None, Bool, true, false, cond, refl, sym, ap, subst, arith, inl, inr, ◌⊎◌}
-use Rattle.std.proofs.lemmas.Bool.{cases_eq, false≢true}
+use Rattle.std.proofs.Common.{◌≡◌, ◌≢◌, ◌∙◌, ℕ, zero, suc, ◌<◌, List, length, get_or, Option, Some, None, Bool, true, false, cond, refl, sym, ap, subst, arith, inl, inr, ◌⊎◌}
+use Rattle.std.proofs.lemmas.Bool.{cases_eq, false≢true, eq-eqb, eqb-true, lt-ltb}
+use Rattle.std.proofs.lemmas.List.Sums.{position_or_len_is}
+use Rattle.std.specs.List.{position, position_or_len}
 use Rattle.std.proofs.lemmas.Option.{none-some, same_Some, slice_get_within, slice_get-get_or}
-use Rattle.std.proofs.lemmas.List.{length_push}
-use Rattle.std.specs.Prelude.{◌↔◌, is_some, slice_get, option_and_then}
+use Rattle.std.specs.Prelude.{◌↔◌, ◌==◌, is_some, slice_get, option_and_then}
 use Rattle.std.specs.Option.{option_or}
 use Rattle.ompt_events.specs.declared.records.Record.{Record}
 use Rattle.ompt_events.specs.declared.records.Body.{Body}
@@ -18,14 +19,14 @@ use Rattle.ompt_events.specs.Traces.{IsTrace, IsSound, HasItsNext}
 use Rattle.ompt_events.specs.Tree.{IsExplicit}
 use Rattle.ompt_events.specs.HappensBefore.{IsStart, IsFinishing, thread_order, creation, discard, fulfilment, IsStep, program, ledger, HappensBefore, step, chain}
 use Rattle.ompt_events.specs.Causes.{IsFreeOf, moved}
-use Rattle.ompt_events.proofs.ListLemmas.{get_pushed, get_last, pushed_cases}
 use Rattle.ompt_events.proofs.PlaceLemmas.{at_within, at_read}
 use Rattle.ompt_events.proofs.RecordLemmas.{created_at_made}
+use Rattle.task_tree.specs.Numbering.{AreApart}
 use Rattle.task_tree.specs.Subjects.{subject, object, Calls}
 use Rattle.task_tree.specs.Family.{FamilyView, IsFamilyOf}
 use Rattle.task_tree.proofs.SubjectLemmas.{call_task, call_none}
 use Rattle.task_tree.proofs.OnceLemmas.{made_once}
-use Rattle.checker.specs.Merge.{awaited, Awaits, StartsOrFulfils, HaveCreations}
+use Rattle.checker.specs.Merge.{awaited, Awaits, StartsOrFulfils, task_of}
 
 -- ---- what a record awaits
 
@@ -148,31 +149,51 @@ trace_apart rs trace i task other fulfils starts = there (slice_get rs i) refl f
     there None e fulfils' starts' = none-some task fulfils'
     there (Some r) e fulfils' starts' = sound_apart r.body (sound_at r e).next task other fulfils' starts'
 
--- ---- one record more
+-- a record awaits the creation or not
+pub awaits_or_not : (rs : List Record) (i c : ℕ) → Awaits rs i c ⊎ (Awaits rs i c → ⊥)
+awaits_or_not rs i c = decide (at awaited rs i) (at created rs c) refl refl
+  where
+    decide : (waits creates : Option ℕ) → at awaited rs i ≡ waits → at created rs c ≡ creates → Awaits rs i c ⊎ (Awaits rs i c → ⊥)
+    decide None creates e f = inr (λ (task, own, other). none-some task (sym e ∙ own))
+    decide (Some own) None e f = inr (λ (task, first, other). none-some task (sym f ∙ other))
+    decide (Some own) (Some other) e f = elim (cases_eq own other) [
+      | inl same ↦ inl (own, e, f ∙ ap Some (sym same))
+      | inr apart ↦ inr (λ (task, first, second). apart (same_Some own task (sym e ∙ first) ∙ sym (same_Some other task (sym f ∙ second))))
+    ]
 
-pub creations_more : (rs : List Record) (n : ℕ) (creations : List (Option ℕ)) (found : Option ℕ) → HaveCreations rs n creations → ((c : ℕ) → (found ≡ Some c) ↔ Awaits rs n c) → HaveCreations rs (n + 1) (creations ++ found ∷ [])
-creations_more rs n creations found are here = record {
-  all = length_push creations found ∙ ap (λ k. k + 1) are.all;
-  each = λ i c below waits. elim (cases_eq i n) [
-    | inl same ↦ get_last creations found i (same ∙ sym are.all) ∙ ap Some ((here c).1 (let P : ℕ → Type 0 = λ j. Awaits rs j c in subst P same waits))
-    | inr apart ↦ get_pushed creations found (Some c) i (are.each i c (omega arith) waits)
-  ];
-  only = λ i c is. elim (pushed_cases creations found (Some c) i is) [
-    | inl old ↦ are.only i c old
-    | inr (last, same) ↦ let P : ℕ → Type 0 = λ j. Awaits rs j c in subst P (sym (last ∙ are.all)) ((here c).0 same)
-  ];
-}
+-- ---- by the index of the task
 
--- what is awaited is one of the records
-pub awaited_low : (rs : List Record) (i c : ℕ) → length rs ≤ 2 ^ 22 → Awaits rs i c → c < 4294967295
-awaited_low rs i c few (task, waits, creates) = let within = at_within created rs c task creates in omega (arith, few, within)
+other_eqb : (a b : ℕ) → a ≢ b → (a == b) ≡ false
+other_eqb a b apart = of (a == b) refl
+  where
+    of : (test : Bool) → (a == b) ≡ test → (a == b) ≡ false
+    of true is = absurd (apart (eqb-true a b is))
+    of false is = is
 
--- what the list has at a record is what that awaits
-pub creation_has : (rs : List Record) (creations : List (Option ℕ)) (i : ℕ) (found : Option ℕ) → HaveCreations rs (length rs) creations → i < length rs → slice_get creations i ≡ Some found → (c : ℕ) → (found ≡ Some c) ↔ Awaits rs i c
-creation_has rs creations i found are within reads c = (
-  λ is. are.only i c (reads ∙ ap Some is),
-  λ waits. same_Some found (Some c) (sym reads ∙ are.each i c within waits),
-)
+-- an index is the first at which its task stands, since each stands once
+index_first : (tasks : List ℕ) (index task : ℕ) → AreApart tasks → slice_get tasks index ≡ Some task → position (λ t. t == task) tasks ≡ Some index
+index_first tasks index task apart is =
+    let inside = slice_get_within tasks index task is in
+    let here : get_or tasks index 0 ≡ task = same_Some (get_or tasks index 0) task (sym (slice_get-get_or tasks index 0 inside) ∙ is) in
+    let first : position_or_len (λ t. t == task) tasks ≡ index =
+    position_or_len_is (λ t. t == task) tasks index 0 (omega arith)
+    (λ k below. other_eqb (get_or tasks k 0) task (λ same. (let one = apart k index task (slice_get-get_or tasks k 0 (omega arith) ∙ ap Some same) is in omega (arith, below, one))))
+    (λ low. eq-eqb (get_or tasks index 0) task here) in
+    rw (first, lt-ltb index (length tasks) inside) refl
+
+-- what is called is so
+pub task_called : (rs : List Record) (tasks : List ℕ) (i : ℕ) (slot : Option ℕ) → AreApart tasks → Calls tasks (at awaited rs i) slot → task_of tasks rs i ≡ slot
+task_called rs tasks i slot apart calls = of (at awaited rs i) calls
+  where
+    of : (o : Option ℕ) → Calls tasks o slot → option_and_then (λ task. position (λ t. t == task) tasks) o ≡ slot
+    of None is = sym is
+    of (Some task) (index, is, there) = index_first tasks index task apart there ∙ sym is
+
+-- the record awaits the creation of the task at the index that the creation has
+pub awaits_task : (rs : List Record) (tasks : List ℕ) (i c : ℕ) (slot : Option ℕ) → AreApart tasks → Calls tasks (at created rs c) slot → Awaits rs i c → (index : ℕ) × (slot ≡ Some index) × (task_of tasks rs i ≡ Some index)
+awaits_task rs tasks i c slot apart calls (task, waits, creates) =
+    let found : Calls tasks (Some task) slot = let P : Option ℕ → Type 0 = λ o. Calls tasks o slot in subst P creates calls in
+    (found.0, found.1, ap (option_and_then (λ t. position (λ u. u == t) tasks)) waits ∙ index_first tasks found.0 task apart found.2)
 
 -- ---- by the family
 

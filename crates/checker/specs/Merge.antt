@@ -1,6 +1,7 @@
 -- The records while they are put into an order.
-use Rattle.std.specs.Prelude.{ℕ, ◌≡◌, ◌≢◌, ◌<◌, ◌≤◌, ◌+◌, ◌⊎◌, List, Contains, length, Bool, true, Option, None, Some, option_map, slice_get, slice_index, slice_index_or}
+use Rattle.std.specs.Prelude.{ℕ, ◌≡◌, ◌≢◌, ◌<◌, ◌≤◌, ◌+◌, ◌==◌, ◌⊎◌, List, Contains, length, Bool, true, Option, Some, option_and_then, option_map, slice_get, slice_index}
 use Rattle.std.specs.Option.{option_or}
+use Rattle.std.specs.List.{position}
 use Rattle.ompt_events.specs.declared.records.Record.{Record}
 use Rattle.ompt_events.specs.declared.records.Body.{Body}
 use Rattle.ompt_events.specs.Records.{created, started, discarded, fulfilled}
@@ -8,6 +9,7 @@ use Rattle.ompt_events.specs.Places.{at, thread_at, seen_at}
 use Rattle.ompt_events.specs.HappensBefore.{IsFinishing, IsStep, HappensBefore}
 use Rattle.ompt_events.specs.declared.cause.Cause.TheVariants.{Moved}
 use Rattle.ompt_events.specs.Causes.{entries_in, IsFreeOf}
+use Rattle.task_tree.specs.Family.{FamilyView, IsFamilyOf}
 use Rattle.checker.specs.Lists.{AreLists, IsRising}
 use Rattle.checker.specs.declared.waiting.Waiting.{Waiting}
 
@@ -23,12 +25,6 @@ Awaits rs i c = (task : ℕ) × (at awaited rs i ≡ Some task) × (at created r
 abbrev pub StartsOrFulfils : List Record → Type 0
 StartsOrFulfils rs =
     (i task other : ℕ) → at fulfilled rs i ≡ Some task → at started rs i ≡ Some other → ⊥
-
--- the first n records each have the creation that they await
-pub record HaveCreations (rs : List Record) (n : ℕ) (creations : List (Option ℕ)) : Type 0 where
-  pub all : length creations ≡ n
-  pub each : (i c : ℕ) → i < n → Awaits rs i c → slice_get creations i ≡ Some (Some c)
-  pub only : (i c : ℕ) → slice_get creations i ≡ Some (Some c) → Awaits rs i c
 
 -- the record stands in the order already
 abbrev pub Stands : List Bool → ℕ → Type 0
@@ -65,17 +61,16 @@ pub record IsLow (rs : List Record) (placed : List Bool) (low : ℕ) : Type 0 wh
       × (Stands placed m → ⊥)
 
 -- what is tested of the head of a thread
-pub record IsReadyHead (rs : List Record) (creations : List (Option ℕ)) (placed : List Bool)
-    (low : ℕ) (i : ℕ) : Type 0 where
+pub record IsReadyHead (rs : List Record) (placed : List Bool) (low i : ℕ) : Type 0 where
   pub within : i < length rs
-  pub is_created : (c : ℕ) → slice_get creations i ≡ Some (Some c) → Stands placed c
+  pub is_created : (c : ℕ) → Awaits rs i c → Stands placed c
   pub is_entered : seen_at rs i ≤ low
 
--- what is known while records are put in order: which stand, the head of each thread, and the ledger length
--- that is reached
-pub record IsFront (rs : List Record) (creations : List (Option ℕ)) (placed : List Bool) (heads : List ℕ)
+-- what is known while records are put in order: their tasks, which stand, the head of each thread, and the
+-- ledger length that is reached
+pub record IsFront (rs : List Record) (family : FamilyView) (placed : List Bool) (heads : List ℕ)
     (low : ℕ) : Type 0 where
-  pub awaited : HaveCreations rs (length rs) creations
+  pub family_of : IsFamilyOf rs family
   pub apart : StartsOrFulfils rs
   pub at_home : IsFreeOf rs Moved
   pub closed : AreClosed rs placed
@@ -99,21 +94,21 @@ pub record IsTaken (rs : List Record) (placed : List Bool) (place : ℕ) (ready 
   pub kept : (i : ℕ) → i ≢ place → MayFollow rs placed i → Contains ready i
   pub only : (i : ℕ) → Contains ready i → Stands placed i ⊎ MayFollow rs placed i
 
--- the creation that each record awaits
-abbrev pub creation_of : List (Option ℕ) → ℕ → Option ℕ
-creation_of creations i = slice_index_or creations i None
+-- the index of the task whose creation each record awaits
+abbrev pub task_of : List ℕ → List Record → ℕ → Option ℕ
+task_of tasks rs i = option_and_then (λ task. position (λ t. t == task) tasks) (at awaited rs i)
 
 -- the ledger length that each record names
 abbrev pub length_of : List Record → ℕ → Option ℕ
 length_of rs i = option_map (λ (r : Record). r.seen) (slice_get rs i)
 
--- the lists are those of the records that await each creation, and that name each ledger length
-pub record AreWaiting (rs : List Record) (creations : List (Option ℕ)) (waiting : Waiting) : Type 0 where
-  pub awaiting : AreLists (creation_of creations) (length rs) 0 waiting.by_creation.firsts.items
-      waiting.by_creation.nexts.items
+-- the lists are those of the records that await the creation of each task, and that name each ledger length
+pub record AreWaiting (rs : List Record) (tasks : List ℕ) (waiting : Waiting) : Type 0 where
+  pub awaiting : AreLists (task_of tasks rs) (length rs) 0 waiting.by_task.firsts.items
+      waiting.by_task.nexts.items
   pub naming : AreLists (length_of rs) (length rs) 0 waiting.by_length.firsts.items
       waiting.by_length.nexts.items
-  pub creations_rise : IsRising (length rs) waiting.by_creation.nexts.items
+  pub tasks_rise : IsRising (length rs) waiting.by_task.nexts.items
   pub lengths_rise : IsRising (length rs) waiting.by_length.nexts.items
-  pub places : length waiting.by_creation.firsts.items ≡ length rs
+  pub keys : length waiting.by_task.firsts.items ≡ length tasks
   pub lengths : length waiting.by_length.firsts.items ≡ entries_in rs + 1

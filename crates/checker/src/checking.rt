@@ -6,7 +6,6 @@ ghost use Rattle.ompt_events.specs.Causes.{entries_in, IsFreeOf};
 ghost use Rattle.task_tree.specs.Family.{IsFamilyOf};
 ghost use Rattle.task_states.specs.States.{AreStatesOf};
 ghost use Rattle.checker.specs.Entries.{AreMakers};
-ghost use Rattle.checker.specs.Merge.{HaveCreations};
 ghost use Rattle.checker.specs.Search.{IsClear, IsLeastFound, AreAllReady, AreAllCovered, IsFirstViolation};
 ghost use Rattle.checker.specs.Starts.{IsFirstLateStart};
 ghost use Rattle.checker.specs.Verdicts.{IsVerdict, AreComplete};
@@ -20,15 +19,14 @@ use crate::in_order::is_in_order;
 use crate::lengths::find_back;
 use crate::merge::find_order;
 use crate::repeats::{find_ahead, find_makers};
-use crate::schedule::creations_awaited;
 use crate::search::SearchFault;
 use crate::starts::find_late_start;
 use crate::verdict::{CheckFault, Order, Verdict, Why};
 use depend_edges::{EdgeFault, Edges};
 use ompt_events::{Cause, Record, Trace};
-use std::alloc::{AllocError, Global};
+use std::alloc::Global;
 use task_states::{States, gap, nested, run, target};
-use task_tree::{Family, Slot};
+use task_tree::Family;
 use wait_coverage::{TeamFault, Teams, find_known, find_open};
 
 /// The verdict on the records: malformed with the lowest-numbered cause that occurs, at the first record
@@ -215,13 +213,12 @@ fn order_by_merge(alloc: Global, trace: &Trace, family: &Family) -> Result<Order
 {
     let makers = makers_of(alloc, trace)?;
     lengths_are_reached(trace, makers.len())?;
-    let creations = creations_of(alloc, trace, family)?;
-    lengths_rise(trace, &creations)?;
-    merged(alloc, trace, &creations, &makers)
+    lengths_rise(trace, family)?;
+    merged(alloc, trace, family, &makers)
 }
 
 /// By entry of the ledger the record that makes it. Excludes EntryTwice.
-fn makers_of(alloc: Global, trace: &Trace) -> Result<Vec<usize>, SearchFault>
+fn makers_of(alloc: Global, trace: &Trace) -> Result<Vec<u32>, SearchFault>
     requires { IsClear trace.now.records 11 }
     ensures makers { IfOk result (λ makers. AreMakers trace.now.records
         (length trace.now.records) makers.items) }
@@ -248,24 +245,15 @@ fn lengths_are_reached(trace: &Trace, entries: usize) -> Result<(), SearchFault>
     }
 }
 
-/// For each record the creation that it awaits.
-fn creations_of(alloc: Global, trace: &Trace, family: &Family) -> Result<Vec<Slot>, AllocError>
-    requires { IsFamilyOf trace.now.records family.now }
-    ensures { IfOk result (λ creations. HaveCreations trace.now.records
-        (length trace.now.records) creations.items) }
-{
-    creations_awaited(alloc, trace.records(), family)
-}
-
 /// Excludes LengthBack.
-fn lengths_rise(trace: &Trace, creations: &[Slot]) -> Result<(), SearchFault>
+fn lengths_rise(trace: &Trace, family: &Family) -> Result<(), SearchFault>
     requires clear { IsClear trace.now.records 13 }
-    requires creations { HaveCreations trace.now.records (length trace.now.records) creations.now }
+    requires family { IsFamilyOf trace.now.records family.now }
     requires at_home { IsFreeOf trace.now.records Moved }
     ensures clear { OnOk result (IsClear trace.now.records 14) }
     ensures least { IfErr result (IsLeastFound trace.now.records) }
 {
-    match find_back(trace.records(), creations) {
+    match find_back(trace.records(), family) {
         Some(at) => Err(SearchFault::Malformed {
             at,
             cause: Cause::LengthBack,
@@ -278,11 +266,11 @@ fn lengths_rise(trace: &Trace, creations: &[Slot]) -> Result<(), SearchFault>
 fn merged(
     alloc: Global,
     trace: &Trace,
-    creations: &[Slot],
-    makers: &[usize],
+    family: &Family,
+    makers: &[u32],
 ) -> Result<Order, SearchFault>
     requires clear { IsClear trace.now.records 14 }
-    requires creations { HaveCreations trace.now.records (length trace.now.records) creations.now }
+    requires family { IsFamilyOf trace.now.records family.now }
     requires makers { AreMakers trace.now.records (length trace.now.records) makers.now }
     requires entries { length makers.now ≡ entries_in trace.now.records }
     requires at_home { IsFreeOf trace.now.records Moved }
@@ -291,7 +279,7 @@ fn merged(
     ensures clear { OnOk result (IsClear trace.now.records 15) }
     ensures least { IfErr result (IsLeastFound trace.now.records) }
 {
-    match find_order(alloc, trace.records(), creations, makers) {
+    match find_order(alloc, trace.records(), family, makers) {
         Ok(places) => Ok(Order::from_vec(places)),
         Err(fault) => Err(fault),
     }

@@ -1,22 +1,24 @@
 //! Which records may stand next, while records are put in order.
-ghost use Rattle.std.specs.Prelude.{ℕ, ◌≡◌, ◌<◌, ◌≤◌, ◌↔◌, List, Option, Some, IsTrue, OnOk, IfNone, IfSome, Contains, length, slice_get, slice_index};
+ghost use Rattle.std.specs.Prelude.{ℕ, ◌≡◌, ◌<◌, ◌≤◌, ◌↔◌, List, Option, Some, IsTrue, OnOk, IfNone, IfSome, Contains, length, slice_index};
 ghost use Rattle.ompt_events.specs.declared.records.Record.{Record};
 ghost use Rattle.ompt_events.specs.Places.{thread_at};
+ghost use Rattle.task_tree.specs.Family.{IsFamilyOf};
 ghost use Rattle.checker.specs.Lists.{AreLists, IsRising};
-ghost use Rattle.checker.specs.Merge.{Stands, MayFollow, IsFront, IsReadyHead, AreOffered, AreMore, IsTaken};
+ghost use Rattle.checker.specs.Merge.{Awaits, Stands, MayFollow, IsFront, IsReadyHead, AreOffered, AreMore, IsTaken};
 
 use crate::lists::Lists;
 use crate::queue::Queue;
+use crate::schedule::creation_awaited;
 use ompt_events::Record;
 use std::alloc::AllocError;
-use task_tree::Slot;
+use task_tree::Family;
 
 /// How far the records are put in order: which stand, the first of each thread that does not, and the ledger
 /// length that is reached.
 #[derive(Clone, Copy)]
 pub(crate) struct Front<'a> {
     pub(crate) records: &'a [Record],
-    pub(crate) creations: &'a [Slot],
+    pub(crate) family: &'a Family,
     pub(crate) placed: &'a [bool],
     pub(crate) heads: &'a [u32],
     pub(crate) low: usize,
@@ -25,7 +27,7 @@ pub(crate) struct Front<'a> {
 impl Front<'_> {
     /// Puts each record that may stand next to the others.
     pub(crate) fn offer_heads(&self, ready: &mut Queue) -> Result<(), AllocError>
-        requires front { IsFront self.now.records.now self.now.creations.now self.now.placed.now
+        requires front { IsFront self.now.records.now self.now.family.now self.now.placed.now
             self.now.heads.now self.now.low }
         ensures more { OnOk result (AreMore self.now.records.now self.now.placed.now ready.old ready.new) }
         ensures all { OnOk result ((i : ℕ) → MayFollow self.now.records.now self.now.placed.now i
@@ -39,7 +41,7 @@ impl Front<'_> {
 
     /// Puts the record to those that may stand next, if it may.
     pub(crate) fn offer(&self, ready: &mut Queue, place: usize) -> Result<(), AllocError>
-        requires front { IsFront self.now.records.now self.now.creations.now self.now.placed.now
+        requires front { IsFront self.now.records.now self.now.family.now self.now.placed.now
             self.now.heads.now self.now.low }
         ensures more { OnOk result (AreMore self.now.records.now self.now.placed.now ready.old ready.new) }
         ensures offered { OnOk result (MayFollow self.now.records.now self.now.placed.now place
@@ -58,7 +60,7 @@ impl Front<'_> {
         lists: &Lists,
         key: usize,
     ) -> Result<(), AllocError>
-        requires front { IsFront self.now.records.now self.now.creations.now self.now.placed.now
+        requires front { IsFront self.now.records.now self.now.family.now self.now.placed.now
             self.now.heads.now self.now.low }
         requires key { key < length lists.now.firsts.items }
         requires rising { IsRising (length self.now.records.now) lists.now.nexts.items }
@@ -84,7 +86,7 @@ impl Front<'_> {
         from: usize,
         to: usize,
     ) -> Result<(), AllocError>
-        requires front { IsFront self.now.records.now self.now.creations.now self.now.placed.now
+        requires front { IsFront self.now.records.now self.now.family.now self.now.placed.now
             self.now.heads.now self.now.low }
         requires keys { to ≤ length lists.now.firsts.items }
         requires rising { IsRising (length self.now.records.now) lists.now.nexts.items }
@@ -104,7 +106,7 @@ impl Front<'_> {
     /// awaits stands, and the ledger length that it names is reached.
     fn may_follow(&self, place: usize) -> bool
         requires within { place < length self.now.records.now }
-        requires front { IsFront self.now.records.now self.now.creations.now self.now.placed.now
+        requires front { IsFront self.now.records.now self.now.family.now self.now.placed.now
             self.now.heads.now self.now.low }
         ensures { IsTrue result ↔ MayFollow self.now.records.now self.now.placed.now place }
     {
@@ -125,12 +127,11 @@ impl Front<'_> {
     /// Whether the creation that the record awaits stands, and the ledger length that it names is reached.
     fn is_ready(&self, place: usize) -> bool
         requires within { place < length self.now.records.now }
-        requires each { length self.now.creations.now ≡ length self.now.records.now }
-        ensures { IsTrue result ↔ IsReadyHead self.now.records.now self.now.creations.now
-            self.now.placed.now self.now.low place }
+        requires family { IsFamilyOf self.now.records.now self.now.family.now }
+        ensures { IsTrue result ↔ IsReadyHead self.now.records.now self.now.placed.now self.now.low place }
     {
         self.records[place].seen as usize <= self.low
-            && is_created(self.creations, self.placed, place)
+            && is_created(self.records, self.family, self.placed, place)
     }
 }
 
@@ -150,22 +151,15 @@ pub(crate) fn take_first(ready: &mut Queue, placed: &[bool]) -> Option<usize>
 }
 
 /// Whether the creation that the record awaits stands.
-fn is_created(creations: &[Slot], placed: &[bool], place: usize) -> bool
-    requires { place < length creations.now }
-    ensures { IsTrue result ↔ ((c : ℕ) → slice_get creations.now place ≡ Some (Some c) → Stands placed.now c) }
+fn is_created(records: &[Record], family: &Family, placed: &[bool], place: usize) -> bool
+    requires within { place < length records.now }
+    requires family { IsFamilyOf records.now family.now }
+    ensures { IsTrue result ↔ ((c : ℕ) → Awaits records.now place c → Stands placed.now c) }
 {
-    match creation_at(creations, place) {
+    match creation_awaited(records, family, place) {
         Some(creation) => stands(placed, creation),
         None => true,
     }
-}
-
-/// The creation that the record awaits, if it awaits one.
-fn creation_at(creations: &[Slot], place: usize) -> Option<usize>
-    requires { place < length creations.now }
-    ensures { (c : ℕ) → (result ≡ Some c) ↔ (slice_get creations.now place ≡ Some (Some c)) }
-{
-    creations[place].get()
 }
 
 /// Whether the record stands.

@@ -4,17 +4,19 @@ ghost use Rattle.ompt_events.specs.declared.cause.Cause.TheVariants.{Moved, Leng
 ghost use Rattle.ompt_events.specs.declared.records.Record.{Record};
 ghost use Rattle.ompt_events.specs.Places.{seen_at};
 ghost use Rattle.ompt_events.specs.Causes.{known_after, IsFreeOf, IsFirstWith};
+ghost use Rattle.task_tree.specs.Family.{IsFamilyOf};
 ghost use Rattle.checker.specs.Lengths.{PrecedesCreation};
-ghost use Rattle.checker.specs.Merge.{StartsOrFulfils, HaveCreations};
+ghost use Rattle.checker.specs.Merge.{StartsOrFulfils};
 
+use crate::schedule::creation_awaited;
 use ompt_events::{Record, finish};
-use task_tree::Slot;
+use task_tree::Family;
 
 /// The first record that names a lesser length than was known at a step before: at an earlier record of its
 /// thread, or at the creation of the task that it starts, discards or fulfils. Takes no memory from the
 /// heap.
-pub(crate) fn find_back(records: &[Record], creations: &[Slot]) -> Option<usize>
-    requires creations { HaveCreations records.now (length records.now) creations.now }
+pub(crate) fn find_back(records: &[Record], family: &Family) -> Option<usize>
+    requires family { IsFamilyOf records.now family.now }
     requires apart { StartsOrFulfils records.now }
     requires at_home { IsFreeOf records.now Moved }
     ensures { MatchOption result (IsFreeOf records.now LengthBack) (IsFirstWith records.now LengthBack) }
@@ -23,7 +25,7 @@ pub(crate) fn find_back(records: &[Record], creations: &[Slot]) -> Option<usize>
     for at in 0..records.len() {
         let event = &records[at];
         let thread = usize::from(event.thread);
-        if u64::from(event.seen) < known[thread] || precedes_creation(records, creations, at) {
+        if u64::from(event.seen) < known[thread] || precedes_creation(records, family, at) {
             return Some(at);
         }
         known[thread] = length_after(event);
@@ -40,12 +42,12 @@ pub(crate) fn length_after(event: &Record) -> u64
 }
 
 /// Whether the record at a place names a lesser length than the creation that it awaits.
-fn precedes_creation(records: &[Record], creations: &[Slot], at: usize) -> bool
+fn precedes_creation(records: &[Record], family: &Family, at: usize) -> bool
     requires within { at < length records.now }
-    requires creations { HaveCreations records.now (length records.now) creations.now }
+    requires family { IsFamilyOf records.now family.now }
     ensures { IsTrue result ↔ PrecedesCreation records.now at }
 {
-    match creations[at].get() {
+    match creation_awaited(records, family, at) {
         Some(place) => seen_there(records, at) < seen_there(records, place),
         None => false,
     }

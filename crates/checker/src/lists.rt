@@ -1,15 +1,17 @@
-//! Places of records in lists: those of one thread, those that await one creation, and those that name one
-//! ledger length.
+//! Places of records in lists: those of one thread, those that await the creation of one task, and those that
+//! name one ledger length.
 ghost use Rattle.std.specs.Prelude.{ℕ, ◌≡◌, ◌<◌, ◌≤◌, ◌^◌, ◌+◌, Option, Some, IfOk, length};
 ghost use Rattle.ompt_events.specs.declared.cause.Cause.TheVariants.{LengthAhead};
 ghost use Rattle.ompt_events.specs.Causes.{entries_in, IsFreeOf};
 ghost use Rattle.ompt_events.specs.Places.{thread_at};
+ghost use Rattle.task_tree.specs.Family.{IsFamilyOf};
 ghost use Rattle.checker.specs.Lists.{AreLists, IsRising};
-ghost use Rattle.checker.specs.Merge.{HaveCreations, creation_of, length_of};
+ghost use Rattle.checker.specs.Merge.{task_of, length_of};
 
+use crate::schedule::awaited_index;
 use ompt_events::Record;
 use std::alloc::{AllocError, Global};
-use task_tree::Slot;
+use task_tree::Family;
 
 /// Places in lists, one list for each key: the first place of each list, and behind each place the next one of
 /// its list. The number of places stands for none.
@@ -81,24 +83,24 @@ fn last_thread(records: &[Record]) -> u8
     last
 }
 
-/// The records that await each creation.
-pub(crate) fn lists_of_creations(
+/// The records that await the creation of each task, by its index.
+pub(crate) fn lists_of_tasks(
     alloc: Global,
     records: &[Record],
-    creations: &[Slot],
+    family: &Family,
 ) -> Result<Lists, AllocError>
     requires few { length records.now ≤ 2 ^ 22 }
-    requires creations { HaveCreations records.now (length records.now) creations.now }
-    ensures lists { IfOk result (λ lists. AreLists (creation_of creations.now) (length records.now) 0
-        lists.firsts.items lists.nexts.items) }
-    ensures keys { IfOk result (λ lists. length lists.firsts.items ≡ length records.now) }
+    requires family { IsFamilyOf records.now family.now }
+    ensures lists { IfOk result (λ lists. AreLists (task_of family.now.tasks records.now)
+        (length records.now) 0 lists.firsts.items lists.nexts.items) }
+    ensures keys { IfOk result (λ lists. length lists.firsts.items ≡ length family.now.tasks) }
     ensures rising { IfOk result (λ lists. IsRising (length records.now) lists.nexts.items) }
 {
-    let mut lists = Lists::new(alloc, records.len(), records.len())?;
+    let mut lists = Lists::new(alloc, family.tasks().as_slice().len(), records.len())?;
     for step in 0..records.len() {
         let at = records.len() - 1 - step;
-        if let Some(creation) = creations[at].get() {
-            lists.put_first(creation, at);
+        if let Some(index) = awaited_index(records, family, at) {
+            lists.put_first(index, at);
         }
     }
     Ok(lists)

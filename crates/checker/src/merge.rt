@@ -3,9 +3,10 @@ ghost use Rattle.std.specs.Prelude.{false, IfNone, replicate, ℕ, ◌≡◌, �
 ghost use Rattle.ompt_events.specs.declared.cause.Cause.TheVariants.{Moved, LengthAhead, NoOrder};
 ghost use Rattle.ompt_events.specs.Linearization.{IsLinearization, IsGreedy};
 ghost use Rattle.ompt_events.specs.Causes.{entries_in, IsFreeOf};
+ghost use Rattle.task_tree.specs.Family.{IsFamilyOf};
 ghost use Rattle.checker.specs.Entries.{AreMakers};
 ghost use Rattle.checker.specs.Search.{IsFound};
-ghost use Rattle.checker.specs.Merge.{HaveCreations, StartsOrFulfils, Stands, IsUnplaced, IsFront, AreOffered};
+ghost use Rattle.checker.specs.Merge.{StartsOrFulfils, Stands, IsUnplaced, IsFront, AreOffered};
 
 use crate::front::{Front, stands, take_first};
 use crate::lists::{Lists, lists_of_threads};
@@ -14,18 +15,18 @@ use crate::search::SearchFault;
 use crate::waiting::Waiting;
 use ompt_events::{Cause, Record};
 use std::alloc::{AllocError, Global};
-use task_tree::Slot;
+use task_tree::Family;
 
 /// The greedy order: again and again the first record in file order of which all that happens before it
 /// stands already. Searches for the first record that has no place in it.
 pub(crate) fn find_order(
     alloc: Global,
     records: &[Record],
-    creations: &[Slot],
-    makers: &[usize],
-) -> Result<Vec<usize>, SearchFault>
+    family: &Family,
+    makers: &[u32],
+) -> Result<Vec<u32>, SearchFault>
     requires few { length records.now ≤ 2 ^ 22 }
-    requires creations { HaveCreations records.now (length records.now) creations.now }
+    requires family { IsFamilyOf records.now family.now }
     requires makers { AreMakers records.now (length records.now) makers.now }
     requires entries { length makers.now ≡ entries_in records.now }
     requires reached { IsFreeOf records.now LengthAhead }
@@ -41,13 +42,13 @@ pub(crate) fn find_order(
         firsts: mut heads,
         nexts: links,
     } = lists_of_threads(alloc, records)?;
-    let waiting = Waiting::of(alloc, records, creations, makers.len())?;
+    let waiting = Waiting::of(alloc, records, family, makers.len())?;
     let mut low = first_missing(&placed, makers, 0);
-    let mut ready = first_ready(alloc, records, creations, &placed, &heads, low)?;
+    let mut ready = first_ready(alloc, records, family, &placed, &heads, low)?;
     let mut order = Vec::with_capacity(alloc, records.len())?;
     'merge: while let Some(place) = take_first(&mut ready, &placed) {
         let event = &records[place];
-        order.push(place)?;
+        order.push(place as u32)?;
         placed[place] = true;
         let next = links[place];
         heads[event.thread as usize] = next;
@@ -55,7 +56,7 @@ pub(crate) fn find_order(
         low = first_missing(&placed, makers, low);
         let front = Front {
             records,
-            creations,
+            family,
             placed: placed.as_slice(),
             heads: heads.as_slice(),
             low,
@@ -75,18 +76,18 @@ pub(crate) fn find_order(
 fn first_ready(
     alloc: Global,
     records: &[Record],
-    creations: &[Slot],
+    family: &Family,
     placed: &[bool],
     heads: &[u32],
     low: usize,
 ) -> Result<Queue, AllocError>
-    requires front { IsFront records.now creations.now placed.now heads.now low }
+    requires front { IsFront records.now family.now placed.now heads.now low }
     ensures ready { IfOk result (AreOffered records.now placed.now) }
 {
     let mut ready = Queue::new(alloc);
     let front = Front {
         records,
-        creations,
+        family,
         placed,
         heads,
         low,
@@ -118,7 +119,7 @@ fn first_unplaced(placed: &[bool]) -> Option<usize>
 }
 
 /// The first entry from one on whose record does not stand.
-fn first_missing(placed: &[bool], makers: &[usize], from: usize) -> usize
+fn first_missing(placed: &[bool], makers: &[u32], from: usize) -> usize
     requires { from ≤ length makers.now }
     ensures from { from ≤ result }
     ensures within { result ≤ length makers.now }
@@ -127,7 +128,7 @@ fn first_missing(placed: &[bool], makers: &[usize], from: usize) -> usize
     ensures missing { result < length makers.now → IsUnplaced placed.now (slice_index makers.now result) }
 {
     for entry in from..makers.len() {
-        if is_unplaced(placed, makers[entry]) {
+        if is_unplaced(placed, makers[entry] as usize) {
             return entry;
         }
     }

@@ -1,5 +1,5 @@
 //! Which entries of the ledger the finishing records name, and which record makes each.
-ghost use Rattle.std.specs.Prelude.{ℕ, ◌≡◌, ◌<◌, ◌+◌, ◌==◌, ◌||◌, ◌↔◌, IfOk, IfErr, OnOk, IsTrue, MatchOption, false, length, slice_set};
+ghost use Rattle.std.specs.Prelude.{ℕ, ◌≡◌, ◌<◌, ◌≤◌, ◌^◌, ◌+◌, ◌==◌, ◌||◌, ◌↔◌, IfOk, IfErr, OnOk, IsTrue, MatchOption, false, length, slice_set};
 ghost use Rattle.ompt_events.specs.declared.cause.Cause.TheVariants.{EntryTwice, LengthAhead};
 ghost use Rattle.ompt_events.specs.Causes.{RepeatsEntry, entries_in, IsAhead, IsFreeOf, IsFirstWith};
 ghost use Rattle.checker.specs.Entries.{AreMakers};
@@ -16,7 +16,7 @@ use std::collections::BTreeSet;
 struct Named {
     /// By entry the place of the record that makes it, or the number of records; as many as there are
     /// finishing records.
-    makers: Vec<usize>,
+    makers: Vec<u32>,
     /// Any other entries.
     beyond: BTreeSet<u32>,
 }
@@ -33,14 +33,15 @@ fn entry_count(records: &[Record]) -> usize
 
 /// By entry of the ledger the record that makes it. Searches for the first finishing record that names the
 /// entry of an earlier one.
-pub(crate) fn find_makers(alloc: Global, records: &[Record]) -> Result<Vec<usize>, SearchFault>
+pub(crate) fn find_makers(alloc: Global, records: &[Record]) -> Result<Vec<u32>, SearchFault>
+    requires few { length records.now ≤ 2 ^ 22 }
     ensures makers { IfOk result (λ makers. AreMakers records.now (length records.now) makers.items) }
     ensures entries { IfOk result (λ makers. length makers.items ≡ entries_in records.now) }
     ensures free { OnOk result (IsFreeOf records.now EntryTwice) }
     ensures found { IfErr result (IsFound records.now EntryTwice) }
 {
     let mut named = Named {
-        makers: vec![in alloc; records.len(); entry_count(records)]?,
+        makers: vec![in alloc; records.len() as u32; entry_count(records)]?,
         beyond: BTreeSet::new(alloc),
     };
     for at in 0..records.len() {
@@ -58,6 +59,7 @@ pub(crate) fn find_makers(alloc: Global, records: &[Record]) -> Result<Vec<usize
 /// Whether the record at a place names the entry of an earlier one; if not, its own is named afterwards.
 fn repeats_entry(records: &[Record], named: &mut Named, at: usize) -> Result<bool, AllocError>
     requires within { at < length records.now }
+    requires few { length records.now ≤ 2 ^ 22 }
     requires named { IsNaming records.now at named.old }
     ensures repeats { IfOk result (λ repeats. IsTrue repeats ↔ RepeatsEntry records.now at) }
     ensures named { IfOk result (λ repeats. repeats ≡ false → IsNaming records.now (at + 1) named.new) }
@@ -71,7 +73,8 @@ fn repeats_entry(records: &[Record], named: &mut Named, at: usize) -> Result<boo
 
 /// Whether the entry was named already; afterwards it is, by the record at a place.
 fn name_entry(named: &mut Named, records: usize, entry: u32, at: usize) -> Result<bool, AllocError>
-    requires { at < records }
+    requires within { at < records }
+    requires few { records ≤ 2 ^ 22 }
     ensures known { IfOk result (λ known. known ≡ is_named records named.old entry) }
     ensures more { OnOk result ((e : ℕ) → is_named records named.new e
         ≡ ((e == entry) || is_named records named.old e)) }
@@ -79,8 +82,8 @@ fn name_entry(named: &mut Named, records: usize, entry: u32, at: usize) -> Resul
 {
     let index = entry as usize;
     if index < named.makers.len() {
-        let known = named.makers[index] < records;
-        named.makers[index] = at;
+        let known = (named.makers[index] as usize) < records;
+        named.makers[index] = at as u32;
         Ok(known)
     } else {
         Ok(!named.beyond.insert(entry)?)

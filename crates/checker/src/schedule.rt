@@ -1,42 +1,13 @@
-//! Which creation each record awaits.
-ghost use Rattle.std.specs.Prelude.{ℕ, ◌≡◌, ◌<◌, ◌≤◌, ◌^◌, ◌↔◌, Some, IfOk, length};
+//! Which creation each record awaits, and which task it creates.
+ghost use Rattle.std.specs.Prelude.{ℕ, ◌≡◌, ◌<◌, ◌↔◌, Some, length};
+ghost use Rattle.ompt_events.specs.Records.{created};
 ghost use Rattle.ompt_events.specs.Places.{at as says_at};
 ghost use Rattle.task_tree.specs.Family.{IsFamilyOf};
 ghost use Rattle.task_tree.specs.Subjects.{Calls};
-ghost use Rattle.checker.specs.Merge.{awaited, Awaits, HaveCreations};
+ghost use Rattle.checker.specs.Merge.{awaited, Awaits};
 
 use ompt_events::Record;
-use std::alloc::{AllocError, Global};
-use task_tree::{Family, Slot};
-
-/// For each record the creation that it awaits: that of the explicit task that it starts, discards or
-/// fulfils.
-pub(crate) fn creations_awaited(
-    alloc: Global,
-    records: &[Record],
-    family: &Family,
-) -> Result<Vec<Slot>, AllocError>
-    requires family { IsFamilyOf records.now family.now }
-    requires few { length records.now ≤ 2 ^ 22 }
-    ensures { IfOk result (λ creations. HaveCreations records.now (length records.now) creations.items) }
-{
-    let mut creations: Vec<Slot> = Vec::with_capacity(alloc, records.len())?;
-    for at in 0..records.len() {
-        creations.push(slot_of(creation_awaited(records, family, at)))?;
-    }
-    Ok(creations)
-}
-
-/// The place in 32 bits.
-fn slot_of(place: Option<usize>) -> Slot
-    requires { (p : ℕ) → place ≡ Some p → p < 4294967295 }
-    ensures { result ≡ place }
-{
-    match place {
-        Some(at) => Slot::some(at),
-        None => Slot::none(),
-    }
-}
+use task_tree::Family;
 
 /// The creation of the task that the record at a place starts, discards or fulfils, if it is explicit.
 pub(crate) fn creation_awaited(records: &[Record], family: &Family, at: usize) -> Option<usize>
@@ -51,7 +22,7 @@ pub(crate) fn creation_awaited(records: &[Record], family: &Family, at: usize) -
 }
 
 /// The index of the task that the record at a place fulfils, discards or starts.
-fn awaited_index(records: &[Record], family: &Family, at: usize) -> Option<usize>
+pub(crate) fn awaited_index(records: &[Record], family: &Family, at: usize) -> Option<usize>
     requires within { at < length records.now }
     requires family { IsFamilyOf records.now family.now }
     ensures { Calls family.now.tasks (says_at awaited records.now at) result }
@@ -64,4 +35,16 @@ fn awaited_index(records: &[Record], family: &Family, at: usize) -> Option<usize
     } else {
         None
     }
+}
+
+/// The index of the task that the record at a place creates.
+pub(crate) fn created_index(records: &[Record], family: &Family, at: usize) -> Option<usize>
+    requires within { at < length records.now }
+    requires family { IsFamilyOf records.now family.now }
+    ensures { Calls family.now.tasks (says_at created records.now at) result }
+{
+    if records[at].body.created().is_none() {
+        return None;
+    }
+    family.object(at)
 }

@@ -18,7 +18,7 @@ enum Places {
     /// So many records as they stand in the file.
     InFile(usize),
     /// These.
-    Listed(Vec<usize>),
+    Listed(Vec<u32>),
 }
 
 impl Model for Order {
@@ -41,7 +41,7 @@ impl Order {
     }
 
     /// The order of these places. Takes no memory.
-    pub fn from_vec(places: Vec<usize>) -> Order
+    pub fn from_vec(places: Vec<u32>) -> Order
         ensures { result ≡ places.items }
     {
         Order {
@@ -73,7 +73,7 @@ impl Order {
             }
             Places::Listed(list) => {
                 if before < list.len() {
-                    Some(list[before])
+                    Some(list[before] as usize)
                 } else {
                     None
                 }

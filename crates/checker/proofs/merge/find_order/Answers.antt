@@ -22,7 +22,7 @@ first_ready-requires c =
     let missing : low < length makers → IsUnplaced placed (slice_index makers low) = rw c.deref.ensures.value at c.first_missing-low.ensures.missing in
     let merging : IsMerging rs placed heads [] = merging_start rs heads c.in_ok-heads.field-0.nexts.items placed c.in_ok-placed.ensures c.in_ok-heads.ensures.lists c.in_ok-heads.ensures.keys in
     let is_low = low_reached rs placed makers low c.requires.makers c.requires.entries c.requires.reached merging.all c.first_missing-low.ensures.within (λ k. passed k (omega arith)) missing in
-    record { front = rw (c.deref-2.ensures.value, c.deref-3.ensures.value) (front_merged rs c.args.creations.now placed heads [] low c.requires.creations c.requires.apart c.requires.at_home merging is_low) }
+    record { front = rw (c.deref-2.ensures.value, c.deref-3.ensures.value) (front_merged rs c.args.family.now placed heads [] low c.requires.family c.requires.apart c.requires.at_home merging is_low) }
 
 pub merge-init : goal.merge-init
 merge-init c =
@@ -76,7 +76,7 @@ release-requires-clause-front c =
     let missing : now_low < length makers → IsUnplaced (set placed place true) (slice_index makers now_low) = rw stood at c.first_missing-low-in-Some.ensures.missing in
     let now_passed = passed_more placed makers low now_low place c.merge.invariant.passed passed in
     let is_low = low_reached rs (set placed place true) makers now_low c.requires.makers c.requires.entries c.requires.reached (length-set placed place true ∙ merging.all) c.first_missing-low-in-Some.ensures.within now_passed missing in
-    let front : IsFront rs c.args.creations.now (set placed place true) (set heads r.thread c.index-next.result.now) now_low = front_merged rs c.args.creations.now (set placed place true) (set heads r.thread c.index-next.result.now) (order ++ place ∷ []) now_low c.requires.creations c.requires.apart c.requires.at_home now_merging is_low in
+    let front : IsFront rs c.args.family.now (set placed place true) (set heads r.thread c.index-next.result.now) now_low = front_merged rs c.args.family.now (set placed place true) (set heads r.thread c.index-next.result.now) (order ++ place ∷ []) now_low c.requires.family c.requires.apart c.requires.at_home now_merging is_low in
     rw (c.as_slice.ensures.value, c.as_slice-in-Some.ensures.value) front
 
 pub merge-smaller : goal.merge-smaller
@@ -111,16 +111,16 @@ merge-preserved c =
     let missing : now_low < length makers → IsUnplaced (set placed place true) (slice_index makers now_low) = rw stood at c.first_missing-low-in-Some.ensures.missing in
     let now_passed = passed_more placed makers low now_low place c.merge.invariant.passed passed in
     let is_low = low_reached rs (set placed place true) makers now_low c.requires.makers c.requires.entries c.requires.reached (length-set placed place true ∙ merging.all) c.first_missing-low-in-Some.ensures.within now_passed missing in
-    let front : IsFront rs c.args.creations.now (set placed place true) (set heads r.thread c.index-next.result.now) now_low = front_merged rs c.args.creations.now (set placed place true) (set heads r.thread c.index-next.result.now) (order ++ place ∷ []) now_low c.requires.creations c.requires.apart c.requires.at_home now_merging is_low in
+    let front : IsFront rs c.args.family.now (set placed place true) (set heads r.thread c.index-next.result.now) now_low = front_merged rs c.args.family.now (set placed place true) (set heads r.thread c.index-next.result.now) (order ++ place ∷ []) now_low c.requires.family c.requires.apart c.requires.at_home now_merging is_low in
     let was_low = low_reached rs placed makers low c.requires.makers c.requires.entries c.requires.reached merging.all c.merge.invariant.within c.merge.invariant.passed c.merge.invariant.missing in
-    let was = front_merged rs c.args.creations.now placed heads order low c.requires.creations c.requires.apart c.requires.at_home merging was_low in
+    let was = front_merged rs c.args.family.now placed heads order low c.requires.family c.requires.apart c.requires.at_home merging was_low in
     let is_next = get_or-set_same heads r.thread c.index-next.result.now 0 (merging.are_heads.all place r.thread runs) in
     record {
       merging = rw c.in_ok-push.ensures.items now_merging;
       within = c.first_missing-low-in-Some.ensures.within;
       passed = now_passed;
       missing = missing;
-      ready = ready_more rs c.args.creations.now placed heads low now_low place r.thread c.index-next.result.now c.take_first.new.ready c.release.new.ready was front runs is_next inside taken (rw c.as_slice.ensures.value at c.in_ok-release.ensures.more) (rw c.as_slice.ensures.value at c.in_ok-release.ensures.next) (rw c.as_slice.ensures.value at c.in_ok-release.ensures.awaiting) (λ i k above below. (rw c.as_slice.ensures.value at c.in_ok-release.ensures.naming) i k (omega (arith, above)) (omega (arith, below)));
+      ready = ready_more rs c.args.family.now placed heads low now_low place r.thread c.index-next.result.now c.take_first.new.ready c.release.new.ready was front runs is_next inside taken (rw c.as_slice.ensures.value at c.in_ok-release.ensures.more) (rw c.as_slice.ensures.value at c.in_ok-release.ensures.next) (rw c.as_slice.ensures.value at c.in_ok-release.ensures.awaiting) (λ i k above below. (rw c.as_slice.ensures.value at c.in_ok-release.ensures.naming) i k (omega (arith, above)) (omega (arith, below)));
     }
 
 pub returns-in-Some-first_unplaced-clause-found : goal.returns-in-Some-first_unplaced-clause-found

@@ -1,0 +1,12 @@
+use Rattle.std.proofs.Common.{◌≡◌, ◌+◌, ℕ, length}
+use Rattle.checker.specs.Merge.{task_of}
+use Rattle.checker.specs.Lists.{AreLists, IsRising}
+use Rattle.checker.proofs.lists.lists_of_tasks.Given as goal
+
+-- from the end on the records so far are in their lists
+abbrev pub invariant-loop-step : goal.invariant-loop-step
+invariant-loop-step l = record {
+  keys : length l.lists.firsts.items ≡ length l.family.tasks;
+  lists : (from : ℕ) → from + l.step ≡ length l.records → AreLists (task_of l.family.tasks l.records) (length l.records) from l.lists.firsts.items l.lists.nexts.items;
+  rising : IsRising (length l.records) l.lists.nexts.items;
+}
