@@ -4,9 +4,9 @@
 Valgrind counts them, so the same files give the same figures on a busy machine too.
 
 The phases follow one another, so each is the difference between two runs that end one phase apart: `timing read`
-ends after reading; a file whose last record knows less than the one before it is malformed once all causes but the order
-were looked for; a file whose first wait is for a task that never runs is a no once the order and the lengths of all ends
-were found; the file itself goes to the end.
+ends after reading; a file whose last record claims a wrong share is malformed once all causes to ShareWrong were looked
+for; a file whose first wait is for a task that never runs is a no once the causes that are left, the order and the lengths
+of all ends were found; the file itself goes to the end.
 """
 
 import json
@@ -31,10 +31,18 @@ def begun(lines):
 
 
 def with_a_cause(lines):
-    """The records, and then one that knows less than the record before it in a thread of its own."""
-    start = {**begun(lines), "seen": 1}
-    end = {"cb": "thread_end", "seen": 0, "seq": 1, "thread": start["thread"]}
-    return lines + [json.dumps(start), json.dumps(end)]
+    """The records, and then a task that claims another share than its own when it is complete."""
+    start = begun(lines)
+    parent, child = NEW_TASK, NEW_TASK + 1
+    record = {"seen": 0, "thread": start["thread"]}
+    schedule = {**record, "cb": "task_schedule"}
+    last = [
+        start,
+        {**record, "cb": "task_create", "seq": 1, "task": parent, "child": child, "deps": False, "flags": ["explicit"]},
+        {**schedule, "seq": 2, "status": "switch", "prior": parent, "next": child},
+        {**schedule, "seq": 3, "status": "complete", "prior": child, "next": parent, "root": parent, "kept": 0, "path": [1]},
+    ]
+    return lines + [json.dumps(it) for it in last]
 
 
 def with_an_early_end(lines):
@@ -70,7 +78,7 @@ def phases(path, size, order):
     check = [PROGRAM, "check"]
     ends = [
         instructions_of([TIMING, "read"], path, lines, f"{size} records"),
-        instructions_of(check, path, with_a_cause(lines), "cause 14 LengthBack"),
+        instructions_of(check, path, with_a_cause(lines), "cause 11 ShareWrong"),
         instructions_of(check, path, with_an_early_end(lines), "no: "),
         instructions_of(check, path, lines, "yes: "),
     ]
