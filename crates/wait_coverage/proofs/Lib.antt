@@ -12,6 +12,7 @@ pub mod DoneLemmas
 pub mod ChainLemmas
 pub mod LimitLemmas
 pub mod WaitLemmas
+pub mod RowLemmas
 pub mod MeetingLemmas
 pub mod OpenLemmas
 pub mod NumberLemmas

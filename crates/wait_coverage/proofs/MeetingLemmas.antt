@@ -23,11 +23,13 @@ use Rattle.task_tree.proofs.LookupLemmas.{subject_calls}
 use Rattle.task_tree.proofs.SubjectLemmas.{call_index}
 use Rattle.wait_coverage.specs.Limits.{IsFamiliesLimit, IsWaitLimit, IsEndLimit, AreEndLimits}
 use Rattle.wait_coverage.specs.declared.limits.Node.{Node}
-use Rattle.wait_coverage.specs.Meetings.{IsBarrierEnd, AreMet, IsRaised, AreMeetingsAdded}
+use Rattle.wait_coverage.specs.Meetings.{IsBarrierEnd, IsMeeting, AreMet, IsRaised, AreMeetingsAdded}
+use Rattle.wait_coverage.specs.Rows.{row_at, AreSameRows}
 use Rattle.wait_coverage.specs.Teams.{AreTeams}
 use Rattle.wait_coverage.proofs.BarrierLemmas.{begin_says, begun_subject, begun_region, one_number, barrier_is_other}
 use Rattle.wait_coverage.proofs.CoverLemmas.{ends_at, one_region, says_same}
 use Rattle.wait_coverage.proofs.LimitLemmas.{covers_cases}
+use Rattle.wait_coverage.proofs.RowLemmas.{row_here, row_there, row_set_same, row_set_other}
 use Rattle.wait_coverage.proofs.WaitLemmas.{not_begin}
 
 -- ---- the members' begins, one record more
@@ -35,11 +37,20 @@ use Rattle.wait_coverage.proofs.WaitLemmas.{not_begin}
 -- where no member begins a barrier
 pub met_other : (rs : List Record) (n : ℕ) (tasks : List ℕ) (teams : List (Option ℕ)) (meetings : List (Vec ℕ)) → AreMet rs n tasks teams meetings → ((index task team : ℕ) → barrier_begun (at region rs n) ≡ Some task → slice_get tasks index ≡ Some task → slice_get teams index ≡ Some (Some team) → ⊥) → AreMet rs (n + 1) tasks teams meetings
 met_other rs n tasks teams meetings are none = record {
-  within = are.within;
-  each = λ index task team number i row is_task in_team stands starts below. elim (cases_eq i n) [
+  each = λ index task team number i is_task in_team starts below. elim (cases_eq i n) [
     | inl same ↦ absurd (none index task team (ap (λ k. barrier_begun (at region rs k)) (sym same) ∙ begin_says rs task number i starts) is_task in_team)
-    | inr apart ↦ are.each index task team number i row is_task in_team stands starts (omega (arith, below, apart))
+    | inr apart ↦ are.each index task team number i is_task in_team starts (omega (arith, below, apart))
   ];
+}
+
+in_row : (rs : List Record) (task number i : ℕ) (before after : List ℕ) → after ≡ before → IsMeeting rs task number i before → IsMeeting rs task number i after
+in_row rs task number i before after same meeting = let P : List ℕ → Type 0 = IsMeeting rs task number i in subst P (sym same) meeting
+
+-- more rows, and nothing in them
+met_reached : (rs : List Record) (n : ℕ) (tasks : List ℕ) (teams : List (Option ℕ)) (before after : List (Vec ℕ)) → AreSameRows before after → AreMet rs n tasks teams before → AreMet rs n tasks teams after
+met_reached rs n tasks teams before after same are = record {
+  each = λ index task team number i is_task in_team starts below.
+      in_row rs task number i (row_at before team) (row_at after team) (same team) (are.each index task team number i is_task in_team starts below);
 }
 
 -- a greater limit is one too
@@ -47,10 +58,9 @@ weaker : (rs : List Record) (i task low high : ℕ) → IsFamiliesLimit rs i tas
 weaker rs i task low high limit less c child before creates m t small at_most of = limit c child before creates m t small (omega (arith, less, at_most)) of
 
 -- where one does
-pub met_more : (rs : List Record) (n own task team number limit : ℕ) (tasks : List ℕ) (teams : List (Option ℕ)) (meetings : List (Vec ℕ)) (old new : Vec ℕ) → AreApart tasks → AreMet rs n tasks teams meetings → slice_get tasks own ≡ Some task → slice_get teams own ≡ Some (Some team) → slice_get meetings team ≡ Some old → IsBarrierBegin rs task number n → IsFamiliesLimit rs n task limit → IsRaised number limit old.items new.items → AreMet rs (n + 1) tasks teams (set meetings team new)
-met_more rs n own task team number limit tasks teams meetings old new apart are is_own in_team row_there begins families raised = record {
-  within = λ index other stands. let less = are.within index other stands in let same = length-set meetings team new in omega (arith, less, same);
-  each = λ index other t k i row is_other other_team stands starts below. elim (cases_eq i n) [
+pub met_more : (rs : List Record) (n own task team number limit : ℕ) (tasks : List ℕ) (teams : List (Option ℕ)) (meetings reached : List (Vec ℕ)) (old new : Vec ℕ) → AreApart tasks → AreMet rs n tasks teams meetings → AreSameRows meetings reached → slice_get tasks own ≡ Some task → slice_get teams own ≡ Some (Some team) → slice_get reached team ≡ Some old → IsBarrierBegin rs task number n → IsFamiliesLimit rs n task limit → IsRaised number limit old.items new.items → AreMet rs (n + 1) tasks teams (set reached team new)
+met_more rs n own task team number limit tasks teams meetings reached old new apart met same_rows is_own in_team row_there begins families raised = record {
+  each = λ index other t k i is_other other_team starts below. elim (cases_eq i n) [
     | inl last ↦
         let P : ℕ → Type 0 = IsBarrierBegin rs other k in
         let Q : ℕ → Type 0 = λ x. IsBarrierBegin rs x k n in
@@ -59,31 +69,36 @@ met_more rs n own task team number limit tasks teams meetings old new apart are 
         let is_number : k ≡ number = one_number rs task k number n (subst Q is_task starts_here) begins in
         let is_index : index ≡ own = apart index own other is_other (is_own ∙ ap Some (sym is_task)) in
         let is_team : t ≡ team = same_Some t team (same_Some (Some t) (Some team) (sym other_team ∙ ap (slice_get teams) is_index ∙ in_team)) in
-        let is_row : new ≡ row = same_Some new row (sym (get_set_same meetings team new within) ∙ ap (slice_get (set meetings team new)) (sym is_team) ∙ stands) in
         let R : ℕ → Type 0 = λ x. IsFamiliesLimit rs x other raised.raised.0 in
         let S : ℕ → Type 0 = λ x. IsFamiliesLimit rs n x raised.raised.0 in
-        record {
+        in_row rs other k i new.items (row_at (set reached team new) t) (row_new t is_team) (record {
           limit = raised.raised.0;
-          there = ap (λ (v : Vec ℕ). slice_get v.items k) (sym is_row) ∙ ap (slice_get new.items) is_number ∙ raised.raised.1;
+          there = ap (slice_get new.items) is_number ∙ raised.raised.1;
           families = subst R (sym last) (subst S (sym is_task) (weaker rs n task limit raised.raised.0 families raised.raised.2));
-        }
-    | inr earlier ↦ elim (cases_eq t team) [
-      | inl is_team ↦
-          let is_row : new ≡ row = same_Some new row (sym (get_set_same meetings team new within) ∙ ap (slice_get (set meetings team new)) (sym is_team) ∙ stands) in
-          let known = are.each index other t k i old is_other other_team (ap (slice_get meetings) is_team ∙ row_there) starts (omega (arith, below, earlier)) in
-          let kept = raised.kept k known.limit known.there in
-          record {
-            limit = kept.0;
-            there = ap (λ (v : Vec ℕ). slice_get v.items k) (sym is_row) ∙ kept.1;
-            families = weaker rs i other known.limit kept.0 known.families kept.2;
-          }
-      | inr different ↦ are.each index other t k i row is_other other_team (sym (get_set_other meetings team t new different) ∙ stands) starts (omega (arith, below, earlier))
-    ]
+        })
+    | inr earlier ↦
+        let known = are.each index other t k i is_other other_team starts (omega (arith, below, earlier)) in
+        elim (cases_eq t team) [
+          | inl is_team ↦
+              let kept = raised.kept k known.limit (sym (ap (λ l. slice_get l k) (row_old t is_team)) ∙ known.there) in
+              in_row rs other k i new.items (row_at (set reached team new) t) (row_new t is_team) (record {
+                limit = kept.0;
+                there = kept.1;
+                families = weaker rs i other known.limit kept.0 known.families kept.2;
+              })
+          | inr different ↦ in_row rs other k i (row_at reached t) (row_at (set reached team new) t) (row_set_other reached team t new different) known
+        ]
   ];
 }
   where
-    within : team < length meetings
-    within = slice_get_within meetings team old row_there
+    are : AreMet rs n tasks teams reached
+    are = met_reached rs n tasks teams meetings reached same_rows met
+
+    row_new : (t : ℕ) → t ≡ team → row_at (set reached team new) t ≡ new.items
+    row_new t is_team = ap (row_at (set reached team new)) is_team ∙ row_set_same reached team new (slice_get_within reached team old row_there)
+
+    row_old : (t : ℕ) → t ≡ team → row_at reached t ≡ old.items
+    row_old t is_team = ap (row_at reached) is_team ∙ row_here reached team old row_there
 
 -- ---- the end of a barrier
 
@@ -99,14 +114,24 @@ plain_limit rs i limit noted none m t small low covers = elim (covers_cases rs i
   ]
 ]
 
--- the barrier's number has a limit
-pub own_meeting : (rs : List Record) (i index own team begin number : ℕ) (kind : SyncKind) (tasks : List ℕ) (teams : List (Option ℕ)) (meetings : List (Vec ℕ)) (row : Vec ℕ) → AreMet rs (length rs) tasks teams meetings → slice_get tasks index ≡ Some own → slice_get teams index ≡ Some (Some team) → slice_get meetings team ≡ Some row → IsRegion rs i own kind begin → IsBarrierBegin rs own number begin → number < length row.items
-own_meeting rs i index own team begin number kind tasks teams meetings row are is_own in_team stands there begins =
+own_limit : (rs : List Record) (i index own team begin number : ℕ) (kind : SyncKind) (tasks : List ℕ) (teams : List (Option ℕ)) (meetings : List (Vec ℕ)) → AreMet rs (length rs) tasks teams meetings → slice_get tasks index ≡ Some own → slice_get teams index ≡ Some (Some team) → IsRegion rs i own kind begin → IsBarrierBegin rs own number begin → IsMeeting rs own number begin (row_at meetings team)
+own_limit rs i index own team begin number kind tasks teams meetings are is_own in_team there begins =
     let ends = ends_at rs i own begin kind there in
     let below = ends.below in
     let inside = ends.inside in
-    let known = are.each index own team number begin row is_own in_team stands begins (omega (arith, below, inside)) in
-    slice_get_within row.items number known.limit known.there
+    are.each index own team number begin is_own in_team begins (omega (arith, below, inside))
+
+-- the team has a row, and the barrier's number a limit in it
+pub own_row : (rs : List Record) (i index own team begin number : ℕ) (kind : SyncKind) (tasks : List ℕ) (teams : List (Option ℕ)) (meetings : List (Vec ℕ)) → AreMet rs (length rs) tasks teams meetings → slice_get tasks index ≡ Some own → slice_get teams index ≡ Some (Some team) → IsRegion rs i own kind begin → IsBarrierBegin rs own number begin → team < length meetings
+own_row rs i index own team begin number kind tasks teams meetings are is_own in_team there begins =
+    let known = own_limit rs i index own team begin number kind tasks teams meetings are is_own in_team there begins in
+    let row = row_there meetings team number known.limit known.there in
+    slice_get_within meetings team row.0 row.1
+
+pub own_meeting : (rs : List Record) (i index own team begin number : ℕ) (kind : SyncKind) (tasks : List ℕ) (teams : List (Option ℕ)) (meetings : List (Vec ℕ)) (row : Vec ℕ) → AreMet rs (length rs) tasks teams meetings → slice_get tasks index ≡ Some own → slice_get teams index ≡ Some (Some team) → slice_get meetings team ≡ Some row → IsRegion rs i own kind begin → IsBarrierBegin rs own number begin → number < length row.items
+own_meeting rs i index own team begin number kind tasks teams meetings row are is_own in_team stands there begins =
+    let known = own_limit rs i index own team begin number kind tasks teams meetings are is_own in_team there begins in
+    slice_get_within row.items number known.limit (sym (ap (λ l. slice_get l number) (row_here meetings team row stands)) ∙ known.there)
 
 pub met_limit : (rs : List Record) (family : FamilyView) (i index own team begin number limit : ℕ) (kind : SyncKind) (teams : List (Option ℕ)) (meetings : List (Vec ℕ)) (row : Vec ℕ) → IsFamilyOf rs family → AreTeams rs family.tasks teams → AreMet rs (length rs) family.tasks teams meetings → slice_get family.tasks index ≡ Some own → slice_get teams index ≡ Some (Some team) → slice_get meetings team ≡ Some row → IsRegion rs i own kind begin → is_barrier kind ≡ true → IsBarrierBegin rs own number begin → slice_get row.items number ≡ Some limit → IsEndLimit rs i limit
 met_limit rs family i index own team begin number limit kind teams meetings row are known met is_own in_team stands there barrier begins is_limit m t small low covers = elim (covers_cases rs i t covers) [
@@ -123,8 +148,8 @@ met_limit rs family i index own team begin number limit kind teams meetings row 
         let says_region = begun_region rs one.start one.member says in
         let called = call_index family.tasks (at subject rs one.start) _ one.member (subject_calls rs family one.start are) (begun_subject rs one.start one.member says) in
         let mates = (known.mates index called.0 own one.member team is_own called.2 in_team).1 (subst R same.task_is one.mate) in
-        let meeting = met.each called.0 one.member team one.number one.start row called.2 mates stands one.starts (at_within region rs one.start (one.member, says_region.0, says_region.1) says_region.2) in
-        let is_same : meeting.limit ≡ limit = same_Some meeting.limit limit (sym meeting.there ∙ ap (slice_get row.items) is_number ∙ is_limit) in
+        let meeting = met.each called.0 one.member team one.number one.start called.2 mates one.starts (at_within region rs one.start (one.member, says_region.0, says_region.1) says_region.2) in
+        let is_same : meeting.limit ≡ limit = same_Some meeting.limit limit (sym meeting.there ∙ ap (λ l. slice_get l one.number) (row_here meetings team row stands) ∙ ap (slice_get row.items) is_number ∙ is_limit) in
         meeting.families one.place one.child one.before one.creates m t small (omega (arith, is_same, low)) one.of
   ]
 ]

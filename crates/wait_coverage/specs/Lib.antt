@@ -7,6 +7,7 @@ pub mod Lengths
 pub mod Codes
 pub mod Done
 pub mod Limits
+pub mod Rows
 pub mod Meetings
 pub mod Waits
 pub mod Known

@@ -9,6 +9,7 @@ use Rattle.ompt_events.specs.declared.names.SyncKind.{SyncKind}
 use Rattle.ompt_events.specs.Records.{region}
 use Rattle.ompt_events.specs.Places.{at}
 use Rattle.ompt_events.specs.Regions.{is_barrier, IsBarrierBegin}
+use Rattle.wait_coverage.specs.Rows.{row_at}
 use Rattle.wait_coverage.specs.Limits.{IsFamiliesLimit, IsWaitLimit, IsEndLimit}
 use Rattle.wait_coverage.specs.declared.limits.Node.{Node}
 
@@ -23,11 +24,6 @@ EndsBarrier body = IsBarrierEndOf (region body)
 abbrev pub IsBarrierEnd : List Record → ℕ → Type 0
 IsBarrierEnd rs i = IsBarrierEndOf (at region rs i)
 
--- the teams of the first n tasks have lesser numbers
-abbrev pub HaveTeams : ℕ → List (Option ℕ) → ℕ → Type 0
-HaveTeams n teams count =
-    (index team : ℕ) → index < n → slice_get teams index ≡ Some (Some team) → team < count
-
 -- the row has a limit for what the task created before its barrier with this number began at i
 pub record IsMeeting (rs : List Record) (task number i : ℕ) (row : List ℕ) : Type 0 where
   pub limit : ℕ
@@ -38,10 +34,9 @@ pub record IsMeeting (rs : List Record) (task number i : ℕ) (row : List ℕ) :
 -- records
 pub record AreMet (rs : List Record) (n : ℕ) (tasks : List ℕ) (teams : List (Option ℕ))
     (meetings : List (Vec ℕ)) : Type 0 where
-  pub within : (index team : ℕ) → slice_get teams index ≡ Some (Some team) → team < length meetings
-  pub each : (index task team number i : ℕ) (row : Vec ℕ) → slice_get tasks index ≡ Some task
-      → slice_get teams index ≡ Some (Some team) → slice_get meetings team ≡ Some row
-      → IsBarrierBegin rs task number i → i < n → IsMeeting rs task number i row.items
+  pub each : (index task team number i : ℕ) → slice_get tasks index ≡ Some task
+      → slice_get teams index ≡ Some (Some team) → IsBarrierBegin rs task number i → i < n
+      → IsMeeting rs task number i (row_at meetings team)
 
 -- each has at least what it had, and the one with this number at least the limit
 pub record IsRaised (number limit : ℕ) (before after : List ℕ) : Type 0 where

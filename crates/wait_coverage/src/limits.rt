@@ -14,7 +14,7 @@ ghost use Rattle.wait_coverage.specs.Teams.{IsTeamsOf};
 use crate::begins::begins_barrier;
 use crate::done::Done;
 use crate::limit::Limit;
-use crate::meetings::{meet, no_meetings};
+use crate::meetings::meet;
 use crate::teams::Teams;
 use ompt_events::{Body, Endpoint, Record, SyncKind};
 use std::alloc::{AllocError, Global};
@@ -83,7 +83,7 @@ pub(crate) fn find_limits(
     ensures met { IfOk result (λ noted. AreMet records.now (length records.now)
         family.now.tasks teams.now.teams noted.meetings.items) }
 {
-    let mut meetings = no_meetings(alloc, family, teams)?;
+    let mut meetings: Vec<Vec<Limit>> = Vec::new(alloc);
     let mut progress = no_progress(alloc, family.tasks().as_slice().len())?;
     let mut nodes: Vec<Node> = Vec::with_capacity(alloc, records.len())?;
     for at in 0..records.len() {
@@ -96,7 +96,7 @@ pub(crate) fn find_limits(
             &mut progress,
             at,
         );
-        meet(records, family, teams, node.limit, &mut meetings, at)?;
+        meet(alloc, records, family, teams, node.limit, &mut meetings, at)?;
         nodes.push(node)?;
     }
     Ok(Noted { nodes, meetings })

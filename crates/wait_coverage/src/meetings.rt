@@ -1,6 +1,6 @@
 //! From which ledger length on what the end of a barrier covers is finished: what the begins of all members
 //! of a team say together.
-ghost use Rattle.std.specs.Prelude.{ℕ, ◌≡◌, ◌<◌, ◌≤◌, ◌+◌, ◌↔◌, IfOk, IsTrue, Some, length, slice_get};
+ghost use Rattle.std.specs.Prelude.{ℕ, ◌≡◌, ◌<◌, ◌≤◌, ◌+◌, ◌↔◌, IfOk, IsTrue, Some, length};
 ghost use Rattle.ompt_events.specs.Records.{region};
 ghost use Rattle.ompt_events.specs.Places.{at as says_at};
 ghost use Rattle.ompt_events.specs.Regions.{barrier_begun};
@@ -8,11 +8,12 @@ ghost use Rattle.task_tree.specs.Family.{IsFamilyOf};
 ghost use Rattle.task_states.specs.States.{AreStatesOf};
 ghost use Rattle.wait_coverage.specs.Teams.{IsTeamsOf};
 ghost use Rattle.wait_coverage.specs.Limits.{IsFamiliesLimit, IsEndLimit, AreNodes, AreEndLimits};
-ghost use Rattle.wait_coverage.specs.Meetings.{EndsBarrier, IsBarrierEnd, HaveTeams, AreMet, IsRaised, AreMeetingsAdded};
+ghost use Rattle.wait_coverage.specs.Meetings.{EndsBarrier, IsBarrierEnd, AreMet, IsRaised, AreMeetingsAdded};
 
 use crate::begins::begins_barrier;
 use crate::limit::Limit;
 use crate::limits::Node;
+use crate::rows::reach;
 use crate::teams::Teams;
 use crate::waits::begin_of;
 use ompt_events::{Body, Endpoint, Record};
@@ -42,39 +43,11 @@ pub(crate) fn add_meetings(
     }
 }
 
-/// No barrier of any team.
-pub(crate) fn no_meetings(
-    alloc: Global,
-    family: &Family,
-    teams: &Teams,
-) -> Result<Vec<Vec<Limit>>, AllocError>
-    requires all { length teams.now.teams ≡ length family.now.tasks }
-    ensures { IfOk result (λ meetings.
-        HaveTeams (length family.now.tasks) teams.now.teams (length meetings.items)) }
-{
-    let mut meetings: Vec<Vec<Limit>> = Vec::new(alloc);
-    for index in 0..family.tasks().as_slice().len() {
-        if let Some(team) = teams.team(index) {
-            reach(alloc, &mut meetings, team)?;
-        }
-    }
-    Ok(meetings)
-}
-
-/// Room for the team with this number.
-fn reach(alloc: Global, meetings: &mut Vec<Vec<Limit>>, team: usize) -> Result<(), AllocError>
-    ensures { IfOk result (λ done. (team < length meetings.new.items)
-        × (length meetings.old.items ≤ length meetings.new.items)) }
-{
-    'room: while meetings.len() <= team {
-        meetings.push(Vec::new(alloc))?;
-    }
-    Ok(())
-}
-
 /// The meeting with the member that begins a barrier at the place, if one does. The limit is that of what it
-/// created before.
+/// created before. Rows are made only up to the team of a member that begins one: its number may be as great
+/// as there are tasks, and most teams may begin no barrier.
 pub(crate) fn meet(
+    alloc: Global,
     records: &[Record],
     family: &Family,
     teams: &Teams,
@@ -100,6 +73,7 @@ pub(crate) fn meet(
     let Some(team) = teams.team(index) else {
         return Ok(());
     };
+    reach(alloc, meetings, team)?;
     raise(&mut meetings[team], teams.number(at) as usize, limit)
 }
 
@@ -173,5 +147,6 @@ fn end_limit(
     let Some(begin) = begin_of(records, states, at) else {
         return Limit::zero();
     };
-    meetings[team][teams.number(begin) as usize]
+    let number = teams.number(begin) as usize;
+    meetings[team][number]
 }

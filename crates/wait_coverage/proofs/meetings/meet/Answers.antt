@@ -48,7 +48,8 @@ returns c =
     let begun = ap barrier_begun (at_index region rs i c.index-records-at.result c.requires.within) ∙ known.1 in
     let own = call_same tasks (at subject rs i) c.subject.result c.in-Some.index task (c.subject.ensures rs c.requires.family) c.in-Some.is (begun_subject rs i task begun) in
     let in_team = c.team.ensures ∙ ap Some c.in-Some-team.is in
-    let row = read_at meetings c.in-Some-team.team c.index_mut.result.now (c.requires.met.within c.in-Some.index c.in-Some-team.team in_team) c.index_mut.ensures.value in
+    let reached = c.reach.new.rows.items in
+    let row = read_at reached c.in-Some-team.team c.index_mut.result.now c.in_ok-reach.ensures.made c.index_mut.ensures.value in
     let families = c.requires.limit task begun in
     let begins = c.requires.teams.numbers.each i c.number.result c.number.ensures task begun in
-    if_ok-map (λ done raised. met_more rs i c.in-Some.index task c.in-Some-team.team c.number.result c.args.limit tasks c.args.teams.now.teams meetings c.index_mut.result.now _ c.requires.family.makers.apart c.requires.met own in_team row begins families raised) c.raise.result c.raise.ensures
+    if_ok-map (λ done raised. met_more rs i c.in-Some.index task c.in-Some-team.team c.number.result c.args.limit tasks c.args.teams.now.teams meetings reached c.index_mut.result.now _ c.requires.family.makers.apart c.requires.met c.in_ok-reach.ensures.same own in_team row begins families raised) c.raise.result c.raise.ensures

@@ -1,0 +1,16 @@
+-- Rows by index, made only up to the greatest index at which one is written.
+use Rattle.std.specs.Prelude.{ℕ, ◌≡◌, List, [], Option, Some, None, slice_get}
+use Rattle.std.specs.Global.{Vec}
+
+-- what the row has; nothing where there is none
+abbrev pub row_items : {X : Type 0} → Option (Vec X) → List X
+row_items None = []
+row_items (Some row) = row.items
+
+-- what stands in the row with this index; nothing past the last row
+abbrev pub row_at : {X : Type 0} → List (Vec X) → ℕ → List X
+row_at rows index = row_items (slice_get rows index)
+
+-- at each index stands what stood there
+abbrev pub AreSameRows : {X : Type 0} → List (Vec X) → List (Vec X) → Type 0
+AreSameRows before after = (index : ℕ) → row_at after index ≡ row_at before index

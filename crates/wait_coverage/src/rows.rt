@@ -1,0 +1,21 @@
+//! Rows by index, made only up to the greatest index at which one is written: an index may be as great as
+//! there are tasks, and few of them may have a row.
+ghost use Rattle.std.specs.Prelude.{◌<◌, IfOk, OnOk, length};
+ghost use Rattle.wait_coverage.specs.Rows.{AreSameRows};
+
+use std::alloc::{AllocError, Global};
+
+/// Makes the rows up to this index, each of them empty.
+pub(crate) fn reach<T: Drop>(
+    alloc: Global,
+    rows: &mut Vec<Vec<T>>,
+    index: usize,
+) -> Result<(), AllocError>
+    ensures made { OnOk result (index < length rows.new.items) }
+    ensures same { OnOk result (AreSameRows rows.old.items rows.new.items) }
+{
+    'room: while rows.len() <= index {
+        rows.push(Vec::new(alloc))?;
+    }
+    Ok(())
+}
