@@ -15,15 +15,17 @@ use Rattle.ompt_events.specs.declared.names.SyncKind.{SyncKind}
 use Rattle.ompt_events.specs.Records.{region, running}
 use Rattle.ompt_events.specs.Places.{at, is_own, own_before}
 use Rattle.ompt_events.specs.Regions.{is_barrier, barrier_begun, begins_barrier, IsBarrierBegin}
-use Rattle.ompt_events.proofs.ListLemmas.{get_pushed, get_last, pushed_cases}
+use Rattle.ompt_events.proofs.ListLemmas.{get_pushed, get_last}
 use Rattle.ompt_events.proofs.PlaceLemmas.{own_more}
 use Rattle.ompt_events.proofs.RecordLemmas.{at_through, region_running}
 use Rattle.task_tree.specs.Numbering.{AreApart}
 use Rattle.task_tree.specs.Subjects.{subject, Calls}
 use Rattle.task_tree.proofs.LinkLemmas.{get_set_same, get_set_other}
 use Rattle.task_tree.proofs.NamedLemmas.{region_subject}
-use Rattle.wait_coverage.specs.Begins.{AreEmpty, AreNumbered}
+use Rattle.wait_coverage.specs.Begins.{AreNumbered}
+use Rattle.wait_coverage.specs.Rows.{row_at, AreSameRows}
 use Rattle.wait_coverage.specs.Teams.{begins_before, AreBegins, IsNumberOf, AreBeginNumbers}
+use Rattle.wait_coverage.proofs.RowLemmas.{row_here, row_set_same, row_set_other}
 use Rattle.wait_coverage.proofs.LengthLemmas.{call_same, call_never}
 
 -- ---- the record that begins a barrier
@@ -133,43 +135,39 @@ begun_number rs task n within begins =
 
 -- ---- the tables
 
-pub empty_none : (lists : List (Vec ℕ)) → lists ≡ [] → AreEmpty 0 lists
-empty_none lists is = record {
-  all = ap length is;
-  each = λ index places stands. absurd (none-some places (sym (ap (λ l. slice_get l index) is) ∙ stands));
-}
-
-pub empty_more : (n : ℕ) (lists : List (Vec ℕ)) (last : Vec ℕ) → AreEmpty n lists → last.items ≡ [] → AreEmpty (n + 1) (lists ++ last ∷ [])
-empty_more n lists last are none = record {
-  all = length_push lists last ∙ ap (λ k. k + 1) are.all;
-  each = λ index places stands. elim (pushed_cases lists last places index stands) [
-    | inl old ↦ are.each index places old
-    | inr here ↦ ap (λ (p : Vec ℕ). p.items) (sym here.1) ∙ none
-  ];
-}
-
-pub begins_start : (rs : List Record) (tasks : List ℕ) (begins : List (Vec ℕ)) → AreEmpty (length tasks) begins → AreBegins rs 0 tasks begins
-begins_start rs tasks begins are = record {
-  all = are.all;
-  each = λ index task places is_task stands. are.each index places stands;
+pub begins_start : (rs : List Record) (tasks : List ℕ) (begins : List (Vec ℕ)) → begins ≡ [] → AreBegins rs 0 tasks begins
+begins_start rs tasks begins none = record {
+  within = let long = ap length none in omega (arith, long);
+  each = λ index task is_task. ap (λ rows. row_at rows index) none;
 }
 
 pub begins_other : (rs : List Record) (n : ℕ) (tasks : List ℕ) (begins : List (Vec ℕ)) → AreBegins rs n tasks begins → barrier_begun (at region rs n) ≡ None → AreBegins rs (n + 1) tasks begins
 begins_other rs n tasks begins are none = record {
-  all = are.all;
-  each = λ index task places is_task stands. are.each index task places is_task stands ∙ sym (begins_same rs task n (λ is. none-some task (sym none ∙ is)));
+  within = are.within;
+  each = λ index task is_task. are.each index task is_task ∙ sym (begins_same rs task n (λ is. none-some task (sym none ∙ is)));
 }
+
+-- more rows, and nothing in them
+pub begins_reached : (rs : List Record) (n own parent : ℕ) (tasks : List ℕ) (begins reached : List (Vec ℕ)) → AreBegins rs n tasks begins → slice_get tasks own ≡ Some parent → AreSameRows begins reached → ((most : ℕ) → length begins ≤ most → own < most → length reached ≤ most) → AreBegins rs n tasks reached
+begins_reached rs n own parent tasks begins reached are is_own same few = record {
+  within = few (length tasks) are.within (slice_get_within tasks own parent is_own);
+  each = λ index task is_task. same index ∙ are.each index task is_task;
+}
+
+-- what stands in a row that is made
+own_places : (rs : List Record) (n own parent : ℕ) (tasks : List ℕ) (begins : List (Vec ℕ)) (old : Vec ℕ) → AreBegins rs n tasks begins → slice_get tasks own ≡ Some parent → slice_get begins own ≡ Some old → old.items ≡ begins_before rs parent n
+own_places rs n own parent tasks begins old are is_own stands = sym (row_here begins own old stands) ∙ are.each own parent is_own
 
 pub begins_more : (rs : List Record) (n own parent : ℕ) (tasks : List ℕ) (begins : List (Vec ℕ)) (old new : Vec ℕ) → AreApart tasks → AreBegins rs n tasks begins → slice_get tasks own ≡ Some parent → slice_get begins own ≡ Some old → barrier_begun (at region rs n) ≡ Some parent → new.items ≡ old.items ++ n ∷ [] → AreBegins rs (n + 1) tasks (set begins own new)
 begins_more rs n own parent tasks begins old new apart are is_own stands_old begun is_new = record {
-  all = length-set begins own new ∙ are.all;
-  each = λ index task places is_task stands. elim (cases_eq index own) [
+  within = let same = length-set begins own new in let few = are.within in omega (arith, same, few);
+  each = λ index task is_task. elim (cases_eq index own) [
     | inl same ↦
         let is_parent : task ≡ parent = same_Some task parent (sym is_task ∙ ap (slice_get tasks) same ∙ is_own) in
-        let is_places : places ≡ new = same_Some places new (sym stands ∙ ap (slice_get (set begins own new)) same ∙ get_set_same begins own new (slice_get_within begins own old stands_old)) in
-        ap (λ (p : Vec ℕ). p.items) is_places ∙ is_new ∙ ap (λ l. l ++ n ∷ []) (are.each own parent old is_own stands_old) ∙ sym (begins_pushed rs parent n begun) ∙ ap (λ t. begins_before rs t (n + 1)) (sym is_parent)
+        ap (row_at (set begins own new)) same ∙ row_set_same begins own new (slice_get_within begins own old stands_old) ∙ is_new ∙ ap (λ l. l ++ n ∷ []) (own_places rs n own parent tasks begins old are is_own stands_old) ∙ sym (begins_pushed rs parent n begun) ∙ ap (λ t. begins_before rs t (n + 1)) (sym is_parent)
     | inr different ↦
-        are.each index task places is_task (sym (get_set_other begins own index new different) ∙ stands)
+        row_set_other begins own index new different
+        ∙ are.each index task is_task
         ∙ sym (begins_same rs task n (λ is. different (apart index own parent (is_task ∙ ap Some (same_Some task parent (sym is ∙ begun))) is_own)))
   ];
 }
@@ -183,7 +181,7 @@ number_here rs n own parent number tasks begins old are within is_own stands beg
     let same : parent ≡ task = same_Some parent task (sym begun ∙ begins_too) in
     let P : ℕ → Type 0 = λ t. IsBarrierBegin rs t number n in
     let Q : ℕ → Type 0 = λ k. IsBarrierBegin rs parent k n in
-    let is_number : number ≡ length (begins_before rs parent n) = is ∙ ap length (are.each own parent old is_own stands) in
+    let is_number : number ≡ length (begins_before rs parent n) = is ∙ ap length (own_places rs n own parent tasks begins old are is_own stands) in
     subst P same (subst Q (sym is_number) (begun_number rs parent n within begun))
 
 pub numbered_none : (rs : List Record) (numbers : List ℕ) → numbers ≡ replicate (length rs) 0 → AreNumbered rs 0 numbers
@@ -237,6 +235,6 @@ begun_never rs tasks i task slot calls none begins = call_never tasks (at subjec
 
 pub places_few : (rs : List Record) (n own parent : ℕ) (tasks : List ℕ) (begins : List (Vec ℕ)) (old : Vec ℕ) → AreBegins rs n tasks begins → slice_get tasks own ≡ Some parent → slice_get begins own ≡ Some old → length old.items ≤ n
 places_few rs n own parent tasks begins old are is_own stands =
-    let same = ap length (are.each own parent old is_own stands) in
+    let same = ap length (own_places rs n own parent tasks begins old are is_own stands) in
     let few = begins_few rs parent n in
     omega (arith, same, few)

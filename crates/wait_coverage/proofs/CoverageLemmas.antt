@@ -42,7 +42,8 @@ use Rattle.wait_coverage.proofs.BarrierLemmas.{barrier_is_other, begun_subject, 
 use Rattle.wait_coverage.proofs.MateLemmas.{mate_of_number, begin_within}
 use Rattle.wait_coverage.proofs.MemberLemmas.{mate_index}
 use Rattle.wait_coverage.proofs.OpenLemmas.{barrier_waits}
-use Rattle.wait_coverage.proofs.WaitLemmas.{stands_there}
+use Rattle.wait_coverage.specs.Rows.{row_at}
+use Rattle.wait_coverage.proofs.RowLemmas.{row_there}
 
 -- ---- the ends
 
@@ -192,28 +193,27 @@ pub record IsStart (rs : List Record) (tasks : List ℕ) (numbers : List ℕ) (i
   pub inside : start < length numbers
   pub begins : (id : ℕ) → slice_get tasks index ≡ Some id → IsBarrierBegin rs id number start
 
-pub has_start : (coverage : CoverageView) (index number start : ℕ) (places : Vec ℕ) → IsCoverage coverage → slice_get coverage.teams.begins index ≡ Some places → slice_get places.items number ≡ Some start → IsStart coverage.records coverage.tree.family.tasks coverage.numbers index number start
-has_start coverage index number start places is here there =
+has_start : (coverage : CoverageView) (index number start : ℕ) → IsCoverage coverage → slice_get (row_at coverage.teams.begins index) number ≡ Some start → IsStart coverage.records coverage.tree.family.tasks coverage.numbers index number start
+has_start coverage index number start is there =
     let rs = coverage.records in
     let tasks = coverage.tree.family.tasks in
-    let below = slice_get_within coverage.teams.begins index places here in
-    let all = is.teams.begins.all in
-    let within : index < length tasks = omega (arith, below, all) in
+    let row = row_there coverage.teams.begins index number start there in
+    let below = slice_get_within coverage.teams.begins index row.0 row.1 in
+    let few = is.teams.begins.within in
+    let within : index < length tasks = omega (arith, below, few) in
     let first = starts (get_or tasks index 0) (slice_get-get_or tasks index 0 within) in
     let inside = begin_within rs (get_or tasks index 0) number start first in
     let numbers = is.numbers.all in
     record { within = within; inside = omega (arith, inside, numbers); begins = starts }
   where
     starts : (id : ℕ) → slice_get coverage.tree.family.tasks index ≡ Some id → IsBarrierBegin coverage.records id number start
-    starts id is_id = ap (λ l. slice_get l number) (sym (is.teams.begins.each index id places is_id here)) ∙ there
+    starts id is_id = ap (λ l. slice_get l number) (sym (is.teams.begins.each index id is_id)) ∙ there
 
 -- the same of what is read in the table
-pub read_start : (coverage : CoverageView) (index number : ℕ) (list : List ℕ) → IsCoverage coverage → HasBegun coverage.teams.begins number index → ((places : Vec ℕ) → slice_get coverage.teams.begins index ≡ Some places → list ≡ places.items) → IsStart coverage.records coverage.tree.family.tasks coverage.numbers index number (get_or list number 0)
+pub read_start : (coverage : CoverageView) (index number : ℕ) (list : List ℕ) → IsCoverage coverage → HasBegun coverage.teams.begins number index → list ≡ row_at coverage.teams.begins index → IsStart coverage.records coverage.tree.family.tasks coverage.numbers index number (get_or list number 0)
 read_start coverage index number list is begun read =
-    let same = read begun.0 begun.1 in
-    let long = ap length same in
-    let less = begun.2 in
-    has_start coverage index number (get_or list number 0) begun.0 is begun.1 (ap (λ l. slice_get l number) (sym same) ∙ slice_get-get_or list number 0 (omega (arith, less, long)))
+    let long = ap length read in
+    has_start coverage index number (get_or list number 0) is (ap (λ l. slice_get l number) (sym read) ∙ slice_get-get_or list number 0 (omega (arith, begun, long)))
 
 pub member_span_is : (coverage : CoverageView) (index number start to id : ℕ) (span : Span) → IsCoverage coverage → IsStart coverage.records coverage.tree.family.tasks coverage.numbers index number start → slice_get coverage.numbers start ≡ Some to → slice_get coverage.tree.family.tasks index ≡ Some id → IsSpan coverage.records id 0 to span → IsMemberSpan coverage.records id number span
 member_span_is coverage index number start to id span is starts is_to is_id is_span =
@@ -252,21 +252,14 @@ seated rs tasks known task team own place roster is is_own is_team is_roster bel
 pub have_begun : (rs : List Record) (tasks : List ℕ) (known : TeamsView) (task team number end : ℕ) (roster : Vec (Option ℕ)) → IsTeamsOf rs tasks known → slice_get known.teams task ≡ Some (Some team) → slice_get known.rosters team ≡ Some roster → IsWaitAt rs tasks end (ForBarrier task number) → HaveBegun known.begins number roster.items
 have_begun rs tasks known task team number end roster is is_team is_roster (meets {own = own} {begin = begin} {kind = kind} is_own there barrier begins) place below =
     let seat = seated rs tasks known task team own place roster is is_own is_team is_roster below in
-    let inside = slice_get_within tasks seat.index seat.member seat.is_member in
-    let all = is.begins.all in
-    let places = stands_there known.begins seat.index (omega (arith, inside, all)) in
-    let same = is.begins.each seat.index seat.member places.0 seat.is_member places.1 in (
+    let same = is.begins.each seat.index seat.member seat.is_member in (
       seat.index,
       seat.here,
-      (
-        places.0,
-        places.1,
-        elim (cases_lt number (length places.0.items)) [
-          | inl less ↦ less
-          | inr more ↦ absurd (is.whole end (team_short (missed own seat.member begin number kind there barrier begins (mate_of_number rs own place seat.member seat.numbered)
-              (λ start begun. let found = slice_get_within places.0.items number start (ap (λ l. slice_get l number) same ∙ begun) in omega (arith, found, more)))))
-        ],
-      ),
+      elim (cases_lt number (length (row_at known.begins seat.index))) [
+        | inl less ↦ less
+        | inr more ↦ absurd (is.whole end (team_short (missed own seat.member begin number kind there barrier begins (mate_of_number rs own place seat.member seat.numbered)
+            (λ start begun. let found = slice_get_within (row_at known.begins seat.index) number start (ap (λ l. slice_get l number) same ∙ begun) in omega (arith, found, more)))))
+      ],
     )
 
 pub member_spans_are : (rs : List Record) (tasks : List ℕ) (known : TeamsView) (task team own number : ℕ) (roster : Vec (Option ℕ)) (list : List Span) → AreNoted made rs (length rs) tasks → IsTeamsOf rs tasks known → slice_get tasks task ≡ Some own → slice_get known.teams task ≡ Some (Some team) → slice_get known.rosters team ≡ Some roster → AreRosterSpans rs tasks number roster.items (length roster.items) list → AreMemberSpans rs own number list

@@ -16,6 +16,7 @@ use Rattle.ompt_events.proofs.RegionLemmas.{own_begin}
 use Rattle.task_tree.specs.Makers.{AreNoted}
 use Rattle.task_tree.specs.Subjects.{subject}
 use Rattle.task_tree.proofs.NamedLemmas.{region_subject}
+use Rattle.wait_coverage.specs.Rows.{row_at}
 use Rattle.wait_coverage.specs.Teams.{AreTeams, AreBeginNumbers, begins_before}
 use Rattle.wait_coverage.specs.Waits.{IsBeginOf}
 use Rattle.wait_coverage.specs.Missed.{EndsBarrier, EndsNoBarrier, IsMissed, AreFewestOf}
@@ -106,8 +107,8 @@ too_few rs tasks teams fewest numbers i begin index team count number c less = e
       let inside = slice_get_within teams is.index (Some team) is.in_team in
       let all = c.are_teams.all in
       let found = get_within tasks is.index (omega (arith, inside, all)) in
-      let places = c.are_fewest.are_begins.each is.index found.0 is.places found.1 is.here in
-      let long : length is.places.items ≡ length (barrier_begins rs found.0) = ap length places in
+      let places = c.are_fewest.are_begins.each is.index found.0 found.1 in
+      let long : length (row_at c.are_fewest.begins is.index) ≡ length (barrier_begins rs found.0) = ap length places in
       record {
         begin = begin;
         barrier = c.barrier;
@@ -141,11 +142,9 @@ missed_few rs tasks teams fewest numbers i begin index team count number c m =
     let member = mate_index rs tasks index c.barrier.task m.member c.made_all c.is_task mate.0 in
     let in_team = (c.are_teams.mates index member.0 c.barrier.task m.member team c.is_task member.1 c.is_team).1 mate.0 in
     let inside = slice_get_within tasks member.0 m.member member.1 in
-    let all = c.are_fewest.are_begins.all in
     let all_teams = c.are_teams.all in
-    let places = get_within c.are_fewest.begins member.0 (omega (arith, inside, all)) in
-    let low = c.are_fewest.are_fewest.low member.0 team count places.0 (omega (arith, inside, all_teams)) in_team places.1 c.is_count in
-    let long : length places.0.items ≡ length (barrier_begins rs m.member) = ap length (c.are_fewest.are_begins.each member.0 m.member places.0 member.1 places.1) in
+    let low = c.are_fewest.are_fewest.low member.0 team count (omega (arith, inside, all_teams)) in_team c.is_count in
+    let long : length (row_at c.are_fewest.begins member.0) ≡ length (barrier_begins rs m.member) = ap length (c.are_fewest.are_begins.each member.0 m.member member.1) in
     elim (cases_lt m.number (length (barrier_begins rs m.member))) [
       | inl begins ↦ absurd (m.never (get_or (barrier_begins rs m.member) m.number 0) (slice_get-get_or (barrier_begins rs m.member) m.number 0 begins))
       | inr never ↦ omega (arith, low, long, never, same)

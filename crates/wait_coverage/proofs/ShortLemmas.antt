@@ -1,7 +1,7 @@
 -- The first record that shows a team or a barrier that lacks a member, and what is known where none does.
 use Rattle.std.proofs.Common.{◌≡◌, ◌∙◌, ℕ, ◌<◌, ◌≤◌, ◌+◌, List, [], ◌∷◌, length, get_or, Option, Some, refl, sym, ap, subst, arith, inl, inr, ◌⊎◌}
-use Rattle.std.proofs.lemmas.Bool.{cases_eq}
-use Rattle.std.proofs.lemmas.Option.{same_Some, slice_get_within, slice_get-get_or}
+use Rattle.std.proofs.lemmas.Bool.{cases_eq, cases_lt}
+use Rattle.std.proofs.lemmas.Option.{same_Some, slice_get_within, slice_get_past, slice_get-get_or}
 use Rattle.std.specs.Global.{Vec}
 use Rattle.std.specs.Prelude.{◌↔◌, slice_get}
 use Rattle.ompt_events.specs.declared.records.Record.{Record}
@@ -17,6 +17,7 @@ use Rattle.wait_coverage.specs.Fewest.{AreFewest, AreTeamsWithin, AreShort}
 use Rattle.wait_coverage.specs.Members.{IsInTeam, in_own, in_joined, AreInTeams}
 use Rattle.wait_coverage.specs.Missed.{IsMissed, AreFewestOf}
 use Rattle.wait_coverage.specs.Seats.{IsSeatOf, AreSeats, AreSeated, LacksNothing, IsWholeBefore}
+use Rattle.wait_coverage.specs.Rows.{row_items, row_at}
 use Rattle.wait_coverage.specs.Teams.{IsMemberNumbered, alone, together, AreRosters, AreBegins}
 use Rattle.wait_coverage.proofs.BeginLemmas.{begins_few}
 use Rattle.wait_coverage.proofs.CoverLemmas.{ends_at}
@@ -88,14 +89,17 @@ teams_within rs n tasks teams are = λ index team stands.
     of {team = team} (in_joined i m below joins is leads) within = slice_get_within tasks team leads.first.member leads.here
 
 pub begins_short : (rs : List Record) (n most : ℕ) (tasks : List ℕ) (begins : List (Vec ℕ)) → AreBegins rs n tasks begins → n ≤ most → AreShort begins most
-begins_short rs n most tasks begins are less = λ index places stands.
-    let inside = slice_get_within begins index places stands in
-    let all = are.all in
-    let within : index < length tasks = omega (arith, inside, all) in
-    let task = get_or tasks index 0 in
-    let long = ap length (are.each index task places (slice_get-get_or tasks index 0 within) stands) in
-    let few = begins_few rs task n in
-    omega (arith, long, few, less)
+begins_short rs n most tasks begins are less = λ index. elim (cases_lt index (length tasks)) [
+  | inl within ↦
+      let task = get_or tasks index 0 in
+      let long = ap length (are.each index task (slice_get-get_or tasks index 0 within)) in
+      let few = begins_few rs task n in
+      omega (arith, long, few, less)
+  | inr past ↦
+      let made = are.within in
+      let none : length (row_at begins index) ≡ 0 = ap (λ o. length (row_items o)) (slice_get_past begins index (omega (arith, past, made))) in
+      omega (arith, none)
+]
 
 -- ---- the rosters
 

@@ -1,13 +1,7 @@
 -- Where each task begins barriers, while the records are gone over.
-use Rattle.std.specs.Prelude.{ℕ, ◌≡◌, ◌<◌, List, [], length, Some, slice_get}
-use Rattle.std.specs.Global.{Vec}
+use Rattle.std.specs.Prelude.{ℕ, ◌≡◌, ◌<◌, List, length, Some, slice_get}
 use Rattle.ompt_events.specs.declared.records.Record.{Record}
 use Rattle.wait_coverage.specs.Teams.{IsNumberOf}
-
--- so many lists, and nothing in them
-pub record AreEmpty (n : ℕ) (lists : List (Vec ℕ)) : Type 0 where
-  pub all : length lists ≡ n
-  pub each : (index : ℕ) (places : Vec ℕ) → slice_get lists index ≡ Some places → places.items ≡ []
 
 -- at each of the first n records that begins a barrier stands how many its task began before
 pub record AreNumbered (rs : List Record) (n : ℕ) (numbers : List ℕ) : Type 0 where

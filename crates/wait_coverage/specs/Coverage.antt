@@ -7,6 +7,7 @@ use Rattle.ompt_events.specs.declared.names.SyncKind.TheVariants.{Taskwait}
 use Rattle.ompt_events.specs.Traces.{IsTrace}
 use Rattle.ompt_events.specs.Tree.{child_number}
 use Rattle.ompt_events.specs.Regions.{IsRegion, IsBarrierBegin, waits_for_tasks}
+use Rattle.wait_coverage.specs.Rows.{row_at}
 use Rattle.credit_ledger.specs.declared.entry.Span.{Span}
 use Rattle.credit_ledger.specs.declared.entry.Cover.{Cover}
 use Rattle.credit_ledger.specs.declared.entry.Cover.TheVariants.{Children}
@@ -53,8 +54,7 @@ pub record IsOnly (rs : List Record) (task from to : ℕ) (spans : List Span) : 
 
 -- the task at the index begins a barrier with this number
 abbrev pub HasBegun : List (Vec ℕ) → ℕ → ℕ → Type 0
-HasBegun begins number index =
-    (places : Vec ℕ) × (slice_get begins index ≡ Some places) × (number < length places.items)
+HasBegun begins number index = number < length (row_at begins index)
 
 -- each member of the roster does, and no slot is empty
 abbrev pub HaveBegun : List (Vec ℕ) → ℕ → List (Option ℕ) → Type 0

@@ -1,5 +1,5 @@
 -- The teams of a trace and the barriers of their members, by index of the task.
-use Rattle.std.specs.Prelude.{ℕ, ◌≡◌, ◌<◌, ◌↔◌, ⊤, List, length, filter, Option, Some, None, Contains, slice_get}
+use Rattle.std.specs.Prelude.{ℕ, ◌≡◌, ◌<◌, ◌≤◌, ◌↔◌, ⊤, List, length, filter, Option, Some, None, Contains, slice_get}
 use Rattle.std.specs.Global.{Vec}
 use Rattle.ompt_events.specs.declared.records.Record.{Record}
 use Rattle.ompt_events.specs.declared.records.Membership.{Membership}
@@ -9,6 +9,7 @@ use Rattle.ompt_events.specs.Places.{at, own_before}
 use Rattle.ompt_events.specs.Regions.{begins_barrier, barrier_begun, IsBarrierBegin}
 use Rattle.ompt_events.specs.Teams.{IsInitial, IsTeammate, members}
 use Rattle.ompt_events.specs.Causes.{IsFreeOf, IsFirstWith}
+use Rattle.wait_coverage.specs.Rows.{row_at}
 use Rattle.wait_coverage.specs.declared.fault.TeamFault.{TeamFault}
 use Rattle.wait_coverage.specs.declared.fault.TeamFault.TheVariants.{Memory, Short}
 
@@ -53,11 +54,12 @@ pub record AreRosters (rs : List Record) (tasks : List ℕ) (teams : List (Optio
       → number < length roster.items
       → (other : ℕ) × (slice_get roster.items number ≡ Some (Some other)) × (other < length tasks)
 
--- at the index of each task stand the places at which it begins barriers, of the first n records
+-- in the row of each task stand the places at which it begins barriers, of the first n records; a task that
+-- begins none may have no row
 pub record AreBegins (rs : List Record) (n : ℕ) (tasks : List ℕ) (begins : List (Vec ℕ)) : Type 0 where
-  pub all : length begins ≡ length tasks
-  pub each : (index task : ℕ) (places : Vec ℕ) → slice_get tasks index ≡ Some task
-      → slice_get begins index ≡ Some places → places.items ≡ begins_before rs task n
+  pub within : length begins ≤ length tasks
+  pub each : (index task : ℕ) → slice_get tasks index ≡ Some task
+      → row_at begins index ≡ begins_before rs task n
 
 -- the task that begins a barrier there began so many before
 abbrev pub IsNumberOf : List Record → ℕ → ℕ → Type 0

@@ -4,8 +4,8 @@ ghost use Rattle.task_tree.specs.Family.{IsFamilyOf};
 ghost use Rattle.ompt_events.specs.Records.{region};
 ghost use Rattle.ompt_events.specs.Regions.{barrier_begun};
 ghost use Rattle.wait_coverage.specs.Teams.{AreBegins, AreBeginNumbers, IsNumberOf};
-ghost use Rattle.wait_coverage.specs.Begins.{AreEmpty};
 
+use crate::rows::reach;
 use ompt_events::{Body, Endpoint, Record};
 use std::alloc::{AllocError, Global};
 use task_tree::Family;
@@ -30,11 +30,11 @@ pub(crate) fn find_begins(
     ensures numbers { IfOk result (λ found. AreBeginNumbers records.now
         (length records.now) found.numbers.items) }
 {
-    let mut begins = no_places(alloc, family.tasks().as_slice().len())?;
+    let mut begins: Vec<Vec<u32>> = Vec::new(alloc);
     let mut numbers = no_numbers(alloc, records.len())?;
     for at in 0..records.len() {
         if begins_barrier(&records[at].body) {
-            numbers[at] = note_begin(records, family, &mut begins, at)?;
+            numbers[at] = note_begin(alloc, records, family, &mut begins, at)?;
         }
     }
     Ok(Begins { begins, numbers })
@@ -47,20 +47,10 @@ fn no_numbers(alloc: Global, records: usize) -> Result<Vec<u32>, AllocError>
     vec![in alloc; 0; records]
 }
 
-/// No place for any task.
-fn no_places(alloc: Global, tasks: usize) -> Result<Vec<Vec<u32>>, AllocError>
-    ensures { IfOk result (λ begins. AreEmpty tasks begins.items) }
-{
-    let mut begins = Vec::with_capacity(alloc, tasks)?;
-    for _index in 0..tasks {
-        begins.push(Vec::new(alloc))?;
-    }
-    Ok(begins)
-}
-
 /// Notes the barrier that begins at a place, and answers how many its task began before; 0 where none
-/// begins.
+/// begins. Rows are made only up to the task: most tasks may begin no barrier.
 fn note_begin(
+    alloc: Global,
     records: &[Record],
     family: &Family,
     begins: &mut Vec<Vec<u32>>,
@@ -77,7 +67,10 @@ fn note_begin(
         return Ok(0);
     }
     match family.subject(at) {
-        Some(index) => add_place(&mut begins[index], at),
+        Some(index) => {
+            reach(alloc, begins, index)?;
+            add_place(&mut begins[index], at)
+        }
         None => Ok(0),
     }
 }

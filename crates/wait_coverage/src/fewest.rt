@@ -2,6 +2,7 @@
 ghost use Rattle.std.specs.Prelude.{◌≡◌, ◌<◌, ◌+◌, ◌^◌, IfOk, length, min, replicate};
 ghost use Rattle.wait_coverage.specs.Fewest.{AreFewest, AreTeamsWithin, AreShort};
 
+use crate::rows::row;
 use std::alloc::{AllocError, Global};
 use task_tree::Slot;
 
@@ -11,7 +12,6 @@ pub(crate) fn find_fewest(
     teams: &[Slot],
     begins: &[Vec<u32>],
 ) -> Result<Vec<u32>, AllocError>
-    requires all { length begins.now ≡ length teams.now }
     requires within { AreTeamsWithin teams.now }
     requires few { AreShort begins.now (2 ^ 22) }
     ensures { IfOk result (λ fewest. AreFewest teams.now begins.now (length teams.now) fewest.items) }
@@ -33,14 +33,13 @@ fn no_counts(alloc: Global, tasks: usize) -> Result<Vec<u32>, AllocError>
 /// Notes how many barriers the task at an index begins.
 fn note_count(teams: &[Slot], begins: &[Vec<u32>], fewest: &mut Vec<u32>, index: usize)
     requires inside { index < length teams.now }
-    requires all { length begins.now ≡ length teams.now }
     requires within { AreTeamsWithin teams.now }
     requires few { AreShort begins.now (2 ^ 22) }
     requires fewest { AreFewest teams.now begins.now index fewest.old.items }
     ensures { AreFewest teams.now begins.now (index + 1) fewest.new.items }
 {
     if let Some(team) = teams[index].get() {
-        let count = begins[index].len() as u32;
+        let count = row(begins, index).len() as u32;
         fewest[team] = lesser(fewest[team], count);
     }
 }

@@ -3,10 +3,10 @@
 //!
 //! `find_open` looks at the ends of a whole trace, `Coverage` answers for single ones with their credit, and
 //! `laws` says why held credit means finished tasks. Read `unfinished` first, then what it stands on:
-//! `teams` (who meets at a barrier; after `begins`, `members`, `fewest`, `missed`, `seats` and `short`),
-//! `order` (tasks behind their parents), `done` (after `lengths`: from which ledger length on each task is
-//! finished, and its descendants), `limits` and `meetings` (the same of what each end covers; `rows` has the
-//! table by team), `waits` (the search where one is not); then `coverage`, after `numbers`.
+//! `teams` (who meets at a barrier; after `rows`, `begins`, `members`, `fewest`, `missed`, `seats` and
+//! `short`), `order` (tasks behind their parents), `done` (after `lengths`: from which ledger length on each
+//! task is finished, and its descendants), `limits` and `meetings` (the same of what each end covers), `waits`
+//! (the search where one is not); then `coverage`, after `numbers`.
 #![tactic(auto)]
 
 mod begins;

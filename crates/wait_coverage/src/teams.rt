@@ -7,12 +7,14 @@ ghost use Rattle.std.specs.Prelude.{ℕ, ◌≡◌, ◌<◌, ◌≤◌, ◌^◌,
 ghost use Rattle.std.specs.Global.{Vec};
 ghost use Rattle.task_tree.specs.Family.{IsFamilyOf};
 ghost use Rattle.task_states.specs.States.{AreStatesOf};
+ghost use Rattle.wait_coverage.specs.Rows.{row_at};
 ghost use Rattle.wait_coverage.specs.Teams.{IsTeamsOf, IsTeamFault};
 
 use crate::begins::{Begins, find_begins};
 use crate::fault::TeamFault;
 use crate::fewest::find_fewest;
 use crate::members::{count_members, find_teams};
+use crate::rows::row;
 use crate::seats::empty_rosters;
 use crate::short::find_short;
 use ompt_events::Record;
@@ -28,7 +30,7 @@ pub struct Teams {
     teams: Vec<Slot>,
     /// By number of the team the indices of its members, by their own numbers.
     rosters: Vec<Vec<Slot>>,
-    /// By index of the task the places at which it begins barriers.
+    /// By index of the task the places at which it begins barriers; no row past the last task that begins one.
     begins: Vec<Vec<u32>>,
     /// For each record that begins a barrier how many its task began before.
     numbers: Vec<u32>,
@@ -109,11 +111,9 @@ impl Teams {
 
     /// The places at which the task at this index begins barriers.
     pub(crate) fn begins(&self, index: usize) -> &[u32]
-        requires { index < length self.now.begins }
-        ensures { (places : Vec ℕ) → slice_get self.now.begins index ≡ Some places
-            → result.now ≡ places.items }
+        ensures { result.now ≡ row_at self.now.begins index }
     {
-        self.begins[index].as_slice()
+        row(&self.begins, index)
     }
 
     /// How many barriers the task that begins one at this place began before.

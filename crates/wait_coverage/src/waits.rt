@@ -8,9 +8,9 @@ ghost use Rattle.ompt_events.specs.Records.{created};
 ghost use Rattle.task_tree.specs.Family.{IsFamilyOf};
 ghost use Rattle.task_states.specs.States.{AreStatesOf};
 ghost use Rattle.wait_coverage.specs.Done.{AreOwn, IsParentsFirst};
+ghost use Rattle.wait_coverage.specs.Rows.{row_at};
 ghost use Rattle.wait_coverage.specs.Teams.{IsTeamsOf, AreTeams, AreBeginNumbers};
 ghost use Rattle.ompt_events.specs.Teams.{IsTeammate};
-ghost use Rattle.std.specs.Global.{Vec};
 ghost use Rattle.wait_coverage.specs.declared.waits.Wait.{Wait};
 ghost use Rattle.wait_coverage.specs.Waits.{EndsNoWaitAt, EndsNoWait, EndsWaitOf, IsBeginOf, IsMarkedAbove, IsWaitAt, IsWithin, IsOwnChild, IsAwaited, AreAwaited, AreMarked, IsLateAt, IsFirstLate, cover_of, waiting};
 
@@ -280,9 +280,8 @@ fn are_teammates(
 
 /// Whether the place is before that at which the task at the index begins its barrier with this number.
 fn is_before_begin(teams: &Teams, index: usize, number: usize, place: usize) -> bool
-    requires within { index < length teams.now.begins }
-    ensures { (places : Vec ℕ) → slice_get teams.now.begins index ≡ Some places
-        → IsTrue result ↔ ((start : ℕ) × (slice_get places.items number ≡ Some start) × (place < start)) }
+    ensures { IsTrue result ↔ ((start : ℕ)
+        × (slice_get (row_at teams.now.begins index) number ≡ Some start) × (place < start)) }
 {
     match teams.begins(index).get(number) {
         Some(start) => place < *start as usize,

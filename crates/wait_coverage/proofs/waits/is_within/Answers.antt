@@ -1,7 +1,8 @@
 use Rattle.std.proofs.Common.{◌<◌, length, get_or, ap, arith}
 use Rattle.std.proofs.lemmas.Option.{slice_get-get_or}
+use Rattle.wait_coverage.specs.Rows.{row_at}
 use Rattle.wait_coverage.specs.Waits.{waiting}
-use Rattle.wait_coverage.proofs.WaitLemmas.{within_taskwait, within_taskgroup, within_barrier, stands_there}
+use Rattle.wait_coverage.proofs.WaitLemmas.{within_taskwait, within_taskgroup, within_barrier}
 use Rattle.wait_coverage.proofs.waits.is_within.Goals as goal
 
 pub returns-in-Taskwait : goal.returns-in-Taskwait
@@ -20,7 +21,4 @@ returns-then-are_teammates c = λ parent here.
     let inside : c.in-Barrier.task < length tasks = omega (arith, own_within, same) in
     let own = get_or tasks c.in-Barrier.task 0 in
     let is_own = slice_get-get_or tasks c.in-Barrier.task 0 inside in
-    let all = c.requires.teams.begins.all in
-    let within = c.requires.within in
-    let read = stands_there begins c.args.index (omega (arith, within, all)) in
-    rw c.in-Barrier.is (within_barrier rs tasks read.0.items own parent c.args.place c.args.index c.in-Barrier.task c.in-Barrier.number c.is_before_begin.result is_own ((c.are_teammates.ensures own parent is_own here).0 c.if-are_teammates.true) (c.requires.teams.begins.each c.args.index parent read.0 here read.1) (c.is_before_begin.ensures read.0 read.1))
+    rw c.in-Barrier.is (within_barrier rs tasks (row_at begins c.args.index) own parent c.args.place c.args.index c.in-Barrier.task c.in-Barrier.number c.is_before_begin.result is_own ((c.are_teammates.ensures own parent is_own here).0 c.if-are_teammates.true) (c.requires.teams.begins.each c.args.index parent here) c.is_before_begin.ensures)
