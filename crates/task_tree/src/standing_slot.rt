@@ -42,7 +42,7 @@ impl StandingSlot {
         }
     }
 
-    /// This.
+    /// This standing.
     pub(crate) fn some(standing: Standing) -> StandingSlot
         ensures { result ≡ Some standing }
     {

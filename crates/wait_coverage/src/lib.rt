@@ -5,8 +5,8 @@
 //! `laws` says why held credit means finished tasks. Read `unfinished` first, then what it stands on:
 //! `teams` (who meets at a barrier; after `rows`, `begins`, `members`, `fewest`, `missed`, `seats` and
 //! `short`), `order` (tasks behind their parents), `done` (after `lengths`: from which ledger length on each
-//! task is finished, and its descendants), `limits` and `meetings` (the same of what each end covers), `waits`
-//! (the search where one is not); then `coverage`, after `numbers`.
+//! task is finished, and its descendants), `limits` and `meetings` (the same of what each end covers; after
+//! `limit`, a length in 32 bits), `waits` (the search where one is not); then `coverage`, after `numbers`.
 #![tactic(auto)]
 
 mod begins;
