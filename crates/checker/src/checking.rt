@@ -44,21 +44,53 @@ pub fn check(alloc: Global, trace: &Trace) -> Result<Verdict, CheckFault>
 }
 
 /// The verdict, or the fault of the first phase that finds a cause. Each phase needs that the causes before
-/// its own do not occur.
+/// its own do not occur. The phases stand in three functions, since a fault lets go all that its function
+/// made, and a proof has to look at each way to do so.
 fn verdict_of(alloc: Global, trace: &Trace) -> Result<Verdict, SearchFault>
     ensures verdict { IfOk result (IsVerdict trace.now.records) }
     ensures malformed { IfErr result (IsLeastFound trace.now.records) }
 {
     numbers_have_no_gap(trace)?;
     let family = family_of(alloc, trace)?;
-    let states = states_of(alloc, trace, &family)?;
-    let teams = teams_of(alloc, trace, &family, &states)?;
-    regions_are_not_nested(alloc, trace, &family)?;
-    let edges = edges_of(alloc, trace, &family)?;
-    claims_are_right(trace, &family)?;
-    let order = order_of(alloc, trace, &family)?;
+    verdict_in_family(alloc, trace, &family)
+}
+
+/// The same where the tree of tasks is known.
+fn verdict_in_family(alloc: Global, trace: &Trace, family: &Family) -> Result<Verdict, SearchFault>
+    requires clear { IsClear trace.now.records 3 }
+    requires family { IsFamilyOf trace.now.records family.now }
+    ensures verdict { IfOk result (IsVerdict trace.now.records) }
+    ensures malformed { IfErr result (IsLeastFound trace.now.records) }
+{
+    let states = states_of(alloc, trace, family)?;
+    let teams = teams_of(alloc, trace, family, &states)?;
+    regions_are_not_nested(alloc, trace, family)?;
+    let edges = edges_of(alloc, trace, family)?;
+    claims_are_right(trace, family)?;
+    verdict_by_order(alloc, trace, family, &states, &teams, &edges)
+}
+
+/// The same where states, teams and predecessors are known too.
+fn verdict_by_order(
+    alloc: Global,
+    trace: &Trace,
+    family: &Family,
+    states: &States,
+    teams: &Teams,
+    edges: &Edges,
+) -> Result<Verdict, SearchFault>
+    requires clear { IsClear trace.now.records 11 }
+    requires family { IsFamilyOf trace.now.records family.now }
+    requires states { AreStatesOf trace.now.records states.now }
+    requires teams { IsTeamsOf trace.now.records family.now.tasks teams.now }
+    requires records { edges.now.records ≡ trace.now.records }
+    requires its_family { edges.now.family ≡ family.now }
+    ensures verdict { IfOk result (IsVerdict trace.now.records) }
+    ensures malformed { IfErr result (IsLeastFound trace.now.records) }
+{
+    let order = order_of(alloc, trace, family)?;
     no_task_is_for_a_device(trace)?;
-    match violation_of(alloc, trace, &family, &states, &teams, &edges)? {
+    match violation_of(alloc, trace, family, states, teams, edges)? {
         Some((at, why)) => Ok(Verdict::No { at, why }),
         None => Ok(Verdict::Yes { order }),
     }
