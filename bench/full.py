@@ -17,13 +17,13 @@ import subprocess
 import sys
 import tempfile
 
-from bench import HERE, PROGRAM, best
+from bench import HERE, LIMIT, PROGRAM, best, timed
 from phases import TIMING
 from shapes import HEADER, Thread, open_waits, team_of_256, waits, writers
 from traces import Run
 
 TASKS = 2**20
-RUNS = 7
+ROUNDS = 9
 
 
 class LongRun(Run):
@@ -63,31 +63,40 @@ def peak(path):
     return float(run.stdout)
 
 
-def row(path, size, commands):
-    """The seconds of each command, and the memory of the program."""
-    runs = [best(command, path, RUNS) for command in commands]
-    seconds = " | ".join("cut" if run[0] is None else f"{run[0]:.3f}" for run in runs)
-    print(f"| {size:,} | {os.path.getsize(path) / 1e6:.0f} | {seconds} | {peak(path):.0f} | "
-          f"{runs[0][0] / size * 1e9:.0f} |", flush=True)
-    return runs[0][0]
+def least_of_rounds(commands, paths):
+    """By size the least seconds of each command. Each round runs all sizes once, so that a machine that is slower for a while
+    is so for all of them."""
+    least = {power: [LIMIT] * len(commands) for power in paths}
+    for _ in range(ROUNDS):
+        for power, path in paths.items():
+            seconds = [timed(command, path)[0] or LIMIT for command in commands]
+            least[power] = [min(pair) for pair in zip(least[power], seconds)]
+    return least
+
+
+def row(path, size, least):
+    """What each command takes at one size, and the memory of the program."""
+    seconds = " | ".join("cut" if it >= LIMIT else f"{it:.3f}" for it in least)
+    print(f"| {size:,} | {os.path.getsize(path) / 1e6:.0f} | {seconds} | {peak(path):.0f} | {least[0] / size * 1e9:.0f} |", flush=True)
 
 
 def growth(folder):
     """A table for each order, with the exponent between the least and the greatest size."""
     commands = [[PROGRAM, "check"], ["wc", "-l"], [TIMING, "values"], [TIMING, "read"]]
-    path = os.path.join(folder, "trace")
+    paths = {power: os.path.join(folder, f"trace{power}") for power in range(18, 23)}
     records = records_of(2**22)
     for title, by_thread in (("In the order of time", False), ("One thread after another", True)):
-        print(f"\n{title}\n\n| Records | MB | taskaudit, s | wc -l, s | values, s | read, s | Peak MB | ns a record |\n"
-              "|---|---|---|---|---|---|---|---|", flush=True)
-        seconds = {}
-        for power in range(18, 23):
+        for power, path in paths.items():
             part = records[:2**power]
             if by_thread:
                 part.sort(key=lambda record: record[0])
             write(path, (line for _, line in part))
-            seconds[power] = row(path, 2**power, commands)
-        exponent = math.log(seconds[22] / seconds[18], 2) / 4
+        least = least_of_rounds(commands, paths)
+        print(f"\n{title}\n\n| Records | MB | taskaudit, s | wc -l, s | values, s | read, s | Peak MB | ns a record |\n"
+              "|---|---|---|---|---|---|---|---|", flush=True)
+        for power, path in paths.items():
+            row(path, 2**power, least[power])
+        exponent = math.log(least[22][0] / least[18][0], 2) / 4
         print(f"\nExponent from 2^18 to 2^22: {exponent:.2f}", flush=True)
 
 

@@ -5,8 +5,8 @@ Valgrind counts them, so the same files give the same figures on a busy machine 
 
 The phases follow one another, so each is the difference between two runs that end one phase apart: `timing read`
 ends after reading; a file whose last record claims a wrong share is malformed once all causes to ShareWrong were looked
-for; a file whose first wait is for a task that never runs is a no once the causes that are left, the order and the lengths
-of all ends were found; the file itself goes to the end.
+for; a file whose last record creates a task for a device is malformed once the order was found; the file itself goes to the
+end.
 """
 
 import json
@@ -30,7 +30,7 @@ def begun(lines):
             "seen": 0, "seq": 0, "task": NEW_TASK, "thread": thread}
 
 
-def with_a_cause(lines):
+def with_a_wrong_share(lines):
     """The records, and then a task that claims another share than its own when it is complete."""
     start = begun(lines)
     parent, child = NEW_TASK, NEW_TASK + 1
@@ -45,18 +45,12 @@ def with_a_cause(lines):
     return lines + [json.dumps(it) for it in last]
 
 
-def with_an_early_end(lines):
-    """A wait for a task that never runs, and then the records."""
+def with_a_device(lines):
+    """The records, and then a task for a device."""
     start = begun(lines)
-    record = {"seen": 0, "task": NEW_TASK, "thread": start["thread"]}
-    wait = {**record, "cb": "sync_region", "kind": "taskwait", "parallel": None}
-    first = [
-        start,
-        {**record, "cb": "task_create", "seq": 1, "child": NEW_TASK + 1, "deps": False, "flags": ["explicit"]},
-        {**wait, "seq": 2, "endpoint": "begin"},
-        {**wait, "seq": 3, "endpoint": "end"},
-    ]
-    return lines[:1] + [json.dumps(it) for it in first] + lines[1:]
+    last = {"cb": "task_create", "seq": 1, "seen": 0, "thread": start["thread"], "task": NEW_TASK, "child": NEW_TASK + 1,
+            "deps": False, "flags": ["target"]}
+    return lines + [json.dumps(it) for it in (start, last)]
 
 
 def instructions_of(command, path, lines, answer):
@@ -78,8 +72,8 @@ def phases(path, size, order):
     check = [PROGRAM, "check"]
     ends = [
         instructions_of([TIMING, "read"], path, lines, f"{size} records"),
-        instructions_of(check, path, with_a_cause(lines), "cause 11 ShareWrong"),
-        instructions_of(check, path, with_an_early_end(lines), "no: "),
+        instructions_of(check, path, with_a_wrong_share(lines), "cause 11 ShareWrong"),
+        instructions_of(check, path, with_a_device(lines), "cause 16 TargetTask"),
         instructions_of(check, path, lines, "yes: "),
     ]
     return [ends[0]] + [later - earlier for earlier, later in zip(ends, ends[1:])]
