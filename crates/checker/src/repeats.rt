@@ -12,7 +12,7 @@ use std::alloc::{AllocError, Global};
 use std::collections::BTreeSet;
 
 /// The entries that are named so far.
-#[derive(Debug, Drop)]
+#[derive(Drop)]
 struct Named {
     /// By entry the place of the record that makes it, or the number of records; as many as there are
     /// finishing records.

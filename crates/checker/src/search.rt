@@ -9,7 +9,7 @@ use task_states::StateFault;
 use task_tree::TreeFault;
 
 /// Why a search has no answer: memory ran out, or the records are malformed.
-#[derive(Clone, Copy, Debug, PartialEq, Eq)]
+#[derive(Clone, Copy)]
 pub(crate) enum SearchFault {
     Memory,
     Malformed { at: usize, cause: Cause },

@@ -22,7 +22,7 @@ pub(crate) struct Link {
 }
 
 /// Which way leads on from a node.
-#[derive(Clone, Copy, Debug, PartialEq, Eq)]
+#[derive(Clone, Copy)]
 pub(crate) enum Side {
     First,
     Zero,
@@ -32,7 +32,7 @@ pub(crate) enum Side {
 }
 
 /// Where a search ended: at the child, or at the node and the side of it where the child is to be added.
-#[derive(Clone, Copy, Debug)]
+#[derive(Clone, Copy)]
 pub(crate) enum Spot {
     Found(usize),
     Missing(usize, Side),

@@ -47,14 +47,14 @@ pub(crate) struct Tree {
 }
 
 /// Where the nodes of a share begin to be missing: so many of its runs have theirs, and this one is the last.
-#[derive(Clone, Copy, Debug)]
+#[derive(Clone, Copy)]
 pub(crate) struct Start {
     pub depth: usize,
     pub index: usize,
 }
 
 /// Where a walk down the nodes of a share ended.
-#[derive(Clone, Copy, Debug)]
+#[derive(Clone, Copy)]
 pub(crate) enum Walk {
     /// A share was entered, so many after the first one, that begins this one and has fewer Give halves.
     Above(usize),

@@ -9,7 +9,7 @@ use ompt_events::{Dep, DepKind};
 use std::collections::BTreeMap;
 
 /// The greatest lengths of the tasks that use a location, by how they use it.
-#[derive(Clone, Copy, Debug, PartialEq, Eq)]
+#[derive(Clone, Copy)]
 pub(crate) struct Maxima {
     pub(crate) readers: u64,
     pub(crate) writers: u64,

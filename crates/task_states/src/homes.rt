@@ -14,7 +14,7 @@ use task_tree::Family;
 
 /// What the schedules tell: by index of each explicit task the thread on which it runs, if it does, and
 /// whether the event of any task is fulfilled before that task's body has ended.
-#[derive(Debug, Drop)]
+#[derive(Drop)]
 pub(crate) struct Schedules {
     pub(crate) homes: Vec<Option<u8>>,
     pub(crate) any_early: bool,

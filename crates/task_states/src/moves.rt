@@ -7,7 +7,7 @@ use crate::table::{discard_state, next_state, start_state};
 use ompt_events::{Body, State, Status};
 
 /// What a task is: what may happen to it depends on that.
-#[derive(Clone, Copy, Debug, PartialEq, Eq)]
+#[derive(Clone, Copy)]
 pub(crate) enum Nature {
     /// An initial or implicit task.
     Root,
@@ -18,7 +18,7 @@ pub(crate) enum Nature {
 }
 
 /// What a record does to a task.
-#[derive(Clone, Copy, Debug, PartialEq, Eq)]
+#[derive(Clone, Copy)]
 pub(crate) enum Move {
     /// The task is the prior one of a schedule with this status.
     Stopped(Status),

@@ -13,7 +13,7 @@ use std::alloc::{AllocError, Global};
 use task_tree::Family;
 
 /// By index of the task what it is, and its home: the thread on which it begins as a root, or first runs.
-#[derive(Debug, Drop)]
+#[derive(Drop)]
 pub(crate) struct Origins {
     pub(crate) natures: Vec<Nature>,
     pub(crate) homes: Vec<Option<u8>>,

@@ -20,7 +20,7 @@ use task_tree::Family;
 
 /// Which records of a task are read in one go over the file: each task's moves are read in three, fulfilments
 /// ahead of its home, its home's records, then all others.
-#[derive(Clone, Copy, Debug, PartialEq, Eq)]
+#[derive(Clone, Copy)]
 pub(crate) enum Pass {
     Early,
     Home,
@@ -29,7 +29,7 @@ pub(crate) enum Pass {
 
 /// The state of each task, by its index, as long as its moves are allowed, and the first record at which a
 /// move is not.
-#[derive(Debug, Drop)]
+#[derive(Drop)]
 pub(crate) struct Progress {
     states: Vec<Option<State>>,
     refused: Option<usize>,

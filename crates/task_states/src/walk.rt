@@ -11,7 +11,7 @@ use std::marker::Model;
 const THREADS: usize = 256;
 
 /// Where a thread stands: its open roots, the innermost last, and the task that it runs.
-#[derive(Debug, Drop)]
+#[derive(Drop)]
 pub(crate) struct ThreadWalk {
     roots: Vec<u64>,
     current: Option<u64>,

@@ -20,7 +20,7 @@ use std::alloc::{AllocError, Global};
 
 /// The tasks that the records name; and by index of the task the row of its children, and for a created task
 /// its link.
-#[derive(Debug, Drop)]
+#[derive(Drop)]
 pub(crate) struct Children {
     pub(crate) named: Subjects,
     pub(crate) rows: Rows,

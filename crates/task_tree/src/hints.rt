@@ -4,7 +4,7 @@
 use ompt_events::Endpoint;
 
 /// What was seen of the threads so far.
-#[derive(Debug, Drop)]
+#[derive(Drop)]
 pub(crate) struct Hints {
     /// How many tasks the records made.
     made: usize,

@@ -7,14 +7,14 @@ use crate::slot::Slot;
 use std::alloc::{AllocError, Global};
 
 /// Where a created task stands: the index of its parent, and its number among the parent's children.
-#[derive(Clone, Copy, Debug, PartialEq, Eq)]
+#[derive(Clone, Copy)]
 pub(crate) struct Link {
     pub(crate) number: u32,
     pub(crate) parent: u32,
 }
 
 /// By index of the task: how many children it has, and for a created task its link.
-#[derive(Debug, Drop)]
+#[derive(Drop)]
 pub(crate) struct Linked {
     pub(crate) counts: Vec<u32>,
     pub(crate) links: Vec<LinkSlot>,

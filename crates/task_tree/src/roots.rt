@@ -15,14 +15,14 @@ use ompt_events::Record;
 use std::alloc::{AllocError, Global};
 
 /// Where a task stands: its root, and how many steps below it.
-#[derive(Clone, Copy, Debug, PartialEq, Eq)]
+#[derive(Clone, Copy)]
 pub(crate) struct Standing {
     pub(crate) depth: u32,
     pub(crate) root: u64,
 }
 
 /// A task whose chain of parents reaches a root.
-#[derive(Clone, Copy, Debug, PartialEq, Eq)]
+#[derive(Clone, Copy)]
 pub(crate) struct Reached {
     pub(crate) index: usize,
     pub(crate) standing: Standing,

@@ -18,7 +18,7 @@ use ompt_events::{Body, Claim, Record};
 use std::alloc::{AllocError, Global};
 
 /// By place of the record the indices of the tasks that it names.
-#[derive(Debug, Drop)]
+#[derive(Drop)]
 pub(crate) struct Subjects {
     pub(crate) subjects: Vec<Slot>,
     pub(crate) objects: Vec<Slot>,

@@ -2,9 +2,8 @@
 ghost use Rattle.std.specs.Prelude.{◌≡◌};
 ghost use Rattle.task_tree.specs.Family.{IsFamilyOf};
 
-use crate::lines::told;
+use crate::lines::trace_of_input;
 use anyhow::{Result, bail};
-use certificate::{FromRead, read};
 use depend_edges::{EdgeFault, Edges};
 use ompt_events::{Record, Trace};
 use std::alloc::Global;
@@ -12,10 +11,7 @@ use task_tree::Family;
 
 /// Prints which tasks must be finished before each created task of the trace on standard input starts.
 pub fn of_input(rt: &HostRuntime) -> Result<()> {
-    match read(rt.alloc(), &mut FromRead::new(rt.reader())) {
-        Ok(trace) => of_trace(rt, &trace),
-        Err(fault) => bail!("{}", told(rt.alloc(), fault)?),
-    }
+    of_trace(rt, &trace_of_input(rt)?)
 }
 
 fn of_trace(rt: &HostRuntime, trace: &Trace) -> Result<()> {

@@ -1,18 +1,49 @@
-//! What single lines stand for.
-use anyhow::Result;
+//! Standard input as lines and as traces, and what single lines stand for.
+use anyhow::{Result, bail};
 use certificate::{FromRead, ReadFault, ToWrite, read, write};
 use memchr::memchr;
+use ompt_events::Trace;
 use std::alloc::Global;
 use std::io::Read;
 
 /// The first line of a trace file.
-pub const HEADER: &str = "{\"format\":\"task-credit-audit\",\"version\":1}\n";
+const HEADER: &str = "{\"format\":\"task-credit-audit\",\"version\":1}\n";
 
 /// Standard input to its end.
 pub fn input(rt: &HostRuntime) -> Result<Vec<u8>> {
     let mut bytes = Vec::new(rt.alloc());
     rt.reader().read_to_end(&mut bytes)?;
     Ok(bytes)
+}
+
+/// The trace that stands on standard input.
+pub fn trace_of_input(rt: &HostRuntime) -> Result<Trace> {
+    trace_of(rt.alloc(), input(rt)?.as_slice())
+}
+
+/// The traces of the files that stand one after another on standard input.
+pub fn traces_of_input(rt: &HostRuntime) -> Result<Vec<Trace>> {
+    let bytes = input(rt)?;
+    let mut traces = Vec::new(rt.alloc());
+    let mut file: Vec<u8> = Vec::new(rt.alloc());
+    for line in lines_of(rt.alloc(), &bytes)?.iter() {
+        if *line == HEADER.trim_ascii_end().as_bytes() && !file.is_empty() {
+            traces.push(trace_of(rt.alloc(), file.as_slice())?)?;
+            file.clear();
+        }
+        file.extend_from_slice(*line)?;
+        file.push(b'\n')?;
+    }
+    traces.push(trace_of(rt.alloc(), file.as_slice())?)?;
+    Ok(traces)
+}
+
+/// The trace of a file.
+fn trace_of(alloc: Global, file: &[u8]) -> Result<Trace> {
+    match read(alloc, &mut FromRead::new(file)) {
+        Ok(trace) => Ok(trace),
+        Err(fault) => bail!("{}", told(alloc, fault)?),
+    }
 }
 
 /// The first line without its line feed, and the bytes after it; none where no line feed is left.

@@ -1,37 +1,21 @@
 //! The states of a trace's tasks after all records, and whether its parallel regions are nested.
 ghost use Rattle.task_tree.specs.Family.{IsFamilyOf};
 
-use crate::lines::{HEADER, input, lines_of, told};
+use crate::lines::traces_of_input;
 use anyhow::{Result, bail};
-use certificate::{FromRead, read};
 use ompt_events::Trace;
 use task_states::{StateFault, nested, run};
 use task_tree::{Family, TreeFault};
 
 /// For each of the trace files that stand one after another on standard input: the state of each task.
 pub fn each(rt: &HostRuntime) -> Result<()> {
-    let bytes = input(rt)?;
-    let mut file: Vec<u8> = Vec::new(rt.alloc());
-    for line in lines_of(rt.alloc(), &bytes)?.iter() {
-        if *line == HEADER.trim_ascii_end().as_bytes() && !file.is_empty() {
-            of_file(rt, file.as_slice())?;
-            file.clear();
-        }
-        file.extend_from_slice(*line)?;
-        file.push(b'\n')?;
+    for trace in traces_of_input(rt)?.iter() {
+        of_trace(rt, trace)?;
     }
-    of_file(rt, file.as_slice())
+    Ok(())
 }
 
-/// Prints what the states of one trace are.
-fn of_file(rt: &HostRuntime, file: &[u8]) -> Result<()> {
-    match read(rt.alloc(), &mut FromRead::new(file)) {
-        Ok(trace) => of_trace(rt, &trace),
-        Err(fault) => bail!("{}", told(rt.alloc(), fault)?),
-    }
-}
-
-/// Prints them, or why there is no tree.
+/// Prints the states of one trace, or why there is no tree.
 fn of_trace(rt: &HostRuntime, trace: &Trace) -> Result<()> {
     match Family::build(rt.alloc(), trace) {
         Ok(family) => {

@@ -1,16 +1,12 @@
 //! The tree of a trace's tasks.
-use crate::lines::told;
+use crate::lines::trace_of_input;
 use anyhow::{Result, bail};
-use certificate::{FromRead, read};
 use ompt_events::Trace;
 use task_tree::{Tree, TreeFault};
 
 /// Prints where each task of the trace on standard input stands.
 pub fn of_input(rt: &HostRuntime) -> Result<()> {
-    match read(rt.alloc(), &mut FromRead::new(rt.reader())) {
-        Ok(trace) => of_trace(rt, &trace),
-        Err(fault) => bail!("{}", told(rt.alloc(), fault)?),
-    }
+    of_trace(rt, &trace_of_input(rt)?)
 }
 
 /// Prints the tree, or why there is none.

@@ -1,7 +1,6 @@
 //! What the calls on a trace answer, the order of a yes among them.
-use crate::lines::told;
-use anyhow::{Result, bail};
-use certificate::{FromRead, read};
+use crate::lines::trace_of_input;
+use anyhow::Result;
 use checker::{Order, Verdict, check};
 use ompt_events::Trace;
 use std::alloc::{AllocError, Global};
@@ -9,10 +8,7 @@ use task_states::{gap, target};
 
 /// Prints the answers of the calls on the trace of standard input.
 pub fn of_input(rt: &HostRuntime) -> Result<()> {
-    match read(rt.alloc(), &mut FromRead::new(rt.reader())) {
-        Ok(trace) => of_trace(rt, &trace),
-        Err(fault) => bail!("{}", told(rt.alloc(), fault)?),
-    }
+    of_trace(rt, &trace_of_input(rt)?)
 }
 
 /// Prints the answers of the calls on the trace.

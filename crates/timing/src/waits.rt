@@ -3,9 +3,8 @@ ghost use Rattle.std.specs.Prelude.{◌<◌, length};
 ghost use Rattle.task_tree.specs.Paths.{IsTreeOf};
 ghost use Rattle.task_states.specs.States.{AreStatesOf};
 
-use crate::lines::{HEADER, input, lines_of, told};
+use crate::lines::traces_of_input;
 use anyhow::{Result, bail};
-use certificate::{FromRead, read};
 use credit_ledger::{Entry, Ledger};
 use ompt_events::{Path, Record, Trace, finish};
 use std::alloc::Global;
@@ -16,24 +15,10 @@ use wait_coverage::{Coverage, TeamFault};
 /// For each of the trace files that stand one after another on standard input: each end of a wait, whether
 /// it waits for children or for descendants, its spans, and the task that is unfinished there.
 pub fn each(rt: &HostRuntime) -> Result<()> {
-    let bytes = input(rt)?;
-    let mut file: Vec<u8> = Vec::new(rt.alloc());
-    for line in lines_of(rt.alloc(), &bytes)?.iter() {
-        if *line == HEADER.trim_ascii_end().as_bytes() && !file.is_empty() {
-            of_file(rt, file.as_slice())?;
-            file.clear();
-        }
-        file.extend_from_slice(*line)?;
-        file.push(b'\n')?;
+    for trace in traces_of_input(rt)?.iter() {
+        of_trace(rt, trace)?;
     }
-    of_file(rt, file.as_slice())
-}
-
-fn of_file(rt: &HostRuntime, file: &[u8]) -> Result<()> {
-    match read(rt.alloc(), &mut FromRead::new(file)) {
-        Ok(trace) => of_trace(rt, &trace),
-        Err(fault) => bail!("{}", told(rt.alloc(), fault)?),
-    }
+    Ok(())
 }
 
 fn of_trace(rt: &HostRuntime, trace: &Trace) -> Result<()> {

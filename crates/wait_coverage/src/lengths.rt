@@ -11,7 +11,7 @@ use task_tree::Family;
 const NEVER: u64 = u64::MAX;
 
 /// The ledger lengths from which on the parts of a task are finished.
-#[derive(Clone, Copy, Debug, PartialEq, Eq)]
+#[derive(Clone, Copy)]
 pub(crate) struct Lengths {
     whole: u64,
     body: u64,

@@ -34,7 +34,7 @@ pub(crate) struct Node {
 }
 
 /// What is known of each task, by its index, while the records are gone over.
-#[derive(Debug, Drop)]
+#[derive(Drop)]
 struct Progress {
     /// The last node of the task that an end of a taskgroup may have to look at.
     heads: Vec<Slot>,
