@@ -14,16 +14,21 @@ pub fn each(rt: &HostRuntime) -> Result<()> {
     let mut ledger = Ledger::new(rt.alloc());
     for line in lines_of(rt.alloc(), &bytes)?.iter() {
         let text = String::from_utf8_lossy(rt.alloc(), *line)?;
-        let mut words = [""; 7];
-        for (place, word) in text.split(' ').take(7).enumerate() {
-            if let Some(slot) = words.get_mut(place) {
-                *slot = word;
-            }
-        }
-        let answer = answer(rt.alloc(), &mut ledger, words)?;
+        let answer = answer(rt.alloc(), &mut ledger, words_of(&text))?;
         println!(rt; "{text}: {answer}")?;
     }
     Ok(())
+}
+
+/// The first seven words of the text; those that it lacks are empty.
+fn words_of(text: &str) -> [&str; 7] {
+    let mut words = [""; 7];
+    for (place, word) in text.split(' ').take(7).enumerate() {
+        if let Some(slot) = words.get_mut(place) {
+            *slot = word;
+        }
+    }
+    words
 }
 
 /// What a command answers.
@@ -49,23 +54,38 @@ fn answer(alloc: Global, ledger: &mut Ledger, words: [&str; 7]) -> Result<String
         ),
         "holds" => {
             let span = span_of(alloc, second, third, fourth, fifth)?;
-            if span.path.as_slice().len() > 1_024 {
-                bail!("the path has more than 1,024 numbers");
-            }
-            let held = ledger.holds(first.parse()?, &span, cover_of(sixth)?)?;
-            Ok(format!(in alloc; "{held}")?)
+            held(alloc, ledger, first, &span, sixth)
         }
-        "from" => {
-            let path = path_of(alloc, second)?;
-            if path.len() > 1_024 {
-                bail!("the path has more than 1,024 numbers");
-            }
-            let cover = cover_of(fourth)?;
-            let from = ledger.held_from(first.parse()?, path.as_slice(), third.parse()?, cover)?;
-            Ok(format!(in alloc; "{from:?}")?)
-        }
+        "from" => held_from(alloc, ledger, first, second, third, fourth),
         _ => bail!("the command must be new, len, entry, enter, holds or from"),
     }
+}
+
+/// Whether so many entries hold the span.
+fn held(alloc: Global, ledger: &Ledger, upto: &str, span: &Span, cover: &str) -> Result<String> {
+    if span.path.as_slice().len() > 1_024 {
+        bail!("the path has more than 1,024 numbers");
+    }
+    let held = ledger.holds(upto.parse()?, span, cover_of(cover)?)?;
+    Ok(format!(in alloc; "{held}")?)
+}
+
+/// From which length on the child's share is held.
+fn held_from(
+    alloc: Global,
+    ledger: &Ledger,
+    root: &str,
+    path: &str,
+    number: &str,
+    cover: &str,
+) -> Result<String> {
+    let path = path_of(alloc, path)?;
+    if path.len() > 1_024 {
+        bail!("the path has more than 1,024 numbers");
+    }
+    let cover = cover_of(cover)?;
+    let from = ledger.held_from(root.parse()?, path.as_slice(), number.parse()?, cover)?;
+    Ok(format!(in alloc; "{from:?}")?)
 }
 
 /// The entry of thread 0 and task 2 with this claim and part.

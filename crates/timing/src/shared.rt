@@ -4,7 +4,7 @@ ghost use Rattle.std.specs.Thread.{IsSync};
 
 use crate::turns::{Plan, all_turns, are_each_once, are_in_order, enter_one};
 use anyhow::{Result, bail};
-use credit_ledger::{LedgerFault, Seat, SharedLedger, Span};
+use credit_ledger::{Ledger, LedgerFault, Seat, SharedLedger, Span};
 use ompt_events::Path;
 use std::alloc::Global;
 use std::sync::{Barrier, Wait};
@@ -96,15 +96,21 @@ fn in_eight_threads<R: Threads + Wait + Sync + Print + AllocGlobal>(rt: &R) -> R
     };
     let turns = all_turns(rt, alloc, &ledger, seat, 1, 8, plan)?;
     let closed = ledger.close(rt, turns.seats);
-    let count = closed.len();
-    if !are_in_order(alloc, &closed, 8)? {
-        bail!("a thread's entries are not in its order");
-    }
-    if !are_each_once(alloc, turns.indices.as_slice(), count)? {
-        bail!("an index was told twice, or not at all");
-    }
+    let count = counted(alloc, &closed, turns.indices.as_slice())?;
     println!(rt; "{count} entries, each thread's in order, each index once")?;
     Ok(())
+}
+
+/// How many entries eight threads left: each thread's are in its order, and each index was told once.
+fn counted(alloc: Global, closed: &Ledger, indices: &[u32]) -> Result<u32> {
+    let count = closed.len();
+    if !are_in_order(alloc, closed, 8)? {
+        bail!("a thread's entries are not in its order");
+    }
+    if !are_each_once(alloc, indices, count)? {
+        bail!("an index was told twice, or not at all");
+    }
+    Ok(count)
 }
 
 /// Three threads, one after another, of which each enters an entry and gives a new seat to the next.
