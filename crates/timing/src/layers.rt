@@ -1,6 +1,6 @@
 //! One layer of the audit alone, for its time.
 use crate::lines::{input, lines_of};
-use anyhow::{Result, bail};
+use anyhow::Result;
 use certificate::{FromRead, ToWrite, read, write};
 use serde_json::Value;
 use std::io;
@@ -20,23 +20,14 @@ pub fn values(rt: &HostRuntime) -> Result<()> {
 
 /// Reads the records of standard input.
 pub fn records(rt: &HostRuntime) -> Result<()> {
-    match read(rt.alloc(), &mut FromRead::new(rt.reader())) {
-        Ok(trace) => {
-            let count = trace.records().len();
-            println!(rt; "{count} records")?;
-            Ok(())
-        }
-        Err(fault) => bail!("{fault}"),
-    }
+    let trace = read(rt.alloc(), &mut FromRead::new(rt.reader()))?;
+    println!(rt; "{} records", trace.records().len())?;
+    Ok(())
 }
 
 /// Reads the records of standard input, and writes them to standard output.
 pub fn rewrite(rt: &HostRuntime) -> Result<()> {
-    match read(rt.alloc(), &mut FromRead::new(rt.reader())) {
-        Ok(trace) => match write(rt.alloc(), &trace, &mut ToWrite::new(io::writer(rt))) {
-            Ok(()) => Ok(()),
-            Err(fault) => bail!("{fault}"),
-        },
-        Err(fault) => bail!("{fault}"),
-    }
+    let trace = read(rt.alloc(), &mut FromRead::new(rt.reader()))?;
+    write(rt.alloc(), &trace, &mut ToWrite::new(io::writer(rt)))?;
+    Ok(())
 }

@@ -1,5 +1,5 @@
 //! A ledger of finished tasks, by commands.
-use crate::lines::{input, lines_of};
+use crate::lines::text_of_input;
 use crate::shares::path_of;
 use anyhow::{Result, bail};
 use credit_ledger::{Cover, Entry, Ledger, Span};
@@ -10,12 +10,11 @@ use std::alloc::Global;
 /// `enter ROOT PATH KEPT PART`, `holds UPTO ROOT PATH FROM TO COVER`, `from ROOT PATH NUMBER COVER`, `entry INDEX`,
 /// `len` and `new`; a path is its numbers with commas between them.
 pub fn each(rt: &HostRuntime) -> Result<()> {
-    let bytes = input(rt)?;
+    let text = text_of_input(rt)?;
     let mut ledger = Ledger::new(rt.alloc());
-    for line in lines_of(rt.alloc(), &bytes)?.iter() {
-        let text = String::from_utf8_lossy(rt.alloc(), *line)?;
-        let answer = answer(rt.alloc(), &mut ledger, words_of(&text))?;
-        println!(rt; "{text}: {answer}")?;
+    for line in text.lines() {
+        print!(rt; "{line}: ")?;
+        answer(rt, &mut ledger, words_of(line))?;
     }
     Ok(())
 }
@@ -31,61 +30,61 @@ fn words_of(text: &str) -> [&str; 7] {
     words
 }
 
-/// What a command answers.
-fn answer(alloc: Global, ledger: &mut Ledger, words: [&str; 7]) -> Result<String> {
+/// Prints what a command answers.
+fn answer(rt: &HostRuntime, ledger: &mut Ledger, words: [&str; 7]) -> Result<()> {
     let [verb, first, second, third, fourth, fifth, sixth] = words;
     match verb {
-        "new" => {
-            *ledger = Ledger::new(alloc);
-            Ok(String::from_str(alloc, "ok")?)
-        }
-        "len" => {
-            let count = ledger.len();
-            Ok(format!(in alloc; "{count}")?)
-        }
-        "entry" => {
-            let entry = ledger.entry(first.parse()?);
-            Ok(format!(in alloc; "{entry:?}")?)
-        }
+        "new" => renewed(rt, ledger),
+        "len" => Ok(println!(rt; "{}", ledger.len())?),
+        "entry" => Ok(println!(rt; "{:?}", ledger.entry(first.parse()?))?),
         "enter" => entered(
-            alloc,
+            rt,
             ledger,
-            entry_of(alloc, first, second, third, fourth)?,
+            entry_of(rt.alloc(), first, second, third, fourth)?,
         ),
         "holds" => {
-            let span = span_of(alloc, second, third, fourth, fifth)?;
-            held(alloc, ledger, first, &span, sixth)
+            let span = span_of(rt.alloc(), second, third, fourth, fifth)?;
+            held(rt, ledger, first, &span, sixth)
         }
-        "from" => held_from(alloc, ledger, first, second, third, fourth),
+        "from" => held_from(rt, ledger, first, second, third, fourth),
         _ => bail!("the command must be new, len, entry, enter, holds or from"),
     }
 }
 
-/// Whether so many entries hold the span.
-fn held(alloc: Global, ledger: &Ledger, upto: &str, span: &Span, cover: &str) -> Result<String> {
+/// Begins again with an empty ledger.
+fn renewed(rt: &HostRuntime, ledger: &mut Ledger) -> Result<()> {
+    *ledger = Ledger::new(rt.alloc());
+    println!(rt; "ok")?;
+    Ok(())
+}
+
+/// Prints whether so many entries hold the span.
+fn held(rt: &HostRuntime, ledger: &Ledger, upto: &str, span: &Span, cover: &str) -> Result<()> {
     if span.path.as_slice().len() > 1_024 {
         bail!("the path has more than 1,024 numbers");
     }
     let held = ledger.holds(upto.parse()?, span, cover_of(cover)?)?;
-    Ok(format!(in alloc; "{held}")?)
+    println!(rt; "{held}")?;
+    Ok(())
 }
 
-/// From which length on the child's share is held.
+/// Prints from which length on the child's share is held.
 fn held_from(
-    alloc: Global,
+    rt: &HostRuntime,
     ledger: &Ledger,
     root: &str,
     path: &str,
     number: &str,
     cover: &str,
-) -> Result<String> {
-    let path = path_of(alloc, path)?;
+) -> Result<()> {
+    let path = path_of(rt.alloc(), path)?;
     if path.len() > 1_024 {
         bail!("the path has more than 1,024 numbers");
     }
     let cover = cover_of(cover)?;
     let from = ledger.held_from(root.parse()?, path.as_slice(), number.parse()?, cover)?;
-    Ok(format!(in alloc; "{from:?}")?)
+    println!(rt; "{from:?}")?;
+    Ok(())
 }
 
 /// The entry of thread 0 and task 2 with this claim and part.
@@ -122,13 +121,14 @@ fn cover_of(word: &str) -> Result<Cover> {
     }
 }
 
-/// Enters the entry, and tells its index or the fault.
-fn entered(alloc: Global, ledger: &mut Ledger, entry: Entry) -> Result<String> {
+/// Enters the entry, and prints its index or the fault.
+fn entered(rt: &HostRuntime, ledger: &mut Ledger, entry: Entry) -> Result<()> {
     if entry.path.as_slice().len() > 1_024 {
         bail!("the path has more than 1,024 numbers");
     }
     match ledger.enter(entry) {
-        Ok(index) => Ok(format!(in alloc; "{index}")?),
-        Err((_, fault)) => Ok(format!(in alloc; "{fault:?}")?),
+        Ok(index) => println!(rt; "{index}")?,
+        Err((_, fault)) => println!(rt; "{fault:?}")?,
     }
+    Ok(())
 }

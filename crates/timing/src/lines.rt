@@ -16,6 +16,13 @@ pub fn input(rt: &HostRuntime) -> Result<Vec<u8>> {
     Ok(bytes)
 }
 
+/// Standard input to its end, as text.
+pub fn text_of_input(rt: &HostRuntime) -> Result<String> {
+    let mut text = String::new(rt.alloc());
+    rt.reader().read_to_string(&mut text)?;
+    Ok(text)
+}
+
 /// The trace that stands on standard input.
 pub fn trace_of_input(rt: &HostRuntime) -> Result<Trace> {
     trace_of(rt.alloc(), input(rt)?.as_slice())

@@ -1,78 +1,64 @@
 //! Which values have a name.
-use crate::lines::{input, lines_of};
+use crate::lines::text_of_input;
 use anyhow::Result;
 use bitflags::Flags;
 use certificate::{ReadCause, WriteFault};
 use ompt_events::{CancelFlags, Cause, DepKind, Endpoint, Status, SyncKind, TaskFlags, ThreadKind};
-use std::alloc::Global;
 
 /// For each line of standard input, a name: the values that have it, each with its own name, and what it
 /// says by itself.
 pub fn each(rt: &HostRuntime) -> Result<()> {
-    let bytes = input(rt)?;
-    for line in lines_of(rt.alloc(), &bytes)?.iter() {
-        let name = String::from_utf8_lossy(rt.alloc(), *line)?;
-        let values = values_named(rt.alloc(), &name)?;
-        let flags = flags_named(rt.alloc(), &name)?;
-        let faults = faults_named(rt.alloc(), &name)?;
-        println!(rt; "{name}:{values}{flags}{faults}")?;
+    let text = text_of_input(rt)?;
+    for name in text.lines() {
+        print!(rt; "{name}:")?;
+        values_named(rt, name)?;
+        flags_named(rt, name)?;
+        faults_named(rt, name)?;
+        println!(rt)?;
     }
     Ok(())
 }
 
-// The value of the type that has the name, with its own name.
-macro_rules! push_named {
-    ($text:ident, $alloc:ident, $name:ident, $($type:ident),*) => {
+// Prints the value of each type that has the name, with its own name.
+macro_rules! print_named {
+    ($rt:ident, $name:ident, $($type:ident),*) => {
         $(if let Some(value) = $type::from_name($name) {
-            let own = value.name();
-            $text.push_str(&format!(in $alloc; " {value:?} {own}")?)?;
+            print!($rt; " {value:?} {}", value.name())?;
         })*
     };
 }
 
-// The cause or fault that has the name, with its number and its own name.
-macro_rules! push_numbered {
-    ($text:ident, $alloc:ident, $name:ident, $($what:literal $type:ident),*) => {
+// Prints the cause or fault that has the name, with its number and its own name.
+macro_rules! print_numbered {
+    ($rt:ident, $name:ident, $($what:literal $type:ident),*) => {
         $(if let Some(value) = $type::from_name($name) {
-            let own = value.name();
-            let number = value.number();
-            let what = $what;
-            $text.push_str(&format!(in $alloc; " {what} {number} {own}")?)?;
+            print!($rt; " {} {} {}", $what, value.number(), value.name())?;
         })*
     };
 }
 
-/// The values of a record that have the name.
-fn values_named(alloc: Global, name: &str) -> Result<String> {
-    let mut text = String::new(alloc);
-    push_named!(
-        text, alloc, name, Status, Endpoint, SyncKind, DepKind, ThreadKind
-    );
+/// Prints the values of a record that have the name.
+fn values_named(rt: &HostRuntime, name: &str) -> Result<()> {
+    print_named!(rt, name, Status, Endpoint, SyncKind, DepKind, ThreadKind);
     if let Some(status) = Status::from_name(name) {
-        let next = status.demands_next();
-        let part = status.part();
-        text.push_str(&format!(in alloc; " next {next} part {part:?}")?)?;
+        print!(rt; " next {} part {:?}", status.demands_next(), status.part())?;
     }
-    Ok(text)
+    Ok(())
 }
 
-/// The flags that have the name.
-fn flags_named(alloc: Global, name: &str) -> Result<String> {
-    let mut text = String::new(alloc);
+/// Prints the flags that have the name.
+fn flags_named(rt: &HostRuntime, name: &str) -> Result<()> {
     if let Some(flags) = TaskFlags::from_name(name) {
-        let bits = flags.bits();
-        text.push_str(&format!(in alloc; " task flag {bits:#x}")?)?;
+        print!(rt; " task flag {:#x}", flags.bits())?;
     }
     if let Some(flags) = CancelFlags::from_name(name) {
-        let bits = flags.bits();
-        text.push_str(&format!(in alloc; " cancel flag {bits:#x}")?)?;
+        print!(rt; " cancel flag {:#x}", flags.bits())?;
     }
-    Ok(text)
+    Ok(())
 }
 
-/// The causes and faults that have the name.
-fn faults_named(alloc: Global, name: &str) -> Result<String> {
-    let mut text = String::new(alloc);
-    push_numbered!(text, alloc, name, "cause" Cause, "read" ReadCause, "write" WriteFault);
-    Ok(text)
+/// Prints the causes and faults that have the name.
+fn faults_named(rt: &HostRuntime, name: &str) -> Result<()> {
+    print_numbered!(rt, name, "cause" Cause, "read" ReadCause, "write" WriteFault);
+    Ok(())
 }

@@ -1,5 +1,5 @@
 //! Shares and a purse, by commands.
-use crate::lines::{input, lines_of};
+use crate::lines::text_of_input;
 use anyhow::{Result, bail};
 use credit::{Purse, Share};
 use std::alloc::Global;
@@ -8,40 +8,44 @@ use std::alloc::Global;
 /// its halves, K for one that is kept and G for one that is given away; `whole` is the share without
 /// halves.
 pub fn each(rt: &HostRuntime) -> Result<()> {
-    let bytes = input(rt)?;
+    let text = text_of_input(rt)?;
     let mut purse = Purse::new(rt.alloc());
-    for line in lines_of(rt.alloc(), &bytes)?.iter() {
-        let text = String::from_utf8_lossy(rt.alloc(), *line)?;
-        let answer = answer(rt.alloc(), &mut purse, &text)?;
-        println!(rt; "{text}: {answer}")?;
+    for line in text.lines() {
+        print!(rt; "{line}: ")?;
+        answer(rt, &mut purse, line)?;
     }
     Ok(())
 }
 
-/// What a command answers.
-fn answer(alloc: Global, purse: &mut Purse, command: &str) -> Result<String> {
+/// Prints what a command answers.
+fn answer(rt: &HostRuntime, purse: &mut Purse, command: &str) -> Result<()> {
     let mut words = command.split(' ');
     let verb = words.next().unwrap_or("");
     let first = words.next().unwrap_or("");
     let second = words.next().unwrap_or("");
     match verb {
-        "new" => {
-            *purse = Purse::new(alloc);
-            Ok(String::from_str(alloc, "ok")?)
-        }
-        "enter" => entered(alloc, purse, share(alloc, first)?),
-        "holds" => {
-            let held = purse.holds(&share(alloc, first)?)?;
-            Ok(format!(in alloc; "{held}")?)
-        }
-        "begins" => {
-            let begins = share(alloc, first)?.starts_with(&share(alloc, second)?);
-            Ok(format!(in alloc; "{begins}")?)
-        }
-        "of" => of_path(alloc, first, second, words.next().unwrap_or("")),
-        "give" => given(alloc, first.parse()?),
+        "new" => renewed(rt, purse),
+        "enter" => entered(rt, purse, share(rt.alloc(), first)?),
+        "holds" => Ok(println!(rt; "{}", purse.holds(&share(rt.alloc(), first)?)?)?),
+        "begins" => begins(rt, first, second),
+        "of" => of_path(rt, first, second, words.next().unwrap_or("")),
+        "give" => given(rt, first.parse()?),
         _ => bail!("the command must be new, enter, holds, begins, of or give"),
     }
+}
+
+/// Begins again with an empty purse.
+fn renewed(rt: &HostRuntime, purse: &mut Purse) -> Result<()> {
+    *purse = Purse::new(rt.alloc());
+    println!(rt; "ok")?;
+    Ok(())
+}
+
+/// Prints whether the one share begins with the other.
+fn begins(rt: &HostRuntime, one: &str, other: &str) -> Result<()> {
+    let begins = share(rt.alloc(), one)?.starts_with(&share(rt.alloc(), other)?);
+    println!(rt; "{begins}")?;
+    Ok(())
 }
 
 /// The share of these halves, by halving the whole.
@@ -58,11 +62,12 @@ fn share(alloc: Global, halves: &str) -> Result<Share> {
 }
 
 /// Enters the share; where it is refused it must come back unchanged.
-fn entered(alloc: Global, purse: &mut Purse, share: Share) -> Result<String> {
+fn entered(rt: &HostRuntime, purse: &mut Purse, share: Share) -> Result<()> {
     match purse.enter(share) {
-        Ok(()) => Ok(String::from_str(alloc, "ok")?),
-        Err((_, fault)) => Ok(format!(in alloc; "{fault:?}")?),
+        Ok(()) => println!(rt; "ok")?,
+        Err((_, fault)) => println!(rt; "{fault:?}")?,
     }
+    Ok(())
 }
 
 /// The numbers between commas.
@@ -74,26 +79,31 @@ pub fn path_of(alloc: Global, path: &str) -> Result<Vec<u32>> {
     Ok(numbers)
 }
 
-/// Whether the share of a whole finish at this path, with so many children, is the one of these halves.
-fn of_path(alloc: Global, path: &str, kept: &str, halves: &str) -> Result<String> {
-    let numbers = path_of(alloc, path)?;
+/// Prints whether the share of a whole finish at this path, with so many children, is the one of these halves.
+fn of_path(rt: &HostRuntime, path: &str, kept: &str, halves: &str) -> Result<()> {
+    let numbers = path_of(rt.alloc(), path)?;
     if numbers.len() > 1_024 {
         bail!("the path has more than 1,024 numbers");
     }
-    let one = Share::of(alloc, numbers.as_slice(), kept.parse()?)?;
-    let other = share(alloc, halves)?;
+    let one = Share::of(rt.alloc(), numbers.as_slice(), kept.parse()?)?;
+    let other = share(rt.alloc(), halves)?;
     let same = one.starts_with(&other) && other.starts_with(&one);
-    Ok(format!(in alloc; "{same}")?)
+    println!(rt; "{same}")?;
+    Ok(())
 }
 
-/// What comes of giving away half of the share again and again.
-fn given(alloc: Global, times: u32) -> Result<String> {
-    let mut share = Share::whole(alloc);
+/// Prints what comes of giving away half of the share again and again.
+fn given(rt: &HostRuntime, times: u32) -> Result<()> {
+    let mut share = Share::whole(rt.alloc());
     for time in 0..times {
         match share.halve() {
             Ok((_, given)) => share = given,
-            Err((_, fault)) => return Ok(format!(in alloc; "{fault:?} after {time}")?),
+            Err((_, fault)) => {
+                println!(rt; "{fault:?} after {time}")?;
+                return Ok(());
+            }
         }
     }
-    Ok(String::from_str(alloc, "ok")?)
+    println!(rt; "ok")?;
+    Ok(())
 }

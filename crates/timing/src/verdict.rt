@@ -16,9 +16,14 @@ fn of_trace(rt: &HostRuntime, trace: &Trace) -> Result<()> {
     let gap = gap(trace);
     let target = target(trace);
     println!(rt; "gap {gap:?}, target {target:?}")?;
-    match check(rt.alloc(), trace)? {
+    tell(rt, &check(rt.alloc(), trace)?)
+}
+
+/// Prints the verdict, of a yes the places in its order.
+fn tell(rt: &HostRuntime, verdict: &Verdict) -> Result<()> {
+    match verdict {
         Verdict::Yes { order } => {
-            let places = places_of(rt.alloc(), &order)?;
+            let places = places_of(rt.alloc(), order)?;
             println!(rt; "yes, order {places:?}")?;
         }
         other => println!(rt; "{other:?}")?,
