@@ -11,14 +11,23 @@ pub struct TaskFlags(pub u32);
 
 impl TaskFlags {
     pub const INITIAL: TaskFlags = TaskFlags(0x1);
+
     pub const IMPLICIT: TaskFlags = TaskFlags(0x2);
+
     pub const EXPLICIT: TaskFlags = TaskFlags(0x4);
+
     pub const TARGET: TaskFlags = TaskFlags(0x8);
+
     pub const TASKWAIT: TaskFlags = TaskFlags(0x10);
+
     pub const UNDEFERRED: TaskFlags = TaskFlags(0x0800_0000);
+
     pub const UNTIED: TaskFlags = TaskFlags(0x1000_0000);
+
     pub const FINAL: TaskFlags = TaskFlags(0x2000_0000);
+
     pub const MERGEABLE: TaskFlags = TaskFlags(0x4000_0000);
+
     pub const MERGED: TaskFlags = TaskFlags(0x8000_0000);
 
     /// The flags under the names that they have in a file, in the order in which a file lists them.
@@ -95,11 +104,17 @@ pub struct CancelFlags(pub u32);
 
 impl CancelFlags {
     pub const PARALLEL: CancelFlags = CancelFlags(0x1);
+
     pub const SECTIONS: CancelFlags = CancelFlags(0x2);
+
     pub const LOOP: CancelFlags = CancelFlags(0x4);
+
     pub const TASKGROUP: CancelFlags = CancelFlags(0x8);
+
     pub const ACTIVATED: CancelFlags = CancelFlags(0x10);
+
     pub const DETECTED: CancelFlags = CancelFlags(0x20);
+
     pub const DISCARDED_TASK: CancelFlags = CancelFlags(0x40);
 
     /// The flags under the names that they have in a file, in the order in which a file lists them.
