@@ -8,7 +8,7 @@ ghost use Rattle.credit.specs.Links.{leaf_link, link_at, behind, is_link_of, sid
 
 /// A node among its parent's children. A 0 leads nowhere, since the root is no child. Nodes are named by 32
 /// bits, so a link takes 32 bytes.
-#[derive(Clone, Copy)]
+#[derive(Clone, Copy, Debug)]
 pub(crate) struct Link {
     pub number: u64,
     pub parent: u32,

@@ -17,7 +17,7 @@ use std::marker::Model;
 /// below which one was entered, and the whole as its root. A node is held where a share was entered that
 /// goes on from the node's with Keep halves alone, and the children before its end are held. So each call
 /// takes as many steps as its share has Give halves, but for what its own description says.
-#[derive(Drop)]
+#[derive(Debug, Drop)]
 pub struct Purse {
     shares: Vec<Share>,
     tree: Tree,

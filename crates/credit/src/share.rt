@@ -8,7 +8,7 @@ use std::alloc::{AllocError, Global};
 use std::marker::Model;
 
 /// One half of a share that was halved.
-#[derive(Clone, Copy)]
+#[derive(Clone, Copy, Debug, PartialEq, Eq)]
 pub enum Half {
     /// The half with which the one that had the share goes on.
     Keep,
@@ -26,7 +26,7 @@ const MOST_HALVES: u64 = 1 << 48;
 ///
 /// They are kept as runs of Keep halves, so that each call takes as many steps as the share has Give halves,
 /// however many Keep halves stand between these.
-#[derive(Drop)]
+#[derive(Debug, Drop)]
 pub struct Share {
     /// How many Keep halves stand before each Give half.
     runs: Vec<u64>,

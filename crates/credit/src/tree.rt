@@ -12,7 +12,7 @@ use std::alloc::{AllocError, Global};
 const MOST_NODES: usize = 1 << 32;
 
 /// A share that was entered: that of a node, and then so many Keep halves.
-#[derive(Clone, Copy)]
+#[derive(Clone, Copy, Debug)]
 pub(crate) struct Run {
     pub keeps: u64,
     /// How many shares had been entered before.
@@ -20,7 +20,7 @@ pub(crate) struct Run {
 }
 
 /// What has come back at a node and below it.
-#[derive(Clone, Copy)]
+#[derive(Clone, Copy, Debug)]
 pub(crate) struct Progress {
     /// What was entered that begins with the node's share, and has no further Give half.
     pub run: Option<Run>,
@@ -31,7 +31,7 @@ pub(crate) struct Progress {
 }
 
 /// A share that ends with a Give half, or the whole.
-#[derive(Clone, Copy)]
+#[derive(Clone, Copy, Debug)]
 pub(crate) struct Node {
     pub parent: usize,
     /// More than the number of each child that there is.
@@ -40,7 +40,7 @@ pub(crate) struct Node {
 }
 
 /// The nodes, the root first, and how the children of each one are found by their numbers.
-#[derive(Drop)]
+#[derive(Debug, Drop)]
 pub(crate) struct Tree {
     pub nodes: Vec<Node>,
     pub links: Vec<Link>,

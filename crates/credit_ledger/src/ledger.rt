@@ -22,7 +22,7 @@ const MOST_ENTRIES: usize = 1 << 22;
 ///
 /// One purse has the shares of all roots and pools, each of them in a region of its own, two of each entry.
 /// So the time from which the purse holds a share tells the ledger's length from which it is held.
-#[derive(Drop)]
+#[derive(Debug, Drop)]
 pub struct Ledger {
     entries: Vec<Entry>,
     purse: Purse,

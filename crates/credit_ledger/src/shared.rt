@@ -45,7 +45,7 @@ pub struct Seat {
 }
 
 /// That an entry was accepted.
-#[derive(Clone, Copy)]
+#[derive(Clone, Copy, Debug, PartialEq, Eq)]
 pub struct Receipt {
     /// The entry's index.
     pub index: u32,

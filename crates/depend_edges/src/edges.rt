@@ -15,7 +15,7 @@ use std::marker::Model;
 use task_tree::{Family, Slot};
 
 /// The dependences of the tasks of a trace, and what follows from them.
-#[derive(Drop)]
+#[derive(Debug, Drop)]
 pub struct Edges<'a> {
     records: &'a [Record],
     family: &'a Family,

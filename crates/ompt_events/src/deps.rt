@@ -5,7 +5,7 @@ use crate::names::DepKind;
 use std::marker::Model;
 
 /// One dependence of a task: a location, and how the task uses it (OpenMP 5.2, 15.9.5).
-#[derive(Clone, Copy)]
+#[derive(Clone, Copy, Debug, PartialEq, Eq)]
 pub struct Dep {
     /// The location.
     pub var: u64,
@@ -23,7 +23,7 @@ impl Dep {
 }
 
 /// The dependences of a task, in the order in which the runtime tells them.
-#[derive(Drop)]
+#[derive(Debug, Drop)]
 pub struct Deps {
     items: Vec<Dep>,
 }
@@ -37,6 +37,20 @@ impl Model for Deps {
     ghost view = { λ deps. deps.items.items };
 
     ghost invariant = { λ deps. All (λ d. d.var < 2 ^ 64) deps.items.items };
+}
+
+impl PartialEq for Deps {
+    ghost use Rattle.std.specs.Cmp.Lexicographic.{lists_per, pointwise};
+    ghost use Rattle.ompt_events.specs.contracts.deps.DepPartialEq.TheImpl as dep;
+    ghost use Rattle.ompt_events.specs.contracts.deps.DepPartialEq.TheImpl.Laws.{laws-law};
+
+    ghost eq = { pointwise (dep.ghosts).eq };
+
+    ghost laws = { lists_per laws-law };
+
+    fn eq(&self, other: &Self) -> bool {
+        self.as_slice() == other.as_slice()
+    }
 }
 
 impl Deps {

@@ -2,34 +2,29 @@
 ghost use Rattle.std.specs.Prelude.{⊤};
 ghost use Rattle.ompt_events.specs.Flags.{task_flags, cancel_flags};
 
-use bitflags::{Flag, Flags};
+use bitflags::{Flag, Flags, bitflag_items};
 
 /// What kind of task a record speaks of (OpenMP 5.2, `ompt_task_flag_t`).
 /// The bits may be any; a trace holds named ones alone.
-#[derive(Clone, Copy)]
+#[derive(Clone, Copy, Debug, PartialEq, Eq)]
 pub struct TaskFlags(pub u32);
 
+bitflag_items! {
+    impl TaskFlags: u32 {
+        const INITIAL = 0x1;
+        const IMPLICIT = 0x2;
+        const EXPLICIT = 0x4;
+        const TARGET = 0x8;
+        const TASKWAIT = 0x10;
+        const UNDEFERRED = 0x0800_0000;
+        const UNTIED = 0x1000_0000;
+        const FINAL = 0x2000_0000;
+        const MERGEABLE = 0x4000_0000;
+        const MERGED = 0x8000_0000;
+    }
+}
+
 impl TaskFlags {
-    pub const INITIAL: TaskFlags = TaskFlags(0x1);
-
-    pub const IMPLICIT: TaskFlags = TaskFlags(0x2);
-
-    pub const EXPLICIT: TaskFlags = TaskFlags(0x4);
-
-    pub const TARGET: TaskFlags = TaskFlags(0x8);
-
-    pub const TASKWAIT: TaskFlags = TaskFlags(0x10);
-
-    pub const UNDEFERRED: TaskFlags = TaskFlags(0x0800_0000);
-
-    pub const UNTIED: TaskFlags = TaskFlags(0x1000_0000);
-
-    pub const FINAL: TaskFlags = TaskFlags(0x2000_0000);
-
-    pub const MERGEABLE: TaskFlags = TaskFlags(0x4000_0000);
-
-    pub const MERGED: TaskFlags = TaskFlags(0x8000_0000);
-
     /// The flags under the names that they have in a file, in the order in which a file lists them.
     const NAMED: &'static [Flag<TaskFlags>] = &[
         Flag {
@@ -99,24 +94,22 @@ impl Flags for TaskFlags {
 
 /// What is cancelled, and how far the cancellation has come (OpenMP 5.2, `ompt_cancel_flag_t`).
 /// The bits may be any; a trace holds named ones alone.
-#[derive(Clone, Copy)]
+#[derive(Clone, Copy, Debug, PartialEq, Eq)]
 pub struct CancelFlags(pub u32);
 
+bitflag_items! {
+    impl CancelFlags: u32 {
+        const PARALLEL = 0x1;
+        const SECTIONS = 0x2;
+        const LOOP = 0x4;
+        const TASKGROUP = 0x8;
+        const ACTIVATED = 0x10;
+        const DETECTED = 0x20;
+        const DISCARDED_TASK = 0x40;
+    }
+}
+
 impl CancelFlags {
-    pub const PARALLEL: CancelFlags = CancelFlags(0x1);
-
-    pub const SECTIONS: CancelFlags = CancelFlags(0x2);
-
-    pub const LOOP: CancelFlags = CancelFlags(0x4);
-
-    pub const TASKGROUP: CancelFlags = CancelFlags(0x8);
-
-    pub const ACTIVATED: CancelFlags = CancelFlags(0x10);
-
-    pub const DETECTED: CancelFlags = CancelFlags(0x20);
-
-    pub const DISCARDED_TASK: CancelFlags = CancelFlags(0x40);
-
     /// The flags under the names that they have in a file, in the order in which a file lists them.
     const NAMED: &'static [Flag<CancelFlags>] = &[
         Flag {

@@ -4,7 +4,7 @@ ghost use Rattle.std.specs.Prelude.{◌≡◌, [], ◌∷◌, ◌++◌, option_t
 use std::marker::Model;
 
 /// The tasks that a record names, in the order of its members: at most three.
-#[derive(Drop)]
+#[derive(Debug, Drop)]
 pub struct NamedTasks {
     tasks: [u64; 3],
     count: usize,

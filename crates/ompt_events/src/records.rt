@@ -22,7 +22,7 @@ pub enum Part {
 }
 
 /// What a finishing record says of its task's place in the tree of tasks.
-#[derive(Drop)]
+#[derive(Debug, Drop, PartialEq)]
 pub struct Claim {
     /// How many children the task created.
     pub kept: u32,
@@ -33,7 +33,7 @@ pub struct Claim {
 }
 
 /// A task's place in the team of a parallel region (OpenMP 5.2, 10.1 and 19.5.2.11).
-#[derive(Clone, Copy)]
+#[derive(Clone, Copy, Debug, PartialEq, Eq)]
 pub struct Membership {
     /// The parallel region.
     pub parallel: u64,
@@ -46,7 +46,7 @@ pub struct Membership {
 }
 
 /// What happened, with the arguments of its OMPT callback (OpenMP 5.2, 19.5.2).
-#[derive(Drop)]
+#[derive(Debug, Drop, PartialEq)]
 pub enum Body {
     /// A thread begins (19.5.2.1).
     ThreadBegin {
@@ -407,7 +407,7 @@ impl Body {
 }
 
 /// One event, as its thread recorded it.
-#[derive(Drop)]
+#[derive(Debug, Drop, PartialEq)]
 pub struct Record {
     /// The thread that recorded it.
     pub thread: u8,

@@ -22,7 +22,7 @@ pub const MAX_DEPENDENCES: usize = 64;
 pub const MAX_DEPTH: usize = 1024;
 
 /// Records in file order, each sound by itself, within the limits on their number.
-#[derive(Drop)]
+#[derive(Debug, Drop)]
 pub struct Trace {
     records: Vec<Record>,
 }

@@ -21,7 +21,7 @@ use std::marker::Model;
 use task_tree::{Family, Numbering, Slot};
 
 /// The state of each task of a trace after all its records, and the begin of each region that ends.
-#[derive(Drop)]
+#[derive(Debug, Drop)]
 pub struct States<'a> {
     tasks: &'a Numbering,
     states: Vec<Option<State>>,

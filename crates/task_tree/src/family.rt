@@ -25,7 +25,7 @@ use std::marker::Model;
 
 /// The tasks that the records of a trace make, each with its parent, its number, its root and its children.
 /// Its memory is linear in the records, whatever the tree.
-#[derive(Drop)]
+#[derive(Debug, Drop)]
 pub struct Family {
     tasks: Numbering,
     places: Vec<u32>,

@@ -5,7 +5,7 @@ use crate::links::Link;
 use std::marker::Model;
 
 /// A link to a parent whose index is below 2^32 - 1, or none.
-#[derive(Clone, Copy)]
+#[derive(Clone, Copy, Debug)]
 pub(crate) struct LinkSlot {
     /// 0 where there is no link.
     number: u32,

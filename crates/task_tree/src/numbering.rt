@@ -9,7 +9,7 @@ use std::marker::Model;
 
 /// Ids in the order in which they were noted, each once. An id's index is its place in the list.
 /// Look-ups take logarithmic time whatever the ids are: no file can choose ids that make them slow.
-#[derive(Drop)]
+#[derive(Debug, Drop)]
 pub struct Numbering {
     ids: Vec<u64>,
     /// The order of the ids that were there from the start.

@@ -6,7 +6,7 @@ ghost use Rattle.task_tree.specs.Ranking.{order_of, AreWithin, IsRising, IsOrder
 use std::alloc::{AllocError, Global};
 
 /// The indices of ids in the order of the ids' values. The rank of an id is its place in that order.
-#[derive(Drop)]
+#[derive(Debug, Drop)]
 pub(crate) enum Ranks {
     /// So many ids stand in that order already.
     Rising(usize),

@@ -8,7 +8,7 @@ use std::marker::Model;
 
 /// The children of all tasks: by index of the task where its row begins, and behind the last one where that
 /// ends.
-#[derive(Drop)]
+#[derive(Debug, Drop)]
 pub(crate) struct Rows {
     offsets: Vec<u32>,
     ids: Vec<u64>,

@@ -5,14 +5,14 @@ use crate::roots::Standing;
 use std::marker::Model;
 
 /// Where a task stands, or nothing.
-#[derive(Clone, Copy)]
+#[derive(Clone, Copy, Debug)]
 pub(crate) struct StandingSlot {
     content: Content,
 }
 
 /// What a slot has. An `Option<Standing>` would take 24 bytes, since its tag would stand before the whole
 /// `Standing`, which has room for it behind the depth.
-#[derive(Clone, Copy)]
+#[derive(Clone, Copy, Debug)]
 enum Content {
     Nothing,
     Stands { depth: u32, root: u64 },

@@ -15,7 +15,7 @@ use std::marker::Model;
 /// The tasks that the records of a trace make, each with its parent, its number, its path, its root and its
 /// children. Paths are stored: their memory is the sum of the depths of all tasks, which a chain of tasks
 /// makes quadratic. `Family` has all but the paths.
-#[derive(Drop)]
+#[derive(Debug, Drop)]
 pub struct Tree {
     family: Family,
     paths: Vec<Vec<u32>>,

@@ -8,14 +8,14 @@ use std::error::Error;
 use std::fmt;
 
 /// What the words of the command line ask for.
-#[derive(Clone, Copy)]
+#[derive(Clone, Copy, Debug, PartialEq, Eq)]
 pub enum Job {
     /// To judge the trace on standard input, by this number of threads where one is given.
     Check(Option<u32>),
 }
 
 /// The kind of a verdict that was reported.
-#[derive(Clone, Copy)]
+#[derive(Clone, Copy, Debug, PartialEq, Eq)]
 pub enum Outcome {
     /// Each wait ended, and each dependent task started, only when it was allowed to.
     Yes,

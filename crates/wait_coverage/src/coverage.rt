@@ -28,7 +28,7 @@ use task_states::States;
 use task_tree::{Family, Slot, Tree};
 
 /// What each wait of a trace waits for.
-#[derive(Drop)]
+#[derive(Debug, Drop)]
 pub struct Coverage<'a> {
     records: &'a [Record],
     tree: &'a Tree,

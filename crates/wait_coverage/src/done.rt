@@ -12,7 +12,7 @@ use std::alloc::{AllocError, Global};
 use task_tree::Family;
 
 /// Ledger lengths by index of the task.
-#[derive(Drop)]
+#[derive(Debug, Drop)]
 pub(crate) struct Done {
     /// From this one on the task is finished.
     pub(crate) own: Vec<u64>,

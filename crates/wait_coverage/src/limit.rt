@@ -5,7 +5,7 @@ use std::marker::Model;
 
 /// A ledger length from which on something is finished, in 32 bits: that length, or a greater one. No record
 /// can name a length of 2^32, so that stands for all greater ones, and for never.
-#[derive(Clone, Copy)]
+#[derive(Clone, Copy, Debug, PartialEq, Eq)]
 pub(crate) struct Limit {
     code: u32,
 }

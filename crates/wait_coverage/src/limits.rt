@@ -22,7 +22,7 @@ use task_states::States;
 use task_tree::{Family, Slot};
 
 /// What is noted at one record.
-#[derive(Clone, Copy)]
+#[derive(Clone, Copy, Debug, PartialEq, Eq)]
 pub(crate) struct Node {
     /// The ledger length from which on tasks are finished: of a creation, the child and its descendants; of
     /// the begin of a taskwait, the children so far; of the begin of a barrier, these and their descendants;

@@ -24,7 +24,7 @@ use task_states::States;
 use task_tree::{Family, Slot};
 
 /// The teams of a trace (OpenMP 5.2, 1.2.2), and where their members begin barriers.
-#[derive(Drop)]
+#[derive(Debug, Drop)]
 pub struct Teams {
     /// By index of the task the number of its team; none for an explicit task.
     teams: Vec<Slot>,

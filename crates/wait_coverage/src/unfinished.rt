@@ -21,7 +21,7 @@ use task_states::States;
 use task_tree::Family;
 
 /// What is known of all tasks and records before an end is looked at.
-#[derive(Drop)]
+#[derive(Debug, Drop)]
 pub struct Known {
     pub(crate) done: Done,
     /// For each record that ends a region from which ledger length on what it covers is finished.

@@ -22,7 +22,7 @@ use task_states::States;
 use task_tree::Family;
 
 /// What the end of a region waits for. The task is an index, and the others but the number are places.
-#[derive(Clone, Copy)]
+#[derive(Clone, Copy, Debug)]
 pub(crate) enum Wait {
     /// The children that the task created before the begin.
     Taskwait {
