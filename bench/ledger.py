@@ -3,7 +3,7 @@
 entries hold the start of each.
 
 ledger.py                seconds of the processor and peak memory, the least of five runs
-ledger.py instructions   instructions inside the calls, which Valgrind counts, of fewer entries
+ledger.py instructions   instructions of the calls, which Valgrind counts, of fewer entries
 
 `timing ledger` does what the lines of its input say. From the seconds and the memory, what reading and
 printing a line take is subtracted: lines with the same path that ask for an empty span. Each shape has two
@@ -92,16 +92,30 @@ def seconds(folder):
     return entering[0] - reading[0], asking[0] - entering[0] - reading[0], entering[1] - reading[1]
 
 
-def instructions(folder):
-    """The instructions of all calls of `enter` and of `holds`."""
+def counts_of(folder, name):
+    """What Valgrind counts for each function of a run on this file, the functions that it calls among it."""
     counts = os.path.join(folder, "counts")
-    with open(os.path.join(folder, "ask"), "rb") as source:
+    with open(os.path.join(folder, name), "rb") as source:
         subprocess.run(["valgrind", "--tool=callgrind", f"--callgrind-out-file={counts}"] + COMMAND,
                        stdin=source, stdout=subprocess.DEVNULL, stderr=subprocess.DEVNULL, check=True)
     command = ["callgrind_annotate", "--inclusive=yes", counts]
-    text = subprocess.run(command, capture_output=True, check=True, text=True).stdout
-    found = (re.search(rf"([0-9,]+) .*::ledger::Ledger::{name} ", text) for name in ("enter", "holds"))
-    return tuple(int(match[1].replace(",", "")) for match in found)
+    return subprocess.run(command, capture_output=True, check=True, text=True).stdout
+
+
+def count_inside(counts, function):
+    found = re.search(rf"([0-9,]+) .*:{function} ", counts)
+    if not found:
+        sys.exit(f"{function} is not among the functions that Valgrind counted: was it put into its caller?")
+    return int(found[1].replace(",", ""))
+
+
+def instructions(folder):
+    """The instructions of all calls of `enter`, and of all questions beyond those for an empty span: the compiler puts
+    `holds` into `held`, the only function that calls it."""
+    asking, reading = counts_of(folder, "ask"), counts_of(folder, "read")
+    held = "timing::ledger::held"
+    return (count_inside(asking, "credit_ledger::ledger::Ledger::enter"),
+            count_inside(asking, held) - count_inside(reading, held))
 
 
 def figures(shape, size, measure):
