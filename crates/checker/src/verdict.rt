@@ -100,7 +100,7 @@ pub enum Verdict {
     Yes { order: Order },
     /// The first record at which a task that must be finished is not.
     No { at: usize, why: Why },
-    /// No real run can produce the records, for this cause; `at` is the first record that shows it.
+    /// No run within the model gives the records, for this cause; `at` is the first record that shows it.
     Malformed { at: usize, cause: Cause },
 }
 

@@ -11,8 +11,8 @@ pub enum EdgeFault {
     /// Allocation failed.
     #[error("out of memory")]
     Memory,
-    /// A list of dependences does not follow its creation, or is missing there: no real run can produce the
-    /// records.
+    /// A list of dependences does not follow its creation, or is missing there: the records are
+    /// malformed.
     #[error("dependences are misplaced at record {0}")]
     Misplaced(
         /// The place of the first record that shows it, from 0.

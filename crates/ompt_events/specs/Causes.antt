@@ -1,4 +1,4 @@
--- Why no real run can produce a list of records. Each cause is a fact about the list alone,
+-- Why no run within the model gives a list of records. Each cause is a fact about the list alone,
 -- and assumes that no lower-numbered cause occurs.
 use Rattle.std.specs.Prelude.{true, ℕ, ◌≡◌, ◌≢◌, ◌<◌, ◌≤◌, ◌+◌, ◌==◌, List, [], length, take, Some, None, Contains, count_by, slice_get, is_some, if◌then◌else◌}
 use Rattle.ompt_events.specs.declared.records.Record.{Record}

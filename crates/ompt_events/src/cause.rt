@@ -1,8 +1,9 @@
-//! Why no real run can produce a list of records: the causes, with their numbers and names.
+//! Why no run within the model gives a list of records: the causes, with their numbers and names.
 ghost use Rattle.std.specs.Prelude.{◌≡◌, ◌↔◌, Some};
 ghost use Rattle.ompt_events.specs.CauseNames.{cause_name, cause_number};
 
-/// Why no real run can produce the records. If several causes occur, the lowest-numbered one is reported.
+/// Why the records are malformed: no run within the model gives them. If several causes occur, the
+/// lowest-numbered one is reported.
 #[derive(Clone, Copy, Debug, PartialEq, Eq)]
 pub enum Cause {
     /// The record's `seq` is not the number of earlier records of its thread.

@@ -12,7 +12,7 @@ pub enum StateFault {
     /// Allocation failed.
     #[error("out of memory")]
     Memory,
-    /// No real run can produce the records: `at` is the first record that shows the cause, and no cause
+    /// The records are malformed: `at` is the first record that shows the cause, and no cause
     /// with a smaller number that the call looks for occurs.
     #[error("malformed at record {at}")]
     Malformed {

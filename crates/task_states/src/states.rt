@@ -43,12 +43,11 @@ impl<'a> Model for States<'a> {
     ghost invariant = { λ states. length states.states.items ≡ length states.tasks.now };
 }
 
-/// Takes each task of the trace through its states. The family must be that of the trace's tasks. Refused
-/// are records that no real run can produce, with the first of these causes that occurs, at its first
-/// record: a record of a task that its thread does not run (OpenMP 5.2, 12.9); an explicit task that runs on
-/// two threads (it is tied, 12.1); a change that a task's state does not allow (19.5.2.10); a region that
-/// ends without its begin, or a barrier of an explicit task (15.3). It takes a few steps for each record, and
-/// memory linear in the records.
+/// Takes each task of the trace through its states. The family must be that of the trace's tasks. Malformed
+/// records are refused, with the first of these causes that occurs, at its first record: a record of a task
+/// that its thread does not run (OpenMP 5.2, 12.9); an explicit task that runs on two threads (it is tied,
+/// 12.1); a change that a task's state does not allow (19.5.2.10); a region that ends without its begin, or a
+/// barrier of an explicit task (15.3). It takes a few steps for each record, and memory linear in the records.
 pub fn run<'a>(alloc: Global, trace: &Trace, family: &'a Family) -> Result<States<'a>, StateFault>
     requires { IsFamilyOf trace.now.records family.now }
     ensures states { IfOk result (AreStatesOf trace.now.records) }

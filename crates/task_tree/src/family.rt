@@ -57,9 +57,8 @@ impl Model for Family {
 }
 
 impl Family {
-    /// The family of the trace's tasks. Refused are records that no real run can produce since a task or a
-    /// parallel region is made again, or else since one is spoken of that has no root or no begin; and any
-    /// records where memory runs out.
+    /// The family of the trace's tasks. Refused are records in which a task or a parallel region is made
+    /// again, or else one is spoken of that has no root or no begin; and any records where memory runs out.
     pub fn build(alloc: Global, trace: &Trace) -> Result<Family, TreeFault>
         ensures family { IfOk result (IsFamilyOf trace.now.records) }
         ensures fault { IfErr result (IsTreeFault trace.now.records) }

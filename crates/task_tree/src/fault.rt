@@ -12,7 +12,7 @@ pub enum TreeFault {
     /// Allocation failed.
     #[error("out of memory")]
     Memory,
-    /// No real run can produce the records: `at` is the first record that shows the cause,
+    /// The records are malformed: `at` is the first record that shows the cause,
     /// which is `CreatedTwice` or, where that does not occur, `Rootless`.
     #[error("malformed at record {at}")]
     Malformed {

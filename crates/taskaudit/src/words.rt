@@ -27,8 +27,8 @@ const EXPLANATION: &str = r#"Answers, one line on standard output:
   no: line 7, thread 0, seq 5: task 2 must precede task 3
       here task 3 starts before its predecessor 2 is finished
   malformed: line 4, thread 0, seq 2: cause 2 CreatedTwice
-      no real run can produce these events: the cause, and the first event
-      that shows it
+      no run within the model gives these events: the cause, and the first
+      event that shows it; docs/CAUSES.md says what to mend
 
 Exit status: 0 yes, 1 no, 2 malformed, 3 input not read or answer not written,
   4 wrong arguments, 5 out of memory. Errors go to standard error.
@@ -47,8 +47,12 @@ and each other one an event of OpenMP's tool interface (OMPT), with the members
   cancel         task, flags; with discarded_task also root, path, kept
   thread_begin   kind
   thread_end     no others
-seen is how many finished tasks the thread knew of; for an event that finishes a
-task, how many were finished before it. docs/FORMAT.md has the whole format."#;
+seen is about one ledger of finished tasks, which all threads share. An event
+that finishes a task appends an entry: its seen is the entry's index, and the
+thread then knows index + 1. A task_schedule that does not finish a task, and an
+end or beginend of a sync_region, reads the ledger's length there and then. Any
+other event repeats what its thread last knew, 0 at first.
+docs/RECORDING.md says how to record, docs/FORMAT.md has the whole format."#;
 
 /// What the command line asks for; its first word is the program's name.
 pub fn job<'a, S: AsStr>(alloc: Global, words: &'a [S]) -> Result<Job, Error>

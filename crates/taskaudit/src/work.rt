@@ -21,7 +21,7 @@ pub enum Outcome {
     Yes,
     /// A wait ended, or a dependent task started, too early.
     No,
-    /// No real run can produce these records.
+    /// No run within the model gives these records.
     Malformed,
 }
 

@@ -37,7 +37,7 @@ pub enum TeamFault {
     /// Allocation failed.
     #[error("out of memory")]
     Memory,
-    /// A team or one of its barriers lacks a member: no real run can produce the records.
+    /// A team or one of its barriers lacks a member: the records are malformed.
     #[error("a team or a barrier lacks a member at record {0}")]
     Short(
         /// The place of the first record that shows it, from 0.

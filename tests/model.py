@@ -1,0 +1,619 @@
+#!/usr/bin/env python3
+"""model.py < FILE: the answer of docs/MODEL.md to a readable trace file, found by the definitions there alone.
+
+It shares no code with the program and saves no time: what is a relation there is a set here, and what happens before
+what is a transitive closure. The first line of each function names the definition that it restates. What a record
+says stands in its attributes, which have the names of the module Records. `records` are in file order, and i, k, a
+and b are places among them."""
+import json
+import sys
+from collections import namedtuple
+from types import SimpleNamespace
+
+STATUS_PART = {'complete': 'Whole', 'cancel': 'Whole', 'taskwait_complete': 'Whole', 'detach': 'Body',
+               'late_fulfill': 'Event'}
+DEMANDS_NEXT = {'complete', 'yield', 'cancel', 'detach', 'switch'}
+BARRIERS = {'barrier', 'barrier_implicit', 'barrier_explicit', 'barrier_implicit_workshare',
+            'barrier_implicit_parallel'}
+CALLED_BARRIERS = BARRIERS | {'barrier_implementation', 'barrier_teams'}
+WAITS_FOR_TASKS = BARRIERS | {'taskwait', 'taskgroup'}
+NEXT_STATE = {
+    'Created': {'early_fulfill': 'EarlyWaiting', 'taskwait_complete': 'Done'},
+    'Running': {'complete': 'Done', 'yield': 'Suspended', 'cancel': 'Done', 'detach': 'Detached',
+                'early_fulfill': 'EarlyRunning', 'switch': 'Suspended'},
+    'Suspended': {'early_fulfill': 'EarlyWaiting'},
+    'EarlyRunning': {'complete': 'Done', 'yield': 'EarlyWaiting', 'switch': 'EarlyWaiting'},
+    'EarlyWaiting': {},
+    'Detached': {'late_fulfill': 'Done'},
+    'Done': {},
+}
+START_STATE = {'Created': 'Running', 'Suspended': 'Running', 'EarlyWaiting': 'EarlyRunning'}
+DISCARD_STATE = {'Created': 'Done'}
+
+RECORDS_SAY = ['begun_root', 'ended_root', 'begun_initial', 'joined', 'forked', 'region_named', 'creation', 'created',
+               'created_with_deps', 'dependences', 'made', 'started', 'fulfilled', 'wait_completed', 'discarded',
+               'finish', 'schedule', 'claim', 'region', 'flags', 'running']
+Membership = namedtuple('Membership', 'parallel actual index member')
+Claim = namedtuple('Claim', 'root path kept')
+Region = namedtuple('Region', 'task kind endpoint')
+Walk = namedtuple('Walk', 'roots current')
+Yes = namedtuple('Yes', 'order')
+No = namedtuple('No', 'place why task')
+Malformed = namedtuple('Malformed', 'place number name')
+
+
+# What a record says
+
+def read(data):
+    """The records of a readable trace file: what its lines after the header say; None is what they do not say."""
+    lines = [json.loads(line) for line in data.split(b'\n')[1:-1]]
+    return [SimpleNamespace(thread=line['thread'], seq=line['seq'], seen=line['seen'],
+                            **{**dict.fromkeys(RECORDS_SAY), **said_by(line)}) for line in lines]
+
+
+def said_by(line):
+    """The module Records: what its definitions give of a record, where they apply."""
+    task, flags = line.get('task'), line.get('flags')
+    match line['cb']:
+        case 'parallel_begin':
+            return {'forked': (task, line['parallel']), 'running': task, 'named': {task}}
+        case 'parallel_end':
+            return {'region_named': line['parallel'], 'running': task, 'named': {task}}
+        case 'implicit_task' if line['endpoint'] == 'end':
+            return {'ended_root': task, 'running': task, 'named': {task}}
+        case 'implicit_task' if 'initial' in flags:
+            return {'begun_root': task, 'begun_initial': task, 'made': task, 'flags': flags, 'named': {task}}
+        case 'implicit_task':
+            member = Membership(line['parallel'], line['actual'], line['index'], task)
+            return {'begun_root': task, 'joined': member, 'region_named': line['parallel'], 'made': task,
+                    'flags': flags, 'named': {task}}
+        case 'task_create':
+            child = line['child']
+            return {'creation': (task, child), 'created': child, 'created_with_deps': child if line['deps'] else None,
+                    'made': child, 'flags': flags, 'running': task, 'named': {task, child}}
+        case 'dependences':
+            return {'dependences': (task, line['list']), 'named': {task}}
+        case 'task_schedule':
+            return said_by_schedule(line)
+        case 'sync_region':
+            return {'region': Region(task, line['kind'], line['endpoint']), 'running': task, 'named': {task}}
+        case 'cancel' if 'discarded_task' in flags:
+            return {'discarded': task, 'finish': (task, 'Whole'), 'claim': claim_of(line),
+                    'named': {task, line['root']}}
+        case 'cancel':
+            return {'running': task, 'named': {task}}
+    return {'named': set()}
+
+
+def said_by_schedule(line):
+    """The module Records, of a task_schedule."""
+    status, prior = line['status'], line['prior']
+    says = {'schedule': (status, prior), 'named': {prior}}
+    if status in DEMANDS_NEXT:
+        says |= {'started': line['next'], 'running': prior, 'named': {prior, line['next']}}
+    if status in ('early_fulfill', 'late_fulfill'):
+        says |= {'fulfilled': prior}
+    if status == 'taskwait_complete':
+        says |= {'wait_completed': prior}
+    if status in STATUS_PART:
+        says |= {'finish': (prior, STATUS_PART[status]), 'claim': claim_of(line),
+                 'named': says['named'] | {line['root']}}
+    return says
+
+
+def claim_of(line):
+    """claim: what a finishing record claims of the place of its task."""
+    return Claim(line['root'], line['path'], line['kept'])
+
+
+def kind_ended(record):
+    """ends_wait, without the kinds: the kind of the region that ends, where one does, also at once."""
+    return record.region.kind if record.region and record.region.endpoint != 'begin' else None
+
+
+def known_after(record):
+    """known_after: the ledger length that is known after the record."""
+    return record.seen + 1 if record.finish else record.seen
+
+
+# Places, and who created whom
+
+def places(records):
+    """places: all places, in file order."""
+    return range(len(records))
+
+
+def said(name, records):
+    """at, for all places: what the records say by the definition of this name."""
+    return {getattr(record, name) for record in records} - {None}
+
+
+def is_root(records, task):
+    """IsRoot: an initial or implicit task, which some record begins."""
+    return task in said('begun_root', records)
+
+
+def is_explicit(records, task):
+    """IsExplicit: a task that another task created."""
+    return task in said('created', records)
+
+
+def own_before(records, task, i):
+    """own_before: the places of the task's own records that are earlier than i, in order."""
+    return [k for k in places(records)[:i] if records[k].running == task]
+
+
+def children_between(records, parent, begin, i):
+    """children_between: the children that the task created between the places begin and i, in order."""
+    return [records[k].created for k in own_before(records, parent, i) if k > begin and records[k].creation]
+
+
+def children_before(records, parent, i):
+    """children_before: the children that the task created before the place i, in order."""
+    return children_between(records, parent, -1, i)
+
+
+def children(records, parent):
+    """children: all children of the task, in order."""
+    return children_before(records, parent, len(records))
+
+
+def families(records, tasks):
+    """IsFamily, for several tasks: these and all of their descendants."""
+    found, grown = set(), set(tasks)
+    while grown:
+        found |= grown
+        grown = {child for parent, child in said('creation', records) if parent in grown} - found
+    return found
+
+
+def parent_of(records, task):
+    """IsCreatedAt: the parent of an explicit task."""
+    return next(parent for parent, child in said('creation', records) if child == task)
+
+
+def path_of(records, task):
+    """HasPath: the root that the task stands below, and its path there."""
+    path = []
+    while not is_root(records, task):
+        parent = parent_of(records, task)
+        path.insert(0, children(records, parent).index(task))
+        task = parent
+    return task, path
+
+
+# Which task a thread runs
+
+def innermost(walk):
+    """Walk: the innermost open root, where there is one."""
+    return walk.roots[0] if walk.roots else None
+
+
+def after_body(walk, record):
+    """after_body: where the thread stands after the record."""
+    if record.begun_root is not None:
+        return Walk([record.begun_root, *walk.roots], record.begun_root)
+    if record.ended_root is not None:
+        below = walk.roots[1:]
+        return Walk(below, below[0] if below else None)
+    return Walk(walk.roots, record.started) if record.started is not None else walk
+
+
+def walks(records):
+    """walk_of, for each place: where the thread of the record there stands before it."""
+    before, stands = [], {}
+    for record in records:
+        before.append(stands.get(record.thread, Walk([], None)))
+        stands[record.thread] = after_body(before[-1], record)
+    return before
+
+
+def misfits(records, walk, record):
+    """Misfits: by the rules not_running, not_innermost, other_root and other_parent."""
+    return (record.running not in (None, walk.current)
+            or record.ended_root not in (None, innermost(walk))
+            or is_root(records, record.started) and record.started != innermost(walk)
+            or is_explicit(records, record.wait_completed)
+            and parent_of(records, record.wait_completed) != walk.current)
+
+
+# Regions and teams
+
+def open_regions(records, task, i):
+    """open_regions: the begins of the task's regions that are open before i, the innermost first."""
+    opened = []
+    for k in own_before(records, task, i):
+        endpoint = records[k].region and records[k].region.endpoint
+        if endpoint == 'begin':
+            opened = [k, *opened]
+        elif endpoint == 'end':
+            opened = opened[1:]
+    return opened
+
+
+def begin_of(records, i):
+    """IsRegion: the place at which the region that ends at i began, or None where EndsNoRegion holds."""
+    task, kind, endpoint = records[i].region
+    if endpoint == 'beginend':
+        return i
+    opened = open_regions(records, task, i)
+    return opened[0] if opened and records[opened[0]].region.kind == kind else None
+
+
+def barrier_begins(records, task):
+    """barrier_begins: the places at which the task begins its barriers, in order, whether or not they end there."""
+    regions = [(k, records[k].region) for k in own_before(records, task, len(records)) if records[k].region]
+    return [k for k, region in regions if region.kind in BARRIERS and region.endpoint != 'end']
+
+
+def members(records, parallel):
+    """members: the members of the team of the parallel region, in file order."""
+    return [record.joined for record in records if record.joined and record.joined.parallel == parallel]
+
+
+def teammates(records, task):
+    """IsTeammate: an initial task is a team of one; the members of one parallel region are in one team."""
+    alone = {task} & said('begun_initial', records)
+    together = [members(records, member.parallel) for member in said('joined', records) if member.member == task]
+    return alone | {member.member for team in together for member in team}
+
+
+# The states of a task
+
+def moves_by(task, record):
+    """moves_by: the moves of the task by the record, as the prior task before as the next one."""
+    status, prior = record.schedule or (None, None)
+    moves = [('Stopped', status, status is not None and prior == task), ('Started', None, record.started == task),
+             ('Discarded', None, record.discarded == task)]
+    return [(what, status) for what, status, happens in moves if happens]
+
+
+def home_of(records, task):
+    """home_of: the thread on which a root begins, or on which an explicit task first runs, or None."""
+    begins = 'begun_root' if is_root(records, task) else 'started'
+    return next((record.thread for record in records if getattr(record, begins) == task), None)
+
+
+def moves_of(records, task):
+    """moves_of: the task's moves, each with its place: early ones elsewhere, those at home, all others."""
+    home = home_of(records, task)
+    moves = [(i, move) for i in places(records) for move in moves_by(task, records[i])]
+    at_home = [(i, move) for i, move in moves if records[i].thread == home]
+    early = [(i, move) for i, move in moves if records[i].thread != home and move == ('Stopped', 'early_fulfill')]
+    return early + at_home + [it for it in moves if it not in early + at_home]
+
+
+def nature_of(records, task):
+    """nature_of: whether the task is a root, a taskwait with dependences, or any other."""
+    if is_root(records, task):
+        return 'root'
+    return 'taskwait' if any(record.created == task and 'taskwait' in record.flags for record in records) else 'any'
+
+
+def may(nature, what, status):
+    """may: a root yields, switches and runs next alone; taskwait_complete is for taskwaits, which take no other."""
+    if nature == 'root':
+        return what == 'Started' or status in ('yield', 'switch')
+    return (nature == 'taskwait') == (status == 'taskwait_complete')
+
+
+def state_after(state, what, status):
+    """next_state_of, start_state_of, discard_state_of: the state after the move, or None where it is not allowed."""
+    if what == 'Stopped':
+        return NEXT_STATE[state].get(status)
+    return (START_STATE if what == 'Started' else DISCARD_STATE).get(state)
+
+
+# What happens before what, and orders
+
+def starts(records):
+    """IsStart: for each task that runs next, the first place after which it runs."""
+    return {records[i].started: i for i in reversed(places(records)) if records[i].started is not None}
+
+
+def program_steps(records):
+    """IsProgramStep: the pairs of places a, b where a comes before b by a step that the program takes."""
+    thread_order = {(a, b) for b in places(records) for a in places(records)[:b]
+                    if records[a].thread == records[b].thread}
+    creations = [(a, records[a].created) for a in places(records) if records[a].creation]
+    starts_of = starts(records)
+    return thread_order | {(a, b) for a, task in creations for b in places(records)
+                           if starts_of.get(task) == b or task in (records[b].discarded, records[b].fulfilled)}
+
+
+def happens_before(records):
+    """HappensBefore: for each place b the set of places from which steps lead to b (IsStep, and its chains)."""
+    ledger = {(a, b) for a in places(records) if records[a].finish
+              for b in places(records) if records[a].seen < records[b].seen}
+    before = [set() for _ in records]
+    for a, b in program_steps(records) | ledger:
+        before[b].add(a)
+    for middle in places(records):
+        for b in places(records):
+            if middle in before[b]:
+                before[b] |= before[middle]
+    return before
+
+
+def greedy(before):
+    """IsGreedy: the order in which each record is the first in file order that may stand next, as far as it gets."""
+    order, missing = [], list(places(before))
+    while True:
+        ready = next((i for i in missing if before[i].isdisjoint(missing)), None)
+        if ready is None:
+            return order
+        order.append(ready)
+        missing.remove(ready)
+
+
+# What must be complete, and what is
+
+def covered(records, i):
+    """Covers: the tasks that the end at i covers."""
+    kind = kind_ended(records[i])
+    if kind not in WAITS_FOR_TASKS:
+        return set()
+    task, begin = records[i].region.task, begin_of(records, i)
+    if kind == 'taskwait':
+        return set(children_before(records, task, begin))
+    if kind == 'taskgroup':
+        return families(records, children_between(records, task, begin, i))
+    number = barrier_begins(records, task).index(begin)
+    return families(records, [child for other in teammates(records, task)
+                              for child in children_before(records, other, barrier_begins(records, other)[number])])
+
+
+def depends_on(records, task):
+    """DependsOn: the dependences in the lists of the task."""
+    lists = [record.dependences for record in records if record.dependences]
+    return [dep for listed, deps in lists if listed == task for dep in deps]
+
+
+def conflict(dep, other):
+    """conflict, at the same location: unless both are in, both inoutset or both mutexinoutset."""
+    alike = dep['type'] == other['type'] and dep['type'] in ('in', 'inoutset', 'mutexinoutset')
+    return dep['var'] == other['var'] and not alike
+
+
+def predecessors(records, task):
+    """IsPredecessor: the siblings with smaller numbers that have a dependence in conflict with one of the task's."""
+    siblings = children(records, parent_of(records, task))
+    return {sibling for sibling in siblings[:siblings.index(task)]
+            if any(conflict(dep, other) for dep in depends_on(records, sibling) for other in depends_on(records, task))}
+
+
+def starts_task(records, i):
+    """StartsTask: the explicit task that the record at i starts, for the first time in file order, or None."""
+    task = records[i].started
+    return task if is_explicit(records, task) and starts(records)[task] == i else None
+
+
+def dependent_at(records, i):
+    """dependent_at: the explicit task that starts at i, or the taskwait with dependences that is complete there."""
+    return records[i].wait_completed if records[i].wait_completed is not None else starts_task(records, i)
+
+
+def required(records, i):
+    """IsRequired: the tasks that must be complete at i."""
+    task = dependent_at(records, i)
+    return covered(records, i) | (predecessors(records, task) if task is not None else set())
+
+
+def is_finished(records, counts, task):
+    """IsFinished: of the records that count, one finishes the task whole, or one its body and one its event."""
+    parts = {part for finished, part in said('finish', [records[k] for k in counts]) if finished == task}
+    return 'Whole' in parts or {'Body', 'Event'} <= parts
+
+
+def incomplete(records, i, earlier):
+    """The tasks required at i and not complete there, if the earlier places count, and i where it starts a task."""
+    counts = earlier if starts_task(records, i) is None else earlier | {i}
+    return {task for task in required(records, i) if not is_finished(records, counts, task)}
+
+
+def unfinished(records, i):
+    """IsUnfinished: the tasks required at i and not complete by what the record there has seen (IsCompleteAt)."""
+    return incomplete(records, i, {k for k in places(records) if records[k].seen < records[i].seen})
+
+
+# The causes of malformed. Each gives the places of the records that have it, if no cause above it occurs.
+
+def seq_gap(records):
+    """HasSeqGap: its seq is not the number of earlier records of its thread."""
+    threads = [record.thread for record in records]
+    return {i for i in places(records) if records[i].seq != threads[:i].count(threads[i])}
+
+
+def created_twice(records):
+    """IsMadeAgain, IsForkedAgain: an earlier record makes the same task, or begins the same parallel region."""
+    def forks(some):
+        return {parallel for _, parallel in said('forked', some)}
+    return {i for i in places(records) if records[i].made in said('made', records[:i])
+            or forks([records[i]]) & forks(records[:i])}
+
+
+def rootless(records):
+    """HasNoRoot: by the rules unmade, unrooted and no_region."""
+    made, rooted = said('made', records), families(records, said('begun_root', records))
+    regions = {parallel for _, parallel in said('forked', records)}
+    return {i for i in places(records) if not records[i].named <= made
+            or not {records[i].created} <= rooted | {None}
+            or not {records[i].region_named} <= regions | {None}}
+
+
+def not_current(records):
+    """IsNotCurrent: it is the first record of its thread that speaks for a task which the thread does not run."""
+    first = {}
+    for i, walk in enumerate(walks(records)):
+        if misfits(records, walk, records[i]):
+            first.setdefault(records[i].thread, i)
+    return set(first.values())
+
+
+def moved(records):
+    """IsMoved: an explicit task runs next that ran next earlier in file order on another thread."""
+    return {b for b in places(records) if is_explicit(records, records[b].started) for a in places(records)[:b]
+            if records[a].started == records[b].started and records[a].thread != records[b].thread}
+
+
+def status_order(records):
+    """HasNoState: of a task's moves it makes the first that the task's state does not allow."""
+    found = set()
+    for task in said('made', records):
+        nature = nature_of(records, task)
+        state = 'Running' if nature == 'root' else 'Created'
+        for i, move in moves_of(records, task):
+            state = state_after(state, *move) if may(nature, *move) else None
+            if state is None:
+                found.add(i)
+                break
+    return found
+
+
+def region_order(records):
+    """HasNoBegin, HasBarrier: a region ends that is not open, or an explicit task begins or ends a barrier."""
+    at = [i for i in places(records) if records[i].region]
+    return {i for i in at if kind_ended(records[i]) and begin_of(records, i) is None
+            or records[i].region.kind in CALLED_BARRIERS and is_explicit(records, records[i].region.task)}
+
+
+def lacks_members(records, i):
+    """IsShort, by the rules outside, same_index, other_size and few: of the member that begins at i."""
+    parallel, actual, index, _ = records[i].joined
+    earlier = members(records[:i], parallel)
+    return (index >= actual or any(member.index == index or member.actual != actual for member in earlier)
+            or len(members(records, parallel)) < actual)
+
+
+def lacks_barriers(records, i):
+    """IsShort, by the rule missed: of the barrier that ends at i."""
+    task = records[i].region.task
+    number = barrier_begins(records, task).index(begin_of(records, i))
+    return any(len(barrier_begins(records, other)) <= number for other in teammates(records, task))
+
+
+def team_short(records):
+    """IsShort: a team or one of its barriers lacks a member."""
+    return {i for i in places(records) if records[i].joined and lacks_members(records, i)
+            or kind_ended(records[i]) in BARRIERS and lacks_barriers(records, i)}
+
+
+def nested_parallel(records):
+    """IsNested: by the rules forked_inside, joined_inside and initial_inside."""
+    initial = said('begun_initial', records)
+    in_teams = {member.member for member in said('joined', records)}
+    return {i for i, walk in enumerate(walks(records)) if records[i].forked and records[i].running not in initial
+            or records[i].joined and innermost(walk) in in_teams
+            or records[i].begun_initial is not None and walk.roots}
+
+
+def deps_place(records):
+    """HasMisplacedDeps: by the rules stray and missing, where AreFollowed pairs a creation with its list."""
+    creations = {a for a in places(records) if records[a].created_with_deps is not None}
+    lists = {b for b in places(records) if records[b].dependences}
+    followed = set()
+    for a in creations:
+        b = next((b for b in places(records)[a + 1:] if records[b].thread == records[a].thread), None)
+        if b in lists and records[b].dependences[0] == records[a].created:
+            followed |= {a, b}
+    return (creations | lists) - followed
+
+
+def share_wrong(records):
+    """HasWrongShare: a task is finished with a claim that is not right (IsRightClaim)."""
+    finishing = [(i, records[i].finish[0]) for i in places(records) if records[i].finish]
+    return {i for i, task in finishing
+            if records[i].claim != Claim(*path_of(records, task), len(children(records, task)))}
+
+
+def entry_twice(records):
+    """RepeatsEntry: an earlier finishing record in file order names the same entry."""
+    finishing = [i for i in places(records) if records[i].finish]
+    return {i for i in finishing for k in finishing if k < i and records[k].seen == records[i].seen}
+
+
+def entries_in(records):
+    """entries_in: how long the ledger gets, the number of finishing records."""
+    return len([record for record in records if record.finish])
+
+
+def length_ahead(records):
+    """IsAhead: it names more of the ledger than there ever is, as an entry or as a length."""
+    return {i for i in places(records) if known_after(records[i]) > entries_in(records)}
+
+
+def length_back(records):
+    """IsBehind: its ledger length is less than one known at a program step before."""
+    return {b for a, b in program_steps(records) if records[b].seen < known_after(records[a])}
+
+
+def no_order(records):
+    """HasNoOrder, as the law no_order_is_a_circle says it: it happens before itself, or after a record that does."""
+    before = happens_before(records)
+    circle = {i for i in places(records) if i in before[i]}
+    return {i for i in places(records) if before[i] & circle}
+
+
+def target_task(records):
+    """MakesTarget: a task is made that has the flag target."""
+    return {i for i in places(records) if records[i].made is not None and 'target' in records[i].flags}
+
+
+ALL_CAUSES = {
+    'SeqGap': seq_gap, 'CreatedTwice': created_twice, 'Rootless': rootless, 'NotCurrent': not_current, 'Moved': moved,
+    'StatusOrder': status_order, 'RegionOrder': region_order, 'TeamShort': team_short,
+    'NestedParallel': nested_parallel, 'DepsPlace': deps_place, 'ShareWrong': share_wrong, 'EntryTwice': entry_twice,
+    'LengthAhead': length_ahead, 'LengthBack': length_back, 'NoOrder': no_order, 'TargetTask': target_task}
+
+
+# The verdict and its report
+
+def verdict(records):
+    """IsVerdict: Malformed with the least cause that occurs, else No at the first unfinished record, else Yes."""
+    for number, (name, places_with) in enumerate(ALL_CAUSES.items(), 1):
+        found = places_with(records)
+        if found:
+            return Malformed(min(found), number, name)
+    for i in places(records):
+        left = unfinished(records, i)
+        if left:
+            why = 'Unfinished' if covered(records, i) else 'Predecessor'
+            return No(i, why, next(record.created for record in records if record.created in left))
+    return Yes(approved_order(records))
+
+
+def approved_order(records):
+    """IsApproved: the greedy order, after a check that it is a linearization and that IsAlwaysComplete holds."""
+    before = happens_before(records)
+    order = greedy(before)
+    assert sorted(order) == list(places(records))
+    assert all(before[i] <= set(order[:at]) for at, i in enumerate(order))
+    assert not any(incomplete(records, i, before[i]) for i in places(records))
+    return order
+
+
+def report(records):
+    """report_of and outcome_status: the line of the answer, without its line feed, and the exit status."""
+    found = verdict(records)
+    if isinstance(found, Yes):
+        tasks = len([record for record in records if record.creation])
+        waits = len([record for record in records if kind_ended(record) in WAITS_FOR_TASKS])
+        return f'yes: {len(records)} records, {entries_in(records)} entries, {tasks} tasks, {waits} waits', 0
+    record = records[found.place]
+    where = f'line {found.place + 2}, thread {record.thread}, seq {record.seq}'
+    if isinstance(found, Malformed):
+        return f'malformed: {where}: cause {found.number} {found.name}', 2
+    if found.why == 'Unfinished':
+        return f'no: {where}: task {found.task} unfinished', 1
+    return f'no: {where}: task {found.task} must precede task {dependent_at(records, found.place)}', 1
+
+
+def main():
+    """Prints the answer and gives the exit status."""
+    text, status = report(read(sys.stdin.buffer.read()))
+    print(text)
+    return status
+
+
+if __name__ == '__main__':
+    sys.exit(main())

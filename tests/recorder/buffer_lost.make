@@ -1,0 +1,8 @@
+from changed import show
+
+
+def change(records):
+    return [it for it in records if it['thread'] != 2]
+
+
+show(change)

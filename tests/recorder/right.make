@@ -1,0 +1,3 @@
+from changed import show
+
+show()
