@@ -1,0 +1,287 @@
+"""Random runs of OpenMP programs as a right tool records them, and the same with one thing changed; for tests/compare.
+
+A run keeps what its tasks and threads do, and takes random steps that a runtime may take. A hasty one takes one step
+too early: a wait ends, or a dependent task starts, before it may. The recorder is that of examples/recorder.py."""
+import itertools
+import os
+import sys
+
+HERE = os.path.dirname(os.path.abspath(__file__))
+sys.path.insert(0, os.path.join(HERE, '../examples'))
+from model import BARRIERS, conflict
+from recorder import Ledger, Recorder, Task
+
+WAITING = sorted(BARRIERS | {'taskwait'})
+DEP_KINDS = ('in', 'out', 'inout', 'mutexinoutset', 'inoutset')
+MOST_TASKS = 12
+
+
+class Job(Task):
+    """A task of the run: what a tool keeps of it, and how far it is."""
+
+    def __init__(self, parent=None):
+        super().__init__(parent)
+        self.parent, self.children, self.items, self.regions, self.barriers = parent, [], [], [], 0
+        self.stands, self.is_done, self.event = 'created', False, None
+        self.is_taskwait = self.is_initial = False
+        self.thread = self.context = None
+        if parent:
+            parent.children.append(self)
+
+    def family(self):
+        """The task and all that descends from it."""
+        return [self, *(other for child in self.children for other in child.family())]
+
+    def predecessors(self):
+        before = self.parent.children[:self.parent.children.index(self)]
+        return [it for it in before if any(conflict(one, other) for one in it.items for other in self.items)]
+
+    def is_ready(self):
+        return all(it.is_done for it in self.predecessors())
+
+    def awaits(self):
+        """The taskwait with dependences at which the task stands, if any."""
+        return next((it for it in self.children if it.is_taskwait and not it.is_done), None)
+
+
+class Region:
+    """An open region of a task; a barrier knows its team, and its number in each member."""
+
+    def __init__(self, kind, job):
+        self.kind, self.job, self.children = kind, job, len(job.children)
+        self.number = job.barriers if kind in BARRIERS else None
+        if kind in BARRIERS:
+            job.barriers += 1
+            job.team.arrived.setdefault(self.number, {})[job.id] = list(job.children)
+
+    def has_met(self):
+        """Whether all who must begin the barrier did."""
+        return self.number is None or len(self.job.team.arrived[self.number]) == self.job.team.size
+
+    def may_end(self):
+        """Whether all that the end waits for is complete."""
+        if self.kind == 'taskwait':
+            return all(it.is_done for it in self.job.children[:self.children])
+        if self.kind == 'taskgroup':
+            return all(it.is_done for child in self.job.children[self.children:] for it in child.family())
+        if self.kind in BARRIERS:
+            arrived = self.job.team.arrived[self.number].values()
+            return self.has_met() and all(it.is_done for made in arrived for child in made for it in child.family())
+        return True
+
+
+class Team:
+    """A team, and for each number of a barrier who is there, with the children that it had made then."""
+
+    def __init__(self, size):
+        self.size, self.arrived = size, {}
+
+
+class Thread(Recorder):
+    """A thread of the run: its records, its open roots and the task that it runs."""
+
+    def __init__(self, number, run):
+        super().__init__(number, True)
+        self.run, self.ledger = run, run.ledger
+        self.roots, self.current, self.forks = [], None, []
+
+    def record(self, cb, **members):
+        super().record(cb, **members)
+        self.run.records.append(self.records[-1])
+
+    def begin(self, root, flag, *place):
+        self.implicit_task('begin', root, flag, *place)
+        self.roots.append(root)
+        self.current = root
+        root.stands, root.thread, root.place = 'running', self, (flag, *place)
+
+    def end(self):
+        root = self.roots.pop()
+        self.implicit_task('end', root, *root.place)
+        self.current = self.roots[-1] if self.roots else None
+
+    def run_next(self, status, job):
+        """The current task stops with this status, and the job runs."""
+        prior = self.current
+        self.task_schedule(prior, status, job)
+        self.current, job.stands, job.thread, job.context = job, 'running', self, self.roots[-1]
+        if status in ('switch', 'yield'):
+            prior.stands = 'suspended'
+
+    def discard(self, job):
+        self.known = self.ledger.append()
+        self.record('cancel', task=job.id, flags=['taskgroup', 'discarded_task'], root=job.root.id, path=job.path,
+                    kept=job.kept)
+        self.known += 1
+
+
+class Run:
+    """A run, and its records in the order of time. `haste` is there while a hasty step may be taken."""
+
+    def __init__(self, chance, is_hasty):
+        Task.ids = itertools.count(1)
+        self.chance, self.haste, self.was_hasty = chance, False, False
+        self.ledger, self.records, self.jobs, self.regions = Ledger(), [], [], itertools.count(100)
+        self.threads = [Thread(it, self) for it in range(chance.randint(1, 4))]
+        for thread in self.threads:
+            if chance.random() < 0.3:
+                thread.record('thread_begin', kind=chance.choice(['initial', 'worker', 'other', 'unknown']))
+        steps = chance.randint(0, chance.choice([20, 60, 120]))
+        hasty_from = chance.randint(0, steps) if is_hasty else None
+        for number in range(steps):
+            self.haste |= number == hasty_from
+            self.step(chance.choice(self.threads))
+
+    def step(self, thread):
+        """One random step of a thread, as often as not one that ends something."""
+        ends, others = self.ends(thread), self.others(thread)
+        steps = ends if ends and self.chance.random() < 0.5 else ends + others
+        hasty = [(action, is_due) for action, is_due in steps if not is_due]
+        if steps:
+            action, is_due = self.chance.choice(hasty or steps)
+            self.was_hasty |= not is_due
+            self.haste &= is_due
+            action()
+
+    def allowed(self, *steps):
+        """Those of the steps (what is done, and whether it may be done now) that may be taken."""
+        return [(action, is_due) for action, is_due in steps if is_due or self.haste]
+
+    # What a thread may do
+
+    def ends(self, thread):
+        """The steps by which something ends: a region, a taskwait with dependences, a task's body or event, a root."""
+        steps, job = self.fulfilments(thread), thread.current
+        if job is None:
+            return self.allowed(*steps)
+        awaited = job.awaits()
+        if awaited:
+            steps.append((lambda: self.complete_taskwait(thread, awaited), awaited.is_ready()))
+        elif job.regions:
+            steps += [(lambda: self.end_region(thread), it.may_end()) for it in job.regions[-1:] if it.has_met()]
+        elif job not in thread.roots:
+            steps += self.endings_of_body(thread)
+        elif thread.forks and job.is_initial:
+            steps.append((lambda: thread.record('parallel_end', parallel=thread.forks.pop(), task=job.id), True))
+        elif not any(it.stands == 'suspended' and it.context is job for it in self.jobs):
+            steps.append((thread.end, True))
+        return self.allowed(*steps)
+
+    def fulfilments(self, thread):
+        """The events that may be fulfilled, and the tasks that may be discarded; any thread does that."""
+        due = [it for it in self.jobs if it.event == 'due' and not it.is_done]
+        unborn = [it for it in self.jobs if it.stands == 'created' and not it.is_taskwait and it.event != 'fulfilled']
+        steps = [(lambda job=job: self.fulfil(thread, job), True) for job in due]
+        discards = [(lambda job=job: self.discard(thread, job), True) for job in unborn]
+        return steps + self.chance.sample(discards, min(1, len(discards)))
+
+    def endings_of_body(self, thread):
+        """The ways in which the current task may end, each with a task that runs next."""
+        job = thread.current
+        status = 'detach' if job.event == 'due' else 'complete'
+        statuses = [status] if job.event else [status, status, 'cancel']
+        return [(lambda after=after, it=it: self.end_body(thread, it, after), True) for it in statuses
+                for after in self.runnable(thread)]
+
+    def others(self, thread):
+        """All other steps: something begins or is made, or another task runs."""
+        job = thread.current
+        if job is None:
+            return self.allowed((lambda: self.begin_initial(thread), True))
+        steps = [(lambda it=it: thread.run_next(self.chance.choice(['switch', 'yield']), it), True)
+                 for it in self.runnable(thread)]
+        steps += [(lambda it=it: thread.run_next('switch', it), False) for it in self.waiting()] if self.haste else []
+        if job.awaits() or job.regions and job.regions[-1].kind in WAITING:
+            return self.allowed(*steps)
+        if len(self.jobs) < MOST_TASKS:
+            steps += [(lambda: self.create(thread), True)] * 3 + [(lambda: self.create(thread, 'taskwait'), True)]
+        steps += [(lambda: self.begin_region(thread), True)] * 2 + [(lambda: self.pass_region(thread), True)]
+        steps.append((lambda: thread.record('cancel', task=job.id, flags=['taskgroup', 'activated']), True))
+        if job.is_initial and not thread.forks and not job.regions:
+            steps.append((lambda: self.fork(thread), True))
+        return self.allowed(*steps)
+
+    def runnable(self, thread):
+        """The tasks that may run next on the thread: its innermost root, those it suspended there, and new ones."""
+        root = thread.roots[-1]
+        roots = [root] if root is not thread.current else []
+        return roots + [it for it in self.jobs if it is not thread.current and not it.is_taskwait and (
+            it.stands == 'suspended' and it.context is root and it.thread is thread
+            or it.stands == 'created' and it.is_ready())]
+
+    def waiting(self):
+        """The tasks that may not start yet, since a predecessor is not complete."""
+        return [it for it in self.jobs if it.stands == 'created' and not it.is_taskwait and not it.is_ready()]
+
+    # What happens then
+
+    def begin_initial(self, thread):
+        root = Job()
+        root.is_initial, root.team = True, Team(1)
+        thread.begin(root, 'initial')
+
+    def fork(self, thread):
+        idle = [it for it in self.threads if not it.roots]
+        threads = [thread, *self.chance.sample(idle, self.chance.randint(0, len(idle)))]
+        parallel, team = next(self.regions), Team(len(threads))
+        thread.record('parallel_begin', task=thread.current.id, parallel=parallel, requested=self.chance.randint(0, 5))
+        thread.forks.append(parallel)
+        self.chance.shuffle(threads)
+        for index, it in enumerate(threads):
+            member = Job()
+            member.team = team
+            it.begin(member, 'implicit', parallel, len(threads), index)
+
+    def create(self, thread, *flags):
+        job = Job(thread.current)
+        with_items = flags or self.chance.random() < 0.5
+        job.items = [{'type': self.chance.choice(DEP_KINDS), 'var': self.chance.randint(7, 9)}
+                     for _ in range(self.chance.randint(1, 3) if with_items else 0)]
+        job.is_taskwait = 'taskwait' in flags
+        job.event = 'due' if not flags and self.chance.random() < 0.3 else None
+        self.jobs.append(job)
+        thread.record('task_create', task=job.parent.id, child=job.id, deps=bool(with_items),
+                      flags=['explicit', *flags, *self.chance.sample(['untied', 'final', 'undeferred'], 1)])
+        if with_items:
+            thread.record('dependences', task=job.id, list=job.items)
+
+    def kind_of_region(self, job):
+        kinds = ['taskwait', 'taskwait', 'taskgroup', 'taskgroup', 'reduction']
+        return self.chance.choice(kinds if job.parent else kinds + [*WAITING, 'barrier_implementation'])
+
+    def begin_region(self, thread):
+        job = thread.current
+        region = Region(self.kind_of_region(job), job)
+        job.regions.append(region)
+        thread.sync_region(region.kind, 'begin', job)
+
+    def pass_region(self, thread):
+        """A region that begins and ends at once; where it must wait first, a usual one begins."""
+        job = thread.current
+        region = Region(self.kind_of_region(job), job)
+        at_once = region.may_end()
+        if not at_once:
+            job.regions.append(region)
+        thread.sync_region(region.kind, 'beginend' if at_once else 'begin', job)
+
+    def end_region(self, thread):
+        region = thread.current.regions.pop()
+        thread.sync_region(region.kind, 'end', thread.current)
+
+    def complete_taskwait(self, thread, job):
+        thread.task_schedule(job, 'taskwait_complete')
+        job.stands, job.is_done = 'ended', True
+
+    def end_body(self, thread, status, after):
+        job = thread.current
+        thread.run_next(status, after)
+        job.stands, job.is_done = 'ended', status != 'detach'
+
+    def fulfil(self, thread, job):
+        is_late = job.stands == 'ended'
+        thread.task_schedule(job, 'late_fulfill' if is_late else 'early_fulfill')
+        job.event, job.is_done = 'fulfilled', is_late
+
+    def discard(self, thread, job):
+        thread.discard(job)
+        job.stands, job.is_done = 'ended', True
