@@ -1,0 +1,433 @@
+/* An OMPT tool that records a run of an OpenMP program as a trace file of taskaudit. Each callback becomes a record in
+   a buffer of its thread; the file is written at the end. taskaudit-run starts programs with it. */
+#define _GNU_SOURCE
+#include "recorder.h"
+
+#include <omp-tools.h>
+#include <pthread.h>
+#include <signal.h>
+#include <stdlib.h>
+#include <string.h>
+#include <sys/mman.h>
+#include <time.h>
+#include <unistd.h>
+
+/* So much memory is taken at once for a thread: first little, since it may have few records, then two of the processor's
+   large pages. */
+enum { FIRST_PIECE = 256 << 10, PIECE = 4 << 20 };
+/* Types that older headers lack. */
+enum { INOUTSET = 7, OUT_ALL_MEMORY = 34, INOUT_ALL_MEMORY = 35, PARALLEL_LEAGUE = 0x40000000 };
+
+struct thread *threads[MAX_THREADS];
+_Atomic int thread_count;
+_Atomic uint32_t region_count;
+_Atomic uint64_t notes[NOTES];
+const void *_Atomic first_code[NOTES];
+
+/* The ledger of finished tasks, of which a recorder needs the length alone. It has a cache line of its own. */
+static _Alignas(64) _Atomic uint32_t ledger;
+/* Whether recording is over: a limit is reached, or the file is being written. */
+static _Alignas(64) _Atomic bool is_over;
+static _Atomic uint32_t block_count, task_block_count;
+static __thread struct thread *own __attribute__((tls_model("initial-exec")));
+
+static void note(enum note what, const void *code) {
+    if (atomic_fetch_add_explicit(&notes[what], 1, memory_order_relaxed) == 0) atomic_store(&first_code[what], code);
+}
+
+/* Ends recording, and not the program. */
+static void stop(enum note why, const void *code) {
+    if (!atomic_exchange(&is_over, true)) note(why, code);
+}
+
+/* Lets this thread write the file also where its own stack is full. */
+static void set_signal_stack(void) {
+    stack_t was, ours = {.ss_size = 1 << 16};
+    if (sigaltstack(NULL, &was) != 0 || !(was.ss_flags & SS_DISABLE)) return;
+    if ((ours.ss_sp = malloc(ours.ss_size))) sigaltstack(&ours, NULL);
+}
+
+/* Returns this thread, which is made at its first callback of any kind: a thread that is not the runtime's may fulfil
+   an event. NULL where recording is over. */
+static struct thread *this_thread(void) {
+    if (atomic_load_explicit(&is_over, memory_order_relaxed)) return NULL;
+    if (own) return own;
+    int number = atomic_fetch_add(&thread_count, 1);
+    struct thread *made = number < MAX_THREADS ? calloc(1, sizeof *made) : NULL;
+    if (!made) {
+        stop(number < MAX_THREADS ? NO_MEMORY : MANY_THREADS, NULL);
+        return NULL;
+    }
+    set_signal_stack();
+    made->number = number;
+    return threads[number] = own = made;
+}
+
+/* Returns zeroed memory that is never given back, or NULL. It is taken in large pieces, which cost few page faults. */
+static void *take(struct thread *thread, size_t bytes) {
+    bytes = (bytes + 15) / 16 * 16;
+    if (bytes > thread->memory_left) {
+        size_t size = thread->memory ? PIECE : FIRST_PIECE;
+        void *piece = mmap(NULL, size, PROT_READ | PROT_WRITE, MAP_PRIVATE | MAP_ANONYMOUS, -1, 0);
+        if (piece == MAP_FAILED) return NULL;
+        if (size == PIECE) madvise(piece, size, MADV_HUGEPAGE);
+        thread->memory = piece;
+        thread->memory_left = size;
+    }
+    void *taken = thread->memory;
+    thread->memory += bytes;
+    thread->memory_left -= bytes;
+    return taken;
+}
+
+/* Returns room for one more record, or NULL where a limit is reached. */
+static struct record *room(struct thread *thread) {
+    uint32_t count = atomic_load_explicit(&thread->count, memory_order_relaxed);
+    if (count == thread->capacity) {
+        bool is_full = atomic_fetch_add(&block_count, 1) >= MAX_RECORDS / RECORDS_OF_BLOCK;
+        struct block *made = is_full ? NULL : take(thread, sizeof *made);
+        if (!made) {
+            stop(is_full ? MANY_RECORDS : NO_MEMORY, NULL);
+            return NULL;
+        }
+        if (thread->last) thread->last->next = made;
+        else thread->first = made;
+        thread->last = made;
+        thread->capacity += RECORDS_OF_BLOCK;
+    }
+    return &thread->last->records[count % RECORDS_OF_BLOCK];
+}
+
+/* Adds a record. What comes before the count is written when the count is. */
+static bool keep(struct thread *thread, struct record record) {
+    struct record *at = room(thread);
+    if (!at) return false;
+    *at = record;
+    atomic_store_explicit(&thread->count, atomic_load_explicit(&thread->count, memory_order_relaxed) + 1,
+                          memory_order_release);
+    return true;
+}
+
+/* Adds a record that repeats what its thread last knew. */
+static bool keep_known(struct thread *thread, struct record record) {
+    record.seen = thread->known;
+    return keep(thread, record);
+}
+
+/* Adds a record that reads the ledger's length. */
+static void keep_reading(struct thread *thread, struct record record) {
+    record.seen = thread->known = atomic_load(&ledger);
+    keep(thread, record);
+}
+
+/* Adds a record that finishes a task: it appends an entry. Room comes first, so that no index is without a record. */
+static void keep_finishing(struct thread *thread, struct record record) {
+    if (!room(thread)) return;
+    record.seen = atomic_fetch_add(&ledger, 1);
+    record.size = record.task->children;
+    thread->known = record.seen + 1;
+    keep(thread, record);
+}
+
+static struct task *task_of(const ompt_data_t *data) {
+    return data ? data->ptr : NULL;
+}
+
+/* Returns a new task, or NULL where a limit is reached. */
+static struct task *new_task(struct thread *thread) {
+    if (thread->tasks_left == 0) {
+        bool is_full = atomic_fetch_add(&task_block_count, 1) >= MAX_TASKS / TASKS_OF_BLOCK;
+        thread->tasks = is_full ? NULL : take(thread, TASKS_OF_BLOCK * sizeof *thread->tasks);
+        if (!thread->tasks) {
+            stop(is_full ? MANY_TASKS : NO_MEMORY, NULL);
+            return NULL;
+        }
+        thread->tasks_left = TASKS_OF_BLOCK;
+    }
+    struct task *made = &thread->tasks[TASKS_OF_BLOCK - thread->tasks_left--];
+    made->root = made;
+    made->thread = -1;
+    return made;
+}
+
+/* The callbacks, in the order of OpenMP 5.2, 19.5.2 */
+
+static void on_thread_begin(ompt_thread_t kind, ompt_data_t *data) {
+    (void)data;
+    struct thread *thread = this_thread();
+    if (thread) keep_known(thread, (struct record){.callback = THREAD_BEGIN, .kind = kind});
+}
+
+static void on_thread_end(ompt_data_t *data) {
+    (void)data;
+    struct thread *thread = this_thread();
+    if (thread) keep_known(thread, (struct record){.callback = THREAD_END});
+}
+
+static void on_parallel_begin(ompt_data_t *encountering, const ompt_frame_t *frame, ompt_data_t *region,
+                              unsigned int requested, int flags, const void *code) {
+    (void)frame;
+    struct thread *thread = this_thread();
+    struct task *task = task_of(encountering);
+    if (!thread || !task) return;
+    if (flags & PARALLEL_LEAGUE) note(TEAMS, code);
+    region->value = atomic_fetch_add(&region_count, 1) + 1;
+    keep_known(thread, (struct record){.callback = PARALLEL_BEGIN, .task = task, .region = region->value,
+                                       .size = requested, .code = code});
+}
+
+static void on_parallel_end(ompt_data_t *region, ompt_data_t *encountering, int flags, const void *code) {
+    (void)flags;
+    struct thread *thread = this_thread();
+    struct task *task = task_of(encountering);
+    if (thread && task)
+        keep_known(thread, (struct record){.callback = PARALLEL_END, .task = task, .region = region->value,
+                                           .code = code});
+}
+
+static void begin_root(struct thread *thread, struct record record, ompt_data_t *data) {
+    struct task *root = record.task = new_task(thread);
+    if (!root) return;
+    data->ptr = root;
+    root->is_initial = record.flags & ompt_task_initial;
+    root->parent = thread->innermost;
+    root->thread = thread->number;
+    thread->innermost = thread->current = root;
+    keep_known(thread, record);
+}
+
+/* Ends the innermost root. exit() inside a task ends the initial task while another one runs: no record says that. */
+static void end_root(struct thread *thread, struct record record, struct task *root) {
+    if (!root || root != thread->innermost || root != thread->current) {
+        note(WRONG_END, NULL);
+        return;
+    }
+    record.task = root;
+    thread->innermost = thread->current = root->parent;
+    keep_known(thread, record);
+}
+
+static void on_implicit_task(ompt_scope_endpoint_t endpoint, ompt_data_t *region, ompt_data_t *data,
+                             unsigned int actual, unsigned int index, int flags) {
+    struct thread *thread = this_thread();
+    if (!thread) return;
+    struct record record = {.callback = IMPLICIT_TASK, .endpoint = endpoint, .size = actual, .index = index,
+                            .flags = flags, .region = region ? region->value : 0};
+    if (endpoint == ompt_scope_begin) begin_root(thread, record, data);
+    else end_root(thread, record, task_of(data));
+}
+
+/* A task is the child of the one that creates it. Parts of a taskloop are created in the name of a task that does not
+   run there; then it is the one that does. */
+static void on_task_create(ompt_data_t *encountering, const ompt_frame_t *frame, ompt_data_t *data, int flags,
+                           int has_dependences, const void *code) {
+    (void)frame, (void)has_dependences;
+    struct thread *thread = this_thread();
+    struct task *creator = task_of(encountering);
+    if (!thread) return;
+    if (creator && creator->depth == MAX_DEPTH) { /* its claims could not be said */
+        stop(DEEP_TASKS, code);
+        return;
+    }
+    if (thread->current && creator != thread->current) {
+        note(CREATED_FOR_ANOTHER, code);
+        creator = thread->current;
+    }
+    struct task *made = creator ? new_task(thread) : NULL;
+    if (!made) return;
+    data->ptr = made;
+    if (flags & ompt_task_target) note(TARGET, code);
+    made->parent = creator;
+    made->root = creator->root;
+    made->depth = creator->depth + 1;
+    made->number = creator->children++;
+    keep_known(thread, (struct record){.callback = TASK_CREATE, .task = creator, .other = made, .flags = flags,
+                                       .code = code});
+}
+
+/* Copies the items that a file can say, and returns how many there are. */
+static uint32_t copy_list(struct dependence *list, const ompt_dependence_t *items, int count) {
+    uint32_t kept = 0;
+    for (int i = 0; i < count; i++) {
+        uint32_t type = items[i].dependence_type;
+        if (type == ompt_dependence_type_source || type == ompt_dependence_type_sink) note(DOACROSS, NULL);
+        else if (type == OUT_ALL_MEMORY || type == INOUT_ALL_MEMORY) note(ALL_MEMORY, NULL);
+        else if (kept == MAX_DEPENDENCES) note(LONG_LIST, NULL);
+        else list[kept++] = (struct dependence){items[i].variable.value, type};
+    }
+    return kept;
+}
+
+/* Dependences count right behind the creation of their task, which then says that they follow. */
+static void on_dependences(ompt_data_t *data, const ompt_dependence_t *items, int count) {
+    struct thread *thread = this_thread();
+    struct task *task = task_of(data);
+    if (!thread || !task) return;
+    uint32_t made = atomic_load_explicit(&thread->count, memory_order_relaxed);
+    struct record *creation = made ? &thread->last->records[(made - 1) % RECORDS_OF_BLOCK] : NULL;
+    bool is_behind = creation && creation->callback == TASK_CREATE && creation->other == task;
+    size_t most = count < MAX_DEPENDENCES ? (size_t)count : MAX_DEPENDENCES;
+    struct dependence *list = take(thread, most * sizeof *list);
+    if (!list) {
+        stop(NO_MEMORY, NULL);
+        return;
+    }
+    uint32_t kept = copy_list(list, items, count);
+    if (kept && !is_behind) note(LATE_LIST, NULL);
+    struct record record = {.callback = DEPENDENCES, .task = task, .list = list, .size = kept};
+    if (kept && is_behind && keep_known(thread, record)) creation->kind = task->has_list = true;
+}
+
+/* A status that names no next task. */
+static bool is_without_next(int status) {
+    return status == ompt_task_early_fulfill || status == ompt_task_late_fulfill || status == ompt_taskwait_complete;
+}
+
+static bool is_finishing(int status) {
+    return status != ompt_task_yield && status != ompt_task_early_fulfill && status != ompt_task_switch;
+}
+
+/* Says where the task runs from here on, and notes where that is another thread than before. */
+static void run_next(struct thread *thread, struct task *next) {
+    thread->current = next;
+    if (next->thread < 0) next->thread = thread->number;
+    else if (next->thread != thread->number) note(MOVED, NULL);
+}
+
+static void on_task_schedule(ompt_data_t *prior_data, ompt_task_status_t status, ompt_data_t *next_data) {
+    struct thread *thread = this_thread();
+    struct task *prior = task_of(prior_data), *next = is_without_next(status) ? NULL : task_of(next_data);
+    if (!thread) return;
+    if (!prior || (!next && !is_without_next(status))) {
+        note(NO_TASK, NULL);
+        return;
+    }
+    if (prior->is_finished && next) { /* it was discarded: the runtime tells that once more */
+        note(DISCARDED_TWICE, NULL);
+        return;
+    }
+    if (next && !is_finishing(status) && prior != thread->current && thread->current) { /* parts of an untied task */
+        note(UNTIED, NULL);
+        prior = thread->current;
+    }
+    if (prior == next) return;
+    struct record record = {.callback = TASK_SCHEDULE, .kind = status, .task = prior, .other = next};
+    if (next) run_next(thread, next);
+    if (!is_finishing(status)) keep_reading(thread, record);
+    else {
+        prior->is_finished = status != ompt_task_detach;
+        keep_finishing(thread, record);
+    }
+}
+
+static void on_sync_region(ompt_sync_region_t kind, ompt_scope_endpoint_t endpoint, ompt_data_t *region,
+                           ompt_data_t *data, const void *code) {
+    struct thread *thread = this_thread();
+    struct task *task = task_of(data);
+    if (!thread) return;
+    if (!task) {
+        note(NO_TASK, code);
+        return;
+    }
+    struct record record = {.callback = SYNC_REGION, .kind = kind, .endpoint = endpoint, .task = task, .code = code,
+                            .region = region ? region->value : 0};
+    if (endpoint == ompt_scope_begin) keep_known(thread, record);
+    else keep_reading(thread, record);
+}
+
+static void on_reduction(ompt_sync_region_t kind, ompt_scope_endpoint_t endpoint, ompt_data_t *region,
+                         ompt_data_t *data, const void *code) {
+    (void)kind;
+    on_sync_region(ompt_sync_region_reduction, endpoint, region, data, code);
+}
+
+static void on_cancel(ompt_data_t *data, int flags, const void *code) {
+    struct thread *thread = this_thread();
+    struct task *task = task_of(data);
+    if (!thread || !task) return;
+    struct record record = {.callback = CANCEL, .flags = flags, .task = task, .code = code};
+    if (!(flags & ompt_cancel_discarded_task)) {
+        keep_known(thread, record);
+        return;
+    }
+    task->is_finished = true;
+    keep_finishing(thread, record);
+}
+
+/* How a run begins and ends */
+
+static pid_t process;
+
+/* Writes the file at the end of the process that was recorded, and not in one that it forked. */
+static void end(const char *ending) {
+    atomic_store(&is_over, true);
+    if (getpid() == process) write_trace(ending);
+}
+
+static const struct {
+    int number;
+    const char *name;
+} signals[] = {{SIGABRT, "SIGABRT"}, {SIGSEGV, "SIGSEGV"}, {SIGBUS, "SIGBUS"}, {SIGFPE, "SIGFPE"},
+               {SIGILL, "SIGILL"},   {SIGTERM, "SIGTERM"}, {SIGINT, "SIGINT"}};
+enum { SIGNALS = sizeof signals / sizeof *signals };
+
+/* Other threads may be within a callback; they get time to leave it. */
+static void on_signal(int number) {
+    static const struct timespec pause = {.tv_nsec = 20 * 1000 * 1000};
+    const char *name = "a signal";
+    for (int i = 0; i < SIGNALS; i++)
+        if (signals[i].number == number) name = signals[i].name;
+    atomic_store(&is_over, true);
+    nanosleep(&pause, NULL);
+    end(name);
+    signal(number, SIG_DFL);
+    raise(number);
+}
+
+/* Where a runtime is broken, programs abort: the file is written then, unless the program handles the signal. */
+static void catch_signals(void) {
+    for (int i = 0; i < SIGNALS; i++) {
+        struct sigaction was, ours = {.sa_handler = on_signal, .sa_flags = SA_RESETHAND | SA_ONSTACK};
+        int number = signals[i].number;
+        if (sigaction(number, NULL, &was) == 0 && was.sa_handler == SIG_DFL) sigaction(number, &ours, NULL);
+    }
+}
+
+static int initialize(ompt_function_lookup_t lookup, int device, ompt_data_t *data) {
+    (void)device, (void)data;
+    ompt_set_callback_t set = (ompt_set_callback_t)lookup("ompt_set_callback");
+    static const struct { ompt_callbacks_t event; ompt_callback_t call; } calls[] = {
+        {ompt_callback_thread_begin, (ompt_callback_t)on_thread_begin},
+        {ompt_callback_thread_end, (ompt_callback_t)on_thread_end},
+        {ompt_callback_parallel_begin, (ompt_callback_t)on_parallel_begin},
+        {ompt_callback_parallel_end, (ompt_callback_t)on_parallel_end},
+        {ompt_callback_implicit_task, (ompt_callback_t)on_implicit_task},
+        {ompt_callback_task_create, (ompt_callback_t)on_task_create},
+        {ompt_callback_dependences, (ompt_callback_t)on_dependences},
+        {ompt_callback_task_schedule, (ompt_callback_t)on_task_schedule},
+        {ompt_callback_sync_region, (ompt_callback_t)on_sync_region},
+        {ompt_callback_reduction, (ompt_callback_t)on_reduction},
+        {ompt_callback_cancel, (ompt_callback_t)on_cancel},
+    };
+    for (size_t i = 0; i < sizeof calls / sizeof *calls; i++) set(calls[i].event, calls[i].call);
+    process = getpid();
+    catch_signals();
+    return 1;
+}
+
+static void finalize(ompt_data_t *data) {
+    (void)data;
+    find_modules();
+    end("end");
+}
+
+/* exit() inside a task may end the process without finalize. */
+__attribute__((destructor)) static void at_exit(void) {
+    if (process) end("exit");
+}
+
+ompt_start_tool_result_t *ompt_start_tool(unsigned int version, const char *runtime) {
+    (void)version, (void)runtime;
+    static ompt_start_tool_result_t result = {initialize, finalize, {0}};
+    return open_trace() ? &result : NULL;
+}

@@ -1,0 +1,98 @@
+/* What the two halves of the recorder share: the records of a run in memory. recorder.c fills them in the callbacks of
+   OMPT, writer.c makes a trace file of them. docs/RECORDING.md of taskaudit has the rules that both follow. */
+#ifndef TASKAUDIT_RECORDER_H
+#define TASKAUDIT_RECORDER_H
+
+#include <stdatomic.h>
+#include <stdbool.h>
+#include <stddef.h>
+#include <stdint.h>
+
+/* The limits of a trace file (docs/FORMAT.md). */
+enum { MAX_RECORDS = 1 << 22, MAX_TASKS = 1 << 20, MAX_THREADS = 256, MAX_DEPENDENCES = 64, MAX_DEPTH = 1024 };
+
+/* Rooms are taken in blocks, so that threads seldom meet at the counters of all. */
+enum { RECORDS_OF_BLOCK = 1024, TASKS_OF_BLOCK = 256 };
+
+enum callback {
+    THREAD_BEGIN, THREAD_END, PARALLEL_BEGIN, PARALLEL_END, IMPLICIT_TASK, TASK_CREATE, DEPENDENCES, TASK_SCHEDULE,
+    SYNC_REGION, CANCEL
+};
+
+/* A task of the run, behind its ompt_data_t. */
+struct task {
+    struct task *parent;   /* of a root: the root below it on its thread, or NULL */
+    struct task *root;     /* itself, if it is a root */
+    uint64_t id;           /* its number in the file, given when that is written */
+    uint32_t number;       /* among the children of its parent */
+    uint32_t children;     /* how many it has created */
+    uint32_t depth;        /* how many steps it is below its root */
+    int32_t thread;        /* the thread on which it first ran, or -1. Version 2 of the file will count its turns here */
+    bool is_initial, is_finished;
+    bool has_list;         /* its dependences are recorded */
+    bool has_started;      /* for the writer: its start was counted */
+};
+
+struct dependence {
+    uint64_t variable;
+    uint32_t type;
+};
+
+struct record {
+    uint8_t callback;      /* enum callback */
+    uint8_t kind;          /* kind of a thread or a region, status of a task_schedule, deps of a task_create */
+    uint8_t endpoint;
+    uint32_t seen, flags;
+    uint32_t size, index;  /* actual and index; requested; children of a finished task; length of a list */
+    uint32_t region;       /* the parallel region, from 1; 0 where the runtime names none */
+    struct task *task;
+    union {
+        struct task *other;            /* the child, or the next task */
+        struct dependence *list;
+    };
+    const void *code;      /* the return address in the program, or NULL */
+};
+
+struct block {
+    struct block *next;
+    struct record records[RECORDS_OF_BLOCK];
+};
+
+/* A thread of the run. It alone writes here, but for `count`, which the writer reads too. */
+struct thread {
+    int number;
+    uint32_t known;            /* the ledger length that it knows */
+    _Atomic uint32_t count;    /* how many records it has */
+    uint32_t capacity;         /* for how many it has room */
+    struct task *current, *innermost;
+    struct block *first, *last;
+    struct task *tasks;        /* room for tasks */
+    uint32_t tasks_left;
+    char *memory;              /* room for all of these */
+    size_t memory_left;
+};
+
+/* What was changed or left out, and what the audit does not cover: each with its name in the header of the file. */
+enum note {
+    MOVED, UNTIED, CREATED_FOR_ANOTHER, DISCARDED_TWICE, DOACROSS, ALL_MEMORY, LONG_LIST, LATE_LIST, NO_TASK,
+    WRONG_END, NESTED, INNER_REGIONS, TEAMS, TARGET, ADDED_MEMBERS, BARRIERS_RENAMED,
+    /* why recording stopped */
+    MANY_RECORDS, MANY_TASKS, MANY_THREADS, DEEP_TASKS, NO_MEMORY, NOTES
+};
+
+extern struct thread *threads[MAX_THREADS];
+extern _Atomic int thread_count;
+extern _Atomic uint32_t region_count;
+extern _Atomic uint64_t notes[NOTES];
+extern const void *_Atomic first_code[NOTES];
+
+/* Writes the trace file, once; `ending` says what ended the run. Calls nothing that a signal handler may not. */
+void write_trace(const char *ending);
+
+/* Finds out which code stands where. Not for signal handlers. */
+void find_modules(void);
+
+/* Takes the name of the file from the environment; returns whether there is one and it can be written. */
+bool open_trace(void);
+
+#endif

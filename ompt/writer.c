@@ -1,0 +1,481 @@
+/* Writes the records of a run as a trace file (docs/FORMAT.md): the header, and one thread's records after another.
+   It runs in signal handlers too, so it calls nothing of the C library but system calls. */
+#define _GNU_SOURCE
+#include "recorder.h"
+
+#include <fcntl.h>
+#include <link.h>
+#include <omp-tools.h>
+#include <stdio.h>
+#include <stdlib.h>
+#include <string.h>
+#include <sys/mman.h>
+#include <unistd.h>
+
+/* The names of docs/FORMAT.md, by the numbers of OMPT. */
+static const char *const thread_kinds[] = {"unknown", "initial", "worker", "other", "unknown"};
+static const char *const endpoints[] = {"", "begin", "end", "beginend"};
+static const char *const statuses[] = {"", "complete", "yield", "cancel", "detach", "early_fulfill", "late_fulfill",
+                                       "switch", "taskwait_complete"};
+static const char *const region_kinds[] = {
+    "", "barrier", "barrier_implicit", "barrier_explicit", "barrier_implementation", "taskwait", "taskgroup",
+    "reduction", "barrier_implicit_workshare", "barrier_implicit_parallel", "barrier_teams"};
+enum { BARRIER_TEAMS = 10 }; /* older headers lack it */
+static const char *const types[] = {"", "in", "out", "inout", "mutexinoutset", "", "", "inoutset"};
+
+struct flag {
+    uint32_t bit;
+    const char *name;
+};
+static const struct flag task_flags[] = {
+    {1, "initial"}, {2, "implicit"}, {4, "explicit"}, {8, "target"}, {0x10, "taskwait"}, {0x8000000, "undeferred"},
+    {0x10000000, "untied"}, {0x20000000, "final"}, {0x40000000, "mergeable"}, {0x80000000, "merged"}, {0, NULL}};
+static const struct flag cancel_flags[] = {{1, "parallel"}, {2, "sections"}, {4, "loop"}, {8, "taskgroup"},
+                                           {0x10, "activated"}, {0x20, "detected"}, {0x40, "discarded_task"}, {0, NULL}};
+static const char *const note_names[NOTES] = {
+    "moved", "untied", "created_for_another", "discarded_twice", "doacross", "all_memory", "long_list", "late_list",
+    "no_task", "wrong_end", "nested", "inner_regions", "teams", "target", "added_members", "barriers_renamed",
+    "many_records", "many_tasks", "many_threads", "deep_tasks", "no_memory"};
+
+/* No record takes more text: a path has at most 1,024 numbers, a list 64 items, and a module's name 256 bytes. */
+enum { LONGEST_LINE = 1 << 15 };
+
+static char part_name[4096], whole_name[4096];
+static int file = -1;
+
+/* Text on its way to the file */
+
+static char text[1 << 20];
+static size_t length;
+static bool has_failed;
+
+static void flush(void) {
+    for (size_t at = 0; at < length;) {
+        ssize_t written = write(file, text + at, length - at);
+        if (written <= 0) {
+            has_failed = true;
+            break;
+        }
+        at += (size_t)written;
+    }
+    length = 0;
+}
+
+static void put(const char *word) {
+    size_t size = strlen(word);
+    memcpy(text + length, word, size);
+    length += size;
+}
+
+static void put_number(uint64_t number) {
+    char digits[20];
+    int at = sizeof digits;
+    do digits[--at] = (char)('0' + number % 10);
+    while (number /= 10);
+    memcpy(text + length, digits + at, sizeof digits - at);
+    length += sizeof digits - at;
+}
+
+/* Puts a member of a number behind the one before. */
+static void put_member(const char *name, uint64_t number) {
+    put(name);
+    put_number(number);
+}
+
+static void put_flags(const struct flag *table, uint32_t bits) {
+    const char *between = "";
+    put(",\"flags\":[");
+    for (; table->name; table++) {
+        if (!(bits & table->bit)) continue;
+        put(between);
+        put("\"");
+        put(table->name);
+        put("\"");
+        between = ",";
+    }
+    put("]");
+}
+
+/* Where code stands */
+
+static struct module {
+    uintptr_t begin, end, base;
+    char name[256];
+} modules[128];
+static int module_count;
+/* Whether code that gcc compiled runs under LLVM's runtime: that goes by the name of gcc's then. */
+static bool is_gcc;
+
+static int add_module(struct dl_phdr_info *info, size_t size, void *unused) {
+    (void)size, (void)unused;
+    for (int i = 0; i < info->dlpi_phnum && module_count < 128; i++) {
+        const ElfW(Phdr) *part = &info->dlpi_phdr[i];
+        if (part->p_type != PT_LOAD || !(part->p_flags & PF_X)) continue;
+        struct module *made = &modules[module_count++];
+        made->base = info->dlpi_addr;
+        made->begin = made->base + part->p_vaddr;
+        made->end = made->begin + part->p_memsz;
+        snprintf(made->name, sizeof made->name, "%s", info->dlpi_name);
+        is_gcc |= strstr(made->name, "libgomp.so") != NULL;
+    }
+    return 0;
+}
+
+void find_modules(void) {
+    module_count = 0;
+    dl_iterate_phdr(add_module, NULL);
+}
+
+/* Puts where the code of a record stands: an address in the program, or in a library behind its name. */
+static void put_code(const void *code) {
+    uintptr_t address = (uintptr_t)code;
+    for (int i = 0; i < module_count; i++) {
+        if (address < modules[i].begin || address >= modules[i].end) continue;
+        put(",\"codeptr\":\"");
+        if (modules[i].name[0]) {
+            put(modules[i].name);
+            put("+");
+        }
+        put("0x");
+        uintptr_t offset = address - modules[i].base;
+        int digit = 60;
+        while (digit > 0 && !(offset >> digit)) digit -= 4;
+        for (; digit >= 0; digit -= 4) text[length++] = "0123456789abcdef"[offset >> digit & 15];
+        put("\"");
+        return;
+    }
+}
+
+/* The records of a thread, one after another */
+
+static int thread_total(void) {
+    int made = atomic_load(&thread_count);
+    return made < MAX_THREADS ? made : MAX_THREADS;
+}
+
+/* Returns a thread; one without records where it was just being made. */
+static const struct thread *thread_at(int number) {
+    static const struct thread none;
+    return threads[number] ? threads[number] : &none;
+}
+
+struct cursor {
+    const struct block *block;
+    uint32_t at, count;
+};
+
+static struct cursor records_of(const struct thread *thread) {
+    return (struct cursor){thread->first, 0, atomic_load_explicit(&thread->count, memory_order_acquire)};
+}
+
+static const struct record *next(struct cursor *cursor) {
+    if (cursor->at == cursor->count) return NULL;
+    if (cursor->at && cursor->at % RECORDS_OF_BLOCK == 0) cursor->block = cursor->block->next;
+    return &cursor->block->records[cursor->at++ % RECORDS_OF_BLOCK];
+}
+
+/* Whether the parallel region that begins just before the cursor is one of one thread inside another region, in which
+   nothing is created; it may be left out then. The cursor moves behind its end. */
+static bool passes_inner_region(struct cursor *cursor, const struct record *begin) {
+    struct cursor ahead = *cursor;
+    for (const struct record *record; (record = next(&ahead));) {
+        switch (record->callback) {
+        case PARALLEL_END:
+            if (record->region != begin->region) break;
+            *cursor = ahead;
+            return true;
+        case IMPLICIT_TASK:
+            if (record->endpoint == ompt_scope_begin && record->size != 1) return false;
+            break;
+        case CANCEL:
+            if (record->flags & ompt_cancel_discarded_task) return false;
+            break;
+        case PARALLEL_BEGIN:
+        case SYNC_REGION:
+            break;
+        default:
+            return false;
+        }
+    }
+    return false;
+}
+
+/* Records */
+
+static bool renames_barriers;
+
+static bool is_finishing(const struct record *record) {
+    if (record->callback == CANCEL) return record->flags & ompt_cancel_discarded_task;
+    return record->callback == TASK_SCHEDULE && record->kind != ompt_task_yield && record->kind != ompt_task_switch &&
+           record->kind != ompt_task_early_fulfill;
+}
+
+static void put_claim(const struct record *record) {
+    static uint32_t path[MAX_DEPTH];
+    const struct task *task = record->task;
+    for (uint32_t depth = task->depth; depth; depth--, task = task->parent) path[depth - 1] = task->number;
+    put_member(",\"kept\":", record->size);
+    if (record->callback == TASK_SCHEDULE) {
+        put(",\"next\":");
+        if (record->other) put_number(record->other->id);
+        else put("null");
+    }
+    put(",\"path\":[");
+    for (uint32_t i = 0; i < record->task->depth; i++) put_member(i ? "," : "", path[i]);
+    put("]");
+}
+
+static void put_name(const char *member, const char *name) {
+    put(member);
+    put("\"");
+    put(name);
+    put("\"");
+}
+
+static void put_list(const struct record *record) {
+    put(",\"list\":[");
+    for (uint32_t i = 0; i < record->size; i++) {
+        put_name(i ? ",{\"type\":" : "{\"type\":", types[record->list[i].type]);
+        put_member(",\"var\":", record->list[i].variable);
+        put("}");
+    }
+    put("]");
+}
+
+static void put_implicit_task(const struct record *record) {
+    put_member("{\"actual\":", record->size);
+    put_name(",\"cb\":\"implicit_task\",\"endpoint\":", endpoints[record->endpoint]);
+    put_flags(task_flags, record->flags);
+    put_member(",\"index\":", record->index);
+    put_member(",\"parallel\":", record->region);
+}
+
+static void put_task_create(const struct record *record) {
+    put_member("{\"cb\":\"task_create\",\"child\":", record->other->id);
+    put_code(record->code);
+    put(record->kind ? ",\"deps\":true" : ",\"deps\":false");
+    put_flags(task_flags, record->flags);
+}
+
+static void put_task_schedule(const struct record *record) {
+    put("{\"cb\":\"task_schedule\"");
+    if (is_finishing(record)) put_claim(record);
+    else {
+        put(",\"next\":");
+        if (record->other) put_number(record->other->id);
+        else put("null");
+    }
+    put_member(",\"prior\":", record->task->id);
+    if (is_finishing(record)) put_member(",\"root\":", record->task->root->id);
+}
+
+static void put_sync_region(const struct record *record) {
+    bool is_renamed = renames_barriers && record->kind == ompt_sync_region_barrier_implementation;
+    put("{\"cb\":\"sync_region\"");
+    put_code(record->code);
+    put_name(",\"endpoint\":", endpoints[record->endpoint]);
+    put_name(",\"kind\":", region_kinds[is_renamed ? ompt_sync_region_barrier : record->kind]);
+    put(",\"parallel\":");
+    if (record->region) put_number(record->region);
+    else put("null");
+}
+
+static void put_cancel(const struct record *record) {
+    put("{\"cb\":\"cancel\"");
+    put_code(record->code);
+    put_flags(cancel_flags, record->flags);
+    if (!is_finishing(record)) return;
+    put_claim(record);
+    put_member(",\"root\":", record->task->root->id);
+}
+
+/* Puts the line of a record, which is number `seq` of the thread. The members are in the order of their names. */
+static void put_record(const struct record *record, int thread, uint32_t seq) {
+    switch ((enum callback)record->callback) {
+    case THREAD_BEGIN: put_name("{\"cb\":\"thread_begin\",\"kind\":", thread_kinds[record->kind]); break;
+    case THREAD_END: put("{\"cb\":\"thread_end\""); break;
+    case PARALLEL_BEGIN:
+    case PARALLEL_END:
+        put(record->callback == PARALLEL_BEGIN ? "{\"cb\":\"parallel_begin\"" : "{\"cb\":\"parallel_end\"");
+        put_code(record->code);
+        put_member(",\"parallel\":", record->region);
+        if (record->callback == PARALLEL_BEGIN) put_member(",\"requested\":", record->size);
+        break;
+    case IMPLICIT_TASK: put_implicit_task(record); break;
+    case TASK_CREATE: put_task_create(record); break;
+    case DEPENDENCES: put("{\"cb\":\"dependences\""); put_list(record); break;
+    case TASK_SCHEDULE: put_task_schedule(record); break;
+    case SYNC_REGION: put_sync_region(record); break;
+    case CANCEL: put_cancel(record); break;
+    }
+    put_member(",\"seen\":", record->seen);
+    put_member(",\"seq\":", seq);
+    if (record->callback == TASK_SCHEDULE) put_name(",\"status\":", statuses[record->kind]);
+    else if (record->callback > THREAD_END) put_member(",\"task\":", record->task->id);
+    put_member(",\"thread\":", (uint64_t)thread);
+    put("}\n");
+    if (length > sizeof text - LONGEST_LINE) flush();
+}
+
+static void put_thread(const struct thread *thread) {
+    struct cursor cursor = records_of(thread);
+    uint32_t seq = 0;
+    for (const struct record *record; (record = next(&cursor));) {
+        if (record->callback == PARALLEL_BEGIN && !record->task->is_initial) {
+            if (passes_inner_region(&cursor, record)) continue;
+        }
+        put_record(record, thread->number, seq++);
+    }
+}
+
+/* A look at all records before they are written */
+
+static uint64_t last_id;
+static uint64_t regions_of_kind[sizeof region_kinds / sizeof *region_kinds];
+/* What is audited: ends of regions that wait for tasks, and tasks with dependences that start. */
+static uint64_t wait_count, dependent_count;
+
+/* Of each parallel region the size of its team, and how many members began. */
+static struct team {
+    uint32_t size, begun;
+} *teams;
+static uint32_t last_region;
+
+static void count(enum note what, const void *code) {
+    if (atomic_fetch_add(&notes[what], 1) == 0) atomic_store(&first_code[what], code);
+}
+
+static void look_at_root(const struct record *record) {
+    if (record->endpoint != ompt_scope_begin) return;
+    record->task->id = ++last_id;
+    if (!teams || record->task->is_initial || record->region > last_region) return;
+    teams[record->region].size = record->size;
+    teams[record->region].begun++;
+}
+
+static void look_at_region(const struct record *record) {
+    regions_of_kind[record->kind]++;
+    bool waits = record->kind != ompt_sync_region_barrier_implementation && record->kind != ompt_sync_region_reduction &&
+                 record->kind != BARRIER_TEAMS;
+    wait_count += waits && record->endpoint != ompt_scope_begin;
+}
+
+static void look_at_schedule(const struct record *record) {
+    struct task *started = record->kind == ompt_taskwait_complete ? record->task : record->other;
+    if (!started || !started->has_list || started->has_started) return;
+    started->has_started = true;
+    dependent_count++;
+}
+
+/* Gives the tasks their ids, which rise in the order of the lines that make them, and counts what is there and what is
+   left out. */
+static void look_at(const struct thread *thread) {
+    struct cursor cursor = records_of(thread);
+    for (const struct record *record; (record = next(&cursor));) {
+        if (record->callback == TASK_CREATE) record->other->id = ++last_id;
+        else if (record->callback == IMPLICIT_TASK) look_at_root(record);
+        else if (record->callback == SYNC_REGION) look_at_region(record);
+        else if (record->callback == TASK_SCHEDULE) look_at_schedule(record);
+        else if (record->callback == PARALLEL_BEGIN && !record->task->is_initial)
+            count(passes_inner_region(&cursor, record) ? INNER_REGIONS : NESTED, record->code);
+    }
+}
+
+/* Code that gcc compiled tells its barriers as `barrier_implementation`, or as that on the primary thread and as
+   `barrier` on others. All are written as `barrier`, since each of them waits for tasks. Other code tells no `barrier`, and
+   a `barrier_implementation` in reductions alone. */
+static void look_at_barriers(void) {
+    uint64_t found = regions_of_kind[ompt_sync_region_barrier_implementation];
+    renames_barriers = found && (is_gcc || regions_of_kind[ompt_sync_region_barrier]);
+    if (!renames_barriers) return;
+    atomic_store(&notes[BARRIERS_RENAMED], found / 2);
+    wait_count += found / 2;
+}
+
+/* Members that never began: the program ended before their threads woke. A thread of their own begins and ends them. */
+
+static void find_begun(uint32_t region, bool *is_begun) {
+    memset(is_begun, 0, MAX_THREADS);
+    for (int i = 0; i < thread_total(); i++) {
+        struct cursor cursor = records_of(thread_at(i));
+        for (const struct record *record; (record = next(&cursor));)
+            if (record->callback == IMPLICIT_TASK && record->endpoint == ompt_scope_begin && record->region == region &&
+                record->index < MAX_THREADS)
+                is_begun[record->index] = true;
+    }
+}
+
+static void put_missing_members(void) {
+    static bool is_begun[MAX_THREADS];
+    uint32_t seq = 0;
+    for (uint32_t region = 1; teams && region <= last_region; region++) {
+        if (teams[region].begun >= teams[region].size || teams[region].size > MAX_THREADS) continue;
+        find_begun(region, is_begun);
+        for (uint32_t index = 0; index < teams[region].size; index++) {
+            if (is_begun[index]) continue;
+            struct task member = {.id = ++last_id};
+            struct record record = {.callback = IMPLICIT_TASK, .endpoint = ompt_scope_begin, .flags = ompt_task_implicit,
+                                    .size = teams[region].size, .index = index, .region = region, .task = &member};
+            put_record(&record, thread_total(), seq++);
+            record.endpoint = ompt_scope_end;
+            put_record(&record, thread_total(), seq++);
+            count(ADDED_MEMBERS, NULL);
+        }
+    }
+}
+
+/* The file */
+
+/* The header, whose member `recorder` says how the run ended, and what was changed or left out. */
+static void put_header(const char *ending) {
+    const char *between = "";
+    put("{\"format\":\"task-credit-audit\",\"recorder\":{");
+    put_name("\"ending\":", ending);
+    put_member(",\"threads\":", (uint64_t)thread_total());
+    put_member(",\"waits\":", wait_count);
+    put_member(",\"dependent_starts\":", dependent_count);
+    put(",\"notes\":{");
+    for (int i = 0; i < NOTES; i++) {
+        if (!notes[i]) continue;
+        put(between);
+        put_name("", note_names[i]);
+        put_member(":{\"count\":", notes[i]);
+        put_code(first_code[i]);
+        put("}");
+        between = ",";
+    }
+    put("}},\"version\":1}\n");
+}
+
+void write_trace(const char *ending) {
+    static _Atomic bool is_written;
+    if (atomic_exchange(&is_written, true)) return;
+    file = open(part_name, O_WRONLY | O_TRUNC);
+    if (file < 0) return;
+    last_region = atomic_load(&region_count);
+    teams = mmap(NULL, (last_region + 1) * sizeof *teams, PROT_READ | PROT_WRITE, MAP_PRIVATE | MAP_ANONYMOUS, -1, 0);
+    if (teams == MAP_FAILED) teams = NULL;
+    for (int i = 0; i < thread_total(); i++) look_at(thread_at(i));
+    look_at_barriers();
+    put_header(ending);
+    for (int i = 0; i < thread_total(); i++) put_thread(thread_at(i));
+    put_missing_members();
+    flush();
+    if (close(file) == 0 && !has_failed) rename(part_name, whole_name);
+}
+
+bool open_trace(void) {
+    const char *name = getenv("TASKAUDIT_FILE");
+    if (!name || strlen(name) + 32 > sizeof part_name) return false;
+    snprintf(whole_name, sizeof whole_name, "%s", name);
+    snprintf(part_name, sizeof part_name, "%s.part", name);
+    int made = open(part_name, O_WRONLY | O_CREAT | O_EXCL, 0666);
+    if (made < 0) {
+        /* another process of the program has the name */
+        snprintf(whole_name, sizeof whole_name, "%s.%d", name, (int)getpid());
+        snprintf(part_name, sizeof part_name, "%s.%d.part", name, (int)getpid());
+        made = open(part_name, O_WRONLY | O_CREAT | O_EXCL, 0666);
+    }
+    find_modules();
+    return made >= 0 && close(made) == 0;
+}

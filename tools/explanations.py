@@ -1,0 +1,459 @@
+"""What stands behind an answer of `taskaudit check`: the records that it is about, and what was expected of them. The
+words are those of docs/MODEL.md; `model` restates its definitions."""
+import json
+import re
+
+import orders
+from fields import faults_of
+from model import (BARRIERS, CALLED_BARRIERS, DISCARD_STATE, NEXT_STATE, START_STATE, WAITS_FOR_TASKS, Walk, after_body,
+                   conflict, innermost, may, moves_of, nature_of, state_after)
+from traces import Trace, member
+
+ANSWER = re.compile(r'(?:malformed: (?P<malformed>.*): cause (?P<cause>\d+) \w+'
+                    r'|no: (?P<no>.*): task (?P<task>\d+) (?:unfinished|must precede task (?P<dependent>\d+))'
+                    r'|unreadable: (?P<unreadable>.*): (?P<fault>\d) (?P<name>\w+)|(?P<yes>yes): .*|(?P<other>.*))\n?')
+
+
+# So many creations are shown of a task and those above it.
+MOST_ANCESTORS = 8
+
+
+class Explanation:
+    """An answer, sentences about it, and the lines of the file that it is about, each with the part that it has."""
+
+    def __init__(self, answer):
+        self.answer, self.sentences, self.shown = answer.rstrip(), [], []
+        self.line = self.task = None
+
+    def say(self, text):
+        self.sentences.append(text)
+
+    def show(self, record, part):
+        if all(record.number != it.number for _, it in self.shown):
+            self.shown.append((part, record))
+        return record
+
+
+def explain(path, answer):
+    """Explains the answer on the file."""
+    told, trace, found = ANSWER.fullmatch(answer), Trace(path), Explanation(answer)
+    if told is None or told['other'] is not None:
+        found.say('The file was not judged.')
+        return found
+    place = told['malformed'] or told['no'] or told['unreadable']
+    found.line = place and int(re.search(r'line (\d+)', place)[1])
+    if told['yes']:
+        explain_yes(found, trace)
+    elif told['unreadable']:
+        UNREADABLE[int(told['fault'])](found, trace)
+    else:
+        record = trace.record(found.line)
+        found.show(record, 'the named record')
+        if told['no']:
+            found.task = int(told['task'])
+            explain_no(found, trace, record)
+        else:
+            CAUSES[int(told['cause']) - 1](found, trace, record)
+            found.say(f"docs/CAUSES.md, cause {told['cause']}, says which mistakes give this, and what to mend.")
+    return found
+
+
+def explain_yes(found, trace):
+    found.say('Every wait ended, and every dependent task started, only when it was allowed to, in every order that the'
+              ' records allow. Nothing is to be mended.')
+
+
+# A no
+
+def explain_no(found, trace, record):
+    """Who finishes the task, and what the record had seen of it."""
+    if record.region:
+        explain_wait(found, trace, record)
+    else:
+        explain_start(found, trace, record)
+    show_life(found, trace, record)
+
+
+def explain_wait(found, trace, record):
+    """Which region ends there, and how the task comes under it."""
+    task, kind, endpoint = record.region
+    if endpoint == 'end':
+        begin = open_regions(trace, task, record.number)[0]
+        found.show(begin, f'the begin of the {kind} that ends on line {record.number}')
+    above = trace.ancestors(found.task)
+    found.show(trace.creation(found.task), f'the creation of task {found.task}')
+    chain = ', '.join(f'task {one} is a child of task {other}' for one, other in zip(above, above[1:]))
+    found.say(f'Line {record.number} ends a {kind} of task {task}, which waits for task {found.task}: {chain}.')
+
+
+def explain_start(found, trace, record):
+    """Which dependences of the two tasks conflict."""
+    later = record.wait_completed if record.wait_completed is not None else record.started
+    lists = {}
+    for task in (found.task, later):
+        for it in trace.of_task(task):
+            if it.created == task:
+                found.show(it, f'the creation of task {task}')
+            if it.has_list():
+                found.show(it, f'what task {task} depends on')
+                lists[task] = it.dependences[1]
+    pairs = [(one, other) for one in lists[found.task] for other in lists[later] if conflict(one, other)]
+    one, other = pairs[0]
+    found.say(f"Task {later} depends on task {found.task}, a sibling that was created before it: location {one['var']} is"
+              f" {one['type']} there and {other['type']} here. It starts on line {record.number}.")
+
+
+def show_life(found, trace, record):
+    """The starts and the ends of the unfinished task, and what is missing."""
+    parts, starts = {}, []
+    for it in trace.of_task(found.task):
+        if it.started == found.task:
+            starts.append(found.show(it, f'task {found.task} runs from here on'))
+        if it.finish and it.finish[0] == found.task:
+            parts[it.finish[1]] = found.show(it, f'finishes task {found.task} ({it.finish[1].lower()}): entry {it.seen}')
+    seen = f'the entries 0 to {record.seen - 1}' if record.seen else 'no entry'
+    found.say(f'The record on line {record.number} had seen {seen} of the ledger.')
+    if 'Body' in parts and 'Event' not in parts:
+        found.say(f"The body of task {found.task} ends on line {parts['Body'].number}, and no late_fulfill is in the file:"
+                  ' the wait did not wait for the event, or its fulfilment was not recorded.')
+    elif not parts:
+        found.say(f'No record finishes task {found.task}, '
+                  + (f'which runs from line {starts[0].number} on.' if starts else 'and none starts it.'))
+    else:
+        say_when_finished(found, record, parts, starts)
+    found.say('docs/CAUSES.md, "After a no", says how to tell a recorder that read too early from a runtime that was.')
+
+
+def say_when_finished(found, record, parts, starts):
+    for it in parts.values():
+        late = record.seen <= it.seen
+        found.say(f'Line {it.number} finishes task {found.task} by entry {it.seen}, which is '
+                  + ('not among those.' if late else 'among those.'))
+    behind = [it for it in (*parts.values(), *starts) if it.thread == record.thread and it.seq > record.seq]
+    if behind:
+        found.say(f'Line {behind[0].number} stands behind line {record.number} in its thread: the runtime was too early.')
+
+
+# What several causes ask
+
+def open_regions(trace, task, before):
+    """The begins of the task's regions that are open before the line, the innermost first."""
+    opened = []
+    for it in trace.of_task(task, last=before - 1):
+        if it.region and it.region.task == task and it.region.endpoint == 'begin':
+            opened.insert(0, it)
+        elif it.region and it.region.task == task and it.region.endpoint == 'end' and opened:
+            opened.pop(0)
+    return opened
+
+
+def walk_before(trace, record):
+    """Where the record's thread stands before it, and the record that began each of its open roots."""
+    walk, begins = Walk([], None), {}
+    for it in trace.of_thread(record.thread, last=record.number - 1):
+        walk = after_body(walk, it)
+        if it.begun_root is not None:
+            begins[it.begun_root] = it
+    return walk, begins
+
+
+def previous_in_thread(trace, record):
+    """The record before it in its thread, or None."""
+    found = None
+    for found in trace.of_thread(record.thread, last=record.number - 1):
+        pass
+    return found
+
+
+def first(records):
+    return next(iter(records), None)
+
+
+def is_made(trace, task):
+    return first(it for it in trace.of_task(task) if it.made == task)
+
+
+# The causes, in the order of their numbers
+
+def seq_gap(found, trace, record):
+    before = sum(1 for _ in trace.of_thread(record.thread, last=record.number - 1))
+    last = previous_in_thread(trace, record)
+    if last:
+        found.show(last, f'the record before it of thread {record.thread}')
+    found.say(f'{before} records of thread {record.thread} stand before it, so its seq must be {before}; it is {record.seq}.')
+
+
+def created_twice(found, trace, record):
+    if record.made is not None:
+        earlier = is_made(trace, record.made)
+        found.show(earlier, f'made task {record.made} before')
+        found.say(f'Task {record.made} was made on line {earlier.number}. Each task needs a number of its own.')
+    else:
+        parallel = record.forked[1]
+        earlier = first(it for it in trace.called('parallel_begin') if it.forked[1] == parallel)
+        found.show(earlier, f'began region {parallel} before')
+        found.say(f'Parallel region {parallel} began on line {earlier.number}. Each region needs a number of its own.')
+
+
+def rootless(found, trace, record):
+    names = {name: record.value[name] for name in ('task', 'child', 'prior', 'next', 'root')
+             if record.value.get(name) in record.named}
+    unmade = {name: task for name, task in names.items() if not is_made(trace, task)}
+    for name, task in unmade.items():
+        found.say(f'`{name}` names task {task}, and no record creates it or begins it.')
+    if unmade:
+        return
+    region = record.region_named
+    if region is not None and not any(it.forked[1] == region for it in trace.called('parallel_begin')):
+        found.say(f'`parallel` names region {region}, and no parallel_begin begins it.')
+        return
+    above = trace.ancestors(record.created)
+    found.say(f"The parents of task {record.created} lead to no initial or implicit task: {' < '.join(map(str, above))}"
+              + (f' < {trace.creations[above[-1]][0]}, a circle.' if above[-1] in trace.creations else ', which none is.'))
+
+
+def not_current(found, trace, record):
+    walk, begins = walk_before(trace, record)
+    last = previous_in_thread(trace, record)
+    if last:
+        found.show(last, f'the record before it of thread {record.thread}')
+    current = f'task {walk.current}' if walk.current is not None else 'no task'
+    if record.running is not None and record.running != walk.current:
+        found.say(f'Thread {record.thread} runs {current} here, and the record is of task {record.running}.')
+    elif record.wait_completed is not None:
+        found.say(f'Thread {record.thread} runs {current} here; taskwait {record.wait_completed} is of task '
+                  f'{trace.creations[record.wait_completed][0]}, which must be the one that runs.')
+    else:
+        root = record.ended_root if record.ended_root is not None else record.started
+        inner = innermost(walk)
+        told = 'has no open root' if inner is None else f'has the root {inner} as its innermost (line {begins[inner].number})'
+        found.say(f"Thread {record.thread} {told}; root {root} cannot {'end' if record.ended_root is not None else 'run'} here.")
+
+
+def moved(found, trace, record):
+    earlier = first(it for it in trace.of_task(record.started, last=record.number)
+                    if it.started == record.started and it.thread != record.thread)
+    found.show(earlier, f'task {record.started} ran on thread {earlier.thread}')
+    found.say(f'Task {record.started} runs on thread {record.thread} here, and ran on thread {earlier.thread} on line '
+              f'{earlier.number}. This version of the file has no untied tasks that move.')
+
+
+def status_order(found, trace, record):
+    """Of each task that the record moves: the state before it, and what that allows."""
+    for task in dict.fromkeys(it for it in (*(record.schedule or ())[1:], record.started, record.discarded) if it is not None):
+        own = [*trace.of_task(task)]
+        nature = nature_of(own, task)
+        state = 'Running' if nature == 'root' else 'Created'
+        for at, move in moves_of(own, task):
+            after = state_after(state, *move) if may(nature, *move) else None
+            if own[at].number != record.number:
+                found.show(own[at], f'a move of task {task}: {moved_by(move)}')
+            if after is None:
+                say_state(found, task, nature, state, move, own[at].number)
+                break
+            state = after
+
+
+def moved_by(move):
+    what, status = move
+    return {'Started': 'runs', 'Discarded': 'is discarded'}.get(what, status)
+
+
+def say_state(found, task, nature, state, move, line):
+    allowed = [status for status in NEXT_STATE[state] if may(nature, 'Stopped', status)]
+    allowed += ['runs'] * (state in START_STATE and may(nature, 'Started', None))
+    allowed += ['is discarded'] * (state in DISCARD_STATE and may(nature, 'Discarded', None))
+    kind = {'root': 'an initial or implicit task', 'taskwait': 'a taskwait with dependences'}.get(nature, 'an explicit task')
+    found.say(f"Task {task}, {kind}, is {state} before line {line}, which allows: {', '.join(allowed) or 'nothing more'}. "
+              f'The record says: {moved_by(move)}.')
+
+
+def region_order(found, trace, record):
+    task, kind, _ = record.region
+    made = is_made(trace, task)
+    if kind in CALLED_BARRIERS and made.created == task:
+        found.show(made, f'creates task {task}')
+        found.say(f'Task {task} is an explicit task, and barriers are of initial and implicit tasks alone.')
+        return
+    opened = open_regions(trace, task, record.number)
+    if not opened:
+        found.say(f'Task {task} has no open region here, so no {kind} can end.')
+        return
+    found.show(opened[0], f'begins the innermost open region of task {task}')
+    found.say(f'The innermost open region of task {task} is a {opened[0].region.kind} (line {opened[0].number}); a {kind}'
+              ' cannot end before it.')
+
+
+def team_short(found, trace, record):
+    if record.joined:
+        say_short_team(found, trace, record)
+    else:
+        say_missed_barrier(found, trace, record)
+
+
+def say_short_team(found, trace, record):
+    parallel, actual, index, _ = record.joined
+    members = [it for it in trace.called('implicit_task') if it.joined and it.joined.parallel == parallel]
+    for it in members:
+        found.show(it, f'member {it.joined.index} of region {parallel}, of a team of {it.joined.actual}')
+    earlier = [it for it in members if it.number < record.number]
+    if index >= actual:
+        found.say(f'The index {index} is not below the size of the team, {actual}.')
+    for it in earlier:
+        if it.joined.index == index:
+            found.say(f'Line {it.number} began member {index} of region {parallel} already.')
+        if it.joined.actual != actual:
+            found.say(f'Line {it.number} says that the team has {it.joined.actual} members, and this record {actual}.')
+    if len(members) < actual:
+        there = {it.joined.index for it in members}
+        missing = [str(it) for it in range(min(actual, 1024)) if it not in there]
+        found.say(f"The team of region {parallel} is of {actual}, and {len(members)} of it begin in the file. Missing: member "
+                  f"{', '.join(missing[:20])}.")
+
+
+def barriers_of(trace, task):
+    """The records that begin the task's barriers."""
+    return [it for it in trace.of_task(task) if it.region and it.region.task == task and it.region.kind in BARRIERS
+            and it.region.endpoint != 'end']
+
+
+def say_missed_barrier(found, trace, record):
+    """A member that began fewer barriers than the one that ends here."""
+    task = record.region.task
+    own = [it for it in barriers_of(trace, task) if it.number <= record.number]
+    number = len(own) - 1
+    parallel = is_made(trace, task).joined.parallel
+    for it in trace.called('implicit_task'):
+        if it.joined and it.joined.parallel == parallel:
+            begun = barriers_of(trace, it.joined.member)
+            if len(begun) <= number:
+                found.show(it, f'begins task {it.joined.member}, which begins {len(begun)} barriers')
+                found.say(f'Barrier number {number} of task {task} ends here, counted from 0. In the whole file task '
+                          f'{it.joined.member} of the same team begins {len(begun)}, so it never came to this one.')
+
+
+def nested_parallel(found, trace, record):
+    walk, begins = walk_before(trace, record)
+    outer = begins.get(innermost(walk))
+    if outer:
+        found.show(outer, f'begins task {outer.begun_root}, the innermost open root of thread {record.thread}')
+    if record.forked:
+        found.say(f'Task {record.forked[0]}, which begins the parallel region, is not an initial task: the region is inside'
+                  ' another one.')
+    else:
+        found.say(f'Thread {record.thread} has an open root, task {innermost(walk)}, so another one cannot begin here: the'
+                  ' region is inside another one, or an implicit_task that ends was not recorded.')
+
+
+def deps_place(found, trace, record):
+    if record.has_list():
+        last = previous_in_thread(trace, record)
+        if last:
+            found.show(last, f'the record before it of thread {record.thread}')
+        found.say(f'The record before it in its thread must be the task_create of task {record.dependences[0]} with deps'
+                  ' true.')
+        return
+    follows = first(it for it in trace.of_thread(record.thread) if it.number > record.number)
+    if follows:
+        found.show(follows, f'the next record of thread {record.thread}')
+    found.say(f'deps is true, so the next record of thread {record.thread} must be the dependences of task {record.created}.')
+
+
+def share_wrong(found, trace, record):
+    """Which of root, path and kept is wrong, and what is right."""
+    above = trace.ancestors(record.finish[0])
+    right = {'root': above[-1], 'path': [trace.creations[it][1] for it in above[-2::-1]],
+             'kept': trace.child_count(record.finish[0])}
+    for name, wanted in right.items():
+        if record.value[name] != wanted:
+            found.say(f'`{name}` is {record.value[name]}, and must be {wanted}.')
+    lines = {trace.creations[task][2] for task in above[:-1][:MOST_ANCESTORS]}
+    for it in sorted(trace.among(lines.__contains__), key=lambda it: -it.number):
+        parent, number, _ = trace.creations[it.created]
+        found.show(it, f'creates task {it.created}, child {number} of task {parent}')
+
+
+def entry_twice(found, trace, record):
+    earlier = first(it for it in trace.records(member(['seen'], record.seen)) if it.finish and it.seen == record.seen)
+    found.show(earlier, f'makes entry {earlier.seen} too')
+    found.say(f'Line {earlier.number} makes entry {record.seen} of the ledger already. Each finishing record has an index of'
+              ' its own.')
+
+
+def length_ahead(found, trace, record):
+    entries = sum(1 for it in trace.called('task_schedule', 'cancel') if it.finish)
+    names = 'makes entry' if record.finish else 'has seen the length'
+    ledger = f'the entries 0 to {entries - 1}' if entries else 'no entry'
+    found.say(f'Of the records of the file {entries} finish a task, so its ledger has {ledger}; the record {names} '
+              f'{record.seen}.')
+
+
+def length_back(found, trace, record):
+    """The record that is before it by a program step, and knew more."""
+    last = previous_in_thread(trace, record)
+    tasks = {it for it in (record.started, record.discarded, record.fulfilled) if it is not None}
+    made = [is_made(trace, task) for task in tasks]
+    for other in [last, *made]:
+        if other and other.known_after() > record.seen:
+            part = 'the record before it in its thread' if other is last else f'creates task {other.created}'
+            found.show(other, part)
+            found.say(f'Behind line {other.number}, {part}, the ledger length {other.known_after()} is known; this record '
+                      f'names {record.seen}, which is less.')
+
+
+def no_order(found, trace, record):
+    circle = orders.shortest_circle(trace)
+    for it in circle:
+        found.show(it, 'stands in the circle')
+    steps = [f'line {one.number} comes before line {other.number}, {orders.reason(one, other)}'
+             for one, other in zip(circle, circle[1:] + circle[:1])]
+    found.say('Each of these would have to come before the next one, and the last before the first: ' + '; '.join(steps) + '.')
+
+
+def target_task(found, trace, record):
+    found.say(f'Task {record.made} has the flag `target`: it is for a device, and the audit is about the host.')
+
+
+CAUSES = (seq_gap, created_twice, rootless, not_current, moved, status_order, region_order, team_short, nested_parallel,
+          deps_place, share_wrong, entry_twice, length_ahead, length_back, no_order, target_task)
+
+
+# Files that cannot be read
+
+def unreadable(sentence):
+    """An explanation that needs no more than the line's own text."""
+    def tell(found, trace):
+        found.say(sentence)
+    return tell
+
+
+def not_json(found, trace):
+    text = trace.line(found.line)
+    try:
+        json.loads(text.decode())
+        found.say('The line is not one JSON text as docs/FORMAT.md has it.')
+    except ValueError as error:
+        found.say(f'The line is not JSON: {error}.')
+
+
+def field(found, trace):
+    """Which member of the line is missing or of the wrong kind."""
+    for it in faults_of(trace.line(found.line).decode()):
+        found.say(f'{it[0].upper()}{it[1:]}.')
+
+
+def line_too_long(found, trace):
+    length = len(trace.line(found.line).removesuffix(b'\n'))
+    found.say(f'The line has {length:,} bytes; 65,536 are allowed.')
+
+
+def unended(found, trace):
+    text = trace.line(found.line)
+    found.say(f'The file ends in the middle of this line, behind {text[-40:]!r}: it was cut. What stands before it may be'
+              ' right; a recorder should write under another name and rename the file when it is whole.')
+
+
+UNREADABLE = {
+    1: unreadable('The input failed before this line was read.'), 2: unreadable('Memory ran out.'),
+    3: unreadable('Line 1 must be {"format":"task-credit-audit","version":1}.'), 4: line_too_long, 5: not_json, 6: field,
+    7: field, 8: unended, 9: unreadable('The input asked to be read again too often.')}

@@ -1,0 +1,98 @@
+"""Which member of a line docs/trace.schema.json refuses, and why. It knows the keywords that this schema has."""
+import json
+import os
+
+SCHEMA = os.path.join(os.path.dirname(os.path.dirname(os.path.abspath(__file__))), 'docs/trace.schema.json')
+KINDS = {'object': dict, 'array': list, 'string': str, 'boolean': bool, 'integer': int, 'null': type(None)}
+
+
+def schema():
+    with open(SCHEMA, encoding='utf-8') as it:
+        return json.load(it)
+
+
+def value_of(text):
+    """The value of a line; a number that is not written in digits alone is no int."""
+    return json.loads(text, parse_int=lambda digits: float(digits) if digits.startswith('-') else int(digits))
+
+
+class Checker:
+    """What is wrong with values, by one schema."""
+
+    def __init__(self, whole):
+        self.whole = whole
+
+    def resolved(self, part):
+        """The part, with what it refers to."""
+        if '$ref' not in part:
+            return part
+        found = self.whole
+        for name in part['$ref'].removeprefix('#/').split('/'):
+            found = found[name]
+        return {**found, **part}
+
+    def faults(self, part, value, where):
+        """Yields a sentence for each fault of the value, which stands at `where`."""
+        part = self.resolved(part)
+        kind = part.get('type')
+        if kind and (type(value) is not KINDS[kind]):
+            yield f'{where} is {json.dumps(value)}, and must be {self.described(part)}'
+            return
+        if 'const' in part and value != part['const'] or 'enum' in part and value not in part['enum']:
+            yield f'{where} is {json.dumps(value)}, and must be {self.described(part)}'
+        if isinstance(value, int) and not part.get('minimum', value) <= value <= part.get('maximum', value):
+            yield f'{where} is {value}, and must be {self.described(part)}'
+        if isinstance(value, list):
+            yield from self.faults_of_list(part, value, where)
+        if isinstance(value, dict):
+            yield from self.faults_of_object(part, value, where)
+
+    def described(self, part):
+        if 'const' in part or 'enum' in part:
+            return ' or '.join(json.dumps(it) for it in part.get('enum', [part.get('const')]))
+        if 'maximum' in part:
+            return f"a whole number from {part['minimum']} to {part['maximum']}, in digits"
+        return {'array': 'a list', 'object': 'an object', 'boolean': 'true or false', 'null': 'null or absent'}[part['type']]
+
+    def faults_of_list(self, part, value, where):
+        if len(value) > part.get('maxItems', len(value)):
+            yield f"{where} has {len(value)} items, and may have {part['maxItems']}"
+        for at, it in enumerate(value):
+            yield from self.faults(part.get('items', {}), it, f'{where}[{at}]')
+
+    def faults_of_object(self, part, value, where):
+        for other in part.get('allOf', []):
+            yield from self.faults(other, value, where)
+        for name in part.get('required', []):
+            if name not in value:
+                yield f'`{name}` is missing'
+        for name, other in part.get('properties', {}).items():
+            if name in value:
+                yield from self.faults(other, value[name], f'`{name}`')
+        if 'oneOf' in part:
+            yield from self.faults_of_choice(part['oneOf'], value, where)
+
+    def faults_of_choice(self, parts, value, where):
+        """A callback, or a status, says which of the parts is meant."""
+        parts = [self.resolved(it) for it in parts]
+        name = next(it for it in ('cb', 'status') if it in parts[0]['properties'])
+        known = {word: it for it in parts for word in self.words(it['properties'][name])}
+        if name not in value:
+            yield f'`{name}` is missing'
+        elif not isinstance(value[name], str) or value[name] not in known:
+            yield f"`{name}` is {json.dumps(value[name])}, and must be one of {', '.join(known)}"
+        else:
+            yield from self.faults(known[value[name]], value, where)
+
+    def words(self, part):
+        return part.get('enum', [part.get('const')])
+
+
+def faults_of(text):
+    """What is wrong with a line of a record, in sentences."""
+    whole = schema()
+    value = value_of(text)
+    if not isinstance(value, dict):
+        return ['the line is not an object']
+    records = next(it for it in whole['anyOf'] if 'oneOf' in it)
+    return [*dict.fromkeys(Checker(whole).faults(records, value, 'the line'))]
