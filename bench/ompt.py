@@ -60,7 +60,8 @@ def main(words):
             before, after = run(folder, LARGEST), run(folder, LARGEST, file)
             seconds.append((after[1] - after[0]) - (before[1] - before[0]))
         size, count = os.path.getsize(file), lines_of(file) - 1
-        print(f'\n{count:,} records, {size / 1e6:.0f} MB, written in {min(seconds):.2f} s: {size / 1e6 / min(seconds):.0f} MB/s')
+        least, size = min(seconds), size / 1e6
+        print(f'\n{count:,} records, {size:.0f} MB, written in {least:.2f} s: {size / least:.0f} MB/s')
 
 
 if __name__ == '__main__':

@@ -15,8 +15,9 @@
 /* So much memory is taken at once for a thread: first little, since it may have few records, then two of the processor's
    large pages. */
 enum { FIRST_PIECE = 256 << 10, PIECE = 4 << 20 };
-/* Types that older headers lack. */
+/* Values that older headers lack, and the last of those that a file can name. */
 enum { INOUTSET = 7, OUT_ALL_MEMORY = 34, INOUT_ALL_MEMORY = 35, PARALLEL_LEAGUE = 0x40000000 };
+enum { LAST_THREAD_KIND = 4, LAST_STATUS = 8, LAST_REGION_KIND = 10 };
 
 struct thread *threads[MAX_THREADS];
 _Atomic int thread_count;
@@ -155,7 +156,8 @@ static struct task *new_task(struct thread *thread) {
 static void on_thread_begin(ompt_thread_t kind, ompt_data_t *data) {
     (void)data;
     struct thread *thread = this_thread();
-    if (thread) keep_known(thread, (struct record){.callback = THREAD_BEGIN, .kind = kind});
+    struct record record = {.callback = THREAD_BEGIN, .kind = (int)kind <= LAST_THREAD_KIND ? kind : 0};
+    if (thread) keep_known(thread, record);
 }
 
 static void on_thread_end(ompt_data_t *data) {
@@ -252,6 +254,7 @@ static uint32_t copy_list(struct dependence *list, const ompt_dependence_t *item
         uint32_t type = items[i].dependence_type;
         if (type == ompt_dependence_type_source || type == ompt_dependence_type_sink) note(DOACROSS, NULL);
         else if (type == OUT_ALL_MEMORY || type == INOUT_ALL_MEMORY) note(ALL_MEMORY, NULL);
+        else if (type == 0 || type > INOUTSET) note(UNKNOWN, NULL);
         else if (kept == MAX_DEPENDENCES) note(LONG_LIST, NULL);
         else list[kept++] = (struct dependence){items[i].variable.value, type};
     }
@@ -302,6 +305,10 @@ static void on_task_schedule(ompt_data_t *prior_data, ompt_task_status_t status,
         note(NO_TASK, NULL);
         return;
     }
+    if (status == 0 || (int)status > LAST_STATUS) {
+        note(UNKNOWN, NULL);
+        return;
+    }
     if (prior->is_finished && next) { /* it was discarded: the runtime tells that once more */
         note(DISCARDED_TWICE, NULL);
         return;
@@ -325,8 +332,8 @@ static void on_sync_region(ompt_sync_region_t kind, ompt_scope_endpoint_t endpoi
     struct thread *thread = this_thread();
     struct task *task = task_of(data);
     if (!thread) return;
-    if (!task) {
-        note(NO_TASK, code);
+    if (!task || kind == 0 || (int)kind > LAST_REGION_KIND) {
+        note(task ? UNKNOWN : NO_TASK, code);
         return;
     }
     struct record record = {.callback = SYNC_REGION, .kind = kind, .endpoint = endpoint, .task = task, .code = code,

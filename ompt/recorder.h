@@ -75,7 +75,7 @@ struct thread {
 /* What was changed or left out, and what the audit does not cover: each with its name in the header of the file. */
 enum note {
     MOVED, UNTIED, CREATED_FOR_ANOTHER, DISCARDED_TWICE, DOACROSS, ALL_MEMORY, LONG_LIST, LATE_LIST, NO_TASK,
-    WRONG_END, NESTED, INNER_REGIONS, TEAMS, TARGET, ADDED_MEMBERS, BARRIERS_RENAMED,
+    UNKNOWN, WRONG_END, NESTED, INNER_REGIONS, TEAMS, TARGET, ADDED_MEMBERS, BARRIERS_RENAMED,
     /* why recording stopped */
     MANY_RECORDS, MANY_TASKS, MANY_THREADS, DEEP_TASKS, NO_MEMORY, NOTES
 };

@@ -34,7 +34,7 @@ static const struct flag cancel_flags[] = {{1, "parallel"}, {2, "sections"}, {4,
                                            {0x10, "activated"}, {0x20, "detected"}, {0x40, "discarded_task"}, {0, NULL}};
 static const char *const note_names[NOTES] = {
     "moved", "untied", "created_for_another", "discarded_twice", "doacross", "all_memory", "long_list", "late_list",
-    "no_task", "wrong_end", "nested", "inner_regions", "teams", "target", "added_members", "barriers_renamed",
+    "no_task", "unknown", "wrong_end", "nested", "inner_regions", "teams", "target", "added_members", "barriers_renamed",
     "many_records", "many_tasks", "many_threads", "deep_tasks", "no_memory"};
 
 /* No record takes more text: a path has at most 1,024 numbers, a list 64 items, and a module's name 256 bytes. */
@@ -106,6 +106,14 @@ static int module_count;
 /* Whether code that gcc compiled runs under LLVM's runtime: that goes by the name of gcc's then. */
 static bool is_gcc;
 
+/* Copies a name, where what JSON would have to escape becomes `_`. */
+static void copy_plain(char *to, size_t size, const char *from) {
+    size_t at = 0;
+    for (; from[at] && at + 1 < size; at++)
+        to[at] = from[at] < ' ' || from[at] > '~' || from[at] == '"' || from[at] == '\\' ? '_' : from[at];
+    to[at] = 0;
+}
+
 static int add_module(struct dl_phdr_info *info, size_t size, void *unused) {
     (void)size, (void)unused;
     for (int i = 0; i < info->dlpi_phnum && module_count < 128; i++) {
@@ -115,8 +123,8 @@ static int add_module(struct dl_phdr_info *info, size_t size, void *unused) {
         made->base = info->dlpi_addr;
         made->begin = made->base + part->p_vaddr;
         made->end = made->begin + part->p_memsz;
-        snprintf(made->name, sizeof made->name, "%s", info->dlpi_name);
-        is_gcc |= strstr(made->name, "libgomp.so") != NULL;
+        is_gcc |= strstr(info->dlpi_name, "libgomp.so") != NULL;
+        copy_plain(made->name, sizeof made->name, info->dlpi_name);
     }
     return 0;
 }
@@ -392,7 +400,17 @@ static void look_at_barriers(void) {
     wait_count += found / 2;
 }
 
-/* Members that never began: the program ended before their threads woke. A thread of their own begins and ends them. */
+/* Members that never began: the program ended before their threads woke. A thread of their own begins and ends them,
+   where the file has room for one more. */
+
+static bool lacks_members(uint32_t region) {
+    return teams[region].begun < teams[region].size && teams[region].size <= MAX_THREADS && thread_total() < MAX_THREADS;
+}
+
+static void look_at_teams(void) {
+    for (uint32_t region = 1; teams && region <= last_region; region++)
+        if (lacks_members(region)) atomic_fetch_add(&notes[ADDED_MEMBERS], teams[region].size - teams[region].begun);
+}
 
 static void find_begun(uint32_t region, bool *is_begun) {
     memset(is_begun, 0, MAX_THREADS);
@@ -409,7 +427,7 @@ static void put_missing_members(void) {
     static bool is_begun[MAX_THREADS];
     uint32_t seq = 0;
     for (uint32_t region = 1; teams && region <= last_region; region++) {
-        if (teams[region].begun >= teams[region].size || teams[region].size > MAX_THREADS) continue;
+        if (!lacks_members(region)) continue;
         find_begun(region, is_begun);
         for (uint32_t index = 0; index < teams[region].size; index++) {
             if (is_begun[index]) continue;
@@ -419,7 +437,6 @@ static void put_missing_members(void) {
             put_record(&record, thread_total(), seq++);
             record.endpoint = ompt_scope_end;
             put_record(&record, thread_total(), seq++);
-            count(ADDED_MEMBERS, NULL);
         }
     }
 }
@@ -457,6 +474,7 @@ void write_trace(const char *ending) {
     if (teams == MAP_FAILED) teams = NULL;
     for (int i = 0; i < thread_total(); i++) look_at(thread_at(i));
     look_at_barriers();
+    look_at_teams();
     put_header(ending);
     for (int i = 0; i < thread_total(); i++) put_thread(thread_at(i));
     put_missing_members();

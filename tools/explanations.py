@@ -180,7 +180,8 @@ def seq_gap(found, trace, record):
     last = previous_in_thread(trace, record)
     if last:
         found.show(last, f'the record before it of thread {record.thread}')
-    found.say(f'{before} records of thread {record.thread} stand before it, so its seq must be {before}; it is {record.seq}.')
+    found.say(f'{before} records of thread {record.thread} stand before it, so its seq must be {before}; it is '
+              f'{record.seq}.')
 
 
 def created_twice(found, trace, record):
@@ -226,8 +227,9 @@ def not_current(found, trace, record):
     else:
         root = record.ended_root if record.ended_root is not None else record.started
         inner = innermost(walk)
-        told = 'has no open root' if inner is None else f'has the root {inner} as its innermost (line {begins[inner].number})'
-        found.say(f"Thread {record.thread} {told}; root {root} cannot {'end' if record.ended_root is not None else 'run'} here.")
+        told = 'no open root' if inner is None else f'the innermost root {inner} (line {begins[inner].number})'
+        verb = 'run' if record.ended_root is None else 'end'
+        found.say(f'Thread {record.thread} has {told}; root {root} cannot {verb} here.')
 
 
 def moved(found, trace, record):
@@ -240,7 +242,8 @@ def moved(found, trace, record):
 
 def status_order(found, trace, record):
     """Of each task that the record moves: the state before it, and what that allows."""
-    for task in dict.fromkeys(it for it in (*(record.schedule or ())[1:], record.started, record.discarded) if it is not None):
+    named = (*(record.schedule or ())[1:], record.started, record.discarded)
+    for task in dict.fromkeys(it for it in named if it is not None):
         own = [*trace.of_task(task)]
         nature = nature_of(own, task)
         state = 'Running' if nature == 'root' else 'Created'
@@ -263,8 +266,8 @@ def say_state(found, task, nature, state, move, line):
     allowed = [status for status in NEXT_STATE[state] if may(nature, 'Stopped', status)]
     allowed += ['runs'] * (state in START_STATE and may(nature, 'Started', None))
     allowed += ['is discarded'] * (state in DISCARD_STATE and may(nature, 'Discarded', None))
-    kind = {'root': 'an initial or implicit task', 'taskwait': 'a taskwait with dependences'}.get(nature, 'an explicit task')
-    found.say(f"Task {task}, {kind}, is {state} before line {line}, which allows: {', '.join(allowed) or 'nothing more'}. "
+    kinds = {'root': 'an initial or implicit task', 'taskwait': 'a taskwait with dependences', 'any': 'an explicit task'}
+    found.say(f"Task {task}, {kinds[nature]}, is {state} before line {line}, which allows: {', '.join(allowed) or 'nothing more'}. "
               f'The record says: {moved_by(move)}.')
 
 
@@ -307,8 +310,8 @@ def say_short_team(found, trace, record):
     if len(members) < actual:
         there = {it.joined.index for it in members}
         missing = [str(it) for it in range(min(actual, 1024)) if it not in there]
-        found.say(f"The team of region {parallel} is of {actual}, and {len(members)} of it begin in the file. Missing: member "
-                  f"{', '.join(missing[:20])}.")
+        found.say(f'The team of region {parallel} is of {actual}, and {len(members)} of it begin in the file. Missing: '
+                  f"member {', '.join(missing[:20])}.")
 
 
 def barriers_of(trace, task):
@@ -356,7 +359,8 @@ def deps_place(found, trace, record):
     follows = first(it for it in trace.of_thread(record.thread) if it.number > record.number)
     if follows:
         found.show(follows, f'the next record of thread {record.thread}')
-    found.say(f'deps is true, so the next record of thread {record.thread} must be the dependences of task {record.created}.')
+    found.say(f'deps is true, so the next record of thread {record.thread} must be the dependences of task '
+              f'{record.created}.')
 
 
 def share_wrong(found, trace, record):
@@ -376,8 +380,8 @@ def share_wrong(found, trace, record):
 def entry_twice(found, trace, record):
     earlier = first(it for it in trace.records(member(['seen'], record.seen)) if it.finish and it.seen == record.seen)
     found.show(earlier, f'makes entry {earlier.seen} too')
-    found.say(f'Line {earlier.number} makes entry {record.seen} of the ledger already. Each finishing record has an index of'
-              ' its own.')
+    found.say(f'Line {earlier.number} makes entry {record.seen} of the ledger already. Each finishing record has an index'
+              ' of its own.')
 
 
 def length_ahead(found, trace, record):
@@ -407,7 +411,8 @@ def no_order(found, trace, record):
         found.show(it, 'stands in the circle')
     steps = [f'line {one.number} comes before line {other.number}, {orders.reason(one, other)}'
              for one, other in zip(circle, circle[1:] + circle[:1])]
-    found.say('Each of these would have to come before the next one, and the last before the first: ' + '; '.join(steps) + '.')
+    found.say('Each of these would have to come before the next one, and the last before the first: '
+              + '; '.join(steps) + '.')
 
 
 def target_task(found, trace, record):

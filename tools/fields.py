@@ -52,7 +52,8 @@ class Checker:
             return ' or '.join(json.dumps(it) for it in part.get('enum', [part.get('const')]))
         if 'maximum' in part:
             return f"a whole number from {part['minimum']} to {part['maximum']}, in digits"
-        return {'array': 'a list', 'object': 'an object', 'boolean': 'true or false', 'null': 'null or absent'}[part['type']]
+        words = {'array': 'a list', 'object': 'an object', 'boolean': 'true or false', 'null': 'null or absent'}
+        return words[part['type']]
 
     def faults_of_list(self, part, value, where):
         if len(value) > part.get('maxItems', len(value)):

@@ -32,6 +32,8 @@ text { font: 11px sans-serif; }
 .key span { display: inline-block; margin-right: 18px; }
 .key i { display: inline-block; width: 22px; height: 10px; margin-right: 5px; }
 '''
+SCRIPT = '''const at = document.getElementById("named");
+if (at) at.scrollIntoView({inline: "center", block: "nearest"});'''
 KEY = '''<p class="key"><span><i style="background:#e4e4e4"></i>an initial or implicit task runs</span>
 <span><i style="background:#9db8d9"></i>an explicit task runs</span>
 <span><i style="background:#f2a33c"></i>the unfinished task runs</span>
@@ -184,5 +186,4 @@ def page(file, found):
             f'<style>{STYLE}</style></head><body>\n<h1>{escape(found.answer)}</h1>\n{told}'
             f'<p>Records from left to right in an order that they allow; the first and the last may be left out.</p>{KEY}'
             f'<div class="sheet">{Sheet(records, found).text()}</div>\n<pre>{escape(lines)}</pre>\n'
-            '<script>const at = document.getElementById("named"); if (at) at.scrollIntoView({inline: "center", block: "nearest"});</script>\n'
-            '</body></html>\n')
+            f'<script>{SCRIPT}</script>\n</body></html>\n')
