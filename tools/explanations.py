@@ -5,8 +5,8 @@ import re
 
 import orders
 from fields import faults_of
-from model import (BARRIERS, CALLED_BARRIERS, DISCARD_STATE, NEXT_STATE, START_STATE, WAITS_FOR_TASKS, Walk, after_body,
-                   conflict, innermost, may, moves_of, nature_of, state_after)
+from model import (BARRIERS, CALLED_BARRIERS, DISCARD_STATE, NEXT_STATE, START_STATE, Walk, after_body, conflict,
+                   innermost, may, moves_of, nature_of, state_after)
 from traces import Trace, member
 
 ANSWER = re.compile(r'(?:malformed: (?P<malformed>.*): cause (?P<cause>\d+) \w+'

@@ -71,7 +71,8 @@ class Trace:
     def matches(self, pattern):
         """Yields number and text of each line in which the pattern stands, and of each with a backslash, which may spell
         its names in another way."""
-        search, data = re.compile(rf'(?:{pattern})|\\'.encode()).search, self.mapped()
+        pattern, data = rf'(?:{pattern})|\\' if self.has_escapes else pattern, self.mapped()
+        search = re.compile(pattern.encode()).search
         number, at = 1, 0
         while found := search(data, at):
             begin = max(data.rfind(b'\n', at, found.start()) + 1, at)
