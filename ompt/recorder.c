@@ -227,13 +227,13 @@ static void on_task_create(ompt_data_t *encountering, const ompt_frame_t *frame,
     struct thread *thread = this_thread();
     struct task *creator = task_of(encountering);
     if (!thread) return;
-    if (creator && creator->depth == MAX_DEPTH) { /* its claims could not be said */
-        stop(DEEP_TASKS, code);
-        return;
-    }
     if (thread->current && creator != thread->current) {
         note(CREATED_FOR_ANOTHER, code);
         creator = thread->current;
+    }
+    if (creator && creator->depth == MAX_DEPTH) { /* the claims of its children could not be said */
+        stop(DEEP_TASKS, code);
+        return;
     }
     struct task *made = creator ? new_task(thread) : NULL;
     if (!made) return;
@@ -309,22 +309,19 @@ static void on_task_schedule(ompt_data_t *prior_data, ompt_task_status_t status,
         note(UNKNOWN, NULL);
         return;
     }
-    if (prior->is_finished && next) { /* it was discarded: the runtime tells that once more */
+    if (prior->is_discarded && prior != thread->current) { /* the runtime tells once more that it was */
         note(DISCARDED_TWICE, NULL);
         return;
     }
-    if (next && !is_finishing(status) && prior != thread->current && thread->current) { /* parts of an untied task */
+    if (prior == next && !is_finishing(status)) { /* a part of an untied task, from its own point of view */
         note(UNTIED, NULL);
+        if (next == thread->current || !thread->current) return;
         prior = thread->current;
     }
-    if (prior == next) return;
     struct record record = {.callback = TASK_SCHEDULE, .kind = status, .task = prior, .other = next};
     if (next) run_next(thread, next);
-    if (!is_finishing(status)) keep_reading(thread, record);
-    else {
-        prior->is_finished = status != ompt_task_detach;
-        keep_finishing(thread, record);
-    }
+    if (is_finishing(status)) keep_finishing(thread, record);
+    else keep_reading(thread, record);
 }
 
 static void on_sync_region(ompt_sync_region_t kind, ompt_scope_endpoint_t endpoint, ompt_data_t *region,
@@ -357,7 +354,7 @@ static void on_cancel(ompt_data_t *data, int flags, const void *code) {
         keep_known(thread, record);
         return;
     }
-    task->is_finished = true;
+    task->is_discarded = true;
     keep_finishing(thread, record);
 }
 

@@ -28,7 +28,7 @@ struct task {
     uint32_t children;     /* how many it has created */
     uint32_t depth;        /* how many steps it is below its root */
     int32_t thread;        /* the thread on which it first ran, or -1. Version 2 of the file will count its turns here */
-    bool is_initial, is_finished;
+    bool is_initial, is_discarded;
     bool has_list;         /* its dependences are recorded */
     bool has_started;      /* for the writer: its start was counted */
 };

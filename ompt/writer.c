@@ -3,6 +3,7 @@
 #define _GNU_SOURCE
 #include "recorder.h"
 
+#include <errno.h>
 #include <fcntl.h>
 #include <link.h>
 #include <omp-tools.h>
@@ -52,6 +53,7 @@ static bool has_failed;
 static void flush(void) {
     for (size_t at = 0; at < length;) {
         ssize_t written = write(file, text + at, length - at);
+        if (written < 0 && errno == EINTR) continue;
         if (written <= 0) {
             has_failed = true;
             break;

@@ -2,11 +2,13 @@
 words are those of docs/MODEL.md; `model` restates its definitions."""
 import json
 import re
+from collections import Counter, deque
+from itertools import islice
 
 import orders
 from fields import faults_of
 from model import (BARRIERS, CALLED_BARRIERS, DISCARD_STATE, NEXT_STATE, START_STATE, Walk, after_body, conflict,
-                   innermost, may, moves_of, nature_of, state_after)
+                   innermost, may, moves_by, state_after)
 from traces import Trace, member
 
 ANSWER = re.compile(r'(?:malformed: (?P<malformed>.*): cause (?P<cause>\d+) \w+'
@@ -14,8 +16,10 @@ ANSWER = re.compile(r'(?:malformed: (?P<malformed>.*): cause (?P<cause>\d+) \w+'
                     r'|unreadable: (?P<unreadable>.*): (?P<fault>\d) (?P<name>\w+)|(?P<yes>yes): .*|(?P<other>.*))\n?')
 
 
-# So many creations are shown of a task and those above it.
-MOST_ANCESTORS = 8
+# So many records of one kind are shown, and so many tasks named in a row.
+MOST_SHOWN = 8
+# A path has at most so many numbers.
+MOST_NUMBERS = 1024
 
 
 class Explanation:
@@ -63,6 +67,12 @@ def explain_yes(found, trace):
               ' records allow. Nothing is to be mended.')
 
 
+def few(words, between):
+    """The words in a row; of many the first ones."""
+    more = f'{between}and {len(words) - MOST_SHOWN} more' if len(words) > MOST_SHOWN else ''
+    return between.join(map(str, words[:MOST_SHOWN])) + more
+
+
 # A no
 
 def explain_no(found, trace, record):
@@ -82,7 +92,7 @@ def explain_wait(found, trace, record):
         found.show(begin, f'the begin of the {kind} that ends on line {record.number}')
     above = trace.ancestors(found.task)
     found.show(trace.creation(found.task), f'the creation of task {found.task}')
-    chain = ', '.join(f'task {one} is a child of task {other}' for one, other in zip(above, above[1:]))
+    chain = few([f'task {one} is a child of task {other}' for one, other in zip(above, above[1:])], ', ')
     found.say(f'Line {record.number} ends a {kind} of task {task}, which waits for task {found.task}: {chain}.')
 
 
@@ -94,7 +104,7 @@ def explain_start(found, trace, record):
         for it in trace.of_task(task):
             if it.created == task:
                 found.show(it, f'the creation of task {task}')
-            if it.has_list():
+            if it.dependences and it.dependences[0] == task:
                 found.show(it, f'what task {task} depends on')
                 lists[task] = it.dependences[1]
     pairs = [(one, other) for one in lists[found.task] for other in lists[later] if conflict(one, other)]
@@ -107,7 +117,7 @@ def show_life(found, trace, record):
     """The starts and the ends of the unfinished task, and what is missing."""
     parts, starts = {}, []
     for it in trace.of_task(found.task):
-        if it.started == found.task:
+        if it.started == found.task and len(starts) < MOST_SHOWN:
             starts.append(found.show(it, f'task {found.task} runs from here on'))
         if it.finish and it.finish[0] == found.task:
             parts[it.finish[1]] = found.show(it, f'finishes task {found.task} ({it.finish[1].lower()}): entry {it.seen}')
@@ -141,10 +151,10 @@ def open_regions(trace, task, before):
     opened = []
     for it in trace.of_task(task, last=before - 1):
         if it.region and it.region.task == task and it.region.endpoint == 'begin':
-            opened.insert(0, it)
+            opened.append(it)
         elif it.region and it.region.task == task and it.region.endpoint == 'end' and opened:
-            opened.pop(0)
-    return opened
+            opened.pop()
+    return opened[::-1]
 
 
 def walk_before(trace, record):
@@ -176,8 +186,9 @@ def is_made(trace, task):
 # The causes, in the order of their numbers
 
 def seq_gap(found, trace, record):
-    before = sum(1 for _ in trace.of_thread(record.thread, last=record.number - 1))
-    last = previous_in_thread(trace, record)
+    before, last = 0, None
+    for before, last in enumerate(trace.of_thread(record.thread, last=record.number - 1), 1):
+        pass
     if last:
         found.show(last, f'the record before it of thread {record.thread}')
     found.say(f'{before} records of thread {record.thread} stand before it, so its seq must be {before}; it is '
@@ -209,7 +220,7 @@ def rootless(found, trace, record):
         found.say(f'`parallel` names region {region}, and no parallel_begin begins it.')
         return
     above = trace.ancestors(record.created)
-    found.say(f"The parents of task {record.created} lead to no initial or implicit task: {' < '.join(map(str, above))}"
+    found.say(f"The parents of task {record.created} lead to no initial or implicit task: {few(above, ' < ')}"
               + (f' < {trace.creations[above[-1]][0]}, a circle.' if above[-1] in trace.creations else ', which none is.'))
 
 
@@ -244,17 +255,36 @@ def status_order(found, trace, record):
     """Of each task that the record moves: the state before it, and what that allows."""
     named = (*(record.schedule or ())[1:], record.started, record.discarded)
     for task in dict.fromkeys(it for it in named if it is not None):
-        own = [*trace.of_task(task)]
-        nature = nature_of(own, task)
-        state = 'Running' if nature == 'root' else 'Created'
-        for at, move in moves_of(own, task):
+        nature, moves = life_of(trace, task)
+        state, before = 'Running' if nature == 'root' else 'Created', deque(maxlen=MOST_SHOWN)
+        for line, move in moves:
             after = state_after(state, *move) if may(nature, *move) else None
-            if own[at].number != record.number:
-                found.show(own[at], f'a move of task {task}: {moved_by(move)}')
             if after is None:
-                say_state(found, task, nature, state, move, own[at].number)
+                by = {line: f'a move of task {task}: {moved_by(move)}' for line, move in before}
+                for it in trace.among(by.__contains__):
+                    found.show(it, by[it.number])
+                say_state(found, task, nature, state, move, line)
                 break
             state = after
+            before.append((line, move))
+
+
+def life_of(trace, task):
+    """The task's nature, and its moves with their lines: early fulfilments on other threads than its home, those at home,
+    all others."""
+    nature, begun, run, moves = 'any', None, None, []
+    for it in trace.of_task(task):
+        if task in (it.begun_root, it.created):
+            nature = 'root' if it.begun_root == task else 'taskwait' if 'taskwait' in it.flags else 'any'
+        begun = it.thread if begun is None and it.begun_root == task else begun
+        run = it.thread if run is None and it.started == task else run
+        moves += [(it.thread, it.number, move) for move in moves_by(task, it)]
+    home = begun if nature == 'root' else run
+
+    def rank(moved):
+        thread, _, move = moved
+        return 1 if thread == home else 0 if move == ('Stopped', 'early_fulfill') else 2
+    return nature, [(line, move) for _, line, move in sorted(moves, key=rank)]
 
 
 def moved_by(move):
@@ -267,8 +297,9 @@ def say_state(found, task, nature, state, move, line):
     allowed += ['runs'] * (state in START_STATE and may(nature, 'Started', None))
     allowed += ['is discarded'] * (state in DISCARD_STATE and may(nature, 'Discarded', None))
     kinds = {'root': 'an initial or implicit task', 'taskwait': 'a taskwait with dependences', 'any': 'an explicit task'}
-    found.say(f"Task {task}, {kinds[nature]}, is {state} before line {line}, which allows: {', '.join(allowed) or 'nothing more'}. "
-              f'The record says: {moved_by(move)}.')
+    words = ', '.join(allowed) or 'nothing more'
+    found.say(f'Task {task}, {kinds[nature]}, is {state} before line {line}, which allows: {words}. The record says: '
+              f'{moved_by(move)}.')
 
 
 def region_order(found, trace, record):
@@ -296,43 +327,43 @@ def team_short(found, trace, record):
 
 def say_short_team(found, trace, record):
     parallel, actual, index, _ = record.joined
-    members = [it for it in trace.called('implicit_task') if it.joined and it.joined.parallel == parallel]
-    for it in members:
+    members = members_of(trace, parallel)
+    for it in members[:MOST_SHOWN]:
         found.show(it, f'member {it.joined.index} of region {parallel}, of a team of {it.joined.actual}')
     earlier = [it for it in members if it.number < record.number]
     if index >= actual:
         found.say(f'The index {index} is not below the size of the team, {actual}.')
-    for it in earlier:
-        if it.joined.index == index:
-            found.say(f'Line {it.number} began member {index} of region {parallel} already.')
-        if it.joined.actual != actual:
-            found.say(f'Line {it.number} says that the team has {it.joined.actual} members, and this record {actual}.')
+    same = first(it for it in earlier if it.joined.index == index)
+    if same:
+        found.say(f'Line {same.number} began member {index} of region {parallel} already.')
+    other = first(it for it in earlier if it.joined.actual != actual)
+    if other:
+        found.say(f'Line {other.number} says that the team has {other.joined.actual} members, and this record {actual}.')
     if len(members) < actual:
         there = {it.joined.index for it in members}
-        missing = [str(it) for it in range(min(actual, 1024)) if it not in there]
+        missing = [*islice((it for it in range(actual) if it not in there), MOST_SHOWN)]
         found.say(f'The team of region {parallel} is of {actual}, and {len(members)} of it begin in the file. Missing: '
-                  f"member {', '.join(missing[:20])}.")
+                  f"member {few(missing, ', ')}.")
 
 
-def barriers_of(trace, task):
-    """The records that begin the task's barriers."""
-    return [it for it in trace.of_task(task) if it.region and it.region.task == task and it.region.kind in BARRIERS
-            and it.region.endpoint != 'end']
+def members_of(trace, parallel):
+    return [it for it in trace.called('implicit_task') if it.joined and it.joined.parallel == parallel]
 
 
 def say_missed_barrier(found, trace, record):
     """A member that began fewer barriers than the one that ends here."""
-    task = record.region.task
-    own = [it for it in barriers_of(trace, task) if it.number <= record.number]
-    number = len(own) - 1
-    parallel = is_made(trace, task).joined.parallel
-    for it in trace.called('implicit_task'):
-        if it.joined and it.joined.parallel == parallel:
-            begun = barriers_of(trace, it.joined.member)
-            if len(begun) <= number:
-                found.show(it, f'begins task {it.joined.member}, which begins {len(begun)} barriers')
-                found.say(f'Barrier number {number} of task {task} ends here, counted from 0. In the whole file task '
-                          f'{it.joined.member} of the same team begins {len(begun)}, so it never came to this one.')
+    task, own, begun = record.region.task, 0, Counter()
+    for it in trace.called('sync_region'):
+        if it.region.kind in BARRIERS and it.region.endpoint != 'end':
+            begun[it.region.task] += 1
+            own += it.region.task == task and it.number <= record.number
+    late = [it for it in members_of(trace, is_made(trace, task).joined.parallel) if begun[it.joined.member] < own]
+    found.say(f'Barrier number {own - 1} of task {task} ends here, counted from 0.')
+    for it in late[:MOST_SHOWN]:
+        count = begun[it.joined.member]
+        found.show(it, f'begins task {it.joined.member}, which begins {count} barriers')
+        found.say(f'In the whole file task {it.joined.member} of the same team begins {count}, so it never came to this'
+                  ' one.')
 
 
 def nested_parallel(found, trace, record):
@@ -369,9 +400,11 @@ def share_wrong(found, trace, record):
     right = {'root': above[-1], 'path': [trace.creations[it][1] for it in above[-2::-1]],
              'kept': trace.child_count(record.finish[0])}
     for name, wanted in right.items():
-        if record.value[name] != wanted:
+        if record.value[name] != wanted and name == 'path' and len(wanted) > MOST_NUMBERS:
+            found.say(f'`path` has {len(record.value[name])} numbers, and must have {len(wanted)}, which no file can say.')
+        elif record.value[name] != wanted:
             found.say(f'`{name}` is {record.value[name]}, and must be {wanted}.')
-    lines = {trace.creations[task][2] for task in above[:-1][:MOST_ANCESTORS]}
+    lines = {trace.creations[task][2] for task in above[:-1][:MOST_SHOWN]}
     for it in sorted(trace.among(lines.__contains__), key=lambda it: -it.number):
         parent, number, _ = trace.creations[it.created]
         found.show(it, f'creates task {it.created}, child {number} of task {parent}')
@@ -407,12 +440,11 @@ def length_back(found, trace, record):
 
 def no_order(found, trace, record):
     circle = orders.shortest_circle(trace)
-    for it in circle:
+    for it in circle[:2 * MOST_SHOWN]:
         found.show(it, 'stands in the circle')
     steps = [f'line {one.number} comes before line {other.number}, {orders.reason(one, other)}'
              for one, other in zip(circle, circle[1:] + circle[:1])]
-    found.say('Each of these would have to come before the next one, and the last before the first: '
-              + '; '.join(steps) + '.')
+    found.say(f"Each of these would have to come before the next one, and the last before the first: {few(steps, '; ')}.")
 
 
 def target_task(found, trace, record):

@@ -1,10 +1,11 @@
 """Orders of records: what has to come before what, a circle of that where there is no order, and one order where there
 is."""
-from collections import defaultdict, deque
+from collections import defaultdict, deque, namedtuple
+from heapq import heapify, heappop, heappush
 from itertools import groupby
 
-# More starting points are not tried in the search for the shortest circle.
-MOST_TRIED = 2000
+# So much is looked at in the search for a shortest circle; past that the shortest one found until then serves.
+MOST_LOOKED_AT = 10**6
 
 
 def needs(record):
@@ -19,78 +20,104 @@ def reason(one, other):
     return f'in thread {one.thread}'
 
 
+# What a record is in the search for circles: small, since a file may have millions.
+Event = namedtuple('Event', 'number thread seq created needs started')
+
+
 class Steps:
-    """The creations of tasks and the records that must come behind them, by thread; of a start the first in the file."""
+    """The creations of tasks, the first start of each in the file, and all records that create, start, discard or fulfil
+    a task, in file order."""
 
     def __init__(self, trace):
-        self.creations, self.behind, started = {}, defaultdict(list), set()
-        for it in trace.called('task_create', 'task_schedule', 'cancel'):
+        self.creations, self.starts, self.events = {}, {}, []
+        for record in trace.called('task_create', 'task_schedule', 'cancel'):
+            it = Event(record.number, record.thread, record.seq, record.created, needs(record), record.started)
             if it.created is not None:
                 self.creations.setdefault(it.created, it)
-            for task in needs(it):
-                if task != it.started or task not in started:
-                    self.behind[task].append(it)
-                started |= {task} if task == it.started else set()
+            if it.started is not None:
+                self.starts.setdefault(it.started, it.number)
+            if it.created is not None or it.needs:
+                self.events.append(it)
 
-    def pairs(self):
-        """Each creation with each record that must come behind it, where both are left when all that can be put in an
-        order is taken away."""
-        left = self.left()
-        return [(made, it) for task, made in self.creations.items() for it in self.behind[task]
-                if made.number in left and it.number in left]
+    def awaited(self, record):
+        """The creations that the record must come behind."""
+        return [self.creations[task] for task in record.needs if task in self.creations
+                and (task != record.started or self.starts[task] == record.number)]
 
-    def left(self):
-        """The lines that stand in a circle or behind one."""
-        events = {it.number: it for it in self.creations.values()} | {
-            it.number: it for behind in self.behind.values() for it in behind}
+    def stuck(self):
+        """The records left of each thread, in its order, when all that can be put in an order is taken away: each first
+        one awaits a creation that is left too."""
         lanes = defaultdict(deque)
-        for it in sorted(events.values(), key=lambda it: it.seq):
+        for it in self.events:
             lanes[it.thread].append(it)
         placed, waiting, ready = set(), defaultdict(list), deque(lanes)
         while ready:
             lane = lanes[ready.popleft()]
             while lane:
-                open_tasks = [task for task in needs(lane[0]) if lane[0] in self.behind[task]
-                              and task in self.creations and task not in placed]
-                if open_tasks:
-                    waiting[open_tasks[0]].append(lane[0].thread)
+                missing = next((it.created for it in self.awaited(lane[0]) if it.created not in placed), None)
+                if missing is not None:
+                    waiting[missing].append(lane[0].thread)
                     break
                 it = lane.popleft()
                 if it.created is not None:
                     placed.add(it.created)
                     ready.extend(waiting.pop(it.created, []))
-        return {it.number for lane in lanes.values() for it in lane}
+        return {thread: lane for thread, lane in lanes.items() if lane}
 
 
 def shortest_circle(trace):
-    """The records of a shortest circle: each creation, the record that must come behind it, and in the thread of that
-    the next creation."""
-    pairs = Steps(trace).pairs()
+    """The records of a shortest circle, or of a short one where very many records stand in circles: each creation, the
+    record that must come behind it, and in the thread of that the next creation."""
+    steps = Steps(trace)
+    lanes = steps.stuck()
+    left = {it.number for lane in lanes.values() for it in lane}
+    pairs = [(made, it) for lane in lanes.values() for it in lane for made in steps.awaited(it) if made.number in left]
+    best, budget = circle_of_heads(steps, lanes, left), MOST_LOOKED_AT
     by_thread = defaultdict(list)
-    for at, (made, _) in enumerate(pairs):
-        by_thread[made.thread].append(at)
-    for found in by_thread.values():
-        found.sort(key=lambda at: -pairs[at][0].seq)
-    circles = [circle for start in range(min(len(pairs), MOST_TRIED)) if (circle := circle_from(pairs, by_thread, start))]
-    return [it for at in min(circles, key=len) for it in pairs[at]]
+    for at in sorted(range(len(pairs)), key=lambda at: pairs[at][0].seq):
+        by_thread[pairs[at][0].thread].append(at)
+    for start in range(len(pairs)):
+        budget -= len(pairs)
+        if budget < 0:
+            break
+        circle = circle_from(pairs, by_thread, start)
+        if circle and len(circle) < len(best):
+            best = circle
+    lines = [it.number for pair in best for it in pair]
+    found = {it.number: it for it in trace.among(set(lines).__contains__)}
+    return [found[it] for it in lines]
+
+
+def circle_of_heads(steps, lanes, left):
+    """A circle by the first stuck record of each thread: it awaits a creation, which stands behind the first stuck record
+    of its own thread."""
+    seen, head = {}, next(iter(lanes.values()))[0]
+    found = []
+    while head.thread not in seen:
+        seen[head.thread] = len(found)
+        made = next(it for it in steps.awaited(head) if it.number in left)
+        found.insert(0, (made, head))
+        head = lanes[made.thread][0]
+    return found[:len(found) - seen[head.thread]]
 
 
 def circle_from(pairs, by_thread, start):
     """The pairs of a shortest circle through this one, or None. A pair leads to those whose creation stands behind its
-    second record in the thread."""
+    second record in the thread: the last ones of the thread's list, which are taken from it, so each is met once."""
     left = {thread: [*found] for thread, found in by_thread.items()}
-    came, queue = {start: None}, deque([start])
+    came, queue, made = {start: None}, deque([start]), pairs[start][0]
     while queue:
         at = queue.popleft()
-        after, made = pairs[at][1], pairs[start][0]
+        after = pairs[at][1]
         if made.thread == after.thread and made.seq > after.seq:
-            circle = [at]
-            while came[circle[0]] is not None:
-                circle.insert(0, came[circle[0]])
-            return circle
+            circle = []
+            while at is not None:
+                circle.append(pairs[at])
+                at = came[at]
+            return circle[::-1]
         found = left.get(after.thread, [])
-        for other in [it for it in found if pairs[it][0].seq > after.seq]:
-            found.remove(other)
+        while found and pairs[found[-1]][0].seq > after.seq:
+            other = found.pop()
             if other not in came:
                 came[other] = at
                 queue.append(other)
@@ -102,24 +129,28 @@ def in_order(records):
     entries below it, so these lengths sort all but those that name the same one."""
     def length(it):
         return it.seen, it.finish is not None
-    found = []
-    for _, group in groupby(sorted(records, key=lambda it: (*length(it), it.number)), length):
-        found += merged([*group], found)
-    return found
+    groups = groupby(sorted(records, key=lambda it: (*length(it), it.number)), length)
+    return [it for _, group in groups for it in merged([*group])]
 
 
-def merged(records, before):
-    """Records that name one length: each behind the creations that it needs, and in the order of its thread."""
-    if len(records) == 1:
-        return records
-    lanes = defaultdict(deque)
+def merged(records):
+    """Records that name one length: each behind the creations that it needs, and in the order of its thread. Those that
+    stand in a circle come at the end."""
+    lanes, waiting, found = defaultdict(deque), defaultdict(list), []
     for it in records:
         lanes[it.thread].append(it)
-    made, found = {it.created for it in records if it.created is not None}, []
-    while True:
-        ready = [lane for lane in lanes.values() if lane and not made.intersection(needs(lane[0]))]
-        if not ready:
-            return found + [it for it in records if it not in found] if any(lanes.values()) else found
-        it = min(ready, key=lambda lane: lane[0].number).popleft()
-        made.discard(it.created)
+    made = {it.created for it in records if it.created is not None}
+    ready = [(lane[0].number, thread) for thread, lane in lanes.items()]
+    heapify(ready)
+    while ready:
+        lane = lanes[heappop(ready)[1]]
+        missing = next((task for task in needs(lane[0]) if task in made), None)
+        if missing is not None:
+            waiting[missing].append(lane[0].thread)
+            continue
+        it = lane.popleft()
         found.append(it)
+        made.discard(it.created)
+        for thread in [it.thread] * bool(lane) + waiting.pop(it.created, []):
+            heappush(ready, (lanes[thread][0].number, thread))
+    return found + sorted((it for lane in lanes.values() for it in lane), key=lambda it: it.number)
