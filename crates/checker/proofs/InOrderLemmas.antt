@@ -1,5 +1,5 @@
 -- From the records so far in the order of the ledger to the causes that this excludes.
-use Rattle.std.proofs.Common.{◌≡◌, ◌∙◌, ℕ, ◌<◌, ◌≤◌, ◌+◌, Bool, true, false, cond, List, length, get_or, take, Option, Some, None, refl, sym, ap, subst, arith, inl, inr}
+use Rattle.std.proofs.Common.{[], ◌∷◌, ◌≡◌, ◌∙◌, ℕ, ◌<◌, ◌≤◌, ◌+◌, Bool, true, false, cond, List, length, get_or, take, Option, Some, None, refl, sym, ap, subst, arith, inl, inr}
 use Rattle.std.specs.Prelude.{◌↔◌, is_some, slice_get, option_and_then}
 use Rattle.std.proofs.lemmas.Bool.{false≢true, cases_eq, cases_lt}
 use Rattle.std.proofs.lemmas.Option.{none-some, same_Some, slice_get-get_or}
@@ -14,7 +14,7 @@ use Rattle.ompt_events.specs.Causes.{RepeatsEntry, IsAhead, entry, ledger_length
 use Rattle.ompt_events.proofs.PlaceLemmas.{seen_within}
 use Rattle.checker.specs.Merge.{Awaits}
 use Rattle.checker.specs.InOrder.{entries_before, FitsBehind}
-use Rattle.checker.proofs.RepeatLemmas.{finishing_within, free_of_repeats, free_of_ahead}
+use Rattle.checker.proofs.EntryLemmas.{finishing_within, free_of_repeats, free_of_ahead}
 
 -- ---- how many entries there are before a record
 
@@ -55,6 +55,11 @@ before_less rs k n makes low =
         there None is = absurd (false≢true is)
         there (Some r) is = r
 
+-- some record, where there is one
+any_record : (rs : List Record) (n : ℕ) → n < length rs → Record
+any_record [] n within = absurd (omega arith)
+any_record (r ∷ rs) n within = r
+
 -- ---- one record more
 
 pub fit_more : (rs : List Record) (n entries : ℕ) → entries ≡ entries_before rs n → FitsBehind rs n entries → ((i : ℕ) → i < n → FitsBehind rs i (entries_before rs i)) → (i : ℕ) → i < n + 1 → FitsBehind rs i (entries_before rs i)
@@ -63,9 +68,12 @@ fit_more rs n entries count fits before i below = elim (cases_eq i n) [
   | inr apart ↦ before i (omega (arith, below, apart))
 ]
 
-pub count_more : (rs : List Record) (n entries after : ℕ) (r : Record) → n < length rs → entries ≡ entries_before rs n → after ≡ cond (is_some (at finish rs n)) (entries + 1) entries → after ≡ entries_before rs (n + 1)
-count_more rs n entries after r within count is = of (is_some (at finish rs n)) refl is
+pub count_more : (rs : List Record) (n entries after : ℕ) → n < length rs → entries ≡ entries_before rs n → after ≡ cond (is_some (at finish rs n)) (entries + 1) entries → after ≡ entries_before rs (n + 1)
+count_more rs n entries after within count is = of (is_some (at finish rs n)) refl is
   where
+    r : Record
+    r = any_record rs n within
+
     of : (b : Bool) → is_some (at finish rs n) ≡ b → after ≡ cond b (entries + 1) entries → after ≡ entries_before rs (n + 1)
     of true makes is' = is' ∙ ap (λ k. k + 1) count ∙ sym (entries_more rs n r within makes)
     of false none is' = is' ∙ count ∙ sym (entries_same rs n r within none)

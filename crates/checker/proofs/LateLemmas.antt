@@ -26,8 +26,8 @@ use Rattle.task_tree.proofs.OnceLemmas.{made_once, one_number}
 use Rattle.depend_edges.specs.Edges.{ArePredecessors, AreLatest}
 use Rattle.wait_coverage.specs.Done.{AreOwn}
 use Rattle.wait_coverage.specs.Entries.{IsDone}
-use Rattle.checker.specs.Starts.{IsPreceded, AreReady, IsFirstLateAt, IsBound, AreStarted, StartsAt, StartsNoneAt, CompletesAt, CompletesNoneAt, AreDoneBefore, IsFirstBehind}
-use Rattle.checker.specs.declared.search.SearchFault.{SearchFault}
+use Rattle.checker.specs.Starts.{IsPreceded, AreReady, IsFirstLateAt, IsBound, AreStarted, StartsAt, StartsNoneAt, AreDoneBefore, IsFirstBehind}
+use Rattle.ompt_events.specs.declared.fault.Fault.{Fault}
 use Rattle.checker.proofs.StartLemmas.{done_from, bound_still, complete_from_start}
 
 -- ---- children with greater numbers are created later
@@ -230,17 +230,26 @@ preceded_at_wait rs i task trace completes p = (
   (λ is. inr (task, completes, is)),
 )
 
+-- the taskwait that is complete at i stands at the index
+abbrev pub CompletesAt : List Record → List ℕ → ℕ → ℕ → Type 0
+CompletesAt rs tasks i index =
+    (task : ℕ) × (slice_get tasks index ≡ Some task) × (at wait_completed rs i ≡ Some task)
+
+-- none is
+abbrev pub CompletesNoneAt : List Record → ℕ → Type 0
+CompletesNoneAt rs i = (task : ℕ) → at wait_completed rs i ≡ Some task → ⊥
+
 -- what is found for the task that starts there, or for the taskwait that is complete there
 abbrev pub FindsLate : List Record → List ℕ → ℕ → ℕ → Option ℕ → Type 0
 FindsLate rs tasks index bound found = (task : ℕ) → slice_get tasks index ≡ Some task
     → MatchOption found (AreDoneBefore rs task bound) (IsFirstBehind rs task bound)
 
-pub late_at_start : (rs : List Record) (tasks : List ℕ) (i index bound : ℕ) (result : Result (Option ℕ) SearchFault) → IsTrace rs → StartsAt rs tasks i index → IsBound rs i bound → IfOk result (FindsLate rs tasks index bound) → IfOk result (λ found. MatchOption found (AreReady rs i) (IsFirstLateAt rs i))
+pub late_at_start : (rs : List Record) (tasks : List ℕ) (i index bound : ℕ) (result : Result (Option ℕ) Fault) → IsTrace rs → StartsAt rs tasks i index → IsBound rs i bound → IfOk result (FindsLate rs tasks index bound) → IfOk result (λ found. MatchOption found (AreReady rs i) (IsFirstLateAt rs i))
 late_at_start rs tasks i index bound result trace (task, there, explicit, start) is_bound is =
     if_ok (FindsLate rs tasks index bound) (λ found. MatchOption found (AreReady rs i) (IsFirstLateAt rs i)) result
     (λ found tells. found_by rs i task bound found is_bound (preceded_at_start rs i task trace explicit start) (tells task there)) is
 
-pub late_at_wait : (rs : List Record) (tasks : List ℕ) (i index : ℕ) (result : Result (Option ℕ) SearchFault) → IsTrace rs → CompletesAt rs tasks i index → IfOk result (FindsLate rs tasks index (seen_at rs i)) → IfOk result (λ found. MatchOption found (AreReady rs i) (IsFirstLateAt rs i))
+pub late_at_wait : (rs : List Record) (tasks : List ℕ) (i index : ℕ) (result : Result (Option ℕ) Fault) → IsTrace rs → CompletesAt rs tasks i index → IfOk result (FindsLate rs tasks index (seen_at rs i)) → IfOk result (λ found. MatchOption found (AreReady rs i) (IsFirstLateAt rs i))
 late_at_wait rs tasks i index result trace (task, there, completes) is =
     if_ok (FindsLate rs tasks index (seen_at rs i)) (λ found. MatchOption found (AreReady rs i) (IsFirstLateAt rs i)) result
     (λ found tells. found_by rs i task (seen_at rs i) found (bound_still rs i (λ (other, explicit, start). wait_starts_none rs i task other trace completes start.starts)) (preceded_at_wait rs i task trace completes) (tells task there)) is

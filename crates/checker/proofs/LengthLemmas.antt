@@ -12,7 +12,7 @@ use Rattle.ompt_events.specs.Records.{created, finish}
 use Rattle.ompt_events.specs.Places.{at, thread_at, seen_at}
 use Rattle.ompt_events.specs.HappensBefore.{IsStart, IsProgramStep, thread_order, creation, discard, fulfilment}
 use Rattle.ompt_events.specs.Causes.{HasCause, IsBehind, known_after, moved, length_back, IsFreeOf, IsFirstWith}
-use Rattle.ompt_events.proofs.PlaceLemmas.{at_within, thread_read}
+use Rattle.ompt_events.proofs.PlaceLemmas.{at_within}
 use Rattle.checker.specs.Lengths.{PrecedesCreation, AreKnown}
 use Rattle.checker.specs.Merge.{Awaits, StartsOrFulfils}
 use Rattle.checker.proofs.ScheduleLemmas.{awaited_at, step_awaits, starts_below, same_option}
@@ -53,8 +53,8 @@ known_start rs = record {
       | inr past ↦ let zero_there : get_or (replicate 256 0) thread 0 ≡ 0 = Rattle.std.proofs.lemmas.List.get_or_past {X = ℕ} (replicate 256 0) thread 0 (let len = length-replicate {A = ℕ} 256 0 in omega (arith, past, len)) in omega (arith, more, zero_there)
     ]
 
-pub known_more : (rs : List Record) (n : ℕ) (r : Record) (own after : ℕ) (known : List ℕ) → n < length rs → r ≡ get_or rs n r → own ≡ r.thread → own < 256 → after ≡ known_after rs n → get_or known own 0 ≤ seen_at rs n → AreKnown rs n known → AreKnown rs (n + 1) (set known own after)
-known_more rs n r own after known within read of low is more are = record {
+pub known_more : (rs : List Record) (n own after : ℕ) (known : List ℕ) → thread_at rs n ≡ Some own → own < 256 → after ≡ known_after rs n → get_or known own 0 ≤ seen_at rs n → AreKnown rs n known → AreKnown rs (n + 1) (set known own after)
+known_more rs n own after known runs low is more are = record {
   all = length-set known own after ∙ are.all;
   most = λ k thread below its. most k thread below its (cases_eq thread own);
   last = λ thread positive. last thread positive (cases_eq thread own);
@@ -67,7 +67,7 @@ known_more rs n r own after known within read of low is more are = record {
     elsewhere thread apart = get_or-set_other known own thread after 0 apart
 
     own_thread : (k thread : ℕ) → k ≡ n → thread_at rs k ≡ Some thread → thread ≡ own
-    own_thread k thread same here = same_Some thread r.thread (sym here ∙ ap (thread_at rs) same ∙ thread_read rs n r within read) ∙ sym of
+    own_thread k thread same here = same_Some thread own (sym here ∙ ap (thread_at rs) same ∙ runs)
 
     most : (k thread : ℕ) → k < n + 1 → thread_at rs k ≡ Some thread → (thread ≡ own) ⊎ (thread ≢ own) → known_after rs k ≤ get_or (set known own after) thread 0
     most k thread below its (inl same) = elim (cases_eq k n) [
@@ -89,7 +89,7 @@ known_more rs n r own after known within read of low is more are = record {
         before (inr not_here) = omega (arith, below, not_here)
 
     last : (thread : ℕ) → 0 < get_or (set known own after) thread 0 → (thread ≡ own) ⊎ (thread ≢ own) → (k : ℕ) × (k < n + 1) × (thread_at rs k ≡ Some thread) × (known_after rs k ≡ get_or (set known own after) thread 0)
-    last thread positive (inl same) = (n, omega arith, thread_read rs n r within read ∙ ap Some (sym of ∙ sym same), sym (there thread same))
+    last thread positive (inl same) = (n, omega arith, runs ∙ ap Some (sym same), sym (there thread same))
     last thread positive (inr apart) =
         let value = elsewhere thread apart in
         let old = are.last thread (omega (arith, positive, value)) in

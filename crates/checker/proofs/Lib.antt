@@ -1,6 +1,6 @@
 mod ClaimLemmas
 mod LengthLemmas
-mod RepeatLemmas
+mod EntryLemmas
 mod ListsLemmas
 mod QueueLemmas
 mod OrderLemmas

@@ -1,7 +1,7 @@
 -- A place more at the start of a list of places.
 use Rattle.std.proofs.Common.{◌≡◌, ◌∙◌, ◌<◌, ◌≤◌, ◌+◌, ℕ, List, length, Option, Some, None, refl, sym, ap, arith, inl, inr, set}
 use Rattle.std.proofs.lemmas.Bool.{cases_eq, cases_lt}
-use Rattle.std.proofs.lemmas.Option.{none-some, same_Some}
+use Rattle.std.proofs.lemmas.Option.{none-some, same_Some, slice_get_cases}
 use Rattle.std.proofs.lemmas.List.{length-set, length-replicate, get_or-set_same, get_or-set_other, get_or-replicate}
 use Rattle.std.specs.Option.{option_map_or}
 use Rattle.std.specs.Prelude.{slice_get, slice_index, replicate, option_map}
@@ -108,3 +108,10 @@ length_within rs i k reached names = elim (cases_lt (entries_in rs) (seen_at rs 
 pub no_some : (o : Option ℕ) → ((k : ℕ) → o ≡ Some k → ⊥) → o ≡ None
 no_some None none = refl
 no_some (Some k) none = absurd (none k refl)
+
+-- the length that the record at a place names
+pub names_length : (rs : List Record) (i seen : ℕ) → i < length rs → seen ≡ seen_at rs i → length_of rs i ≡ Some seen
+names_length rs i seen within is = elim (slice_get_cases rs i).1 [
+  | inl (r, inside, stands, same) ↦ ap (option_map (λ (q : Record). q.seen)) stands ∙ ap Some (sym (is ∙ ap (λ (o : Option Record). option_map_or (λ (q : Record). q.seen) o 0) stands))
+  | inr past ↦ absurd (let end = past.0 in omega (arith, end, within))
+]

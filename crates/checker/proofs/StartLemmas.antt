@@ -1,5 +1,5 @@
 -- Which predecessors are finished where a task starts.
-use Rattle.std.proofs.Common.{◌≡◌, ◌∙◌, ℕ, ◌<◌, ◌≤◌, ◌+◌, ◌^◌, Bool, List, length, get_or, Option, Some, None, refl, sym, ap, subst, arith, inl, inr, true, false}
+use Rattle.std.proofs.Common.{cond, ◌≡◌, ◌∙◌, ℕ, ◌<◌, ◌≤◌, ◌+◌, ◌^◌, Bool, List, length, get_or, Option, Some, None, refl, sym, ap, subst, arith, inl, inr, true, false}
 use Rattle.std.proofs.lemmas.Bool.{false≢true, cases_eq, cases_lt, ltb-true, lt-ltb}
 use Rattle.std.proofs.lemmas.Option.{none-some, same_Some, slice_get_within, slice_get-get_or}
 use Rattle.std.proofs.lemmas.List.{length-set, get_or-set_same, get_or-set_other}
@@ -14,7 +14,7 @@ use Rattle.ompt_events.specs.declared.records.Body.{Body as RecordBody}
 use Rattle.ompt_events.specs.declared.records.Body.TheVariants.{TaskSchedule}
 use Rattle.ompt_events.specs.Records.{started, finish}
 use Rattle.ompt_events.specs.declared.cause.Cause.TheVariants.{EntryTwice, LengthAhead}
-use Rattle.ompt_events.specs.Causes.{IsFreeOf, entries_in, entry_twice, length_ahead, entry}
+use Rattle.ompt_events.specs.Causes.{IsFreeOf, entries_in, entry_twice, length_ahead, entry, ledger_length, known_after}
 use Rattle.ompt_events.specs.Places.{at, seen_at}
 use Rattle.ompt_events.specs.HappensBefore.{IsFinishing}
 use Rattle.ompt_events.specs.Completion.{IsPartFinished, IsFinished, IsCompleteAt, CountsAt, StartsTask}
@@ -22,7 +22,7 @@ use Rattle.task_tree.specs.Subjects.{object, Calls}
 use Rattle.task_tree.specs.Numbering.{AreApart}
 use Rattle.wait_coverage.specs.Entries.{IsDone}
 use Rattle.wait_coverage.specs.Done.{IsDoneFrom, AreOwn}
-use Rattle.checker.specs.Starts.{IsBound, AreStarted}
+use Rattle.checker.specs.Starts.{IsBound, AreStarted, StartsAt}
 
 pub called : (tasks : List ℕ) (found slot : Option ℕ) (index task : ℕ) → Calls tasks found slot → slot ≡ Some index → found ≡ Some task → slice_get tasks index ≡ Some task
 called tasks found slot index task calls is says =
@@ -160,3 +160,27 @@ started_more rs n index own tasks marks once is says are = record {
 -- the length that a record names, where it was read in place
 pub seen_here : (rs : List Record) (i : ℕ) (r : Record) → i < length rs → seen_at rs i ≡ (get_or rs i r).seen
 seen_here rs i r within = ap (λ (o : Option Record). option_map_or (λ (q : Record). q.seen) o 0) (slice_get-get_or rs i r within)
+
+-- the length that decides what counts where a task starts: the one that is known after the record
+pub bound_start : (rs : List Record) (tasks : List ℕ) (i index : ℕ) → IsFreeOf rs EntryTwice → StartsAt rs tasks i index → IsBound rs i (known_after rs i)
+bound_start rs tasks i index once starts = of (is_some (at finish rs i)) refl
+  where
+    P : Bool → Type 0
+    P b = IsBound rs i (cond {A = ℕ} b (seen_at rs i + 1) (seen_at rs i))
+
+    of : (b : Bool) → is_some (at finish rs i) ≡ b → IsBound rs i (known_after rs i)
+    of true e = subst P (sym e) (bound_finishing rs i once e (starts.0, starts.2, starts.3))
+    of false e = subst P (sym e) (bound_other rs i (λ here. false≢true (sym e ∙ here)))
+
+pub known_small : (rs : List Record) (i : ℕ) → IsFreeOf rs LengthAhead → length rs ≤ 2 ^ 22 → known_after rs i < 2 ^ 32
+known_small rs i reached few = of (is_some (at finish rs i)) refl
+  where
+    P : Bool → Type 0
+    P b = cond {A = ℕ} b (seen_at rs i + 1) (seen_at rs i) < 2 ^ 32
+
+    of : (b : Bool) → is_some (at finish rs i) ≡ b → known_after rs i < 2 ^ 32
+    of true e = subst P (sym e) (entry_small rs i reached e few)
+    of false e = subst P (sym e) (elim (cases_lt (entries_in rs) (seen_at rs i)) [
+      | inl more ↦ absurd (reached i (length_ahead (ledger_length more)))
+      | inr low ↦ let most : entries_in rs ≤ length rs = count_by-le-length (λ (r : Record). is_some (finish r.body)) rs in omega (arith, low, most, few)
+    ])

@@ -25,7 +25,8 @@ use Rattle.ompt_events.specs.Violations.{IsRequired, covered, preceding, awaited
 use Rattle.ompt_events.specs.Causes.{IsFreeOf, no_order}
 use Rattle.wait_coverage.specs.Spans.{IsCoverComplete}
 use Rattle.wait_coverage.specs.Waits.{IsFirstOpenEnd}
-use Rattle.checker.specs.Verdicts.{all_causes, AreComplete, IsAlwaysComplete, IsApproved}
+use Rattle.ompt_events.specs.CauseNames.{all_causes}
+use Rattle.checker.specs.Verdicts.{AreComplete, IsAlwaysComplete, IsApproved}
 use Rattle.checker.specs.Starts.{IsPreceded, AreReady, IsFirstLateStart}
 use Rattle.checker.specs.Search.{IsClear, AreAllCovered, AreAllReady, IsFirstViolation}
 use Rattle.checker.specs.declared.verdict.Why.TheVariants.{Unfinished, Predecessor}
@@ -151,7 +152,7 @@ pub always_complete : (rs : List Record) → ((i : ℕ) → AreComplete rs i) �
 always_complete rs complete order linear i task required = complete_in rs order i task linear (complete i task required)
 
 -- a yes
-pub approved : (rs : List Record) (order : List ℕ) → IsClear rs (length all_causes) → IsLinearization rs order → IsGreedy rs order → ((i : ℕ) → AreComplete rs i) → IsApproved rs order
+pub approved : (rs : List Record) (order : List ℕ) → IsClear rs all_causes → IsLinearization rs order → IsGreedy rs order → ((i : ℕ) → AreComplete rs i) → IsApproved rs order
 approved rs order clear linear greedy complete = record {
   well_formed = clear;
   linearization = linear;

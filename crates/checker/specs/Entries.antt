@@ -2,7 +2,10 @@
 use Rattle.std.specs.Prelude.{ℕ, ◌≡◌, ◌<◌, List, length, slice_index}
 use Rattle.ompt_events.specs.declared.records.Record.{Record}
 use Rattle.ompt_events.specs.Places.{seen_at}
+use Rattle.ompt_events.specs.declared.cause.Cause.TheVariants.{EntryTwice, LengthAhead}
 use Rattle.ompt_events.specs.HappensBefore.{IsFinishing}
+use Rattle.ompt_events.specs.Causes.{entries_in, IsFreeOf}
+use Rattle.task_tree.specs.Runs.{RunView, IsRun}
 
 -- of the first n records each finishing one stands at its entry, where the table has it; where no record
 -- stands, the number of records does
@@ -11,3 +14,16 @@ pub record AreMakers (rs : List Record) (n : ℕ) (makers : List ℕ) : Type 0 w
       → slice_index makers (seen_at rs i) ≡ i
   pub only : (entry : ℕ) → entry < length makers → slice_index makers entry < length rs
       → IsFinishing rs (slice_index makers entry) × (seen_at rs (slice_index makers entry) ≡ entry)
+
+-- what clauses see of the ledger of a run
+pub record MakersView : Type 0 where
+  pub run : RunView
+  pub places : List ℕ
+
+-- the table has each entry of the run's ledger, whose lengths are those that records name
+pub record IsLedger (ledger : MakersView) : Type 0 where
+  pub run : IsRun ledger.run
+  pub makers : AreMakers ledger.run.records (length ledger.run.records) ledger.places
+  pub entries : length ledger.places ≡ entries_in ledger.run.records
+  pub once : IsFreeOf ledger.run.records EntryTwice
+  pub reached : IsFreeOf ledger.run.records LengthAhead

@@ -2,7 +2,7 @@
 -- must be complete where a task starts. The others say what the phases of the check know while they run.
 pub mod Verdicts
 pub mod Search
-pub mod Repeats
+pub mod Makers
 pub mod Lengths
 pub mod Entries
 pub mod Orders

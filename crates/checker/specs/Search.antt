@@ -1,47 +1,35 @@
 -- What the searches of a check tell one another.
-use Rattle.std.specs.Prelude.{ℕ, ◌≡◌, ⊤, List, take}
+use Rattle.std.specs.Prelude.{ℕ, ◌≡◌, List}
 use Rattle.ompt_events.specs.declared.records.Record.{Record}
 use Rattle.ompt_events.specs.declared.cause.Cause.{Cause}
-use Rattle.ompt_events.specs.Causes.{IsFirstWith, IsMalformed, IsWellFormed}
-use Rattle.task_tree.specs.declared.fault.TreeFault.{TreeFault}
-use Rattle.task_tree.specs.declared.fault.TreeFault.TheVariants as tree
-use Rattle.task_states.specs.declared.fault.StateFault.{StateFault}
-use Rattle.task_states.specs.declared.fault.StateFault.TheVariants as state
+use Rattle.ompt_events.specs.declared.fault.Fault.{Fault}
+use Rattle.ompt_events.specs.declared.cause.Cause.TheVariants.{EntryTwice}
+use Rattle.ompt_events.specs.CauseNames.{all_causes, before}
+use Rattle.ompt_events.specs.Causes.{IsWellFormed}
+use Rattle.ompt_events.specs.Faults.{IsFault}
 use Rattle.ompt_events.specs.Violations.{IsFirstUnfinished}
+use Rattle.task_tree.specs.Runs.{RunView, IsRun}
 use Rattle.wait_coverage.specs.Spans.{IsCoverComplete}
-use Rattle.checker.specs.Verdicts.{all_causes, task_of, IsReason}
+use Rattle.checker.specs.Verdicts.{task_of, IsReason}
 use Rattle.checker.specs.Starts.{AreReady}
 use Rattle.checker.specs.declared.verdict.Why.{Why}
-use Rattle.checker.specs.declared.search.SearchFault.{SearchFault}
-use Rattle.checker.specs.declared.search.SearchFault.TheVariants.{Memory, Malformed}
 
--- a search for the cause found its first record, unless memory ran out
-abbrev pub IsFound : List Record → Cause → SearchFault → Type 0
-IsFound rs cause Memory = ⊤
-IsFound rs cause (Malformed i found) = (found ≡ cause) × IsFirstWith rs cause i
-
--- the first k causes do not occur
-abbrev pub IsClear : List Record → ℕ → Type 0
-IsClear rs k = IsWellFormed rs (take k all_causes)
-
--- a search for these causes found the first record of the least of them, unless memory ran out
-abbrev pub IsLeastOf : List Record → List Cause → SearchFault → Type 0
-IsLeastOf rs causes Memory = ⊤
-IsLeastOf rs causes (Malformed i cause) = IsMalformed rs causes i cause
+-- none of these causes occurs
+abbrev pub IsClear : List Record → List Cause → Type 0
+IsClear rs causes = IsWellFormed rs causes
 
 -- what was found is what makes the records malformed, unless memory ran out
-abbrev pub IsLeastFound : List Record → SearchFault → Type 0
-IsLeastFound rs fault = IsLeastOf rs all_causes fault
+abbrev pub IsLeastFound : List Record → Fault → Type 0
+IsLeastFound rs fault = IsFault rs all_causes fault
 
--- the fault of a search that found no tree
-abbrev pub fault_of_tree : TreeFault → SearchFault
-fault_of_tree tree.Memory = Memory
-fault_of_tree (tree.Malformed i cause) = Malformed i cause
+-- none of the causes before those of the ledger occurs in the run
+pub record IsSound (run : RunView) : Type 0 where
+  pub is_run : IsRun run
+  pub clear : IsClear run.records (before EntryTwice)
 
--- the same of a search in the states of tasks
-abbrev pub fault_of_states : StateFault → SearchFault
-fault_of_states state.Memory = Memory
-fault_of_states (state.Malformed i cause) = Malformed i cause
+-- the run is of these records, and the edges are between its tasks
+abbrev pub AreOfTrace : List Record → RunView → RunView → Type 0
+AreOfTrace rs run of_edges = (run.records ≡ rs) × (of_edges ≡ run)
 
 -- ---- the first violation
 

@@ -7,6 +7,11 @@ use Rattle.ompt_events.specs.Tree.{IsExplicit}
 use Rattle.ompt_events.specs.HappensBefore.{IsStart}
 use Rattle.ompt_events.specs.Dependences.{IsPredecessor}
 use Rattle.ompt_events.specs.Completion.{IsCompleteAt}
+use Rattle.ompt_events.specs.declared.cause.Cause.TheVariants.{EntryTwice, LengthAhead}
+use Rattle.ompt_events.specs.Causes.{IsFreeOf}
+use Rattle.task_tree.specs.Runs.{RunView, IsRun}
+use Rattle.depend_edges.specs.Edges.{AreLatest}
+use Rattle.wait_coverage.specs.Done.{AreOwn}
 use Rattle.wait_coverage.specs.Entries.{IsDone}
 
 -- the task must be complete at i as a predecessor: of an explicit task that starts there (OpenMP 5.2,
@@ -57,15 +62,6 @@ StartsAt rs tasks i index =
 abbrev pub StartsNoneAt : List Record → ℕ → Type 0
 StartsNoneAt rs i = (task : ℕ) → IsExplicit rs task → IsStart rs i task → ⊥
 
--- the taskwait that is complete at i stands at the index
-abbrev pub CompletesAt : List Record → List ℕ → ℕ → ℕ → Type 0
-CompletesAt rs tasks i index =
-    (task : ℕ) × (slice_get tasks index ≡ Some task) × (at wait_completed rs i ≡ Some task)
-
--- none is
-abbrev pub CompletesNoneAt : List Record → ℕ → Type 0
-CompletesNoneAt rs i = (task : ℕ) → at wait_completed rs i ≡ Some task → ⊥
-
 -- the entries below the length don't finish this predecessor of the task
 abbrev pub IsBehind : List Record → ℕ → ℕ → ℕ → Type 0
 IsBehind rs task bound predecessor =
@@ -82,3 +78,21 @@ pub record IsFirstBehind (rs : List Record) (task bound predecessor : ℕ) : Typ
   pub creation : ℕ
   pub is_created : at created rs creation ≡ Some predecessor
   pub first : (k other : ℕ) → k < creation → at created rs k ≡ Some other → IsBehind rs task bound other → ⊥
+
+-- ---- what decides it
+
+-- what clauses see of that: the run; by index of the task the length from which on it is finished, and the
+-- greatest of the lengths of its predecessors
+pub record PrecedenceView : Type 0 where
+  pub run : RunView
+  pub own : List ℕ
+  pub latest : List ℕ
+
+-- all is that of the run, whose edges are at hand
+pub record IsPrecedence (of_edges : RunView) (known : PrecedenceView) : Type 0 where
+  pub same : of_edges ≡ known.run
+  pub run : IsRun known.run
+  pub own : AreOwn known.run.records known.run.family.tasks known.own
+  pub latest : AreLatest known.run.records known.run.family.tasks known.own known.latest
+  pub once : IsFreeOf known.run.records EntryTwice
+  pub reached : IsFreeOf known.run.records LengthAhead

@@ -1,21 +1,19 @@
 //! Whether each finishing record claims the place of its task.
-ghost use Rattle.std.specs.Prelude.{ℕ, ◌≡◌, ◌<◌, ◌↔◌, List, Some, IsTrue, MatchOption, length, slice_get};
-ghost use Rattle.ompt_events.specs.declared.records.Record.{Record};
+ghost use Rattle.std.specs.Prelude.{ℕ, ◌≡◌, ◌<◌, ◌↔◌, Some, IsTrue, length, slice_get};
 ghost use Rattle.ompt_events.specs.declared.cause.Cause.TheVariants.{ShareWrong};
-ghost use Rattle.ompt_events.specs.Causes.{IsRightClaim, HasWrongShare, IsFreeOf, IsFirstWith};
-ghost use Rattle.task_tree.specs.Family.{IsFamilyOf};
+ghost use Rattle.ompt_events.specs.Causes.{IsRightClaim, HasWrongShare};
+ghost use Rattle.ompt_events.specs.Faults.{FindsFirst};
 
-use ompt_events::{Claim, Record, finish};
-use task_tree::Family;
+use ompt_events::Claim;
+use task_tree::Run;
 
 /// The first finishing record whose claim is not right: its task stands at another path or below another
 /// root, or created another number of children.
-pub(crate) fn find_wrong_claim(records: &[Record], family: &Family) -> Option<usize>
-    requires { IsFamilyOf records.now family.now }
-    ensures { MatchOption result (IsFreeOf records.now ShareWrong) (IsFirstWith records.now ShareWrong) }
+pub(crate) fn find_wrong_claim(run: &Run) -> Option<usize>
+    ensures { FindsFirst run.now.records ShareWrong result }
 {
-    for at in 0..records.len() {
-        if claims_wrongly(records, family, at) {
+    for at in 0..run.len() {
+        if claims_wrongly(run, at) {
             return Some(at);
         }
     }
@@ -23,30 +21,25 @@ pub(crate) fn find_wrong_claim(records: &[Record], family: &Family) -> Option<us
 }
 
 /// Whether the record at a place finishes a task with a claim that is not right.
-fn claims_wrongly(records: &[Record], family: &Family, at: usize) -> bool
-    requires within { at < length records.now }
-    requires family { IsFamilyOf records.now family.now }
-    ensures { IsTrue result ↔ HasWrongShare records.now at }
+fn claims_wrongly(run: &Run, at: usize) -> bool
+    requires { at < length run.now.records }
+    ensures { IsTrue result ↔ HasWrongShare run.now.records at }
 {
-    let event = &records[at];
-    let Some(_) = finish(event) else {
+    let Some(finishing) = run.finishing(at) else {
         return false;
     };
-    let Some(claim) = event.body.claim() else {
+    let Some(claim) = run.claim(at) else {
         return false;
     };
-    let Some(index) = family.subject(at) else {
-        return false;
-    };
-    !is_right(family, index, claim)
+    !is_right(run, finishing.task, claim)
 }
 
 /// Whether the claim is right for the task at this index.
-fn is_right(family: &Family, index: usize, claim: &Claim) -> bool
-    requires { index < length family.now.tasks }
-    ensures { (records : List Record) → IsFamilyOf records family.now → (task : ℕ)
-        → slice_get family.now.tasks index ≡ Some task → IsTrue result ↔ IsRightClaim records task claim.now }
+fn is_right(run: &Run, index: usize, claim: &Claim) -> bool
+    requires { index < length run.now.family.tasks }
+    ensures { (task : ℕ) → slice_get run.now.family.tasks index ≡ Some task
+        → IsTrue result ↔ IsRightClaim run.now.records task claim.now }
 {
-    claim.kept as usize == family.child_count(index)
-        && family.has_path(index, claim.root, claim.path.as_slice())
+    claim.kept as usize == run.child_count(index)
+        && run.has_path(index, claim.root, claim.path.as_slice())
 }

@@ -2,35 +2,32 @@
 ghost use Rattle.std.specs.Prelude.{ℕ, ◌≡◌, ◌<◌, ◌≤◌, ◌↔◌, List, Option, Some, IsTrue, OnOk, IfNone, IfSome, Contains, length, slice_index};
 ghost use Rattle.ompt_events.specs.declared.records.Record.{Record};
 ghost use Rattle.ompt_events.specs.Places.{thread_at};
-ghost use Rattle.task_tree.specs.Family.{IsFamilyOf};
 ghost use Rattle.checker.specs.Lists.{AreLists, IsRising};
 ghost use Rattle.checker.specs.Merge.{Awaits, Stands, MayFollow, IsFront, IsReadyHead, AreOffered, AreMore, IsTaken};
 
 use crate::lists::Lists;
 use crate::queue::Queue;
 use crate::schedule::creation_awaited;
-use ompt_events::Record;
 use std::alloc::AllocError;
-use task_tree::Family;
+use task_tree::Run;
 
 /// How far the records are put in order: which stand, the first of each thread that does not, and the ledger
 /// length that is reached.
 #[derive(Clone, Copy)]
-pub(crate) struct Front<'a> {
-    pub(crate) records: &'a [Record],
-    pub(crate) family: &'a Family,
+pub(crate) struct Front<'a, 'r> {
+    pub(crate) run: &'a Run<'r>,
     pub(crate) placed: &'a [bool],
     pub(crate) heads: &'a [u32],
     pub(crate) low: usize,
 }
 
-impl Front<'_> {
+impl Front<'_, '_> {
     /// Puts each record that may stand next to the others.
     pub(crate) fn offer_heads(&self, ready: &mut Queue) -> Result<(), AllocError>
-        requires front { IsFront self.now.records.now self.now.family.now self.now.placed.now
-            self.now.heads.now self.now.low }
-        ensures more { OnOk result (AreMore self.now.records.now self.now.placed.now ready.old ready.new) }
-        ensures all { OnOk result ((i : ℕ) → MayFollow self.now.records.now self.now.placed.now i
+        requires front { IsFront self.now.run.now.records self.now.run.now.family
+            self.now.placed.now self.now.heads.now self.now.low }
+        ensures more { OnOk result (AreMore self.now.run.now.records self.now.placed.now ready.old ready.new) }
+        ensures all { OnOk result ((i : ℕ) → MayFollow self.now.run.now.records self.now.placed.now i
             → Contains ready.new i) }
     {
         for head in self.heads {
@@ -41,13 +38,13 @@ impl Front<'_> {
 
     /// Puts the record to those that may stand next, if it may.
     pub(crate) fn offer(&self, ready: &mut Queue, place: usize) -> Result<(), AllocError>
-        requires front { IsFront self.now.records.now self.now.family.now self.now.placed.now
-            self.now.heads.now self.now.low }
-        ensures more { OnOk result (AreMore self.now.records.now self.now.placed.now ready.old ready.new) }
-        ensures offered { OnOk result (MayFollow self.now.records.now self.now.placed.now place
+        requires front { IsFront self.now.run.now.records self.now.run.now.family
+            self.now.placed.now self.now.heads.now self.now.low }
+        ensures more { OnOk result (AreMore self.now.run.now.records self.now.placed.now ready.old ready.new) }
+        ensures offered { OnOk result (MayFollow self.now.run.now.records self.now.placed.now place
             → Contains ready.new place) }
     {
-        if place < self.records.len() && self.may_follow(place) {
+        if place < self.run.len() && self.may_follow(place) {
             ready.put(place)?;
         }
         Ok(())
@@ -60,18 +57,18 @@ impl Front<'_> {
         lists: &Lists,
         key: usize,
     ) -> Result<(), AllocError>
-        requires front { IsFront self.now.records.now self.now.family.now self.now.placed.now
-            self.now.heads.now self.now.low }
+        requires front { IsFront self.now.run.now.records self.now.run.now.family
+            self.now.placed.now self.now.heads.now self.now.low }
         requires key { key < length lists.now.firsts.items }
-        requires rising { IsRising (length self.now.records.now) lists.now.nexts.items }
-        ensures more { OnOk result (AreMore self.now.records.now self.now.placed.now ready.old ready.new) }
+        requires rising { IsRising (length self.now.run.now.records) lists.now.nexts.items }
+        ensures more { OnOk result (AreMore self.now.run.now.records self.now.placed.now ready.old ready.new) }
         ensures offered { OnOk result ((of : ℕ → Option ℕ)
-            → AreLists of (length self.now.records.now) 0 lists.now.firsts.items lists.now.nexts.items
-            → (i : ℕ) → of i ≡ Some key → MayFollow self.now.records.now self.now.placed.now i
+            → AreLists of (length self.now.run.now.records) 0 lists.now.firsts.items lists.now.nexts.items
+            → (i : ℕ) → of i ≡ Some key → MayFollow self.now.run.now.records self.now.placed.now i
             → Contains ready.new i) }
     {
         let mut place = lists.firsts[key] as usize;
-        'list: while place < self.records.len() {
+        'list: while place < self.run.len() {
             self.offer(ready, place)?;
             place = lists.nexts[place] as usize;
         }
@@ -86,15 +83,15 @@ impl Front<'_> {
         from: usize,
         to: usize,
     ) -> Result<(), AllocError>
-        requires front { IsFront self.now.records.now self.now.family.now self.now.placed.now
-            self.now.heads.now self.now.low }
+        requires front { IsFront self.now.run.now.records self.now.run.now.family
+            self.now.placed.now self.now.heads.now self.now.low }
         requires keys { to ≤ length lists.now.firsts.items }
-        requires rising { IsRising (length self.now.records.now) lists.now.nexts.items }
-        ensures more { OnOk result (AreMore self.now.records.now self.now.placed.now ready.old ready.new) }
+        requires rising { IsRising (length self.now.run.now.records) lists.now.nexts.items }
+        ensures more { OnOk result (AreMore self.now.run.now.records self.now.placed.now ready.old ready.new) }
         ensures offered { OnOk result ((of : ℕ → Option ℕ)
-            → AreLists of (length self.now.records.now) 0 lists.now.firsts.items lists.now.nexts.items
+            → AreLists of (length self.now.run.now.records) 0 lists.now.firsts.items lists.now.nexts.items
             → (i key : ℕ) → from ≤ key → key < to → of i ≡ Some key
-            → MayFollow self.now.records.now self.now.placed.now i → Contains ready.new i) }
+            → MayFollow self.now.run.now.records self.now.placed.now i → Contains ready.new i) }
     {
         for key in from..to {
             self.offer_list(ready, lists, key)?;
@@ -105,33 +102,31 @@ impl Front<'_> {
     /// Whether the record at a place is the first of its thread that does not stand, the creation that it
     /// awaits stands, and the ledger length that it names is reached.
     fn may_follow(&self, place: usize) -> bool
-        requires within { place < length self.now.records.now }
-        requires front { IsFront self.now.records.now self.now.family.now self.now.placed.now
-            self.now.heads.now self.now.low }
-        ensures { IsTrue result ↔ MayFollow self.now.records.now self.now.placed.now place }
+        requires within { place < length self.now.run.now.records }
+        requires front { IsFront self.now.run.now.records self.now.run.now.family
+            self.now.placed.now self.now.heads.now self.now.low }
+        ensures { IsTrue result ↔ MayFollow self.now.run.now.records self.now.placed.now place }
     {
         self.is_head(place) && self.is_ready(place)
     }
 
     /// Whether the record at a place is the first of its thread that does not stand.
     fn is_head(&self, place: usize) -> bool
-        requires within { place < length self.now.records.now }
-        requires heads { (i thread : ℕ) → thread_at self.now.records.now i ≡ Some thread
+        requires within { place < length self.now.run.now.records }
+        requires heads { (i thread : ℕ) → thread_at self.now.run.now.records i ≡ Some thread
             → thread < length self.now.heads.now }
-        ensures { (thread : ℕ) → thread_at self.now.records.now place ≡ Some thread
+        ensures { (thread : ℕ) → thread_at self.now.run.now.records place ≡ Some thread
             → IsTrue result ↔ (slice_index self.now.heads.now thread ≡ place) }
     {
-        self.heads[usize::from(self.records[place].thread)] as usize == place
+        self.heads[usize::from(self.run.thread(place))] as usize == place
     }
 
     /// Whether the creation that the record awaits stands, and the ledger length that it names is reached.
     fn is_ready(&self, place: usize) -> bool
-        requires within { place < length self.now.records.now }
-        requires family { IsFamilyOf self.now.records.now self.now.family.now }
-        ensures { IsTrue result ↔ IsReadyHead self.now.records.now self.now.placed.now self.now.low place }
+        requires { place < length self.now.run.now.records }
+        ensures { IsTrue result ↔ IsReadyHead self.now.run.now.records self.now.placed.now self.now.low place }
     {
-        self.records[place].seen as usize <= self.low
-            && is_created(self.records, self.family, self.placed, place)
+        self.run.seen(place) as usize <= self.low && is_created(self.run, self.placed, place)
     }
 }
 
@@ -151,12 +146,11 @@ pub(crate) fn take_first(ready: &mut Queue, placed: &[bool]) -> Option<usize>
 }
 
 /// Whether the creation that the record awaits stands.
-fn is_created(records: &[Record], family: &Family, placed: &[bool], place: usize) -> bool
-    requires within { place < length records.now }
-    requires family { IsFamilyOf records.now family.now }
-    ensures { IsTrue result ↔ ((c : ℕ) → Awaits records.now place c → Stands placed.now c) }
+fn is_created(run: &Run, placed: &[bool], place: usize) -> bool
+    requires { place < length run.now.records }
+    ensures { IsTrue result ↔ ((c : ℕ) → Awaits run.now.records place c → Stands placed.now c) }
 {
-    match creation_awaited(records, family, place) {
+    match creation_awaited(run, place) {
         Some(creation) => stands(placed, creation),
         None => true,
     }

@@ -1,17 +1,14 @@
 //! Places of records in lists: those of one thread, those that await the creation of one task, and those that
 //! name one ledger length.
 ghost use Rattle.std.specs.Prelude.{ℕ, ◌≡◌, ◌<◌, ◌≤◌, ◌^◌, ◌+◌, Option, Some, IfOk, length};
-ghost use Rattle.ompt_events.specs.declared.cause.Cause.TheVariants.{LengthAhead};
-ghost use Rattle.ompt_events.specs.Causes.{entries_in, IsFreeOf};
 ghost use Rattle.ompt_events.specs.Places.{thread_at};
-ghost use Rattle.task_tree.specs.Family.{IsFamilyOf};
 ghost use Rattle.checker.specs.Lists.{AreLists, IsRising};
 ghost use Rattle.checker.specs.Merge.{task_of, length_of};
 
-use crate::schedule::awaited_index;
-use ompt_events::Record;
+use crate::makers::Makers;
+use crate::schedule::awaited;
 use std::alloc::{AllocError, Global};
-use task_tree::Family;
+use task_tree::Run;
 
 /// Places in lists, one list for each key: the first place of each list, and behind each place the next one of
 /// its list. The number of places stands for none.
@@ -54,76 +51,64 @@ impl Lists {
 }
 
 /// The records of each thread.
-pub(crate) fn lists_of_threads(alloc: Global, records: &[Record]) -> Result<Lists, AllocError>
-    requires { length records.now ≤ 2 ^ 22 }
-    ensures lists { IfOk result (λ lists. AreLists (thread_at records.now) (length records.now) 0
+pub(crate) fn lists_of_threads(alloc: Global, run: &Run) -> Result<Lists, AllocError>
+    ensures lists { IfOk result (λ lists. AreLists (thread_at run.now.records) (length run.now.records) 0
         lists.firsts.items lists.nexts.items) }
-    ensures keys { IfOk result (λ lists. (i thread : ℕ) → thread_at records.now i ≡ Some thread
+    ensures keys { IfOk result (λ lists. (i thread : ℕ) → thread_at run.now.records i ≡ Some thread
         → thread < length lists.firsts.items) }
-    ensures rising { IfOk result (λ lists. IsRising (length records.now) lists.nexts.items) }
+    ensures rising { IfOk result (λ lists. IsRising (length run.now.records) lists.nexts.items) }
 {
-    let mut lists = Lists::new(alloc, usize::from(last_thread(records)) + 1, records.len())?;
-    for step in 0..records.len() {
-        let at = records.len() - 1 - step;
-        lists.put_first(usize::from(records[at].thread), at);
+    let count = run.len();
+    let mut lists = Lists::new(alloc, usize::from(last_thread(run)) + 1, count)?;
+    for step in 0..count {
+        let at = count - 1 - step;
+        lists.put_first(usize::from(run.thread(at)), at);
     }
     Ok(lists)
 }
 
 /// The greatest thread number.
-fn last_thread(records: &[Record]) -> u8
-    ensures { (i thread : ℕ) → thread_at records.now i ≡ Some thread → thread ≤ result }
+fn last_thread(run: &Run) -> u8
+    ensures { (i thread : ℕ) → thread_at run.now.records i ≡ Some thread → thread ≤ result }
 {
     let mut last = 0;
-    for event in records {
-        if event.thread > last {
-            last = event.thread;
-        }
+    for at in 0..run.len() {
+        last = run.thread(at).max(last);
     }
     last
 }
 
 /// The records that await the creation of each task, by its index.
-pub(crate) fn lists_of_tasks(
-    alloc: Global,
-    records: &[Record],
-    family: &Family,
-) -> Result<Lists, AllocError>
-    requires few { length records.now ≤ 2 ^ 22 }
-    requires family { IsFamilyOf records.now family.now }
-    ensures lists { IfOk result (λ lists. AreLists (task_of family.now.tasks records.now)
-        (length records.now) 0 lists.firsts.items lists.nexts.items) }
-    ensures keys { IfOk result (λ lists. length lists.firsts.items ≡ length family.now.tasks) }
-    ensures rising { IfOk result (λ lists. IsRising (length records.now) lists.nexts.items) }
+pub(crate) fn lists_of_tasks(alloc: Global, run: &Run) -> Result<Lists, AllocError>
+    ensures lists { IfOk result (λ lists. AreLists (task_of run.now.family.tasks run.now.records)
+        (length run.now.records) 0 lists.firsts.items lists.nexts.items) }
+    ensures keys { IfOk result (λ lists. length lists.firsts.items ≡ length run.now.family.tasks) }
+    ensures rising { IfOk result (λ lists. IsRising (length run.now.records) lists.nexts.items) }
 {
-    let mut lists = Lists::new(alloc, family.tasks().as_slice().len(), records.len())?;
-    for step in 0..records.len() {
-        let at = records.len() - 1 - step;
-        if let Some(index) = awaited_index(records, family, at) {
+    let count = run.len();
+    let mut lists = Lists::new(alloc, run.task_count(), count)?;
+    for step in 0..count {
+        let at = count - 1 - step;
+        if let Some(index) = awaited(run, at) {
             lists.put_first(index, at);
         }
     }
     Ok(lists)
 }
 
-/// The records that name each ledger length; there are so many entries.
-pub(crate) fn lists_of_lengths(
-    alloc: Global,
-    records: &[Record],
-    entries: usize,
-) -> Result<Lists, AllocError>
-    requires few { length records.now ≤ 2 ^ 22 }
-    requires entries { entries ≡ entries_in records.now }
-    requires reached { IsFreeOf records.now LengthAhead }
-    ensures lists { IfOk result (λ lists. AreLists (length_of records.now) (length records.now) 0
-        lists.firsts.items lists.nexts.items) }
-    ensures keys { IfOk result (λ lists. length lists.firsts.items ≡ entries + 1) }
-    ensures rising { IfOk result (λ lists. IsRising (length records.now) lists.nexts.items) }
+/// The records that name each length of the ledger.
+pub(crate) fn lists_of_lengths(alloc: Global, makers: &Makers) -> Result<Lists, AllocError>
+    ensures lists { IfOk result (λ lists. AreLists (length_of makers.now.run.records)
+        (length makers.now.run.records) 0 lists.firsts.items lists.nexts.items) }
+    ensures keys { IfOk result (λ lists. length lists.firsts.items ≡ length makers.now.places + 1) }
+    ensures rising { IfOk result (λ lists. IsRising (length makers.now.run.records) lists.nexts.items) }
 {
-    let mut lists = Lists::new(alloc, entries + 1, records.len())?;
-    for step in 0..records.len() {
-        let at = records.len() - 1 - step;
-        lists.put_first(records[at].seen as usize, at);
+    let run = makers.run();
+    let count = run.len();
+    let mut lists = Lists::new(alloc, makers.places().len() + 1, count)?;
+    for step in 0..count {
+        let at = count - 1 - step;
+        lists.put_first(run.seen(at) as usize, at);
     }
     Ok(lists)
 }

@@ -1,70 +1,62 @@
 //! The greedy order of the records.
-ghost use Rattle.std.specs.Prelude.{false, IfNone, replicate, ℕ, ◌≡◌, ◌<◌, ◌≤◌, ◌^◌, ◌↔◌, IsTrue, IfSome, IfOk, IfErr, OnOk, length, slice_index};
-ghost use Rattle.ompt_events.specs.declared.cause.Cause.TheVariants.{Moved, LengthAhead, NoOrder};
+ghost use Rattle.std.specs.Prelude.{ℕ, ◌≡◌, ◌∷◌, [], ◌<◌, ◌≤◌, ◌↔◌, IfNone, IfSome, IfOk, IfErr, IsTrue, OnOk, false, length, replicate, slice_index};
+ghost use Rattle.ompt_events.specs.declared.cause.Cause.TheVariants.{Moved, NoOrder};
 ghost use Rattle.ompt_events.specs.Linearization.{IsLinearization, IsGreedy};
-ghost use Rattle.ompt_events.specs.Causes.{entries_in, IsFreeOf};
-ghost use Rattle.task_tree.specs.Family.{IsFamilyOf};
-ghost use Rattle.checker.specs.Entries.{AreMakers};
-ghost use Rattle.checker.specs.Search.{IsFound};
-ghost use Rattle.checker.specs.Merge.{StartsOrFulfils, Stands, IsUnplaced, IsFront, AreOffered};
+ghost use Rattle.ompt_events.specs.Causes.{IsFreeOf};
+ghost use Rattle.ompt_events.specs.Faults.{IsFault};
+ghost use Rattle.checker.specs.Merge.{Stands, IsUnplaced, IsFront, AreOffered};
 
 use crate::front::{Front, stands, take_first};
 use crate::lists::{Lists, lists_of_threads};
+use crate::makers::Makers;
 use crate::queue::Queue;
-use crate::search::SearchFault;
-use crate::waiting::Waiting;
-use ompt_events::{Cause, Record};
+use crate::waiting::{Placed, Waiting};
+use ompt_events::{Cause, Fault};
 use std::alloc::{AllocError, Global};
-use task_tree::Family;
+use task_tree::Run;
 
 /// The greedy order: again and again the first record in file order of which all that happens before it
 /// stands already. Searches for the first record that has no place in it.
-pub(crate) fn find_order(
-    alloc: Global,
-    records: &[Record],
-    family: &Family,
-    makers: &[u32],
-) -> Result<Vec<u32>, SearchFault>
-    requires few { length records.now ≤ 2 ^ 22 }
-    requires family { IsFamilyOf records.now family.now }
-    requires makers { AreMakers records.now (length records.now) makers.now }
-    requires entries { length makers.now ≡ entries_in records.now }
-    requires reached { IsFreeOf records.now LengthAhead }
-    requires apart { StartsOrFulfils records.now }
-    requires at_home { IsFreeOf records.now Moved }
-    ensures linearization { IfOk result (λ order. IsLinearization records.now order.items) }
-    ensures greedy { IfOk result (λ order. IsGreedy records.now order.items) }
-    ensures free { OnOk result (IsFreeOf records.now NoOrder) }
-    ensures found { IfErr result (IsFound records.now NoOrder) }
+pub(crate) fn find_order(alloc: Global, makers: &Makers) -> Result<Vec<u32>, Fault>
+    requires { IsFreeOf makers.now.run.records Moved }
+    ensures linearization { IfOk result (λ order. IsLinearization makers.now.run.records order.items) }
+    ensures greedy { IfOk result (λ order. IsGreedy makers.now.run.records order.items) }
+    ensures free { OnOk result (IsFreeOf makers.now.run.records NoOrder) }
+    ensures fault { IfErr result (IsFault makers.now.run.records (NoOrder ∷ [])) }
 {
-    let mut placed = none_placed(alloc, records.len())?;
+    let run = makers.run();
+    let places = makers.places();
+    let mut placed = none_placed(alloc, run.len())?;
     let Lists {
         firsts: mut heads,
         nexts: links,
-    } = lists_of_threads(alloc, records)?;
-    let waiting = Waiting::of(alloc, records, family, makers.len())?;
-    let mut low = first_missing(&placed, makers, 0);
-    let mut ready = first_ready(alloc, records, family, &placed, &heads, low)?;
-    let mut order = Vec::with_capacity(alloc, records.len())?;
+    } = lists_of_threads(alloc, run)?;
+    let waiting = Waiting::of(alloc, makers)?;
+    let mut low = first_missing(&placed, places, 0);
+    let mut ready = first_ready(alloc, run, &placed, &heads, low)?;
+    let mut order = Vec::with_capacity(alloc, run.len())?;
     'merge: while let Some(place) = take_first(&mut ready, &placed) {
-        let event = &records[place];
         order.push(place as u32)?;
         placed[place] = true;
         let next = links[place];
-        heads[event.thread as usize] = next;
+        heads[run.thread(place) as usize] = next;
         let was_low = low;
-        low = first_missing(&placed, makers, low);
+        low = first_missing(&placed, places, low);
         let front = Front {
-            records,
-            family,
+            run,
             placed: placed.as_slice(),
             heads: heads.as_slice(),
             low,
         };
-        waiting.release(&front, &mut ready, place, next as usize, was_low)?;
+        let just_placed = Placed {
+            place,
+            next: next as usize,
+            was_low,
+        };
+        waiting.release(&front, &mut ready, just_placed)?;
     }
     match first_unplaced(&placed) {
-        Some(at) => Err(SearchFault::Malformed {
+        Some(at) => Err(Fault::Malformed {
             at,
             cause: Cause::NoOrder,
         }),
@@ -75,19 +67,17 @@ pub(crate) fn find_order(
 /// The records that may stand first.
 fn first_ready(
     alloc: Global,
-    records: &[Record],
-    family: &Family,
+    run: &Run,
     placed: &[bool],
     heads: &[u32],
     low: usize,
 ) -> Result<Queue, AllocError>
-    requires front { IsFront records.now family.now placed.now heads.now low }
-    ensures ready { IfOk result (AreOffered records.now placed.now) }
+    requires { IsFront run.now.records run.now.family placed.now heads.now low }
+    ensures ready { IfOk result (AreOffered run.now.records placed.now) }
 {
     let mut ready = Queue::new(alloc);
     let front = Front {
-        records,
-        family,
+        run,
         placed,
         heads,
         low,

@@ -1,17 +1,13 @@
 //! What each record lets stand once it stands itself.
-ghost use Rattle.std.specs.Prelude.{ℕ, ◌≡◌, ◌<◌, ◌≤◌, ◌^◌, Some, IfOk, OnOk, Contains, length};
-ghost use Rattle.ompt_events.specs.declared.cause.Cause.TheVariants.{LengthAhead};
-ghost use Rattle.ompt_events.specs.Causes.{entries_in, IsFreeOf};
-ghost use Rattle.task_tree.specs.Family.{IsFamilyOf};
-ghost use Rattle.checker.specs.Merge.{Awaits, MayFollow, IsFront, AreMore, AreWaiting, length_of};
+ghost use Rattle.std.specs.Prelude.{ℕ, ◌≡◌, ◌<◌, ◌≤◌, Some, IfOk, OnOk, Contains, length};
+ghost use Rattle.ompt_events.specs.Causes.{entries_in};
+ghost use Rattle.checker.specs.Merge.{Awaits, IsFront, MayFollow, AreMore, AreWaiting, length_of};
 
 use crate::front::Front;
 use crate::lists::{Lists, lists_of_lengths, lists_of_tasks};
+use crate::makers::Makers;
 use crate::queue::Queue;
-use crate::schedule::created_index;
-use ompt_events::Record;
 use std::alloc::{AllocError, Global};
-use task_tree::Family;
 
 /// The records that await the creation of each task, and those that name each ledger length.
 #[derive(Drop)]
@@ -20,23 +16,25 @@ pub(crate) struct Waiting {
     by_length: Lists,
 }
 
+/// A record that was put in order just now.
+#[derive(Clone, Copy)]
+pub(crate) struct Placed {
+    /// Its place.
+    pub(crate) place: usize,
+    /// The place of the next record of its thread, or the number of records.
+    pub(crate) next: usize,
+    /// The ledger length that was reached before it stood.
+    pub(crate) was_low: usize,
+}
+
 impl Waiting {
-    /// Those of all records; there are so many entries.
-    pub(crate) fn of(
-        alloc: Global,
-        records: &[Record],
-        family: &Family,
-        entries: usize,
-    ) -> Result<Waiting, AllocError>
-        requires few { length records.now ≤ 2 ^ 22 }
-        requires family { IsFamilyOf records.now family.now }
-        requires entries { entries ≡ entries_in records.now }
-        requires reached { IsFreeOf records.now LengthAhead }
-        ensures { IfOk result (AreWaiting records.now family.now.tasks) }
+    /// Those of all records.
+    pub(crate) fn of(alloc: Global, makers: &Makers) -> Result<Waiting, AllocError>
+        ensures { IfOk result (AreWaiting makers.now.run.records makers.now.run.family.tasks) }
     {
         Ok(Waiting {
-            by_task: lists_of_tasks(alloc, records, family)?,
-            by_length: lists_of_lengths(alloc, records, entries)?,
+            by_task: lists_of_tasks(alloc, makers.run())?,
+            by_length: lists_of_lengths(alloc, makers)?,
         })
     }
 
@@ -47,28 +45,26 @@ impl Waiting {
         &self,
         front: &Front,
         ready: &mut Queue,
-        place: usize,
-        next: usize,
-        was_low: usize,
+        placed: Placed,
     ) -> Result<(), AllocError>
-        requires front { IsFront front.now.records.now front.now.family.now front.now.placed.now
-            front.now.heads.now front.now.low }
-        requires waiting { AreWaiting front.now.records.now front.now.family.now.tasks self.now }
-        requires within { place < length front.now.records.now }
-        requires low { front.now.low ≤ entries_in front.now.records.now }
-        requires was_low { was_low ≤ front.now.low }
-        ensures more { OnOk result (AreMore front.now.records.now front.now.placed.now ready.old ready.new) }
-        ensures next { OnOk result (MayFollow front.now.records.now front.now.placed.now next
-            → Contains ready.new next) }
-        ensures awaiting { OnOk result ((i : ℕ) → Awaits front.now.records.now i place
-            → MayFollow front.now.records.now front.now.placed.now i → Contains ready.new i) }
-        ensures naming { OnOk result ((i k : ℕ) → was_low < k → k ≤ front.now.low
-            → length_of front.now.records.now i ≡ Some k
-            → MayFollow front.now.records.now front.now.placed.now i → Contains ready.new i) }
+        requires front { IsFront front.now.run.now.records front.now.run.now.family
+            front.now.placed.now front.now.heads.now front.now.low }
+        requires waiting { AreWaiting front.now.run.now.records front.now.run.now.family.tasks self.now }
+        requires within { placed.place < length front.now.run.now.records }
+        requires low { front.now.low ≤ entries_in front.now.run.now.records }
+        requires was_low { placed.was_low ≤ front.now.low }
+        ensures more { OnOk result (AreMore front.now.run.now.records front.now.placed.now ready.old ready.new) }
+        ensures next { OnOk result (MayFollow front.now.run.now.records front.now.placed.now placed.next
+            → Contains ready.new placed.next) }
+        ensures awaiting { OnOk result ((i : ℕ) → Awaits front.now.run.now.records i placed.place
+            → MayFollow front.now.run.now.records front.now.placed.now i → Contains ready.new i) }
+        ensures naming { OnOk result ((i k : ℕ) → placed.was_low < k → k ≤ front.now.low
+            → length_of front.now.run.now.records i ≡ Some k
+            → MayFollow front.now.run.now.records front.now.placed.now i → Contains ready.new i) }
     {
-        front.offer(ready, next)?;
-        self.offer_awaiting(front, ready, place)?;
-        front.offer_lists(ready, &self.by_length, was_low + 1, front.low + 1)?;
+        front.offer(ready, placed.next)?;
+        self.offer_awaiting(front, ready, placed.place)?;
+        front.offer_lists(ready, &self.by_length, placed.was_low + 1, front.low + 1)?;
         Ok(())
     }
 
@@ -79,15 +75,15 @@ impl Waiting {
         ready: &mut Queue,
         place: usize,
     ) -> Result<(), AllocError>
-        requires front { IsFront front.now.records.now front.now.family.now front.now.placed.now
-            front.now.heads.now front.now.low }
-        requires waiting { AreWaiting front.now.records.now front.now.family.now.tasks self.now }
-        requires within { place < length front.now.records.now }
-        ensures more { OnOk result (AreMore front.now.records.now front.now.placed.now ready.old ready.new) }
-        ensures awaiting { OnOk result ((i : ℕ) → Awaits front.now.records.now i place
-            → MayFollow front.now.records.now front.now.placed.now i → Contains ready.new i) }
+        requires front { IsFront front.now.run.now.records front.now.run.now.family
+            front.now.placed.now front.now.heads.now front.now.low }
+        requires waiting { AreWaiting front.now.run.now.records front.now.run.now.family.tasks self.now }
+        requires within { place < length front.now.run.now.records }
+        ensures more { OnOk result (AreMore front.now.run.now.records front.now.placed.now ready.old ready.new) }
+        ensures awaiting { OnOk result ((i : ℕ) → Awaits front.now.run.now.records i place
+            → MayFollow front.now.run.now.records front.now.placed.now i → Contains ready.new i) }
     {
-        match created_index(front.records, front.family, place) {
+        match front.run.created(place) {
             Some(index) => front.offer_list(ready, &self.by_task, index),
             None => Ok(()),
         }

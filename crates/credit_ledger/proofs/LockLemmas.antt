@@ -1,7 +1,7 @@
 -- Each step of the lock keeps its rule.
 use Rattle.std.proofs.Common.{◌≡◌, ◌≢◌, ◌⊎◌, ℕ, zero, suc, ◌+◌, ◌<◌, ◌≤◌, List, [], ◌∷◌, ◌++◌, length, set, Some, None, Bool, true, false, refl, sym, ap, ◌∙◌, subst, inl, inr, ⊎_elim, arith, length-append}
 use Rattle.std.specs.Prelude.{Result, Ok, Err, IfOk, ◌==◌, slice_index, fold}
-use Rattle.std.proofs.lemmas.Bool.{cases_Bool, cases_eq, false≢true, eqb-true, eq-eqb, cond-true, cond-false}
+use Rattle.std.proofs.lemmas.Bool.{cases_Bool, cases_eq, cases_lt, false≢true, eqb-true, eq-eqb, cond-true, cond-false}
 use Rattle.std.proofs.lemmas.List.{append_assoc, append-nil, length-set, append_cancel_left, set_comm}
 use Rattle.std.proofs.lemmas.List.Elements.{filter-append}
 use mathlib.Core.Option.{Option as Maybe, some, none, some-ne-none, some-injective}
@@ -18,7 +18,7 @@ use Rattle.credit_ledger.specs.declared.view.Stage.TheVariants.{Fresh, Idle, Wai
 use Rattle.credit_ledger.specs.declared.view.View.{View}
 use Rattle.credit_ledger.specs.declared.view.Claim.{Claim}
 use Rattle.credit_ledger.specs.Histories.{after_call, IsPossible, IsLegalFrom, IsLegal, entries_after}
-use Rattle.credit_ledger.specs.Seats.{Slot, calls_of, StartsWith, with_number, with_ticket, with_turn, with_call, step_of, has_ticket, Knows, FitsAt, Fits, IsHome, IsKept, IsLater, Kept, Settled, Drawn, HasTurn, Served, Looked, Entered, Extends, Sat, Told, newcomer, copied, told_of, spent, claim_of, with_claim, AreOfOthers, IsSpentAt, AreSpent}
+use Rattle.credit_ledger.specs.Seats.{Slot, calls_of, StartsWith, with_number, with_ticket, with_turn, with_call, step_of, has_ticket, Knows, FitsAt, Fits, IsHome, IsKept, IsLater, Kept, Settled, Drawn, HasTurn, Served, Looked, Entered, Extends, Sat, Told, newcomer, copied, told_of, spent, claim_of, with_given, with_claim, AreOfOthers, IsSpentAt, IsHeld, AreSpent}
 
 -- ---- histories
 
@@ -113,6 +113,27 @@ spent-others views n w at live [] f = tt
 spent-others views n w at live (c ∷ claims) f =
     ((λ is. live (ap (λ (z : View). z.stage) (some-injective w f.0.0 (sym at ∙ ap (get_elem? views) (sym is) ∙ f.0.1)) ∙ f.0.2)), spent-others views n w at live claims f.1)
 
+-- ---- the seats that have tickets
+
+-- a ticket stays with a seat where one view changes, if that seat keeps it
+held-set : (views : List View) (id : ℕ) (v w : View) (t : ℕ) → get_elem? views id ≡ some v → (has_ticket v.stage ≡ true → v.ticket ≡ t → (has_ticket w.stage ≡ true) × (w.ticket ≡ t)) → IsHeld views t → IsHeld (set views id w) t
+held-set views id v w t at stays holder = here (cases_eq holder.0 id)
+  where
+    here : (holder.0 ≡ id) ⊎ (holder.0 ≢ id) → IsHeld (set views id w) t
+    here (inl is) =
+        let same : v ≡ holder.1 = some-injective v holder.1 (sym at ∙ ap (get_elem? views) (sym is) ∙ holder.2) in
+        let kept = stays (ap (λ (z : View). has_ticket z.stage) same ∙ holder.3) (ap (λ (z : View). z.ticket) same ∙ holder.4) in
+        (id, w, set_here views id w (below views id v at), kept.0, kept.1)
+    here (inr other) = (holder.0, holder.1, set_else views id holder.0 w other ∙ holder.2, holder.3, holder.4)
+
+-- and where a seat comes
+held-longer : (views more : List View) (t : ℕ) → IsHeld views t → IsHeld (views ++ more) t
+held-longer views more t holder = (holder.0, holder.1, at_longer views more holder.0 holder.1 holder.2, holder.3, holder.4)
+
+-- a seat whose stage has no ticket has none
+no_ticket : (st other : Stage) → st ≡ other → has_ticket other ≡ false → has_ticket st ≡ true → ⊥
+no_ticket st other is hasnt has = false≢true (sym hasnt ∙ sym (ap has_ticket is) ∙ has)
+
 -- ---- one view changes
 
 pub kept-changed : (h : List Step) (next serving : ℕ) (s : State Slot View) → IsKept h next serving s → (id : ℕ) (v : View) → get_elem? s.views id ≡ some v
@@ -122,9 +143,10 @@ pub kept-changed : (h : List Step) (next serving : ℕ) (s : State Slot View) �
     → ((n : ℕ) → length s.views ≤ n → calls_of n h2 ≡ [])
     → (has_ticket w.stage ≡ true → (n : ℕ) (u : View) → n ≢ id → get_elem? s.views n ≡ some u → has_ticket u.stage ≡ true → w.ticket ≡ u.ticket → ⊥)
     → (v.stage ≡ Spent → w.stage ≡ Spent) → AreSpent (set s.views id w) w.claims
+    → ((t : ℕ) → serving2 ≤ t → t < next2 → IsHeld (set s.views id w) t) → w.given ≤ length s.views
     → IsHome h2 (record { words = words; homes = homes; views = set s.views id w })
     → IsKept h2 next2 serving2 (record { words = words; homes = homes; views = set s.views id w })
-kept-changed h next serving s k id v at h2 next2 serving2 words homes w words_are served legal others mine strangers tickets stays claims home = record {
+kept-changed h next serving s k id v at h2 next2 serving2 words homes w words_are served legal others mine strangers tickets stays claims held given home = record {
   words = words_are;
   served = served;
   legal = legal;
@@ -149,6 +171,12 @@ kept-changed h next serving s k id v at h2 next2 serving2 words homes w words_ar
       (λ (no : (n ≢ id) × (get_elem? s.views n ≡ some y)). k.apart m n x y mo.1 no.1 tx ty same)
       (at_set s.views id n w y en))
       (at_set s.views id m w x em);
+  held = held;
+  given = λ n u e.
+      ⊎_elim
+      (λ (is : (n ≡ id) × (w ≡ u)). let same = ap (λ (z : View). z.given) is.1 in omega (arith, same, given, length-set s.views id w))
+      (λ (other : (n ≢ id) × (get_elem? s.views n ≡ some u)). let old = k.given n u other.1 in omega (arith, old, length-set s.views id w))
+      (at_set s.views id n w u e);
   gone = λ n u e.
       ⊎_elim
       (λ (is : (n ≡ id) × (w ≡ u)). subst (λ (z : View). AreSpent (set s.views id w) z.claims) is.1 claims)
@@ -230,6 +258,7 @@ kept-same h next serving s k id v at words same =
     kept-changed h next serving s k id v at h next serving words s.homes v same k.served k.legal (λ n u other e. k.seats n u e) (k.seats id v at) k.strangers
     (λ has n u other e tu ticket. other (sym (k.apart id n v u at e has tu ticket)))
     (λ gone. gone) (spent-set s.views id v v at (λ gone. gone) v.claims (k.gone id v at))
+    (λ t low high. held-set s.views id v v t at (λ has is. (has, is)) (k.held t low high)) (k.given id v at)
     (home-kept h s id v v words at (λ turn. turn) k.home)
 
 -- the rule, at words that are read
@@ -285,6 +314,12 @@ draws id old v idle s kept slots at small = by_case (cases_eq (slice_index s.wor
                 (λ _ n u other e has same. below_next h next serving u.stage n u has (k.seats n u e) (sym same ∙ sym is_next))
                 (λ gone. absurd (not_spent v.stage Idle idle refl gone))
                 (spent-set s.views id v w at (λ gone. absurd (not_spent v.stage Idle idle refl gone)) v.claims (k.gone id v at))
+                (λ t low high.
+                ⊎_elim
+                (λ (less : t < next). held-set s.views id v w t at (λ has _. absurd (no_ticket v.stage Idle idle refl has)) (k.held t low less))
+                (λ (past : next ≤ t). (id, w, set_here s.views id w (below s.views id v at), refl, omega (arith, is_next, past, high)))
+                (cases_lt t next))
+                (k.given id v at)
                 (home-kept h s id v w (set s.words 0 (either (slice_index s.words 0 == old) (old + 1) (slice_index s.words 0))) at (λ turn. absurd (idle_turn (sym idle ∙ turn))) k.home),
           ),
           inl (is, refl),
@@ -348,6 +383,7 @@ serves id v waiting s kept slots at small = by_case (cases_eq (slice_index s.wor
                 k.strangers
                 (λ _ n u other e has same. other (sym (k.apart id n v u at e (ap has_ticket waiting) has same)))
                 (λ gone. absurd (not_spent v.stage Waiting waiting refl gone)) tt
+                (λ t low high. held-set s.views id v w t at (λ _ is_t. (refl, is_t)) (k.held t low high)) (k.given id v at)
                 (inr (homes, id, w, set_here s.views id w (below s.views id v at), refl)),
           ),
           inl (is, h, record { legal = k.legal; seen = fits.0.seen; told = fits.0.told; own = ap (λ n. calls_of n h) fits.0.number ∙ fits.0.own }, refl),
@@ -378,6 +414,7 @@ calls id v call es turn after possible s kept slots at small = (
         (λ has. absurd (false_true has))
         (λ gone. absurd (not_spent v.stage Turn turn refl gone))
         (spent-set s.views id v w at (λ gone. absurd (not_spent v.stage Turn turn refl gone)) v.claims (k.gone id v at))
+        (λ t low high. held-set s.views id v w t at (λ _ is. absurd (omega (arith, fits.1, is, low))) (k.held t (omega (arith, low)) high)) (k.given id v at)
         (inl (homes k.home)),
   ),
   refl,
@@ -452,6 +489,7 @@ extends v t h call reply turn possible is =
     subst (λ r. Extends v call r (with_call (with_turn (with_ticket v t) h) call)) (sym is)
     (record {
       number = refl;
+      given = refl;
       legal = legal-more h (step_of (with_turn (with_ticket v t) h) call) turn.legal possible refl;
       before = h;
       ends = refl;
@@ -511,6 +549,8 @@ begins = (
     seats = one;
     strangers = λ n far. refl;
     apart = alone;
+    held = λ t low high. absurd (omega (arith, high));
+    given = none_given;
     gone = none_gone;
     home = inl refl;
   },
@@ -524,6 +564,10 @@ begins = (
     alone zero zero v w em en tv tw same = refl
     alone zero (suc n) v w em en tv tw same = absurd (some-ne-none w (sym en))
     alone (suc m) n v w em en tv tw same = absurd (some-ne-none v (sym em))
+
+    none_given : (n : ℕ) (v : View) → get_elem? (newcomer ∷ []) n ≡ some v → v.given ≤ 1
+    none_given zero v e = let same = ap (λ (z : View). z.given) (some-injective newcomer v e) in omega (arith, same)
+    none_given (suc n) v e = absurd (some-ne-none v (sym e))
 
     none_gone : (n : ℕ) (v : View) → get_elem? (newcomer ∷ []) n ≡ some v → AreSpent (newcomer ∷ []) v.claims
     none_gone zero v e = subst (λ (z : View). AreSpent (newcomer ∷ []) z.claims) (some-injective newcomer v e) tt
@@ -550,6 +594,12 @@ copies id v idle s kept at = (
         (split_at n y en))
         (λ (new : (copied v ≡ x) × (m ≡ length s.views)). absurd (false_true (ap (λ (z : View). has_ticket z.stage) new.0 ∙ tx)))
         (split_at m x em);
+    held = λ t low high. subst (λ l. IsHeld (l ++ copied v ∷ []) t) (sym again) (held-longer s.views (copied v ∷ []) t (kept.3.held t low high));
+    given = λ n u e.
+        ⊎_elim
+        (λ (old : get_elem? s.views n ≡ some u). let few = kept.3.given n u old in omega (arith, few, longer))
+        (λ (new : (copied v ≡ u) × (n ≡ length s.views)). let same = ap (λ (z : View). z.given) new.0 in let few = kept.3.given id v at in omega (arith, same, few, longer))
+        (split_at n u e);
     gone = λ n u e.
         ⊎_elim
         (λ (old : get_elem? s.views n ≡ some u). subst (λ l. AreSpent (l ++ copied v ∷ []) u.claims) (sym again) (spent-longer s.views (copied v ∷ []) u.claims (kept.3.gone n u old)))
@@ -576,6 +626,7 @@ copies id v idle s kept at = (
 
     later : (n : ℕ) → n ≡ length s.views → IsLater (copied v) n
     later n is = record {
+      than_given = let few = kept.3.given id v at in omega (arith, is, few);
       than_seat = omega (arith, is, knows.number, below s.views id v at);
       than_callers = λ m far. no_calls m kept.0 v.seen knows.seen (kept.3.strangers m (omega (arith, far, is)));
     }
@@ -606,6 +657,8 @@ settles slots id me fresh empty s kept count at small = (
         (λ has. absurd (false_true has))
         (λ gone. absurd (not_spent me.0.stage Fresh fresh refl gone))
         (spent-set s.views id me.0 (with_number me.0 id) at (λ gone. absurd (not_spent me.0.stage Fresh fresh refl gone)) me.0.claims (kept.3.gone id me.0 at))
+        (λ t low high. held-set s.views id me.0 (with_number me.0 id) t at (λ has _. absurd (no_ticket me.0.stage Fresh fresh refl has)) (kept.3.held t low high))
+        (omega (arith, below s.views id me.0 at))
         (home-kept kept.0 s id me.0 (with_number me.0 id) (set s.words 0 (slice_index s.words 0)) at (λ turn. absurd (fresh_turn (sym fresh ∙ turn))) kept.3.home),
   ),
   (id, no_calls id kept.0 me.0.seen fits.0 fits.3, fits.4, refl),
@@ -622,6 +675,7 @@ tells id other v w idle idle_too s kept at apart there = (
   kept.2,
   kept-changed kept.0 kept.1 kept.2 mid mid_kept other w there kept.0 kept.1 kept.2 s.words s.homes spent kept.3.words kept.3.served kept.3.legal (λ n u _ e. mid_kept.seats n u e) tt
       mid_kept.strangers (λ has. absurd (false_true has)) (λ _. refl) tt
+      (λ t low high. held-set mid.views other w spent t there (λ has _. absurd (no_ticket w.stage Idle idle_too refl has)) (mid_kept.held t low high)) (omega arith)
       (home-kept kept.0 mid other w spent s.words there (λ turn. absurd (idle_turn (sym idle_too ∙ turn))) mid_kept.home),
 )
   where
@@ -641,7 +695,38 @@ tells id other v w idle idle_too s kept at apart there = (
         kept.3.strangers (λ has. absurd (false_true (sym (ap has_ticket idle) ∙ has)))
         (λ is. absurd (not_spent v.stage Idle idle refl is))
         (spent-set s.views id v (told_of v w) at (λ is. absurd (not_spent v.stage Idle idle refl is)) v.claims (kept.3.gone id v at))
+        (λ t low high. held-set s.views id v (told_of v w) t at (λ has is. (has, is)) (kept.3.held t low high))
+        (let few = kept.3.given id v at in let few_too = kept.3.given other w (sym (set_else s.views id other (told_of v w) apart) ∙ there) in omega (arith, few, few_too))
         (home-kept kept.0 s id v (told_of v w) s.words at (λ turn. turn) kept.3.home)
+
+-- a seat hears from a new one which numbers are given
+pub hears : (id other : ℕ) (v w : View) → v.stage ≡ Idle → w.stage ≡ Fresh → Joins Kept id v other w (with_given v w.given) spent
+hears id other v w idle fresh s kept at apart there = (
+  kept.0,
+  kept.1,
+  kept.2,
+  kept-changed kept.0 kept.1 kept.2 mid mid_kept other w there kept.0 kept.1 kept.2 s.words s.homes spent kept.3.words kept.3.served kept.3.legal (λ n u _ e. mid_kept.seats n u e) tt
+      mid_kept.strangers (λ has. absurd (false_true has)) (λ _. refl) tt
+      (λ t low high. held-set mid.views other w spent t there (λ has _. absurd (no_ticket w.stage Fresh fresh refl has)) (mid_kept.held t low high)) (omega arith)
+      (home-kept kept.0 mid other w spent s.words there (λ turn. absurd (fresh_turn (sym fresh ∙ turn))) mid_kept.home),
+)
+  where
+    mid : State Slot View
+    mid = record { words = s.words; homes = s.homes; views = set s.views id (with_given v w.given) }
+
+    knows : Knows kept.0 id v
+    knows = subst (λ st. FitsAt st kept.0 kept.1 kept.2 id v) idle (kept.3.seats id v at)
+
+    mid_kept : IsKept kept.0 kept.1 kept.2 (record { words = s.words; homes = s.homes; views = set s.views id (with_given v w.given) })
+    mid_kept =
+        kept-changed kept.0 kept.1 kept.2 s kept.3 id v at kept.0 kept.1 kept.2 s.words s.homes (with_given v w.given) kept.3.words kept.3.served kept.3.legal (λ n u _ e. kept.3.seats n u e)
+        (subst (λ st. FitsAt st kept.0 kept.1 kept.2 id (with_given v w.given)) (sym idle) (record { number = knows.number; seen = knows.seen; told = knows.told; own = knows.own }))
+        kept.3.strangers (λ has. absurd (no_ticket v.stage Idle idle refl has))
+        (λ is. absurd (not_spent v.stage Idle idle refl is))
+        (spent-set s.views id v (with_given v w.given) at (λ is. absurd (not_spent v.stage Idle idle refl is)) v.claims (kept.3.gone id v at))
+        (λ t low high. held-set s.views id v (with_given v w.given) t at (λ has is. (has, is)) (kept.3.held t low high))
+        (kept.3.given other w (sym (set_else s.views id other (with_given v w.given) apart) ∙ there))
+        (home-kept kept.0 s id v (with_given v w.given) s.words at (λ turn. turn) kept.3.home)
 
 -- a new seat comes
 pub sits : (slots : ℕ) → Enters Kept slots 0 (λ _ w. Sat (w, []))
@@ -666,6 +751,12 @@ sits slots s kept count small = (
           (snoc_at s.views new n y en))
           (λ (is : (new ≡ x) × (m ≡ length s.views)). absurd (false_true (ap (λ (z : View). has_ticket z.stage) is.0 ∙ tx)))
           (snoc_at s.views new m x em);
+      held = λ t low high. held-longer s.views (new ∷ []) t (kept.3.held t low high);
+      given = λ n u e.
+          ⊎_elim
+          (λ (old : get_elem? s.views n ≡ some u). let few = kept.3.given n u old in omega (arith, few, length-append s.views (new ∷ [])))
+          (λ (is : (new ≡ u) × (n ≡ length s.views)). let same = ap (λ (z : View). z.given) is.0 in omega (arith, same, length-append s.views (new ∷ [])))
+          (snoc_at s.views new n u e);
       gone = λ n u e.
           ⊎_elim
           (λ (old : get_elem? s.views n ≡ some u). spent-longer s.views (new ∷ []) u.claims (kept.3.gone n u old))
@@ -678,7 +769,7 @@ sits slots s kept count small = (
 )
   where
     new : View
-    new = record { number = length s.views; seen = []; told = []; own = []; stage = Idle; ticket = 0; claims = [] }
+    new = record { number = length s.views; given = length s.views + 1; seen = []; told = []; own = []; stage = Idle; ticket = 0; claims = [] }
 
     seats : (n : ℕ) (u : View) → (get_elem? s.views n ≡ some u) ⊎ ((new ≡ u) × (n ≡ length s.views)) → Fits kept.0 kept.1 kept.2 n u
     seats n u (inl e) = kept.3.seats n u e
@@ -722,6 +813,7 @@ gathers id other v w turn idle s kept at apart there = (
     mid_kept =
         kept-changed kept.0 kept.1 kept.2 s kept.3 other w there_too kept.0 kept.1 kept.2 s.words s.homes spent kept.3.words kept.3.served kept.3.legal (λ n u _ e. kept.3.seats n u e) tt
         kept.3.strangers (λ has. absurd (false_true has)) (λ _. refl) tt
+        (λ t low high. held-set s.views other w spent t there_too (λ has _. absurd (no_ticket w.stage Idle idle refl has)) (kept.3.held t low high)) (omega arith)
         (home-kept kept.0 s other w spent s.words there_too (λ stays. absurd (idle_turn (sym idle ∙ stays))) kept.3.home)
 
     now_spent : AreSpent (set s.views other spent) (claim_of w ∷ v.claims)
@@ -739,6 +831,7 @@ gathers id other v w turn idle s kept at apart there = (
         (λ _ n u apart_too e has same. apart_too (sym (mid_kept.apart id n v u at_too e (ap has_ticket turn) has same)))
         (λ is. absurd (not_spent v.stage Turn turn refl is))
         (spent-set (set s.views other spent) id v (with_claim v w) at_too (λ is. absurd (not_spent v.stage Turn turn refl is)) (claim_of w ∷ v.claims) now_spent)
+        (λ t low high. held-set (set s.views other spent) id v (with_claim v w) t at_too (λ has is. (has, is)) (mid_kept.held t low high)) (mid_kept.given id v at_too)
         (home-kept kept.0 mid id v (with_claim v w) s.words at_too (λ stays. stays) mid_kept.home)
 
 -- and is told of what it took in

@@ -1,6 +1,6 @@
 -- The seats of a ledger that threads share behind a lock of tickets: what each seat knows of the one history,
 -- and the rule that each step keeps.
-use Rattle.std.specs.Prelude.{◌≡◌, ◌≢◌, ◌≤◌, ◌<◌, ◌⊎◌, ◌==◌, ℕ, Bool, true, false, List, [], ◌∷◌, ◌++◌, length, Option, Some}
+use Rattle.std.specs.Prelude.{◌≡◌, ◌≢◌, ◌≤◌, ◌<◌, ◌⊎◌, ◌==◌, ◌+◌, ℕ, max, Bool, true, false, List, [], ◌∷◌, ◌++◌, length, Option, Some}
 use Rattle.std.specs.List.{filter}
 use mathlib.Core.Option.{some, none}
 use lib.ListN.{get_elem?}
@@ -29,22 +29,37 @@ StartsWith history first = (more : List Step) × (history ≡ first ++ more)
 
 -- the first seat
 abbrev pub newcomer : View
-newcomer = record { number = 0; seen = []; told = []; own = []; stage = Idle; ticket = 0; claims = [] }
+newcomer =
+    record { number = 0; given = 1; seen = []; told = []; own = []; stage = Idle; ticket = 0; claims = [] }
 
 -- a new seat, which knows the same history, and has the other seat's number until it learns its own
 abbrev pub copied : View → View
-copied v = record { number = v.number; seen = v.seen; told = v.seen; own = []; stage = Fresh; ticket = 0; claims = [] }
+copied v = record {
+  number = v.number;
+  given = v.given;
+  seen = v.seen;
+  told = v.seen;
+  own = [];
+  stage = Fresh;
+  ticket = 0;
+  claims = [];
+}
 
--- the seat, told of what the other one has seen
+-- the seat, told of what the other one has seen, and which numbers it knows to be given
 abbrev pub told_of : View → View → View
-told_of v w = record v { told = w.seen }
+told_of v w = record v { told = w.seen; given = max v.given w.given }
+
+-- the seat, told that the numbers below this one are given
+abbrev pub with_given : View → ℕ → View
+with_given v given = record v { given = given }
 
 -- a seat that was joined into another one
 abbrev pub spent : View
-spent = record { number = 0; seen = []; told = []; own = []; stage = Spent; ticket = 0; claims = [] }
+spent =
+    record { number = 0; given = 0; seen = []; told = []; own = []; stage = Spent; ticket = 0; claims = [] }
 
 abbrev pub with_number : View → ℕ → View
-with_number v n = record v { number = n; stage = Idle }
+with_number v n = record v { number = n; given = n + 1; stage = Idle }
 
 abbrev pub with_ticket : View → ℕ → View
 with_ticket v t = record v { stage = Waiting; ticket = t }
@@ -108,8 +123,10 @@ pub record Knows (history : List Step) (n : ℕ) (v : View) : Type 0 where
   pub told : StartsWith history v.told
   pub own : calls_of n history ≡ v.own
 
--- the number is greater than that of the seat, and than that of each seat whose calls it has seen
+-- the number is greater than that of the seat, than each that the seat knows to be given, and than that of each
+-- seat whose calls it has seen
 pub record IsLater (v : View) (n : ℕ) : Type 0 where
+  pub than_given : v.given ≤ n
   pub than_seat : v.number < n
   pub than_callers : (m : ℕ) → n ≤ m → calls_of m v.seen ≡ []
 
@@ -127,6 +144,11 @@ FitsAt Spent history next serving n v = Unit {0}
 abbrev pub Fits : List Step → ℕ → ℕ → ℕ → View → Type 0
 Fits history next serving n v = FitsAt v.stage history next serving n v
 
+-- a seat has this ticket
+abbrev pub IsHeld : List View → ℕ → Type 0
+IsHeld views ticket =
+    (n : ℕ) × (v : View) × (get_elem? views n ≡ some v) × (has_ticket v.stage ≡ true) × (v.ticket ≡ ticket)
+
 -- the ledger is at home, or a seat has the turn
 abbrev pub IsHome : List Step → State Slot View → Type 0
 IsHome history s =
@@ -142,6 +164,9 @@ pub record IsKept (history : List Step) (next serving : ℕ) (s : State Slot Vie
   pub strangers : (n : ℕ) → length s.views ≤ n → calls_of n history ≡ []
   pub apart : (m n : ℕ) (v w : View) → get_elem? s.views m ≡ some v → get_elem? s.views n ≡ some w
       → has_ticket v.stage ≡ true → has_ticket w.stage ≡ true → v.ticket ≡ w.ticket → m ≡ n
+  -- each ticket from the one that is served up to the next one is held by a seat
+  pub held : (ticket : ℕ) → serving ≤ ticket → ticket < next → IsHeld s.views ticket
+  pub given : (n : ℕ) (v : View) → get_elem? s.views n ≡ some v → v.given ≤ length s.views
   pub gone : (n : ℕ) (v : View) → get_elem? s.views n ≡ some v → AreSpent s.views v.claims
   pub home : IsHome history s
 
@@ -155,12 +180,13 @@ Settled before after =
     (n : ℕ) × (calls_of n before.0.seen ≡ []) × IsLater before.0 n × (after ≡ (with_number before.0 n, before.1))
 
 -- a new seat, which has seen what this one has, has made no call, and has a number that is later than this
--- one's and than each that stands in what it has seen
+-- one's, than each that this one knows to be given, and than each that stands in what it has seen
 pub record IsCopy (v w : View) : Type 0 where
   pub seen : w.seen ≡ v.seen
   pub own : w.own ≡ []
   pub alone : calls_of w.number v.seen ≡ []
   pub later : IsLater v w.number
+  pub given : w.given ≡ w.number + 1
 
 -- the seat has a ticket, or nothing was changed
 abbrev pub Drawn : ℕ → Me Slot View → ℕ → Me Slot View → Type 0
@@ -191,9 +217,11 @@ Entered before after =
     × (after ≡ (with_call before.0 (Enter e), []))
 
 -- the history after a call is legal, begins with all that the seat had seen and was told of, and ends with the
--- call and its reply; the seat's own calls are the former ones and this one, and it has no others in the history
+-- call and its reply; the seat's own calls are the former ones and this one, and it has no others in the history;
+-- it knows the same numbers to be given
 pub record Extends (v : View) (call : Call) (reply : ℕ) (w : View) : Type 0 where
   pub number : w.number ≡ v.number
+  pub given : w.given ≡ v.given
   pub legal : IsLegal w.seen
   pub before : List Step
   pub ends : w.seen ≡ before ++ record { seat = v.number; call = call; reply = reply } ∷ []

@@ -71,6 +71,17 @@ impl Split<View> for Copies {
     ghost right = { copied };
 }
 
+/// A seat is told which numbers another one knows to be given.
+pub(crate) struct Hears;
+
+impl Join<View> for Hears {
+    ghost use Rattle.credit_ledger.specs.Seats.{with_given, spent};
+
+    ghost both = { λ v w. with_given v w.given };
+
+    ghost spent = { spent };
+}
+
 /// A seat is told of the history that another one has seen.
 pub(crate) struct Tells;
 

@@ -1,5 +1,5 @@
 //! The ledger that threads share, behind a lock of tickets.
-ghost use Rattle.std.specs.Prelude.{◌≡◌, ◌≤◌, ◌<◌, ◌^◌, ◌-◌, ◌++◌, ◌∷◌, [], ℕ, length, Some, IfOk, IfErr, OnOk, OnErr, IsOkUnless, IsTrue, ◌↔◌, All, List, map};
+ghost use Rattle.std.specs.Prelude.{◌≡◌, ◌+◌, ◌≤◌, ◌<◌, ◌^◌, ◌-◌, ◌++◌, ◌∷◌, [], ℕ, length, Some, IfOk, IfErr, OnOk, OnErr, IsOkUnless, IsTrue, ◌↔◌, All, List, map};
 ghost use Rattle.atomic_table.specs.Seated.{TableId};
 ghost use Rattle.credit_ledger.specs.declared.view.Call.{Call};
 ghost use Rattle.credit_ledger.specs.declared.view.Stage.{Stage};
@@ -8,12 +8,14 @@ ghost use Rattle.credit_ledger.specs.declared.view.View.{View};
 ghost use Rattle.credit_ledger.specs.declared.entry.Cover.{Cover};
 ghost use Rattle.credit_ledger.specs.Entries.{fault_of, IsSpanHeld};
 ghost use Rattle.credit_ledger.specs.Histories.{entries_after, IsPossible, IsLegal, IsOver};
-ghost use Rattle.credit_ledger.specs.Seats.{newcomer, told_of, with_ticket, with_turn, HasTurn, IsCopy, Extends, AreClaims, AreApart, claim_of};
+ghost use Rattle.credit_ledger.specs.Seats.{newcomer, told_of, with_given, with_ticket, with_turn, HasTurn, IsCopy, Extends, AreClaims, AreApart, claim_of};
 
 use crate::entry::{Cover, Entry, Span};
 use crate::fault::LedgerFault;
 use crate::ledger::Ledger;
-use crate::rule::{Claims, Copies, Draw, Enters, Gathers, Lock, Looks, Serve, Settle, Sit, Tells};
+use crate::rule::{
+    Claims, Copies, Draw, Enters, Gathers, Hears, Lock, Looks, Serve, Settle, Sit, Tells,
+};
 use crate::view::View;
 use atomic_table::Table;
 use std::alloc::Global;
@@ -137,15 +139,25 @@ impl SharedLedger {
     }
 
     /// A new seat, which has seen the same history, and of which no call is in it. Its number is greater
-    /// than that of the seat, and than that of each seat that has made a call in this history.
+    /// than that of the seat, than each that the seat knows to be given, and than that of each seat that has
+    /// made a call in this history. The seat knows from then on that this number is given, so a later split
+    /// gives a greater one.
     pub fn split(&self, seat: &mut Seat) -> Seat
         requires seat { seat.old.place.table_id ≡ self.now.board.shared.table_id }
-        ensures seat { (seat.new.place.table_id ≡ seat.old.place.table_id) × (seat.new.place.me ≡ seat.old.place.me) }
+        ensures table { seat.new.place.table_id ≡ seat.old.place.table_id }
+        ensures seat { seat.new.place.me ≡ (
+          with_given seat.old.place.me.0
+              (result.place.me.0.number + 1),
+          seat.old.place.me.1,
+        ) }
         ensures place { result.place.table_id ≡ seat.old.place.table_id }
         ensures copy { IsCopy seat.old.place.me.0 result.place.me.0 }
     {
         let mut place = self.board.shared.split_seat::<Copies>(&mut seat.place);
         let _ = self.board.shared.load::<Settle>(&mut place, 0);
+        // The seat hears of the number by a third one, which is spent by that.
+        let news = self.board.shared.split_seat::<Copies>(&mut place);
+        self.board.shared.join_seat::<Hears>(&mut seat.place, news);
         Seat { place }
     }
 

@@ -33,6 +33,8 @@ pub enum Stage {
 /// What a seat knows.
 pub struct View {
     pub number: u64,
+    /// The numbers of seats that it knows to be given are less than this.
+    pub given: u64,
     /// The history that it has seen.
     pub seen: LinkedList<Step>,
     /// The history that it was told of.

@@ -209,7 +209,7 @@ latest_more rs tasks own old up number parent index task latest apart is_up chil
 
 -- ---- all parents
 
-child_index : (rs : List Record) (family : FamilyView) (parent number task : ℕ) → IsFamilyOf rs family → IsChild rs parent number task → (index : ℕ) × (slice_get family.tasks index ≡ Some task)
+pub child_index : (rs : List Record) (family : FamilyView) (parent number task : ℕ) → IsFamilyOf rs family → IsChild rs parent number task → (index : ℕ) × (slice_get family.tasks index ≡ Some task)
 child_index rs family parent number task are child =
     let place = child_place rs parent (length rs) number task child in
     contains_get family.tasks task (are.noted.each place.0 task (at_within creation rs place.0 (parent, task) place.2) (creation_made rs parent task place.0 place.2))

@@ -1,18 +1,21 @@
 -- How the creations and their lists are marked.
 use Rattle.std.proofs.Common.{◌≡◌, ◌≢◌, ◌∙◌, ℕ, ◌<◌, ◌≤◌, ◌+◌, List, length, get_or, Option, Some, None, Bool, IsTrue, true, false, refl, sym, ap, subst, arith, inl, inr, ◌⊎◌, set}
-use Rattle.std.proofs.lemmas.Bool.{cases_eq, cases_lt, false≢true}
+use Rattle.std.proofs.lemmas.Bool.{cases_eq, cases_lt, eq-eqb, eqb-true, false≢true}
 use Rattle.std.proofs.lemmas.Option.{none-some, same_Some, slice_get_within, slice_get_read, slice_get-get_or}
 use Rattle.std.proofs.lemmas.List.{length-set, length-replicate, get_or-replicate}
-use Rattle.std.specs.Prelude.{◌↔◌, slice_get, slice_index_or, is_some, replicate, option_and_then}
+use Rattle.std.specs.Prelude.{◌↔◌, nat_eq, slice_get, slice_index_or, is_some, replicate, option_and_then}
 use Rattle.ompt_events.specs.declared.records.Record.{Record}
 use Rattle.ompt_events.specs.declared.records.Body.{Body}
 use Rattle.ompt_events.specs.declared.records.Body.TheVariants.{TaskCreate}
+use Rattle.ompt_events.specs.declared.deps.Dep.{Dep}
 use Rattle.ompt_events.specs.declared.cause.Cause.TheVariants.{DepsPlace}
 use Rattle.ompt_events.specs.Records.{created_with_deps, dependences}
 use Rattle.ompt_events.specs.Places.{at, thread_at}
 use Rattle.ompt_events.specs.Causes.{IsNextInThread, AreFollowed, HasMisplacedDeps, stray, missing, HasCause, deps_place, IsFirstWith, IsFreeOf}
-use Rattle.ompt_events.proofs.PlaceLemmas.{at_index, at_within}
+use Rattle.ompt_events.proofs.PlaceLemmas.{at_within}
 use Rattle.task_tree.proofs.LinkLemmas.{get_set_same, get_set_other}
+use Rattle.task_tree.specs.Runs.{RunView, IsRun, IsIndexOf, AreDependences}
+use Rattle.task_tree.proofs.SubjectLemmas.{call_task}
 use Rattle.depend_edges.specs.Placement.{IsLast, AreLast, BelongTogether, HasDependences, HasNoneAt, IsMarked, AreMarked}
 
 -- ---- the last record of each thread
@@ -157,9 +160,9 @@ mark_cases marks i k stands = elim (cases_eq k i) [
 ]
 
 -- a record that lists nothing follows no creation
-pub marked_unlisted : (rs : List Record) (i : ℕ) (r : Record) (marks : List Bool) (listed : Bool) → i < length rs → IsTrue listed ↔ (is_some (dependences (get_or rs i r).body) ≡ true) → listed ≡ false → AreMarked rs i marks → AreMarked rs (i + 1) marks
-marked_unlisted rs i r marks listed within tells not_listed are =
-    marked_other rs i marks (λ a followed. false≢true (sym not_listed ∙ tells.1 (ap is_some (sym (at_index dependences rs i r within) ∙ followed.listed)))) are
+pub marked_unlisted : (rs : List Record) (i : ℕ) (marks : List Bool) (listed : Bool) → IsTrue listed ↔ (is_some (at dependences rs i) ≡ true) → listed ≡ false → AreMarked rs i marks → AreMarked rs (i + 1) marks
+marked_unlisted rs i marks listed tells not_listed are =
+    marked_other rs i marks (λ a followed. false≢true (sym not_listed ∙ tells.1 (ap is_some followed.listed))) are
 
 -- one that follows the creation of its task
 pub marked_more : (rs : List Record) (i before : ℕ) (marks : List Bool) → ((a : ℕ) → AreFollowed rs a i → before ≡ a) → AreFollowed rs before i → AreMarked rs i marks → AreMarked rs (i + 1) (set (set marks before true) i true)
@@ -194,24 +197,23 @@ marked_more rs i before marks one here are = record {
     create : IsMarked (set (set marks before true) i true) before
     create = mark_stays (set marks before true) i before (get_set_same marks before true (let later = here.next.later in omega (arith, later, within)))
 
--- what the two bodies say
-pub followed_together : (rs : List Record) (a b : ℕ) (q r : Record) → a < length rs → b < length rs → AreFollowed rs a b → BelongTogether (get_or rs a q).body (get_or rs b r).body
-followed_together rs a b q r first second is =
-    (is.task, is.items, sym (at_index created_with_deps rs a q first) ∙ is.is_created, sym (at_index dependences rs b r second) ∙ is.listed)
+-- what the two records say
+pub followed_together : (rs : List Record) (a b : ℕ) → AreFollowed rs a b → BelongTogether rs a b
+followed_together rs a b is = (is.task, is.items, is.is_created, is.listed)
 
-pub together_followed : (rs : List Record) (a b : ℕ) (q r : Record) → a < length rs → b < length rs → BelongTogether (get_or rs a q).body (get_or rs b r).body → IsNextInThread rs a b → AreFollowed rs a b
-together_followed rs a b q r first second (task, items, creates, lists) next = record {
+pub together_followed : (rs : List Record) (a b : ℕ) → BelongTogether rs a b → IsNextInThread rs a b → AreFollowed rs a b
+together_followed rs a b (task, items, creates, lists) next = record {
   task = task;
   items = items;
-  is_created = at_index created_with_deps rs a q first ∙ creates;
-  listed = at_index dependences rs b r second ∙ lists;
+  is_created = creates;
+  listed = lists;
   next = next;
 }
 
-pub unfollowed_apart : (rs : List Record) (i before : ℕ) (q r : Record) → before < length rs → i < length rs → ((a : ℕ) → AreFollowed rs a i → before ≡ a) → (BelongTogether (get_or rs before q).body (get_or rs i r).body → ⊥) → (a : ℕ) → AreFollowed rs a i → ⊥
-unfollowed_apart rs i before q r inside within one none a is =
+pub unfollowed_apart : (rs : List Record) (i before : ℕ) → ((a : ℕ) → AreFollowed rs a i → before ≡ a) → (BelongTogether rs before i → ⊥) → (a : ℕ) → AreFollowed rs a i → ⊥
+unfollowed_apart rs i before one none a is =
     let P : ℕ → Type 0 = λ k. AreFollowed rs k i in
-    none (followed_together rs before i q r inside within (subst P (sym (one a is)) is))
+    none (followed_together rs before i (subst P (sym (one a is)) is))
 
 -- ---- the records without a mark
 
@@ -237,13 +239,16 @@ misplaced_unmarked rs i marks are (missing creates none) stands = elim (are.only
   | inr (b, is) ↦ none b is
 ]
 
-pub misplaced_says : (rs : List Record) (i : ℕ) (r : Record) → i < length rs → HasMisplacedDeps rs i → HasDependences (get_or rs i r).body
-misplaced_says rs i r within (stray lists none) = inr (sym (ap is_some (at_index dependences rs i r within)) ∙ lists)
-misplaced_says rs i r within (missing creates none) = inl (sym (ap is_some (at_index created_with_deps rs i r within)) ∙ creates)
+pub misplaced_says : (rs : List Record) (i : ℕ) → HasMisplacedDeps rs i → HasDependences rs i
+misplaced_says rs i (stray lists none) = inr lists
+misplaced_says rs i (missing creates none) = inl creates
 
-pub unmarked_misplaced : (rs : List Record) (i : ℕ) (r : Record) (marks : List Bool) → i < length rs → AreMarked rs (length rs) marks → (IsMarked marks i → ⊥) → HasDependences (get_or rs i r).body → HasMisplacedDeps rs i
-unmarked_misplaced rs i r marks within are none (inl creates) = missing (ap is_some (at_index created_with_deps rs i r within) ∙ creates) (λ b is. none (are.each i b is.next.within is).0)
-unmarked_misplaced rs i r marks within are none (inr lists) = stray (ap is_some (at_index dependences rs i r within) ∙ lists) (λ a is. none (are.each a i within is).1)
+pub unmarked_misplaced : (rs : List Record) (i : ℕ) (marks : List Bool) → AreMarked rs (length rs) marks → (IsMarked marks i → ⊥) → HasDependences rs i → HasMisplacedDeps rs i
+unmarked_misplaced rs i marks are none (inl creates) = missing creates (λ b is. none (are.each i b is.next.within is).0)
+unmarked_misplaced rs i marks are none (inr lists) = stray lists (λ a is. none (are.each a i (followed_within a is) is).1)
+  where
+    followed_within : (a : ℕ) → AreFollowed rs a i → i < length rs
+    followed_within a is = is.next.within
 
 -- ---- the cause
 
@@ -291,10 +296,10 @@ mark_here rs marks i within all read = slice_get-get_or marks i false (rw all wi
 
 -- ---- no dependences at all
 
-pub none_here : (rs : List Record) (i : ℕ) (r : Record) → i < length rs → (HasDependences (get_or rs i r).body → ⊥) → HasNoneAt rs i
-none_here rs i r within none = record {
-  creates = ap is_some (at_index created_with_deps rs i r within) ∙ never (is_some (created_with_deps (get_or rs i r).body)) (λ is. none (inl is));
-  lists = ap is_some (at_index dependences rs i r within) ∙ never (is_some (dependences (get_or rs i r).body)) (λ is. none (inr is));
+pub none_here : (rs : List Record) (i : ℕ) → (HasDependences rs i → ⊥) → HasNoneAt rs i
+none_here rs i none = record {
+  creates = never (is_some (at created_with_deps rs i)) (λ is. none (inl is));
+  lists = never (is_some (at dependences rs i)) (λ is. none (inr is));
 }
   where
     never : (b : Bool) → (b ≡ true → ⊥) → b ≡ false
@@ -315,9 +320,19 @@ none_anywhere rs n none end i = elim (cases_lt i n) [
   | inr past ↦ record { creates = nothing_past created_with_deps rs i (omega (arith, past, end)); lists = nothing_past dependences rs i (omega (arith, past, end)) }
 ]
 
-pub none_misplaced : (rs : List Record) → ((i : ℕ) → HasNoneAt rs i) → IsFreeOf rs DepsPlace
-none_misplaced rs none i has = of (misplaced_of rs i has)
+-- ---- by the indices of the tasks
+
+-- the two records name the same task where they name the same index
+pub together_is : (run : RunView) (create list task listed : ℕ) (items : List Dep) → IsRun run → IsIndexOf run created_with_deps create (Some task) → AreDependences run list listed items → IsTrue (nat_eq task listed) ↔ BelongTogether run.records create list
+together_is run create list task listed items is creates lists = (
+  λ same.
+      let one : id.0 ≡ lists.task = same_Some id.0 lists.task (sym id.2 ∙ ap (slice_get run.family.tasks) (eqb-true task listed same) ∙ lists.indexed) in
+      (id.0, items, id.1, lists.says ∙ ap (λ t. Some (t, items)) (sym one)),
+  λ (own, its, created, listed_there).
+      let one : id.0 ≡ own = same_Some id.0 own (sym id.1 ∙ created) in
+      let two : lists.task ≡ own = ap (λ (p : ℕ × List Dep). p.0) (same_Some (lists.task, items) (own, its) (sym lists.says ∙ listed_there)) in
+      eq-eqb task listed (is.family.makers.apart task listed own (id.2 ∙ ap Some one) (lists.indexed ∙ ap Some two)),
+)
   where
-    of : HasMisplacedDeps rs i → ⊥
-    of (stray says apart) = false≢true (sym (none i).lists ∙ says)
-    of (missing says apart) = false≢true (sym (none i).creates ∙ says)
+    id : (t : ℕ) × (at created_with_deps run.records create ≡ Some t) × (slice_get run.family.tasks task ≡ Some t)
+    id = call_task run.family.tasks (at created_with_deps run.records create) (Some task) task creates refl

@@ -1,5 +1,5 @@
 -- The siblings that are selected are the predecessors.
-use Rattle.std.proofs.Common.{◌≡◌, ◌∙◌, ℕ, ◌<◌, ◌+◌, List, [], ◌∷◌, ◌++◌, length, Some, refl, sym, ap, subst, arith, inl, inr, ◌⊎◌}
+use Rattle.std.proofs.Common.{◌≡◌, ◌∙◌, ℕ, ◌<◌, ◌+◌, List, [], ◌∷◌, ◌++◌, length, Some, None, refl, sym, ap, subst, arith, inl, inr, ◌⊎◌}
 use Rattle.std.proofs.lemmas.Bool.{cases_lt}
 use Rattle.std.proofs.lemmas.Option.{none-some, same_Some, slice_get_within}
 use Rattle.std.specs.Prelude.{◌↔◌, slice_get, Contains}
@@ -11,10 +11,15 @@ use Rattle.ompt_events.specs.Causes.{IsFreeOf}
 use Rattle.ompt_events.specs.Dependences.{DependsOn}
 use Rattle.ompt_events.proofs.ListLemmas.{get_contains, contains_get, get_pushed, get_last, pushed_cases}
 use Rattle.ompt_events.proofs.TreeLemmas.{child_place}
+use Rattle.task_tree.specs.Lineage.{parent_index}
+use Rattle.task_tree.specs.Runs.{RunView, IsRun}
+use Rattle.task_tree.proofs.FamilyLemmas.{parent_noted}
+use Rattle.task_tree.proofs.LineageLemmas.{parent_at_is}
 use Rattle.task_tree.proofs.OnceLemmas.{one_number}
 use Rattle.depend_edges.specs.Edges.{ArePredecessors}
 use Rattle.depend_edges.specs.Items.{HaveClash, ClashesWith}
 use Rattle.depend_edges.specs.Predecessors.{IsSelected, AreSelected}
+use Rattle.depend_edges.proofs.LatestLemmas.{child_index}
 
 -- the items that were found are those of the task
 pub clash_with : (rs : List Record) (task : ℕ) (earlier items : List Dep) → ((dep : Dep) → Contains earlier dep ↔ DependsOn rs task dep) → HaveClash earlier items → ClashesWith rs task items
@@ -136,3 +141,26 @@ no_predecessors rs task found none empty = record {
 
 pub child_parent : (rs : List Record) (parent number task : ℕ) → IsChild rs parent number task → IsParent rs parent task
 child_parent rs parent number task child = let place = child_place rs parent (length rs) number task child in (place.0, place.2)
+
+-- ---- by the index of the task
+
+-- the index of the parent of a child
+pub child_up : (run : RunView) (index parent number task : ℕ) → IsRun run → slice_get run.family.tasks index ≡ Some task → IsChild run.records parent number task → (up : ℕ) × (parent_index run.family index ≡ Some up) × (slice_get run.family.tasks up ≡ Some parent)
+child_up run index parent number task is here child =
+    let by = child_parent run.records parent number task child in
+    let up = contains_get run.family.tasks parent (parent_noted run.records run.family.tasks by.0 parent task is.family.noted is.family.rooted by.1) in
+    (up.0, parent_at_is run.records run.family index task up.0 is.family here (parent, up.1, by), up.1)
+
+-- a task has no predecessors where it has no index, or its parent has none
+pub unmade_predecessors : (run : RunView) (task : ℕ) (found : List ℕ) → IsRun run → ((index : ℕ) → slice_get run.family.tasks index ≡ Some task → ⊥) → found ≡ [] → ArePredecessors run.records task found
+unmade_predecessors run task found is none = no_predecessors run.records task found (λ parent number child. let at = child_index run.records run.family parent number task is.family child in none at.0 at.1)
+
+pub root_predecessors : (run : RunView) (index task : ℕ) (found : List ℕ) → IsRun run → slice_get run.family.tasks index ≡ Some task → parent_index run.family index ≡ None → found ≡ [] → ArePredecessors run.records task found
+root_predecessors run index task found is here none = no_predecessors run.records task found (λ parent number child. let up = child_up run index parent number task is here child in none-some up.0 (sym none ∙ up.1))
+
+-- the children of the task at the index of its parent are its siblings
+pub siblings_at : (run : RunView) (index up parent number task : ℕ) (siblings : List ℕ) → IsRun run → slice_get run.family.tasks index ≡ Some task → parent_index run.family index ≡ Some up → IsChild run.records parent number task → ((own : ℕ) → slice_get run.family.tasks up ≡ Some own → siblings ≡ children run.records own) → siblings ≡ children run.records parent
+siblings_at run index up parent number task siblings is here stands child are =
+    let by = child_up run index parent number task is here child in
+    let same : by.0 ≡ up = same_Some by.0 up (sym by.1 ∙ stands) in
+    are parent (ap (slice_get run.family.tasks) (sym same) ∙ by.2)

@@ -1,14 +1,12 @@
 -- The predecessors of each task.
-use Rattle.std.specs.Prelude.{ℕ, ◌≡◌, ◌<◌, ◌≤◌, ◌⊎◌, ⊤, List, length, Option, Some, Contains, slice_get, slice_index}
+use Rattle.std.specs.Prelude.{ℕ, ◌≡◌, ◌<◌, ◌≤◌, ◌⊎◌, List, length, Option, Some, Contains, slice_get, slice_index}
 use Rattle.ompt_events.specs.declared.records.Record.{Record}
 use Rattle.ompt_events.specs.declared.cause.Cause.TheVariants.{DepsPlace}
-use Rattle.ompt_events.specs.Causes.{IsFirstWith, IsFreeOf}
+use Rattle.ompt_events.specs.Causes.{IsFreeOf}
 use Rattle.ompt_events.specs.Tree.{IsChild}
 use Rattle.ompt_events.specs.Dependences.{IsPredecessor}
-use Rattle.task_tree.specs.Family.{FamilyView, IsFamilyOf}
+use Rattle.task_tree.specs.Runs.{RunView, IsRun}
 use Rattle.depend_edges.specs.Lists.{AreListed}
-use Rattle.depend_edges.specs.declared.fault.EdgeFault.{EdgeFault}
-use Rattle.depend_edges.specs.declared.fault.EdgeFault.TheVariants.{Memory, Misplaced}
 
 -- the task's predecessors (OpenMP 5.2, 15.9.5), in the order in which their parent created them
 pub record ArePredecessors (rs : List Record) (task : ℕ) (predecessors : List ℕ) : Type 0 where
@@ -29,21 +27,15 @@ pub record AreLatest (rs : List Record) (tasks own latest : List ℕ) : Type 0 w
       → (slice_index latest index ≡ 0) ⊎ ((other predecessor : ℕ) × IsPredecessor rs task predecessor
       × (slice_get tasks other ≡ Some predecessor) × (slice_index own other ≡ slice_index latest index))
 
--- the record is the first with this cause, unless memory ran out
-abbrev pub IsEdgeFault : List Record → EdgeFault → Type 0
-IsEdgeFault rs Memory = ⊤
-IsEdgeFault rs (Misplaced i) = IsFirstWith rs DepsPlace i
-
 -- ---- the edges
 
--- what clauses see of edges
+-- what clauses see of edges: their run, and by index of the task the place of its list
 pub record EdgesView : Type 0 where
-  pub records : List Record
-  pub family : FamilyView
+  pub run : RunView
   pub lists : List (Option ℕ)
 
--- the tables are those of the records, whose dependences follow their creations
+-- the lists are those of the run, whose dependences follow their creations
 pub record IsEdges (edges : EdgesView) : Type 0 where
-  pub family : IsFamilyOf edges.records edges.family
-  pub placed : IsFreeOf edges.records DepsPlace
-  pub lists : AreListed edges.records (length edges.records) edges.family.tasks edges.lists
+  pub run : IsRun edges.run
+  pub placed : IsFreeOf edges.run.records DepsPlace
+  pub lists : AreListed edges.run.records (length edges.run.records) edges.run.family.tasks edges.lists

@@ -7,6 +7,7 @@ use Rattle.ompt_events.specs.declared.names.DepKind.{DepKind}
 use Rattle.ompt_events.specs.Tree.{IsChild, children}
 use Rattle.ompt_events.specs.Dependences.{DependsOn, IsPredecessor}
 use Rattle.depend_edges.specs.declared.maxima.Maxima.{Maxima}
+use Rattle.depend_edges.specs.Edges.{EdgesView}
 use Rattle.depend_edges.specs.Maxima.{maximum_at, AreAlike}
 
 -- one of the first n siblings, its index, and one of its items
@@ -58,3 +59,27 @@ IsChildAt rs tasks up number task =
 abbrev pub AreMaximaAt : List Record → List ℕ → List ℕ → ℕ → ℕ → BTreeMap ℕ Maxima → Type 0
 AreMaximaAt rs tasks own up n map =
     (parent : ℕ) → slice_get tasks up ≡ Some parent → AreMaxima rs tasks own (children rs parent) n map
+
+-- ---- by index of the task a length
+
+-- what clauses see of lengths: the edges between their tasks, and by index of the task its length
+pub record LengthsView : Type 0 where
+  pub edges : EdgesView
+  pub own : List ℕ
+
+-- each task has a length
+abbrev pub AreLengths : LengthsView → Type 0
+AreLengths lengths = length lengths.own ≡ length lengths.edges.run.family.tasks
+
+-- the task is the child of this number of the parent at the index
+abbrev pub IsChildOf : LengthsView → ℕ → ℕ → ℕ → Type 0
+IsChildOf lengths = IsChildAt lengths.edges.run.records lengths.edges.run.family.tasks
+
+-- the greatest lengths of the first n children of the parent at the index
+abbrev pub AreMaximaOf : LengthsView → ℕ → ℕ → BTreeMap ℕ Maxima → Type 0
+AreMaximaOf lengths = AreMaximaAt lengths.edges.run.records lengths.edges.run.family.tasks lengths.own
+
+-- the greatest lengths of the predecessors of the children before that of the number n of the parent at the
+-- index
+abbrev pub AreLatestUpTo : LengthsView → ℕ → ℕ → List ℕ → Type 0
+AreLatestUpTo lengths = AreLatestSoFar lengths.edges.run.records lengths.edges.run.family.tasks lengths.own

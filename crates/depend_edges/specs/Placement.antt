@@ -1,7 +1,6 @@
 -- Which creations and lists of dependences belong together.
 use Rattle.std.specs.Prelude.{ℕ, ◌≡◌, ◌≢◌, ◌<◌, ◌↔◌, ◌⊎◌, List, length, Bool, true, false, Option, Some, slice_get, is_some}
 use Rattle.ompt_events.specs.declared.records.Record.{Record}
-use Rattle.ompt_events.specs.declared.records.Body.{Body}
 use Rattle.ompt_events.specs.declared.deps.Dep.{Dep}
 use Rattle.ompt_events.specs.Records.{created_with_deps, dependences}
 use Rattle.ompt_events.specs.Places.{at, thread_at}
@@ -18,11 +17,11 @@ pub record AreLast (rs : List Record) (n : ℕ) (last : List (Option ℕ)) : Typ
   pub all : length last ≡ 256
   pub each : (thread a : ℕ) → thread < 256 → (slice_get last thread ≡ Some (Some a)) ↔ IsLast rs n thread a
 
--- the one body creates a task with dependences, and the other lists those of that task
-abbrev pub BelongTogether : Body → Body → Type 0
-BelongTogether create list =
-    (task : ℕ) × (items : List Dep) × (created_with_deps create ≡ Some task)
-    × (dependences list ≡ Some (task, items))
+-- the one record creates a task with dependences, and the other lists those of that task
+abbrev pub BelongTogether : List Record → ℕ → ℕ → Type 0
+BelongTogether rs create list =
+    (task : ℕ) × (items : List Dep) × (at created_with_deps rs create ≡ Some task)
+    × (at dependences rs list ≡ Some (task, items))
 
 -- the record is marked
 abbrev pub IsMarked : List Bool → ℕ → Type 0
@@ -34,9 +33,9 @@ pub record AreMarked (rs : List Record) (n : ℕ) (marks : List Bool) : Type 0 w
   pub each : (a b : ℕ) → b < n → AreFollowed rs a b → IsMarked marks a × IsMarked marks b
   pub only : (i : ℕ) → IsMarked marks i → ((a : ℕ) × AreFollowed rs a i) ⊎ ((b : ℕ) × AreFollowed rs i b)
 
--- the body creates a task with dependences, or lists them
-abbrev pub HasDependences : Body → Type 0
-HasDependences body = (is_some (created_with_deps body) ≡ true) ⊎ (is_some (dependences body) ≡ true)
+-- the record creates a task with dependences, or lists them
+abbrev pub HasDependences : List Record → ℕ → Type 0
+HasDependences rs i = (is_some (at created_with_deps rs i) ≡ true) ⊎ (is_some (at dependences rs i) ≡ true)
 
 -- the record at the place creates no task with dependences, and lists none
 pub record HasNoneAt (rs : List Record) (i : ℕ) : Type 0 where

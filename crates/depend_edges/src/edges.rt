@@ -1,26 +1,29 @@
 //! The predecessors of the tasks of a trace.
-ghost use Rattle.std.specs.Prelude.{ℕ, ◌≡◌, IfOk, IfErr, List, length};
-ghost use Rattle.task_tree.specs.Family.{IsFamilyOf};
-ghost use Rattle.depend_edges.specs.Edges.{ArePredecessors, AreLatest, IsEdgeFault};
-ghost use Rattle.depend_edges.specs.declared.fault.EdgeFault.TheVariants.{Memory};
+ghost use Rattle.std.specs.Prelude.{ℕ, ◌≡◌, [], ◌∷◌, IfOk, IfErr, OnOk, List, length};
+ghost use Rattle.ompt_events.specs.declared.cause.Cause.TheVariants.{DepsPlace};
+ghost use Rattle.ompt_events.specs.declared.fault.Fault.TheVariants.{Memory};
+ghost use Rattle.ompt_events.specs.Causes.{IsFreeOf};
+ghost use Rattle.ompt_events.specs.Faults.{IsFault};
+ghost use Rattle.task_tree.specs.Paths.{IsTreeOf};
+ghost use Rattle.depend_edges.specs.Edges.{ArePredecessors, AreLatest, IsEdges};
 
-use crate::fault::EdgeFault;
-use crate::items::items_of;
-use crate::latest::find_latest;
+use crate::latest::{Lengths, find_latest};
 use crate::lists::find_placed;
 use crate::predecessors::select;
-use ompt_events::{Record, Trace};
+use ompt_events::{Fault, Trace};
 use std::alloc::Global;
 use std::marker::Model;
-use task_tree::{Family, Slot};
+use task_tree::{Run, Slot, Tree};
 
-/// The dependences of the tasks of a trace, and what follows from them.
+/// Why edges can't be built: memory, or `DepsPlace`.
+pub type EdgeFault = Fault;
+
+/// The dependences of the tasks of a run, and what follows from them.
 #[derive(Debug, Drop)]
 pub struct Edges<'a> {
-    records: &'a [Record],
-    family: &'a Family,
+    pub(crate) run: Run<'a>,
     /// By index of the task the place of its list of dependences.
-    lists: Vec<Slot>,
+    pub(crate) lists: Vec<Slot>,
 }
 
 impl<'a> Model for Edges<'a> {
@@ -28,65 +31,64 @@ impl<'a> Model for Edges<'a> {
 
     ghost Value = { EdgesView };
 
-    ghost view = { λ edges. record {
-      records = edges.records.now;
-      family = edges.family.now;
-      lists = edges.lists.items;
-    } };
+    ghost view = { λ edges. record { run = edges.run; lists = edges.lists.items } };
 
-    ghost invariant = { λ edges. IsEdges (record {
-      records = edges.records.now;
-      family = edges.family.now;
-      lists = edges.lists.items;
-    }) };
+    ghost invariant = { λ edges. IsEdges (record { run = edges.run; lists = edges.lists.items }) };
 }
 
 impl<'a> Edges<'a> {
-    /// The edges between the tasks of the trace. The family must be that of its tasks. Refused is a list of
+    /// The edges between the tasks of the trace. The tree must be that of its tasks. Refused is a list of
     /// dependences that does not follow its creation, or is missing there, at its first record.
-    pub fn build(
-        alloc: Global,
-        trace: &'a Trace,
-        family: &'a Family,
-    ) -> Result<Edges<'a>, EdgeFault>
-        requires { IsFamilyOf trace.now.records family.now }
-        ensures records { IfOk result (λ edges. edges.records ≡ trace.now.records) }
-        ensures family { IfOk result (λ edges. edges.family ≡ family.now) }
-        ensures fault { IfErr result (IsEdgeFault trace.now.records) }
+    pub fn build(alloc: Global, trace: &'a Trace, tree: &'a Tree) -> Result<Edges<'a>, EdgeFault>
+        requires { IsTreeOf trace.now.records tree.now }
+        ensures records { IfOk result (λ edges. edges.run.records ≡ trace.now.records) }
+        ensures family { IfOk result (λ edges. edges.run.family ≡ tree.now.family) }
+        ensures placed { OnOk result (IsFreeOf trace.now.records DepsPlace) }
+        ensures fault { IfErr result (IsFault trace.now.records (DepsPlace ∷ [])) }
     {
-        let records = trace.records();
-        let lists = find_placed(alloc, records, family)?;
-        Ok(Edges {
-            records,
-            family,
-            lists,
-        })
+        Edges::in_run(alloc, &Run::of(trace, tree.family()))
+    }
+
+    /// The edges between the tasks of the run. Refused is a list of dependences that does not follow its
+    /// creation, or is missing there, at its first record.
+    pub fn in_run(alloc: Global, run: &Run<'a>) -> Result<Edges<'a>, Fault>
+        ensures run { IfOk result (λ edges. edges.run ≡ run.now) }
+        ensures placed { OnOk result (IsFreeOf run.now.records DepsPlace) }
+        ensures fault { IfErr result (IsFault run.now.records (DepsPlace ∷ [])) }
+    {
+        let lists = find_placed(alloc, run)?;
+        let run = run.again();
+        Ok(Edges { run, lists })
+    }
+
+    /// The run whose tasks they are between.
+    pub fn run(&self) -> &Run<'a>
+        ensures value { result.now ≡ self.now.run }
+        ensures is_edges { IsEdges self.now }
+    {
+        &self.run
     }
 
     /// The predecessors of the task, in the order in which its parent created them (OpenMP 5.2, 15.9.5);
     /// none for a task that no record makes. Fails only when out of memory.
     pub fn of(&self, task: u64) -> Result<Vec<u64>, EdgeFault>
-        ensures predecessors { IfOk result (λ found. ArePredecessors self.now.records task found.items) }
+        ensures predecessors { IfOk result (λ found. ArePredecessors self.now.run.records task found.items) }
         ensures memory_alone { IfErr result (λ fault. fault ≡ Memory) }
     {
         let alloc = *self.lists.allocator();
-        let Some(parent) = self.family.parent(task) else {
+        let run = self.run();
+        let Some(index) = run.index_of(task) else {
             return Ok(Vec::new(alloc));
         };
-        let Some(number) = self.family.number(task) else {
+        let Some(parent) = run.parent(index) else {
             return Ok(Vec::new(alloc));
         };
-        let siblings = self.family.children(parent);
-        let items = items_of(self.records, self.family, self.lists.as_slice(), task);
-        let found = select(
-            alloc,
-            self.records,
-            self.family,
-            self.lists.as_slice(),
-            siblings,
-            number as usize,
-            items,
-        )?;
+        let Some(number) = run.family().number(task) else {
+            return Ok(Vec::new(alloc));
+        };
+        let siblings = run.children(parent);
+        let items = self.items_at(index);
+        let found = select(alloc, self, siblings, number as usize, items)?;
         Ok(found)
     }
 
@@ -94,11 +96,11 @@ impl<'a> Edges<'a> {
     /// n log n steps in the records and their dependences, however many predecessors there are, and memory
     /// linear in them. Fails only when out of memory.
     pub fn latest(&self, alloc: Global, own: &[u64]) -> Result<Vec<u64>, EdgeFault>
-        requires { length own.now ≡ length self.now.family.tasks }
-        ensures latest { IfOk result (λ found. AreLatest self.now.records
-            self.now.family.tasks own.now found.items) }
+        requires { length own.now ≡ length self.now.run.family.tasks }
+        ensures latest { IfOk result (λ found. AreLatest self.now.run.records
+            self.now.run.family.tasks own.now found.items) }
         ensures memory_alone { IfErr result (λ fault. fault ≡ Memory) }
     {
-        find_latest(alloc, self.records, self.family, self.lists.as_slice(), own)
+        find_latest(alloc, &Lengths { edges: self, own })
     }
 }

@@ -3,56 +3,43 @@ ghost use Rattle.std.specs.Prelude.{ℕ, ◌≡◌, ◌↔◌, ◌<◌, Some, Li
 ghost use Rattle.ompt_events.specs.Places.{at as says_at};
 ghost use Rattle.ompt_events.specs.Records.{dependences};
 ghost use Rattle.ompt_events.specs.Dependences.{DependsOn};
-ghost use Rattle.task_tree.specs.Family.{IsFamilyOf};
 ghost use Rattle.depend_edges.specs.Items.{Clash, HasClash, HaveClash};
-ghost use Rattle.depend_edges.specs.Lists.{AreListed};
 
-use ompt_events::{Dep, Record, conflicts};
-use task_tree::{Family, Slot};
+use crate::edges::Edges;
+use ompt_events::{Dep, conflicts};
+use task_tree::Run;
 
-/// What the task depends on; nothing where no record makes the task.
-pub(crate) fn items_of<'a>(
-    records: &'a [Record],
-    family: &Family,
-    lists: &[Slot],
-    task: u64,
-) -> &'a [Dep]
-    requires family { IsFamilyOf records.now family.now }
-    requires lists { AreListed records.now (length records.now) family.now.tasks lists.now }
-    ensures { (dep : Dep) → Contains result.now dep ↔ DependsOn records.now task dep }
-{
-    match family.tasks().index_of(task) {
-        Some(index) => items_at(records, family, lists, index),
-        None => &[],
+impl<'a> Edges<'a> {
+    /// What the task depends on; nothing where no record makes the task.
+    pub(crate) fn items_of(&self, task: u64) -> &'a [Dep]
+        ensures { (dep : Dep) → Contains result.now dep ↔ DependsOn self.now.run.records task dep }
+    {
+        match self.run().index_of(task) {
+            Some(index) => self.items_at(index),
+            None => &[],
+        }
     }
-}
 
-/// What the task at this index depends on.
-pub(crate) fn items_at<'a>(
-    records: &'a [Record],
-    family: &Family,
-    lists: &[Slot],
-    index: usize,
-) -> &'a [Dep]
-    requires family { IsFamilyOf records.now family.now }
-    requires lists { AreListed records.now (length records.now) family.now.tasks lists.now }
-    requires within { index < length family.now.tasks }
-    ensures { (task : ℕ) → slice_get family.now.tasks index ≡ Some task → (dep : Dep)
-        → Contains result.now dep ↔ DependsOn records.now task dep }
-{
-    match lists[index].get() {
-        Some(at) => items_listed(records, at),
-        None => &[],
+    /// What the task at this index depends on.
+    pub(crate) fn items_at(&self, index: usize) -> &'a [Dep]
+        requires { index < length self.now.run.family.tasks }
+        ensures { (task : ℕ) → slice_get self.now.run.family.tasks index ≡ Some task → (dep : Dep)
+            → Contains result.now dep ↔ DependsOn self.now.run.records task dep }
+    {
+        match self.lists[index].get() {
+            Some(at) => items_listed(&self.run, at),
+            None => &[],
+        }
     }
 }
 
 /// The items that the record lists.
-fn items_listed(records: &[Record], at: usize) -> &[Dep]
-    requires { at < length records.now }
-    ensures { (task : ℕ) (items : List Dep) → says_at dependences records.now at ≡ Some (task, items)
+fn items_listed<'a>(run: &Run<'a>, at: usize) -> &'a [Dep]
+    requires { at < length run.now.records }
+    ensures { (task : ℕ) (items : List Dep) → says_at dependences run.now.records at ≡ Some (task, items)
         → result.now ≡ items }
 {
-    match records[at].body.dependences() {
+    match run.dependences(at) {
         Some((_, items)) => items,
         None => &[],
     }

@@ -2,43 +2,101 @@
 //!
 //! The children of a parent are taken in their order. For each location stand the greatest lengths of the
 //! children so far that use it, so that no pair of siblings is ever looked at.
-ghost use Rattle.std.specs.Prelude.{◌≡◌, ◌↔◌, ◌<◌, ◌+◌, IsTrue, IfOk, IfErr, OnOk, length, replicate};
-ghost use Rattle.task_tree.specs.Family.{IsFamilyOf};
-ghost use Rattle.depend_edges.specs.Edges.{AreLatest};
-ghost use Rattle.depend_edges.specs.Lists.{AreListed, HasList};
-ghost use Rattle.depend_edges.specs.Latest.{IsChildAt, AreMaximaAt, AreLatestSoFar};
-ghost use Rattle.depend_edges.specs.declared.fault.EdgeFault.TheVariants.{Memory};
+ghost use Rattle.std.specs.Prelude.{ℕ, ◌≡◌, ◌↔◌, ◌<◌, ◌+◌, IsTrue, IfOk, IfErr, OnOk, Contains, length, replicate, slice_get, slice_index};
+ghost use Rattle.ompt_events.specs.declared.fault.Fault.TheVariants.{Memory};
+ghost use Rattle.ompt_events.specs.Dependences.{DependsOn};
+ghost use Rattle.depend_edges.specs.Edges.{AreLatest, IsEdges};
+ghost use Rattle.depend_edges.specs.Lists.{HasList};
+ghost use Rattle.depend_edges.specs.Latest.{IsChildOf, AreMaximaOf, AreLatestUpTo};
 
-use crate::fault::EdgeFault;
-use crate::items::items_at;
+use crate::edges::Edges;
 use crate::maxima::{Maxima, enter, greatest};
-use ompt_events::Record;
+use ompt_events::{Dep, Fault};
 use std::alloc::{AllocError, Global};
 use std::collections::BTreeMap;
-use task_tree::{Family, Slot};
+use std::marker::Model;
+use task_tree::{Run, Slot};
+
+/// The edges between the tasks, and a length of each task.
+#[derive(Drop)]
+pub(crate) struct Lengths<'a> {
+    pub(crate) edges: &'a Edges<'a>,
+    /// By index of the task its length.
+    pub(crate) own: &'a [u64],
+}
+
+impl<'a> Model for Lengths<'a> {
+    ghost use Rattle.depend_edges.specs.Latest.{LengthsView, AreLengths};
+
+    ghost Value = { LengthsView };
+
+    ghost view = { λ lengths. record { edges = lengths.edges.now; own = lengths.own.now } };
+
+    ghost invariant = { λ lengths.
+        AreLengths (record { edges = lengths.edges.now; own = lengths.own.now }) };
+}
+
+impl<'a> Lengths<'a> {
+    /// The run whose tasks have the lengths.
+    fn run(&self) -> &'a Run<'a>
+        ensures value { result.now ≡ self.now.edges.run }
+        ensures is_edges { IsEdges self.now.edges }
+        ensures all { length self.now.own ≡ length self.now.edges.run.family.tasks }
+    {
+        let edges = self.edges;
+        edges.run()
+    }
+
+    /// By index of the task the place of its list of dependences.
+    fn lists(&self) -> &'a [Slot]
+        ensures { result.now ≡ self.now.edges.lists }
+    {
+        let edges = self.edges;
+        edges.lists.as_slice()
+    }
+
+    /// What the task at this index depends on.
+    fn items_at(&self, index: usize) -> &'a [Dep]
+        requires { index < length self.now.edges.run.family.tasks }
+        ensures { (task : ℕ) → slice_get self.now.edges.run.family.tasks index ≡ Some task → (dep : Dep)
+            → Contains result.now dep ↔ DependsOn self.now.edges.run.records task dep }
+    {
+        let edges = self.edges;
+        edges.items_at(index)
+    }
+
+    /// The length of the task at this index.
+    fn own(&self, index: usize) -> u64
+        requires { index < length self.now.edges.run.family.tasks }
+        ensures { result ≡ slice_index self.now.own index }
+    {
+        let own = self.own;
+        own[index]
+    }
+}
+
+/// A child of the task at the index `parent`, which has this number among its children.
+#[derive(Clone, Copy)]
+struct Child {
+    parent: usize,
+    number: usize,
+    task: u64,
+}
 
 /// By index of the task the greatest of the lengths of its predecessors, 0 where it has none.
-pub(crate) fn find_latest(
-    alloc: Global,
-    records: &[Record],
-    family: &Family,
-    lists: &[Slot],
-    own: &[u64],
-) -> Result<Vec<u64>, EdgeFault>
-    requires family { IsFamilyOf records.now family.now }
-    requires lists { AreListed records.now (length records.now) family.now.tasks lists.now }
-    requires own { length own.now ≡ length family.now.tasks }
-    ensures latest { IfOk result (λ found. AreLatest records.now family.now.tasks own.now found.items) }
+pub(crate) fn find_latest(alloc: Global, lengths: &Lengths) -> Result<Vec<u64>, Fault>
+    ensures latest { IfOk result (λ found. AreLatest lengths.now.edges.run.records
+        lengths.now.edges.run.family.tasks lengths.now.own found.items) }
     ensures memory_alone { IfErr result (λ fault. fault ≡ Memory) }
 {
-    let count = family.tasks().as_slice().len();
+    let count = lengths.run().task_count();
     let mut latest = no_lengths(alloc, count)?;
     // Most files have no dependences at all.
-    if !has_list(lists) {
+    if !has_list(lengths.lists()) {
         return Ok(latest);
     }
     for up in 0..count {
-        take_children(alloc, records, family, lists, own, up, &mut latest)?;
+        take_children(alloc, lengths, up, &mut latest)?;
     }
     Ok(latest)
 }
@@ -60,69 +118,50 @@ fn no_lengths(alloc: Global, count: usize) -> Result<Vec<u64>, AllocError>
 /// Takes the children of the parent at this index.
 fn take_children(
     alloc: Global,
-    records: &[Record],
-    family: &Family,
-    lists: &[Slot],
-    own: &[u64],
+    lengths: &Lengths,
     up: usize,
     latest: &mut Vec<u64>,
-) -> Result<(), EdgeFault>
-    requires family { IsFamilyOf records.now family.now }
-    requires lists { AreListed records.now (length records.now) family.now.tasks lists.now }
-    requires own { length own.now ≡ length family.now.tasks }
-    requires within { up < length family.now.tasks }
-    requires latest { AreLatestSoFar records.now family.now.tasks own.now up 0 latest.old.items }
-    ensures latest { OnOk result (AreLatestSoFar records.now family.now.tasks own.now
-        (up + 1) 0 latest.new.items) }
+) -> Result<(), Fault>
+    requires within { up < length lengths.now.edges.run.family.tasks }
+    requires latest { AreLatestUpTo lengths.now up 0 latest.old.items }
+    ensures latest { OnOk result (AreLatestUpTo lengths.now (up + 1) 0 latest.new.items) }
     ensures memory_alone { IfErr result (λ fault. fault ≡ Memory) }
 {
-    let siblings = family.children_at(up);
+    let siblings = lengths.run().children(up);
     let mut maxima = BTreeMap::new(alloc);
     for number in 0..siblings.len() {
-        take_child(
-            records,
-            family,
-            lists,
-            own,
-            (up, number),
-            siblings[number],
-            &mut maxima,
-            latest,
-        )?;
+        let child = Child {
+            parent: up,
+            number,
+            task: siblings[number],
+        };
+        take_child(lengths, child, &mut maxima, latest)?;
     }
     Ok(())
 }
 
-/// Takes one child, of this number of the parent at this index.
+/// Takes one child, after those of its parent that come before it.
 fn take_child(
-    records: &[Record],
-    family: &Family,
-    lists: &[Slot],
-    own: &[u64],
-    place: (usize, usize),
-    task: u64,
+    lengths: &Lengths,
+    child: Child,
     maxima: &mut BTreeMap<u64, Maxima>,
     latest: &mut Vec<u64>,
-) -> Result<(), EdgeFault>
-    requires family { IsFamilyOf records.now family.now }
-    requires lists { AreListed records.now (length records.now) family.now.tasks lists.now }
-    requires own { length own.now ≡ length family.now.tasks }
-    requires within { place.0 < length family.now.tasks }
-    requires child { IsChildAt records.now family.now.tasks place.0 place.1 task }
-    requires maxima { AreMaximaAt records.now family.now.tasks own.now place.0 place.1 maxima.old }
-    requires latest { AreLatestSoFar records.now family.now.tasks own.now place.0 place.1 latest.old.items }
-    ensures maxima { OnOk result (AreMaximaAt records.now family.now.tasks own.now place.0
-        (place.1 + 1) maxima.new) }
-    ensures latest { OnOk result (AreLatestSoFar records.now family.now.tasks own.now place.0
-        (place.1 + 1) latest.new.items) }
+) -> Result<(), Fault>
+    requires within { child.parent < length lengths.now.edges.run.family.tasks }
+    requires child { IsChildOf lengths.now child.parent child.number child.task }
+    requires maxima { AreMaximaOf lengths.now child.parent child.number maxima.old }
+    requires latest { AreLatestUpTo lengths.now child.parent child.number latest.old.items }
+    ensures maxima { OnOk result (AreMaximaOf lengths.now child.parent (child.number + 1) maxima.new) }
+    ensures latest { OnOk result (AreLatestUpTo lengths.now child.parent
+        (child.number + 1) latest.new.items) }
     ensures memory_alone { IfErr result (λ fault. fault ≡ Memory) }
 {
     // No child is without an index: the proof shows that this never returns.
-    let Some(index) = family.tasks().index_of(task) else {
+    let Some(index) = lengths.run().index_of(child.task) else {
         return Ok(());
     };
-    let items = items_at(records, family, lists, index);
+    let items = lengths.items_at(index);
     latest[index] = greatest(maxima, items);
-    enter(maxima, items, own[index])?;
+    enter(maxima, items, lengths.own(index))?;
     Ok(())
 }

@@ -1,12 +1,11 @@
 //! Which tasks must be finished before a task with dependences starts.
 //!
-//! `Edges` answers for one task (`of`) and for all at once (`latest`). Read `edges` for what a caller sees,
-//! then `placement` and `lists`, the steps of a build; `items` and `predecessors`, the steps of `of`;
-//! `maxima` and `latest`, those of `latest`.
+//! `Edges` are those of a run (`in_run`), or of a trace with its tree (`build`), and answer for one task (`of`)
+//! and for all at once (`latest`). Read `edges` for what a caller sees, then `placement` and `lists`, the
+//! steps of a build; `items` and `predecessors`, the steps of `of`; `maxima` and `latest`, those of `latest`.
 #![tactic(auto)]
 
 mod edges;
-mod fault;
 mod items;
 mod latest;
 mod lists;
@@ -14,5 +13,4 @@ mod maxima;
 mod placement;
 mod predecessors;
 
-pub use edges::Edges;
-pub use fault::EdgeFault;
+pub use edges::{EdgeFault, Edges};

@@ -1,68 +1,54 @@
 //! Where the dependences of each task are listed.
-ghost use Rattle.std.specs.Prelude.{◌<◌, ◌≤◌, ◌^◌, ◌+◌, IfOk, IfErr, OnOk, length};
+ghost use Rattle.std.specs.Prelude.{◌<◌, ◌+◌, [], ◌∷◌, IfOk, IfErr, OnOk, length};
 ghost use Rattle.ompt_events.specs.declared.cause.Cause.TheVariants.{DepsPlace};
 ghost use Rattle.ompt_events.specs.Causes.{IsFreeOf};
-ghost use Rattle.task_tree.specs.Family.{IsFamilyOf};
-ghost use Rattle.depend_edges.specs.Edges.{IsEdgeFault};
+ghost use Rattle.ompt_events.specs.Faults.{IsFault};
 ghost use Rattle.depend_edges.specs.Lists.{AreListed};
 
-use crate::fault::EdgeFault;
-use crate::placement::{find_marks, first_misplaced, has_none, no_places};
-use ompt_events::Record;
+use crate::placement::{find_marks, has_none, no_places};
+use ompt_events::{Cause, Fault, exclude};
 use std::alloc::{AllocError, Global};
-use task_tree::{Family, Slot};
+use task_tree::{Run, Slot};
 
 /// By index of the task the place of its list. Refused is the first record whose dependences are misplaced.
-pub(crate) fn find_placed(
-    alloc: Global,
-    records: &[Record],
-    family: &Family,
-) -> Result<Vec<Slot>, EdgeFault>
-    requires few { length records.now ≤ 2 ^ 22 }
-    requires family { IsFamilyOf records.now family.now }
-    ensures placed { OnOk result (IsFreeOf records.now DepsPlace) }
-    ensures lists { IfOk result (λ lists. AreListed records.now (length records.now)
-        family.now.tasks lists.items) }
-    ensures fault { IfErr result (IsEdgeFault records.now) }
+pub(crate) fn find_placed(alloc: Global, run: &Run) -> Result<Vec<Slot>, Fault>
+    ensures placed { OnOk result (IsFreeOf run.now.records DepsPlace) }
+    ensures lists { IfOk result (λ lists. AreListed run.now.records (length run.now.records)
+        run.now.family.tasks lists.items) }
+    ensures fault { IfErr result (IsFault run.now.records (DepsPlace ∷ [])) }
 {
     // Most files have no dependences, and then one look at each record suffices.
-    if has_none(records) {
-        return Ok(no_places(alloc, family.tasks().as_slice().len())?);
+    if has_none(run) {
+        return Ok(no_places(alloc, run.task_count())?);
     }
-    let marks = find_marks(alloc, records)?;
-    match first_misplaced(records, marks.as_slice()) {
-        Some(at) => Err(EdgeFault::Misplaced(at)),
-        None => Ok(find_lists(alloc, records, family)?),
-    }
+    let marks = find_marks(alloc, run)?;
+    exclude(Cause::DepsPlace, marks.first_misplaced())?;
+    Ok(find_lists(alloc, run)?)
 }
 
 /// The same where none is misplaced.
-fn find_lists(alloc: Global, records: &[Record], family: &Family) -> Result<Vec<Slot>, AllocError>
-    requires few { length records.now ≤ 2 ^ 22 }
-    requires family { IsFamilyOf records.now family.now }
-    requires placed { IsFreeOf records.now DepsPlace }
-    ensures { IfOk result (λ lists. AreListed records.now (length records.now)
-        family.now.tasks lists.items) }
+fn find_lists(alloc: Global, run: &Run) -> Result<Vec<Slot>, AllocError>
+    requires { IsFreeOf run.now.records DepsPlace }
+    ensures { IfOk result (λ lists. AreListed run.now.records (length run.now.records)
+        run.now.family.tasks lists.items) }
 {
-    let mut lists = no_places(alloc, family.tasks().as_slice().len())?;
-    for at in 0..records.len() {
-        note_list(&mut lists, records, family, at);
+    let mut lists = no_places(alloc, run.task_count())?;
+    for at in 0..run.len() {
+        note_list(&mut lists, run, at);
     }
     Ok(lists)
 }
 
 /// Notes the place of a list for its task.
-fn note_list(lists: &mut Vec<Slot>, records: &[Record], family: &Family, at: usize)
-    requires within { at < length records.now }
-    requires few { length records.now ≤ 2 ^ 22 }
-    requires family { IsFamilyOf records.now family.now }
-    requires placed { IsFreeOf records.now DepsPlace }
-    requires lists { AreListed records.now at family.now.tasks lists.old.items }
-    ensures { AreListed records.now (at + 1) family.now.tasks lists.new.items }
+fn note_list(lists: &mut Vec<Slot>, run: &Run, at: usize)
+    requires within { at < length run.now.records }
+    requires placed { IsFreeOf run.now.records DepsPlace }
+    requires lists { AreListed run.now.records at run.now.family.tasks lists.old.items }
+    ensures { AreListed run.now.records (at + 1) run.now.family.tasks lists.new.items }
 {
-    if records[at].body.dependences().is_some() {
-        if let Some(index) = family.subject(at) {
-            lists[index] = Slot::some(at);
-        }
+    // A run has fewer records than a slot has places.
+    let _records = run.len();
+    if let Some((task, _)) = run.dependences(at) {
+        lists[task] = Slot::some(at);
     }
 }

@@ -1,11 +1,10 @@
 //! The greatest lengths of the tasks that use each location.
 ghost use Rattle.std.specs.Prelude.{◌≡◌, OnOk, IfErr, length};
 ghost use Rattle.ompt_events.specs.declared.names.DepKind.{DepKind};
-ghost use Rattle.depend_edges.specs.declared.fault.EdgeFault.TheVariants.{Memory};
+ghost use Rattle.ompt_events.specs.declared.fault.Fault.TheVariants.{Memory};
 ghost use Rattle.depend_edges.specs.Maxima.{maximum, maximum_at, IsRaised, IsAwaited, AreEntered, IsGreatest};
 
-use crate::fault::EdgeFault;
-use ompt_events::{Dep, DepKind};
+use ompt_events::{Dep, DepKind, Fault};
 use std::collections::BTreeMap;
 
 /// The greatest lengths of the tasks that use a location, by how they use it.
@@ -77,7 +76,7 @@ pub(crate) fn enter(
     map: &mut BTreeMap<u64, Maxima>,
     items: &[Dep],
     task_length: u64,
-) -> Result<(), EdgeFault>
+) -> Result<(), Fault>
     ensures entered { OnOk result (AreEntered map.old map.new items.now (length items.now) task_length) }
     ensures memory_alone { IfErr result (λ fault. fault ≡ Memory) }
 {

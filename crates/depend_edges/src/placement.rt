@@ -1,42 +1,86 @@
 //! Lists of dependences that do not follow the creations of their tasks.
-ghost use Rattle.std.specs.Prelude.{ℕ, ◌≡◌, ◌↔◌, ◌<◌, ◌≤◌, ◌^◌, Some, None, true, false, IsTrue, IfOk, MatchOption, is_some, length, replicate, ◌+◌};
+ghost use Rattle.std.specs.Prelude.{ℕ, ◌≡◌, ◌↔◌, ◌<◌, Some, None, true, false, IsTrue, IfOk, is_some, length, replicate, ◌+◌};
+ghost use Rattle.ompt_events.specs.Places.{at as says_at};
 ghost use Rattle.ompt_events.specs.Records.{dependences};
 ghost use Rattle.ompt_events.specs.declared.cause.Cause.TheVariants.{DepsPlace};
-ghost use Rattle.ompt_events.specs.Causes.{IsFirstWith, IsFreeOf, IsNextInThread, HasMisplacedDeps};
+ghost use Rattle.ompt_events.specs.Causes.{IsNextInThread, HasMisplacedDeps};
+ghost use Rattle.ompt_events.specs.Faults.{FindsFirst};
 ghost use Rattle.depend_edges.specs.Placement.{AreLast, AreMarked, BelongTogether, HasDependences, HasNoneAt};
 
-use ompt_events::{Body, Record};
 use std::alloc::{AllocError, Global};
-use task_tree::Slot;
+use std::marker::Model;
+use task_tree::{Run, Slot};
 
 /// How many threads there are: their numbers have 8 bits.
 const THREADS: usize = 256;
 
 /// Whether no record creates a task with dependences, or lists some. Most files are such.
-pub(crate) fn has_none(records: &[Record]) -> bool
-    ensures { IsTrue result → (i : ℕ) → HasNoneAt records.now i }
+pub(crate) fn has_none(run: &Run) -> bool
+    ensures { IsTrue result → (i : ℕ) → HasNoneAt run.now.records i }
 {
-    for at in 0..records.len() {
-        if has_dependences(&records[at].body) {
+    for at in 0..run.len() {
+        if has_dependences(run, at) {
             return false;
         }
     }
     true
 }
 
-/// For each record whether it creates a task with dependences that follow, or lists those of the task that
-/// was created before it.
-pub(crate) fn find_marks(alloc: Global, records: &[Record]) -> Result<Vec<bool>, AllocError>
-    requires few { length records.now ≤ 2 ^ 22 }
-    ensures { IfOk result (λ marks. AreMarked records.now (length records.now) marks.items) }
+/// For each record of a run whether it creates a task with dependences that follow, or lists those of the
+/// task that was created before it.
+#[derive(Drop)]
+pub(crate) struct Marks<'a> {
+    run: Run<'a>,
+    marks: Vec<bool>,
+}
+
+impl<'a> Model for Marks<'a> {
+    ghost use Rattle.std.specs.Prelude.{length};
+    ghost use Rattle.task_tree.specs.Runs.{RunView};
+    ghost use Rattle.depend_edges.specs.Placement.{AreMarked};
+
+    ghost Value = { RunView };
+
+    ghost view = { λ marks. marks.run };
+
+    ghost invariant = { λ marks. AreMarked marks.run.records (length marks.run.records) marks.marks.items };
+}
+
+impl Marks<'_> {
+    /// The first record whose dependences are misplaced.
+    pub(crate) fn first_misplaced(&self) -> Option<usize>
+        ensures { FindsFirst self.now.records DepsPlace result }
+    {
+        for at in 0..self.run.len() {
+            if self.is_misplaced(at) {
+                return Some(at);
+            }
+        }
+        None
+    }
+
+    /// Whether the record creates with dependences, or lists some, and has no mark.
+    fn is_misplaced(&self, at: usize) -> bool
+        requires { at < length self.now.records }
+        ensures { IsTrue result ↔ HasMisplacedDeps self.now.records at }
+    {
+        let marks = self.marks.as_slice();
+        !marks[at] && has_dependences(&self.run, at)
+    }
+}
+
+/// Marks the records of the run.
+pub(crate) fn find_marks<'a>(alloc: Global, run: &Run<'a>) -> Result<Marks<'a>, AllocError>
+    ensures { IfOk result (λ marked. marked ≡ run.now) }
 {
     let mut last = no_places(alloc, THREADS)?;
-    let mut marks = no_marks(alloc, records.len())?;
-    for at in 0..records.len() {
-        mark(&mut marks, records, last.as_slice(), at);
-        note_last(&mut last, records, at);
+    let mut marks = no_marks(alloc, run.len())?;
+    for at in 0..run.len() {
+        mark(&mut marks, run, last.as_slice(), at);
+        note_last(&mut last, run, at);
     }
-    Ok(marks)
+    let run = run.again();
+    Ok(Marks { run, marks })
 }
 
 /// So many times no place.
@@ -54,90 +98,75 @@ fn no_marks(alloc: Global, len: usize) -> Result<Vec<bool>, AllocError>
 }
 
 /// The record becomes the last of its thread.
-fn note_last(last: &mut Vec<Slot>, records: &[Record], at: usize)
-    requires within { at < length records.now }
-    requires few { length records.now ≤ 2 ^ 22 }
-    requires last { AreLast records.now at last.old.items }
-    ensures { AreLast records.now (at + 1) last.new.items }
+fn note_last(last: &mut Vec<Slot>, run: &Run, at: usize)
+    requires within { at < length run.now.records }
+    requires last { AreLast run.now.records at last.old.items }
+    ensures { AreLast run.now.records (at + 1) last.new.items }
 {
-    let thread = records[at].thread as usize;
+    // A run has fewer records than a slot has places.
+    let _records = run.len();
+    let thread = run.thread(at) as usize;
     last[thread] = Slot::some(at);
 }
 
 /// Marks the record and the one before it in its thread, where they belong together.
-fn mark(marks: &mut Vec<bool>, records: &[Record], last: &[Slot], at: usize)
-    requires within { at < length records.now }
-    requires last { AreLast records.now at last.now }
-    requires marks { AreMarked records.now at marks.old.items }
-    ensures { AreMarked records.now (at + 1) marks.new.items }
+fn mark(marks: &mut Vec<bool>, run: &Run, last: &[Slot], at: usize)
+    requires within { at < length run.now.records }
+    requires last { AreLast run.now.records at last.now }
+    requires marks { AreMarked run.now.records at marks.old.items }
+    ensures { AreMarked run.now.records (at + 1) marks.new.items }
 {
-    if !lists_items(&records[at].body) {
+    if !lists_items(run, at) {
         return;
     }
-    let Some(before) = previous(records, last, at) else {
+    let Some(before) = previous(run, last, at) else {
         return;
     };
-    if belong_together(&records[before].body, &records[at].body) {
+    if belong_together(run, before, at) {
         marks[before] = true;
         marks[at] = true;
     }
 }
 
 /// Whether the record lists dependences.
-fn lists_items(body: &Body) -> bool
-    ensures { IsTrue result ↔ (is_some (dependences body.now) ≡ true) }
+fn lists_items(run: &Run, at: usize) -> bool
+    requires { at < length run.now.records }
+    ensures { IsTrue result ↔ (is_some (says_at dependences run.now.records at) ≡ true) }
 {
-    body.dependences().is_some()
+    run.dependences(at).is_some()
 }
 
 /// The place of the record before it in its thread.
-fn previous(records: &[Record], last: &[Slot], at: usize) -> Option<usize>
-    requires within { at < length records.now }
-    requires last { AreLast records.now at last.now }
-    ensures { (a : ℕ) → (result ≡ Some a) ↔ IsNextInThread records.now a at }
+fn previous(run: &Run, last: &[Slot], at: usize) -> Option<usize>
+    requires within { at < length run.now.records }
+    requires last { AreLast run.now.records at last.now }
+    ensures { (a : ℕ) → (result ≡ Some a) ↔ IsNextInThread run.now.records a at }
 {
-    let thread = records[at].thread as usize;
+    let thread = run.thread(at) as usize;
     last[thread].get()
 }
 
-/// Whether the one creates a task with dependences, and the other lists those of that task.
-fn belong_together(create: &Body, list: &Body) -> bool
-    ensures { IsTrue result ↔ BelongTogether create.now list.now }
+/// Whether the one record creates a task with dependences, and the other lists those of that task.
+fn belong_together(run: &Run, create: usize, list: usize) -> bool
+    requires creation { create < length run.now.records }
+    requires list { list < length run.now.records }
+    ensures { IsTrue result ↔ BelongTogether run.now.records create list }
 {
-    let Some(task) = create.created_with_deps() else {
+    // In a run no two indices are those of one task.
+    let _tasks = run.task_count();
+    let Some(task) = run.created_with_deps(create) else {
         return false;
     };
-    let Some((listed, _)) = list.dependences() else {
+    let Some((listed, _)) = run.dependences(list) else {
         return false;
     };
     task == listed
 }
 
-/// The first record whose dependences are misplaced.
-pub(crate) fn first_misplaced(records: &[Record], marks: &[bool]) -> Option<usize>
-    requires { AreMarked records.now (length records.now) marks.now }
-    ensures { MatchOption result (IsFreeOf records.now DepsPlace) (IsFirstWith records.now DepsPlace) }
+/// Whether the record creates a task with dependences, or lists them.
+fn has_dependences(run: &Run, at: usize) -> bool
+    requires { at < length run.now.records }
+    ensures { IsTrue result ↔ HasDependences run.now.records at }
 {
-    for at in 0..records.len() {
-        if is_misplaced(records, marks, at) {
-            return Some(at);
-        }
-    }
-    None
-}
-
-/// Whether the record creates with dependences, or lists some, and has no mark.
-fn is_misplaced(records: &[Record], marks: &[bool], at: usize) -> bool
-    requires within { at < length records.now }
-    requires marks { AreMarked records.now (length records.now) marks.now }
-    ensures { IsTrue result ↔ HasMisplacedDeps records.now at }
-{
-    !marks[at] && has_dependences(&records[at].body)
-}
-
-/// Whether it creates a task with dependences, or lists them.
-fn has_dependences(body: &Body) -> bool
-    ensures { IsTrue result ↔ HasDependences body.now }
-{
-    body.created_with_deps().is_some() || body.dependences().is_some()
+    run.created_with_deps(at).is_some() || run.dependences(at).is_some()
 }

@@ -6,6 +6,7 @@ pub mod ThreadLemmas
 pub mod RegionLemmas
 pub mod HappensBeforeLemmas
 pub mod LinearizationLemmas
+pub mod FaultLemmas
 pub mod ListLemmas
 pub mod NumberMaps
 mod CircleLemmas

@@ -1,5 +1,5 @@
--- What each cause is called in a report.
-use Rattle.std.specs.Prelude.{ℕ, List, codes}
+-- The order of the causes, and what each is called in a report.
+use Rattle.std.specs.Prelude.{ℕ, List, [], ◌∷◌, filter, ltb, codes}
 use Rattle.ompt_events.specs.declared.cause.Cause.{Cause}
 use Rattle.ompt_events.specs.declared.cause.Cause.TheVariants.{SeqGap, CreatedTwice, Rootless, NotCurrent, Moved, StatusOrder, RegionOrder, TeamShort, NestedParallel, DepsPlace, ShareWrong, EntryTwice, LengthAhead, LengthBack, NoOrder, TargetTask}
 
@@ -21,6 +21,17 @@ cause_number LengthAhead = 13
 cause_number LengthBack = 14
 cause_number NoOrder = 15
 cause_number TargetTask = 16
+
+-- all causes in the order of their numbers
+abbrev pub all_causes : List Cause
+all_causes =
+    SeqGap ∷ CreatedTwice ∷ Rootless ∷ NotCurrent ∷ Moved ∷ StatusOrder ∷ RegionOrder ∷ TeamShort
+    ∷ NestedParallel ∷ DepsPlace ∷ ShareWrong ∷ EntryTwice ∷ LengthAhead ∷ LengthBack ∷ NoOrder ∷ TargetTask
+    ∷ []
+
+-- the causes with smaller numbers than this one
+abbrev pub before : Cause → List Cause
+before cause = filter (λ other. ltb (cause_number other) (cause_number cause)) all_causes
 
 abbrev pub cause_name : Cause → List ℕ
 cause_name SeqGap = codes "SeqGap"

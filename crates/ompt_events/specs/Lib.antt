@@ -10,6 +10,7 @@ pub mod Traces
 pub mod Tree
 pub mod Threads
 pub mod Regions
+pub mod Waits
 pub mod Teams
 pub mod States
 pub mod HappensBefore
@@ -20,3 +21,4 @@ pub mod Dependences
 pub mod Violations
 pub mod CauseNames
 pub mod Causes
+pub mod Faults

@@ -7,6 +7,7 @@
 
 mod cause;
 mod deps;
+mod fault;
 mod flags;
 pub mod laws;
 mod named;
@@ -18,9 +19,10 @@ mod trace;
 
 pub use cause::Cause;
 pub use deps::{Dep, Deps};
+pub use fault::{Fault, exclude};
 pub use flags::{CancelFlags, TaskFlags};
 pub use named::NamedTasks;
-pub use names::{DepKind, Endpoint, Status, SyncKind, ThreadKind, conflicts};
+pub use names::{DepKind, Endpoint, Status, SyncKind, ThreadKind, WaitKind, conflicts};
 pub use path::Path;
 pub use records::{Body, Claim, Membership, Part, Record, finish};
 pub use state::State;

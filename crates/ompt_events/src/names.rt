@@ -1,5 +1,6 @@
 //! The names of statuses, endpoints and kinds, as they stand in a file.
 ghost use Rattle.std.specs.Prelude.{◌≡◌, ◌↔◌, Some};
+ghost use Rattle.ompt_events.specs.Waits.{wait_kind};
 ghost use Rattle.ompt_events.specs.Regions.{is_barrier, waits_for_tasks};
 ghost use Rattle.ompt_events.specs.Names.{status_name, endpoint_name, sync_kind_name, dep_kind_name, thread_kind_name, status_part, demands_next, conflict};
 
@@ -246,6 +247,31 @@ impl SyncKind {
         match self {
             SyncKind::Taskwait | SyncKind::Taskgroup => true,
             _ => self.is_barrier(),
+        }
+    }
+}
+
+/// The regions whose ends wait for tasks, by what they wait for (OpenMP 5.2, 15.3, 15.4 and 15.5).
+#[derive(Clone, Copy, Debug, PartialEq, Eq)]
+pub enum WaitKind {
+    /// The children that were created before.
+    Taskwait,
+    /// The children that were created in it, with their descendants.
+    Taskgroup,
+    /// The children that the members of the team created before, with their descendants.
+    Barrier,
+}
+
+impl SyncKind {
+    /// What the end of a region of this kind waits for; none where it waits for no tasks.
+    pub fn wait_kind(self) -> Option<WaitKind>
+        ensures { result ≡ wait_kind self }
+    {
+        match self {
+            SyncKind::Taskwait => Some(WaitKind::Taskwait),
+            SyncKind::Taskgroup => Some(WaitKind::Taskgroup),
+            _ if self.is_barrier() => Some(WaitKind::Barrier),
+            _ => None,
         }
     }
 }

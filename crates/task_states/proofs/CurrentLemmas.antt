@@ -1,25 +1,35 @@
 -- When a record speaks for a task that its thread doesn't run.
-use Rattle.std.proofs.Common.{◌≡◌, ◌≢◌, ◌∙◌, ℕ, ◌<◌, ◌≤◌, Bool, false, not, List, length, get_or, take, Option, Some, None, refl, sym, ap, subst, arith, inl, inr, ◌⊎◌}
-use Rattle.std.proofs.lemmas.Option.{none-some, same_Some, slice_get_within, slice_get-get_or}
-use Rattle.std.specs.Prelude.{◌↔◌, IsTrue, slice_get, IsSomeAnd}
+use Rattle.std.proofs.Common.{◌≡◌, ◌≢◌, ◌∙◌, ℕ, ◌<◌, ◌≤◌, Bool, true, false, List, length, take, Option, Some, None, refl, sym, ap, subst, arith, inl, inr}
+use Rattle.std.proofs.lemmas.Bool.{false≢true}
+use Rattle.std.proofs.lemmas.Option.{none-some, same_Some, slice_get_within}
+use Rattle.std.specs.Prelude.{slice_get, IsSomeAnd, if◌then◌else◌}
 use Rattle.ompt_events.specs.declared.records.Record.{Record}
 use Rattle.ompt_events.specs.declared.records.Body.{Body}
 use Rattle.ompt_events.specs.declared.records.Body.TheVariants.{ImplicitTask, TaskSchedule}
-use Rattle.ompt_events.specs.declared.records.Claim.{Claim}
-use Rattle.ompt_events.specs.declared.flags.TaskFlags.{TaskFlags}
-use Rattle.ompt_events.specs.declared.names.Endpoint.{Endpoint}
+use Rattle.ompt_events.specs.declared.names.Endpoint.TheVariants.{Begin, End}
 use Rattle.ompt_events.specs.declared.names.Status.{Status}
+use Rattle.ompt_events.specs.declared.names.Status.TheVariants.{TaskwaitComplete}
 use Rattle.ompt_events.specs.declared.cause.Cause.TheVariants.{NotCurrent}
-use Rattle.ompt_events.specs.Records.{running, ended_root, started, wait_completed}
-use Rattle.ompt_events.specs.Places.{at}
-use Rattle.ompt_events.specs.Tree.{IsRoot, IsParent, IsExplicit}
+use Rattle.ompt_events.specs.Names.{demands_next}
+use Rattle.ompt_events.specs.Records.{running, begun_root, ended_root, schedule, started, wait_completed}
+use Rattle.ompt_events.specs.Places.{thread_at}
+use Rattle.ompt_events.specs.Tree.{IsRoot, IsExplicit}
 use Rattle.ompt_events.specs.Threads.{Walk, walk_of, Misfits, not_running, not_innermost, other_root, other_parent, MisfitsAt}
 use Rattle.ompt_events.specs.Causes.{HasCause, not_current, IsFirstWith, IsFreeOf}
-use Rattle.ompt_events.proofs.PlaceLemmas.{read_get, at_index}
-use Rattle.task_tree.specs.Family.{FamilyView, IsFamilyOf}
-use Rattle.task_tree.specs.Subjects.{object, Calls}
-use Rattle.task_tree.proofs.NamedLemmas.{object_index, started_object}
+use Rattle.ompt_events.proofs.ListLemmas.{contains_get}
+use Rattle.task_tree.specs.Numbering.{AreApart}
+use Rattle.task_tree.specs.Subjects.{Calls}
+use Rattle.task_tree.specs.Lineage.{parent_index}
+use Rattle.task_tree.specs.Runs.{RunView, IsRun, IsThreadEvent, IsNoThreadEvent}
+use Rattle.task_tree.specs.declared.run.ThreadEvent.{ThreadEvent}
+use Rattle.task_tree.specs.declared.run.ThreadEvent.TheVariants.{Scheduled, RootBegin, RootEnd, Running}
+use Rattle.task_tree.proofs.FamilyLemmas.{parent_noted}
+use Rattle.task_tree.proofs.LineageLemmas.{parent_is_at, parent_at_is}
 use Rattle.task_tree.proofs.LookupLemmas.{root_or_explicit, root_is}
+use Rattle.task_tree.proofs.SubjectLemmas.{call_index, call_task}
+use Rattle.task_states.specs.Walks.{IsNotCreated, EventMisfits}
+use Rattle.task_states.proofs.PassLemmas.{record_at}
+use Rattle.task_states.proofs.WalkLemmas.{IsIndexed, Tells, TellsNothing, told_there, nothing_there, thread_there}
 
 pub some_and : {X : Type 0} (o : Option X) (P : X → Type 0) → IsSomeAnd o P → (x : X) × (o ≡ Some x) × P x
 some_and None P h = absurd h
@@ -29,131 +39,161 @@ and_some : (o : Option ℕ) (P : ℕ → Type 0) (x : ℕ) → o ≡ Some x → 
 and_some None P x e h = absurd (none-some x e)
 and_some (Some y) P x e h = let Q : ℕ → Type 0 = P in subst Q (sym (same_Some y x e)) h
 
--- the four ways to misfit, each as a test has it
-pub from_running : (rs : List Record) (w : Walk) (b : Body) → IsSomeAnd (running b) (λ t. w.current ≢ Some t) → Misfits rs w b
-from_running rs w b h = let found = some_and (running b) (λ t. w.current ≢ Some t) h in not_running found.0 found.1 found.2
+-- ---- what a body of each kind says
 
-pub from_ended : (rs : List Record) (w : Walk) (b : Body) → IsSomeAnd (ended_root b) (λ t. slice_get w.roots 0 ≢ Some t) → Misfits rs w b
-from_ended rs w b h = let found = some_and (ended_root b) (λ t. slice_get w.roots 0 ≢ Some t) h in not_innermost found.0 found.1 found.2
+schedule_runs : (b : Body) (status : Status) (task : ℕ) (next : Option ℕ) → schedule b ≡ Some (status, task, next) → running b ≡ (if demands_next status then Some task else None)
+schedule_runs (TaskSchedule s p n share) status task next is = ap (λ (t : Status × ℕ × Option ℕ). if demands_next t.0 then Some t.1 else None) (same_Some (s, p, n) (status, task, next) is)
+schedule_runs _ status task next is = absurd (none-some (status, task, next) is)
 
-pub from_root : (rs : List Record) (w : Walk) (b : Body) (next : Option ℕ) → ((t : ℕ) → (next ≡ Some t) ↔ ((started b ≡ Some t) × IsRoot rs t)) → IsSomeAnd next (λ t. slice_get w.roots 0 ≢ Some t) → Misfits rs w b
-from_root rs w b next is h =
-    let found = some_and next (λ t. slice_get w.roots 0 ≢ Some t) h in
-    let starts = (is found.0).0 found.1 in
-    other_root found.0 starts.0 starts.1 found.2
+schedule_starts : (b : Body) (status : Status) (task : ℕ) (next : Option ℕ) → schedule b ≡ Some (status, task, next) → started b ≡ next
+schedule_starts (TaskSchedule s p n share) status task next is = ap (λ (t : Status × ℕ × Option ℕ). t.2) (same_Some (s, p, n) (status, task, next) is)
+schedule_starts _ status task next is = absurd (none-some (status, task, next) is)
 
-pub from_parent : (rs : List Record) (w : Walk) (b : Body) (parent : Option ℕ) → ((p : ℕ) → (parent ≡ Some p) ↔ ((task : ℕ) × (wait_completed b ≡ Some task) × IsParent rs p task)) → IsSomeAnd parent (λ p. w.current ≢ Some p) → Misfits rs w b
-from_parent rs w b parent is h =
-    let found = some_and parent (λ p. w.current ≢ Some p) h in
-    let waits = (is found.0).0 found.1 in
-    other_parent waits.0 waits.2.0 found.0 waits.1 waits.2.1 found.2
+schedule_no_end : (b : Body) (status : Status) (task : ℕ) (next : Option ℕ) → schedule b ≡ Some (status, task, next) → ended_root b ≡ None
+schedule_no_end (TaskSchedule s p n share) status task next is = refl
+schedule_no_end _ status task next is = absurd (none-some (status, task, next) is)
+
+schedule_waits : (b : Body) (status : Status) (task : ℕ) (next : Option ℕ) → schedule b ≡ Some (status, task, next) → status ≡ TaskwaitComplete → wait_completed b ≡ Some task
+schedule_waits (TaskSchedule s p n share) status task next is completes =
+    let same : (s, p, n) ≡ (status, task, next) = same_Some (s, p, n) (status, task, next) is in
+    ap (λ (t : Status). wait_completed (TaskSchedule t p n share)) (ap (λ (t : Status × ℕ × Option ℕ). t.0) same ∙ completes) ∙ ap (λ (t : Status × ℕ × Option ℕ). Some t.1) same
+schedule_waits _ status task next is completes = absurd (none-some (status, task, next) is)
+
+waits_schedule : (b : Body) (status : Status) (task : ℕ) (next : Option ℕ) (own : ℕ) → schedule b ≡ Some (status, task, next) → wait_completed b ≡ Some own → (status ≡ TaskwaitComplete) × (own ≡ task)
+waits_schedule (TaskSchedule TaskwaitComplete p n share) status task next own is waits =
+    let same : (TaskwaitComplete, p, n) ≡ (status, task, next) = same_Some (TaskwaitComplete, p, n) (status, task, next) is in
+    (sym (ap (λ (t : Status × ℕ × Option ℕ). t.0) same), sym (same_Some p own waits) ∙ ap (λ (t : Status × ℕ × Option ℕ). t.1) same)
+waits_schedule _ status task next own is waits = absurd (none-some own waits)
+
+other_says : (b : Body) → schedule b ≡ None → (started b ≡ None) × (wait_completed b ≡ None)
+other_says (TaskSchedule s p n share) none = absurd (none-some (s, p, n) (sym none))
+other_says _ none = (refl, refl)
+
+begin_says : (b : Body) (task : ℕ) → begun_root b ≡ Some task → (schedule b ≡ None) × (ended_root b ≡ None) × (running b ≡ None)
+begin_says (ImplicitTask Begin actual index flags parallel own) task is = (refl, refl, refl)
+begin_says _ task is = absurd (none-some task is)
+
+end_says : (b : Body) (task : ℕ) → ended_root b ≡ Some task → (schedule b ≡ None) × (running b ≡ Some task)
+end_says (ImplicitTask End actual index flags parallel own) task is = (refl, is)
+end_says _ task is = absurd (none-some task is)
+
+-- ---- by indices or by ids
+
+differs_to : (tasks : List ℕ) (index task : ℕ) (slot named : Option ℕ) → AreApart tasks → slice_get tasks index ≡ Some task → Calls tasks named slot → slot ≢ Some index → named ≢ Some task
+differs_to tasks index task slot named apart stands calls other same =
+    let (found, is, there) = call_index tasks named slot task calls same in
+    other (is ∙ ap Some (apart found index task there stands))
+
+differs_from : (tasks : List ℕ) (index task : ℕ) (slot named : Option ℕ) → slice_get tasks index ≡ Some task → Calls tasks named slot → named ≢ Some task → slot ≢ Some index
+differs_from tasks index task slot named stands calls other same =
+    let (found, is, there) = call_task tasks named slot index calls same in
+    other (is ∙ ap Some (same_Some found task (sym there ∙ stands)))
+
+-- a task that no record creates is a root
+not_created : (run : RunView) (index task : ℕ) → IsRun run → slice_get run.family.tasks index ≡ Some task → IsNotCreated run index → IsRoot run.records task
+not_created run index task is stands never =
+    (root_is run.records run.family index task false is.family stands (λ yes. absurd (false≢true yes), λ explicit. absurd (never task stands explicit))).0 refl
+
+-- an event that misfits is one of a body that does
+event_misfits : (run : RunView) (walk w : Walk) (event : ThreadEvent) (b : Body) → IsRun run → Tells run.family.tasks b event → IsIndexed run.family.tasks walk w → EventMisfits run walk event → Misfits run.records w b
+event_misfits run walk w (Scheduled event) b is (task, follower, says, indexed, next) at_w (inl (demands, other)) =
+    not_running task (schedule_runs b event.status task follower says ∙ ap (λ d. if d then Some task else None) demands) (differs_to run.family.tasks event.prior task walk.current w.current is.family.makers.apart indexed at_w.current other)
+event_misfits run walk w (Scheduled event) b is (task, follower, says, indexed, next) at_w (inr (inl h)) =
+    let (index, starts, (never, other)) = some_and event.next (λ n. IsNotCreated run n × (slice_get walk.roots 0 ≢ Some n)) h in
+    let (root, named, stands) = call_task run.family.tasks follower event.next index next starts in
+    other_root root (schedule_starts b event.status task follower says ∙ named) (not_created run index root is stands never)
+    (differs_to run.family.tasks index root (slice_get walk.roots 0) (slice_get w.roots 0) is.family.makers.apart stands (at_w.roots 0) other)
+event_misfits run walk w (Scheduled event) b is (task, follower, says, indexed, next) at_w (inr (inr (completes, h))) =
+    let (up, there, other) = some_and (parent_index run.family event.prior) (λ p. walk.current ≢ Some p) h in
+    let (parent, stands, (i, creates)) = parent_is_at run.records run.family event.prior task up is.family indexed there in
+    other_parent task i parent (schedule_waits b event.status task follower says completes) creates
+    (differs_to run.family.tasks up parent walk.current w.current is.family.makers.apart stands at_w.current other)
+event_misfits run walk w (RootBegin index) b is tells at_w h = absurd h
+event_misfits run walk w (RootEnd index) b is (task, says, stands) at_w (inl other) =
+    not_running task (end_says b task says).1 (differs_to run.family.tasks index task walk.current w.current is.family.makers.apart stands at_w.current other)
+event_misfits run walk w (RootEnd index) b is (task, says, stands) at_w (inr other) =
+    not_innermost task says (differs_to run.family.tasks index task (slice_get walk.roots 0) (slice_get w.roots 0) is.family.makers.apart stands (at_w.roots 0) other)
+event_misfits run walk w (Running index) b is (none, no_begin, no_end, (task, runs, stands)) at_w other =
+    not_running task runs (differs_to run.family.tasks index task walk.current w.current is.family.makers.apart stands at_w.current other)
 
 -- and back
-pub misfit_cases : (rs : List Record) (w : Walk) (b : Body) (next parent : Option ℕ) → ((t : ℕ) → (next ≡ Some t) ↔ ((started b ≡ Some t) × IsRoot rs t)) → ((p : ℕ) → (parent ≡ Some p) ↔ ((task : ℕ) × (wait_completed b ≡ Some task) × IsParent rs p task)) → Misfits rs w b → IsSomeAnd (running b) (λ t. w.current ≢ Some t) ⊎ (IsSomeAnd (ended_root b) (λ t. slice_get w.roots 0 ≢ Some t) ⊎ (IsSomeAnd next (λ t. slice_get w.roots 0 ≢ Some t) ⊎ IsSomeAnd parent (λ p. w.current ≢ Some p)))
-misfit_cases rs w b next parent is_next is_parent (not_running t runs other) = inl (and_some (running b) (λ u. w.current ≢ Some u) t runs other)
-misfit_cases rs w b next parent is_next is_parent (not_innermost t ends other) = inr (inl (and_some (ended_root b) (λ u. slice_get w.roots 0 ≢ Some u) t ends other))
-misfit_cases rs w b next parent is_next is_parent (other_root t starts root other) = inr (inr (inl (and_some next (λ u. slice_get w.roots 0 ≢ Some u) t ((is_next t).1 (starts, root)) other)))
-misfit_cases rs w b next parent is_next is_parent (other_parent t i p completes creates other) = inr (inr (inr (and_some parent (λ u. w.current ≢ Some u) p ((is_parent p).1 (t, completes, (i, creates))) other)))
+misfits_event : (run : RunView) (walk w : Walk) (event : ThreadEvent) (b : Body) → IsRun run → Tells run.family.tasks b event → IsIndexed run.family.tasks walk w → Misfits run.records w b → EventMisfits run walk event
+misfits_event run walk w (Scheduled event) b is (task, follower, says, indexed, next) at_w (not_running own runs other) = by (demands_next event.status) refl (sym (schedule_runs b event.status task follower says) ∙ runs)
+  where
+    by : (d : Bool) → demands_next event.status ≡ d → (if d then Some task else None) ≡ Some own → EventMisfits run walk (Scheduled event)
+    by true e same = inl (e, differs_from run.family.tasks event.prior task walk.current w.current indexed at_w.current (λ here. other (here ∙ same)))
+    by false e same = absurd (none-some own same)
+misfits_event run walk w (Scheduled event) b is (task, follower, says, indexed, next) at_w (not_innermost own ends other) = absurd (none-some own (sym (schedule_no_end b event.status task follower says) ∙ ends))
+misfits_event run walk w (Scheduled event) b is (task, follower, says, indexed, next) at_w (other_root own starts root other) =
+    let (index, there, stands) = call_index run.family.tasks follower event.next own next (sym (schedule_starts b event.status task follower says) ∙ starts) in
+    let P : ℕ → Type 0 = IsExplicit run.records in
+    inr (inl (and_some event.next (λ n. IsNotCreated run n × (slice_get walk.roots 0 ≢ Some n)) index there (
+      λ t stands_t explicit. root_or_explicit run.records own is.family.once root (subst P (same_Some t own (sym stands_t ∙ stands)) explicit),
+      differs_from run.family.tasks index own (slice_get walk.roots 0) (slice_get w.roots 0) stands (at_w.roots 0) other,
+    )))
+misfits_event run walk w (Scheduled event) b is (task, follower, says, indexed, next) at_w (other_parent own i parent completes creates other) =
+    let (completed, same) = waits_schedule b event.status task follower own says completes in
+    let creates_task = creates ∙ ap (λ (t : ℕ). Some (parent, t)) same in
+    let (up, stands) = contains_get run.family.tasks parent (parent_noted run.records run.family.tasks i parent task is.family.noted is.family.rooted creates_task) in
+    inr (inr (
+      completed,
+      and_some (parent_index run.family event.prior) (λ p. walk.current ≢ Some p) up
+          (parent_at_is run.records run.family event.prior task up is.family indexed (parent, stands, (i, creates_task)))
+          (differs_from run.family.tasks up parent walk.current w.current stands at_w.current other),
+    ))
+misfits_event run walk w (RootBegin index) b is (task, says, stands) at_w misfit = never misfit
+  where
+    never : Misfits run.records w b → ⊥
+    never (not_running own runs other) = none-some own (sym (begin_says b task says).2 ∙ runs)
+    never (not_innermost own ends other) = none-some own (sym (begin_says b task says).1 ∙ ends)
+    never (other_root own starts root other) = none-some own (sym (other_says b (begin_says b task says).0).0 ∙ starts)
+    never (other_parent own i parent completes creates other) = none-some own (sym (other_says b (begin_says b task says).0).1 ∙ completes)
+misfits_event run walk w (RootEnd index) b is (task, says, stands) at_w (not_running own runs other) =
+    inl (differs_from run.family.tasks index task walk.current w.current stands at_w.current (λ here. other (here ∙ sym (end_says b task says).1 ∙ runs)))
+misfits_event run walk w (RootEnd index) b is (task, says, stands) at_w (not_innermost own ends other) =
+    inr (differs_from run.family.tasks index task (slice_get walk.roots 0) (slice_get w.roots 0) stands (at_w.roots 0) (λ here. other (here ∙ sym says ∙ ends)))
+misfits_event run walk w (RootEnd index) b is (task, says, stands) at_w (other_root own starts root other) = absurd (none-some own (sym (other_says b (end_says b task says).0).0 ∙ starts))
+misfits_event run walk w (RootEnd index) b is (task, says, stands) at_w (other_parent own i parent completes creates other) = absurd (none-some own (sym (other_says b (end_says b task says).0).1 ∙ completes))
+misfits_event run walk w (Running index) b is (none, no_begin, no_end, (task, runs, stands)) at_w (not_running own runs_own other) =
+    differs_from run.family.tasks index task walk.current w.current stands at_w.current (λ here. other (here ∙ sym runs ∙ runs_own))
+misfits_event run walk w (Running index) b is (none, no_begin, no_end, (task, runs, stands)) at_w (not_innermost own ends other) = absurd (none-some own (sym no_end ∙ ends))
+misfits_event run walk w (Running index) b is (none, no_begin, no_end, (task, runs, stands)) at_w (other_root own starts root other) = absurd (none-some own (sym (other_says b none).0 ∙ starts))
+misfits_event run walk w (Running index) b is (none, no_begin, no_end, (task, runs, stands)) at_w (other_parent own i parent completes creates other) = absurd (none-some own (sym (other_says b none).1 ∙ completes))
+
+nothing_misfits : (rs : List Record) (w : Walk) (b : Body) → TellsNothing b → Misfits rs w b → ⊥
+nothing_misfits rs w b (none, no_begin, no_end, no_run) (not_running own runs other) = none-some own (sym no_run ∙ runs)
+nothing_misfits rs w b (none, no_begin, no_end, no_run) (not_innermost own ends other) = none-some own (sym no_end ∙ ends)
+nothing_misfits rs w b (none, no_begin, no_end, no_run) (other_root own starts root other) = none-some own (sym (other_says b none).0 ∙ starts)
+nothing_misfits rs w b (none, no_begin, no_end, no_run) (other_parent own i parent completes creates other) = none-some own (sym (other_says b none).1 ∙ completes)
 
 -- ---- the search
 
 misplaced : (rs : List Record) (i : ℕ) → HasCause rs i NotCurrent → MisfitsAt rs i
 misplaced rs i (not_current h) = h.misfits
 
-pub misfits_here : (rs : List Record) (i : ℕ) (r : Record) → i < length rs → r ≡ get_or rs i r → ((k : ℕ) → k < i → MisfitsAt rs k → ⊥) → Misfits rs (walk_of r.thread (take i rs)) r.body → IsFirstWith rs NotCurrent i
-misfits_here rs i r within read free h = record {
-  within = within;
-  has = not_current (record { misfits = record { the_record = r; stands = read_get rs i r within read; misfits = h }; first = λ k below same. free k below });
-  first = λ k below has. free k below (misplaced rs k has);
-}
+pub misfits_here : (run : RunView) (i thread : ℕ) (walk : Walk) (event : ThreadEvent) → IsRun run → i < length run.records → thread_at run.records i ≡ Some thread → IsThreadEvent run i event → IsIndexed run.family.tasks walk (walk_of thread (take i run.records)) → ((k : ℕ) → k < i → MisfitsAt run.records k → ⊥) → EventMisfits run walk event → IsFirstWith run.records NotCurrent i
+misfits_here run i thread walk event is within runs tells at_w free h =
+    let rs = run.records in
+    let (r, stands) = record_at rs i within in
+    let P : ℕ → Type 0 = λ t. IsIndexed run.family.tasks walk (walk_of t (take i rs)) in
+    let misfit : Misfits rs (walk_of r.thread (take i rs)) r.body = event_misfits run walk (walk_of r.thread (take i rs)) event r.body is (told_there run i r event stands tells) (subst P (sym (thread_there run i thread r stands runs)) at_w) h in
+    record {
+      within = within;
+      has = not_current (record { misfits = record { the_record = r; stands = stands; misfits = misfit }; first = λ k below same. free k below });
+      first = λ k below has. free k below (misplaced rs k has);
+    }
 
-pub fits_here : (rs : List Record) (i : ℕ) (r : Record) → i < length rs → r ≡ get_or rs i r → (Misfits rs (walk_of r.thread (take i rs)) r.body → ⊥) → MisfitsAt rs i → ⊥
-fits_here rs i r within read none h =
-    let same : h.the_record ≡ r = same_Some h.the_record r (sym h.stands ∙ read_get rs i r within read) in
-    let P : Record → Type 0 = λ q. Misfits rs (walk_of q.thread (take i rs)) q.body in
-    none (subst P same h.misfits)
+pub fits_here : (run : RunView) (i thread : ℕ) (walk : Walk) (event : ThreadEvent) → IsRun run → thread_at run.records i ≡ Some thread → IsThreadEvent run i event → IsIndexed run.family.tasks walk (walk_of thread (take i run.records)) → (EventMisfits run walk event → ⊥) → MisfitsAt run.records i → ⊥
+fits_here run i thread walk event is runs tells at_w fits h =
+    let rs = run.records in
+    let r = h.the_record in
+    let P : ℕ → Type 0 = λ t. IsIndexed run.family.tasks walk (walk_of t (take i rs)) in
+    fits (misfits_event run walk (walk_of r.thread (take i rs)) event r.body is (told_there run i r event h.stands tells) (subst P (sym (thread_there run i thread r h.stands runs)) at_w) h.misfits)
+
+pub nothing_fits : (run : RunView) (i : ℕ) → IsNoThreadEvent run i → MisfitsAt run.records i → ⊥
+nothing_fits run i nothing h = nothing_misfits run.records (walk_of h.the_record.thread (take i run.records)) h.the_record.body (nothing_there run i h.the_record h.stands nothing) h.misfits
 
 pub free_of_misfits : (rs : List Record) (n : ℕ) → ((k : ℕ) → k < n → MisfitsAt rs k → ⊥) → length rs ≤ n → IsFreeOf rs NotCurrent
 free_of_misfits rs n free all i has =
     let h = misplaced rs i has in
     free i (let inside = slice_get_within rs i h.the_record h.stands in omega arith) h
-
--- the parent of the taskwait that is complete is the parent of that task
-pub parent_of_wait : (rs : List Record) (b : Body) (task : ℕ) (parent : Option ℕ) → wait_completed b ≡ Some task → ((p : ℕ) → (parent ≡ Some p) ↔ IsParent rs p task) → (p : ℕ) → (parent ≡ Some p) ↔ ((t : ℕ) × (wait_completed b ≡ Some t) × IsParent rs p t)
-parent_of_wait rs b task parent completes is p = (
-  λ says. (task, completes, (is p).0 says),
-  λ (t, completes', is_parent). let P : ℕ → Type 0 = λ u. IsParent rs p u in (is p).1 (subst P (same_Some t task (sym completes' ∙ completes)) is_parent),
-)
-
--- ---- by the kind of the record
-
--- a test of the body at a place is one of each record that stands there
-pub misfits_there : (rs : List Record) (w : Walk) (i : ℕ) (r : Record) (told : Bool) → i < length rs → (IsTrue told ↔ Misfits rs w (get_or rs i r).body) → (event : Record) → slice_get rs i ≡ Some event → IsTrue told ↔ Misfits rs w event.body
-misfits_there rs w i r told within is event stands =
-    let same : get_or rs i r ≡ event = same_Some (get_or rs i r) event (sym (slice_get-get_or rs i r within) ∙ stands) in
-    let P : Record → Type 0 = λ q. IsTrue told ↔ Misfits rs w q.body in
-    subst P same is
-
--- no task is named that is not of its kind
-none_started : (rs : List Record) (b : Body) → started b ≡ None → (t : ℕ) → (None ≡ Some t) ↔ ((started b ≡ Some t) × IsRoot rs t)
-none_started rs b none t = (λ is. absurd (none-some t is), λ starts. absurd (none-some t (sym none ∙ starts.0)))
-
-none_completed : (rs : List Record) (b : Body) → wait_completed b ≡ None → (p : ℕ) → (None ≡ Some p) ↔ ((task : ℕ) × (wait_completed b ≡ Some task) × IsParent rs p task)
-none_completed rs b none p = (λ is. absurd (none-some p is), λ completes. absurd (none-some completes.0 (sym none ∙ completes.1)))
-
--- the record of a root misfits as its end does
-pub root_misfits : (rs : List Record) (w : Walk) (b : Body) → started b ≡ None → wait_completed b ≡ None → (IsSomeAnd (running b) (λ t. w.current ≢ Some t) → ⊥) → Misfits rs w b → IsSomeAnd (ended_root b) (λ t. slice_get w.roots 0 ≢ Some t)
-root_misfits rs w b no_start no_wait fits misfit = elim (misfit_cases rs w b None None (none_started rs b no_start) (none_completed rs b no_wait) misfit) [
-  | inl runs ↦ absurd (fits runs)
-  | inr (inl ends) ↦ ends
-  | inr (inr (inl never)) ↦ absurd never
-  | inr (inr (inr never)) ↦ absurd never
-]
-
--- a schedule as its start and its wait do
-pub schedule_misfits : (rs : List Record) (w : Walk) (b : Body) (next parent : Option ℕ) → ended_root b ≡ None → ((t : ℕ) → (next ≡ Some t) ↔ ((started b ≡ Some t) × IsRoot rs t)) → ((p : ℕ) → (parent ≡ Some p) ↔ ((task : ℕ) × (wait_completed b ≡ Some task) × IsParent rs p task)) → (IsSomeAnd (running b) (λ t. w.current ≢ Some t) → ⊥) → Misfits rs w b → IsSomeAnd next (λ t. slice_get w.roots 0 ≢ Some t) ⊎ IsSomeAnd parent (λ p. w.current ≢ Some p)
-schedule_misfits rs w b next parent no_end is_next is_parent fits misfit = elim (misfit_cases rs w b next parent is_next is_parent misfit) [
-  | inl runs ↦ absurd (fits runs)
-  | inr (inl ends) ↦ let found = some_and (ended_root b) (λ t. slice_get w.roots 0 ≢ Some t) ends in absurd (none-some found.0 (sym no_end ∙ found.1))
-  | inr (inr rest) ↦ rest
-]
-
--- any other as the task does that it is of
-pub other_fits : (rs : List Record) (w : Walk) (b : Body) → ((endpoint : Endpoint) (actual index : ℕ) (flags : TaskFlags) (parallel task : ℕ) → b ≡ ImplicitTask endpoint actual index flags parallel task → ⊥) → ((status : Status) (prior : ℕ) (next : Option ℕ) (share : Option Claim) → b ≡ TaskSchedule status prior next share → ⊥) → (IsSomeAnd (running b) (λ t. w.current ≢ Some t) → ⊥) → Misfits rs w b → ⊥
-other_fits rs w (ImplicitTask endpoint actual index flags parallel task) no_root no_schedule fits misfit = no_root endpoint actual index flags parallel task refl
-other_fits rs w (TaskSchedule status prior next share) no_root no_schedule fits misfit = no_schedule status prior next share refl
-other_fits rs w b no_root no_schedule fits (not_running task is other) = fits (and_some (running b) (λ t. w.current ≢ Some t) task is other)
-other_fits rs w _ no_root no_schedule fits (not_innermost task is other) = none-some task is
-other_fits rs w _ no_root no_schedule fits (other_root task is root other) = none-some task is
-other_fits rs w _ no_root no_schedule fits (other_parent task i parent is creates other) = none-some task is
-
--- ---- the root that runs next
-
-task_there : (rs : List Record) (family : FamilyView) (i index task : ℕ) → at started rs i ≡ Some task → Calls family.tasks (at object rs i) (Some index) → slice_get family.tasks index ≡ Some task
-task_there rs family i index task starts calls =
-    let found = object_index started task task rs i family.tasks (Some index) (started_object task) calls starts in
-    ap (slice_get family.tasks) (same_Some index found.0 found.1) ∙ found.2
-
-pub explicit_start_no_root : (rs : List Record) (family : FamilyView) (i index task : ℕ) → IsFamilyOf rs family → at started rs i ≡ Some task → Calls family.tasks (at object rs i) (Some index) → ((t : ℕ) → slice_get family.tasks index ≡ Some t → IsExplicit rs t) → (t : ℕ) → (None ≡ Some t) ↔ ((at started rs i ≡ Some t) × IsRoot rs t)
-explicit_start_no_root rs family i index task are starts calls explicit t = (
-  λ is. absurd (none-some t is),
-  λ (other, root).
-      let P : ℕ → Type 0 = IsRoot rs in
-      absurd (root_or_explicit rs task are.once (subst P (same_Some t task (sym other ∙ starts)) root) (explicit task (task_there rs family i index task starts calls))),
-)
-
-pub root_starts : (rs : List Record) (family : FamilyView) (i index task : ℕ) (told : Bool) → IsFamilyOf rs family → at started rs i ≡ Some task → Calls family.tasks (at object rs i) (Some index) → told ≡ false → ((t : ℕ) → slice_get family.tasks index ≡ Some t → IsTrue told ↔ IsExplicit rs t) → (t : ℕ) → (Some task ≡ Some t) ↔ ((at started rs i ≡ Some t) × IsRoot rs t)
-root_starts rs family i index task told are starts calls other_kind explicit t =
-    let stands = task_there rs family i index task starts calls in
-    let root : IsRoot rs task = (root_is rs family index task told are stands (explicit task stands)).0 (ap not other_kind) in (
-      λ same. let P : ℕ → Type 0 = λ k. (at started rs i ≡ Some k) × IsRoot rs k in subst P (same_Some task t same) (starts, root),
-      λ (other, _). sym starts ∙ other,
-    )
-
--- what starts at a place is what the record there says
-pub root_start_there : (rs : List Record) (i : ℕ) (r : Record) (next : Option ℕ) → i < length rs → ((t : ℕ) → (next ≡ Some t) ↔ ((at started rs i ≡ Some t) × IsRoot rs t)) → (t : ℕ) → (next ≡ Some t) ↔ ((started (get_or rs i r).body ≡ Some t) × IsRoot rs t)
-root_start_there rs i r next within is t =
-    let there = at_index started rs i r within in (
-      λ says. let told = (is t).0 says in (sym there ∙ told.0, told.1),
-      λ (starts, root). (is t).1 (there ∙ starts, root),
-    )

@@ -16,8 +16,8 @@ use Rattle.ompt_events.proofs.RecordLemmas.{created_at_made}
 use Rattle.ompt_events.proofs.ListLemmas.{contains_get}
 use Rattle.task_tree.specs.Numbering.{AreApart}
 use Rattle.task_tree.specs.Family.{FamilyView, IsFamilyOf}
-use Rattle.task_tree.specs.Subjects.{object, Calls}
-use Rattle.task_tree.proofs.NamedLemmas.{object_index, started_object}
+use Rattle.task_tree.specs.Runs.{RunView, IsRun, IsIndexOf}
+use Rattle.task_tree.proofs.SubjectLemmas.{call_task, call_index}
 use Rattle.task_tree.proofs.LinkLemmas.{get_set_same, get_set_other}
 use Rattle.task_states.specs.Homes.{IsExplicitStart, AreRunOn}
 use Rattle.task_states.specs.Progress.{first_start}
@@ -57,22 +57,27 @@ homes_start rs tasks homes are = record {
 }
 
 -- the index that is found is that of the task, if it is explicit
-pub explicit_start_is : (rs : List Record) (tasks : List ℕ) (i index task : ℕ) → AreApart tasks → at started rs i ≡ Some task → Calls tasks (at object rs i) (Some index) → IsExplicitAt rs tasks index → (k : ℕ) → (Some index ≡ Some k) ↔ IsExplicitStart rs tasks i k
-explicit_start_is rs tasks i index task apart starts calls explicit k = (
-  λ same. record {
-    task = task;
-    starts = starts;
-    explicit = explicit task stands;
-    indexed = ap (slice_get tasks) (sym (same_Some index k same)) ∙ stands;
-  },
-  λ start. ap Some (apart index k task stands (start.indexed ∙ ap Some (same_Some start.task task (sym start.starts ∙ starts)))),
-)
-  where
-    found : (own : ℕ) × (Some index ≡ Some own) × (slice_get tasks own ≡ Some task)
-    found = object_index started task task rs i tasks (Some index) (started_object task) calls starts
+pub explicit_start_is : (run : RunView) (i index : ℕ) (found : Option ℕ) → IsRun run → IsIndexOf run started i found → found ≡ Some index → IsExplicitAt run.records run.family.tasks index → (k : ℕ) → (Some index ≡ Some k) ↔ IsExplicitStart run.records run.family.tasks i k
+explicit_start_is run i index found is calls same explicit k =
+    let tasks = run.family.tasks in
+    let (task, starts, stands) = call_task tasks (at started run.records i) found index calls same in (
+      λ is_k. record {
+        task = task;
+        starts = starts;
+        explicit = explicit task stands;
+        indexed = ap (slice_get tasks) (sym (same_Some index k is_k)) ∙ stands;
+      },
+      λ start. ap Some (is.family.makers.apart index k task stands (start.indexed ∙ ap Some (same_Some start.task task (sym start.starts ∙ starts)))),
+    )
 
-    stands : slice_get tasks index ≡ Some task
-    stands = ap (slice_get tasks) (same_Some index found.0 found.1) ∙ found.2
+-- a record that starts another task, or none, is no such start
+pub no_explicit_start : (run : RunView) (i : ℕ) (found : Option ℕ) → IsIndexOf run started i found → ((index task : ℕ) → found ≡ Some index → slice_get run.family.tasks index ≡ Some task → IsExplicit run.records task → ⊥) → (k : ℕ) → (None ≡ Some k) ↔ IsExplicitStart run.records run.family.tasks i k
+no_explicit_start run i found calls other k = (
+  λ is_k. absurd (none-some k is_k),
+  λ start.
+      let (index, is, stands) = call_index run.family.tasks (at started run.records i) found start.task calls start.starts in
+      absurd (other index start.task is stands start.explicit),
+)
 
 -- a record that starts no explicit task changes nothing
 pub homes_other : (rs : List Record) (i : ℕ) (tasks : List ℕ) (homes : List (Option ℕ)) → AreHomes rs i tasks homes → ((task : ℕ) → at started rs i ≡ Some task → IsExplicit rs task → ⊥) → AreHomes rs (i + 1) tasks homes

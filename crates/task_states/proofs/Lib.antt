@@ -1,5 +1,6 @@
 mod NumberingLemmas
 mod TargetLemmas
+mod WalkLemmas
 mod CurrentLemmas
 mod NestingLemmas
 mod ProgressLemmas

@@ -5,6 +5,7 @@ use Rattle.std.proofs.lemmas.Option.{none-some, same_Some, slice_get_within, sli
 use Rattle.std.proofs.lemmas.List.{length_push}
 use Rattle.std.proofs.Math.ListN.{set}
 use Rattle.std.specs.Prelude.{◌==◌, ◌&&◌, if◌then◌else◌, is_some, find, slice_get, Contains, option_and_then}
+use Rattle.std.specs.Option.{option_map_or}
 use Rattle.ompt_events.specs.declared.records.Record.{Record}
 use Rattle.ompt_events.specs.declared.records.Body.{Body}
 use Rattle.ompt_events.specs.declared.records.Body.TheVariants.{ImplicitTask, TaskCreate}
@@ -13,10 +14,10 @@ use Rattle.ompt_events.specs.declared.cause.Cause.TheVariants.{CreatedTwice}
 use Rattle.ompt_events.specs.Causes.{IsFreeOf}
 use Rattle.ompt_events.specs.Flags as flag
 use Rattle.ompt_events.specs.Flags.{has_flag}
-use Rattle.ompt_events.specs.Records.{begun_root, created, made}
+use Rattle.ompt_events.specs.Records.{begun_root, created, made, flags as says_flags}
 use Rattle.ompt_events.specs.Places.{at, thread_at, places}
 use Rattle.ompt_events.specs.Tree.{IsRoot, IsExplicit}
-use Rattle.ompt_events.specs.States.{Root, Wait, Plain, is_task, creates_wait, is_made_so, nature_of, begun_on, run_on, home_of}
+use Rattle.ompt_events.specs.States.{Nature, Root, Wait, Plain, is_task, creates_wait, is_made_so, nature_of, begun_on, run_on, home_of}
 use Rattle.ompt_events.proofs.PlaceLemmas.{thread_none, contains_place, at_within}
 use Rattle.ompt_events.proofs.RecordLemmas.{begun_made, made_cases, begun_at_made}
 use Rattle.ompt_events.proofs.ListLemmas.{pushed_cases, contains_get}
@@ -24,7 +25,7 @@ use Rattle.task_tree.proofs.OnceLemmas.{made_once}
 use Rattle.task_tree.proofs.LookupLemmas.{root_or_explicit}
 use Rattle.task_states.specs.declared.moves.Nature as code
 use Rattle.task_states.specs.declared.moves.Nature.TheVariants as variants
-use Rattle.task_states.specs.Progress.{nature_made, first_start, the_nature, AreNatures, AreHomes}
+use Rattle.task_states.specs.Progress.{is_wait_made, first_start, the_nature, AreNatures, AreHomes}
 
 -- ---- the first that passes a test
 
@@ -81,6 +82,13 @@ creates_made task (TaskCreate deps flags parent child) is = ap Some (eqb-true ch
     first true b is = refl
     first false b is = absurd (false≢true is)
 creates_made task _ is = absurd (false≢true is)
+
+-- the nature of the task that a record makes
+abbrev pub nature_made : Body → Nature
+nature_made (ImplicitTask endpoint actual index flags parallel task) = Root
+nature_made (TaskCreate deps flags task child) =
+    if has_flag flags.0 flag.taskwait then Wait else Plain
+nature_made _ = Plain
 
 -- the task's nature is what its maker says
 pub nature_is : (rs : List Record) (task place : ℕ) (r : Record) → IsFreeOf rs CreatedTwice → slice_get rs place ≡ Some r → made r.body ≡ Some task → nature_of rs task ≡ nature_made r.body
@@ -186,16 +194,46 @@ homes_are rs tasks n homes filled all index task stands =
 
 -- ---- the steps of the loops
 
--- what the record at a task's place says of it
-pub nature_there : (rs : List Record) (tasks : List ℕ) (index task place : ℕ) (r : Record) → IsFreeOf rs CreatedTwice → at made rs place ≡ slice_get tasks index → slice_get rs place ≡ Some r → slice_get tasks index ≡ Some task → nature_of rs task ≡ nature_made r.body
-nature_there rs tasks index task place r once is stands is_task = nature_is rs task place r once stands (sym (read_made made rs place r stands) ∙ is ∙ is_task)
-
 pub made_within : (rs : List Record) (tasks : List ℕ) (index place : ℕ) → index < length tasks → at made rs place ≡ slice_get tasks index → place < length rs
 made_within rs tasks index place within is = at_within made rs place (get_or tasks index 0) (is ∙ slice_get-get_or tasks index 0 within)
 
 -- a task is explicit, or its maker begins it
 pub explicit_not_root : (rs : List Record) (task : ℕ) → IsFreeOf rs CreatedTwice → IsExplicit rs task → IsRoot rs task → ⊥
 explicit_not_root rs task once explicit root = root_or_explicit rs task once root explicit
+
+begun_nature : (task : ℕ) (b : Body) → begun_root b ≡ Some task → nature_made b ≡ Root
+begun_nature task (ImplicitTask Begin actual index flags parallel own) is = refl
+begun_nature task _ is = absurd (none-some task is)
+
+created_nature : (task : ℕ) (b : Body) → created b ≡ Some task → nature_made b ≡ (if option_map_or (λ bits. has_flag bits flag.taskwait) (says_flags b) false then Wait else Plain)
+created_nature task (TaskCreate deps flags parent child) is = refl
+created_nature task _ is = absurd (none-some task is)
+
+pub root_nature : (rs : List Record) (tasks : List ℕ) (index task place : ℕ) → IsFreeOf rs CreatedTwice → at made rs place ≡ slice_get tasks index → slice_get tasks index ≡ Some task → (IsExplicit rs task → ⊥) → nature_of rs task ≡ Root
+root_nature rs tasks index task place once is is_task not_explicit = there (slice_get rs place) refl
+  where
+    there : (o : Option Record) → slice_get rs place ≡ o → nature_of rs task ≡ Root
+    there None e = absurd (none-some task (sym (ap (option_and_then (λ (r : Record). made r.body)) e) ∙ is ∙ is_task))
+    there (Some r) e =
+        let makes : made r.body ≡ Some task = sym (read_made made rs place r e) ∙ is ∙ is_task in
+        nature_is rs task place r once e makes ∙ elim (made_cases task r.body makes) [
+          | inl begins ↦ begun_nature task r.body begins
+          | inr creates ↦ absurd (not_explicit (place, read_made created rs place r e ∙ creates))
+        ]
+
+pub explicit_nature : (rs : List Record) (tasks : List ℕ) (index task place : ℕ) (wait : Bool) → IsFreeOf rs CreatedTwice → at made rs place ≡ slice_get tasks index → slice_get tasks index ≡ Some task → IsExplicit rs task → is_wait_made rs place ≡ wait → nature_of rs task ≡ (if wait then Wait else Plain)
+explicit_nature rs tasks index task place wait once is is_task explicit waits = there (slice_get rs place) refl
+  where
+    there : (o : Option Record) → slice_get rs place ≡ o → nature_of rs task ≡ (if wait then Wait else Plain)
+    there None e = absurd (none-some task (sym (ap (option_and_then (λ (r : Record). made r.body)) e) ∙ is ∙ is_task))
+    there (Some r) e =
+        let makes : made r.body ≡ Some task = sym (read_made made rs place r e) ∙ is ∙ is_task in
+        nature_is rs task place r once e makes ∙ elim (made_cases task r.body makes) [
+          | inl begins ↦ absurd (explicit_not_root rs task once explicit (place, read_made begun_root rs place r e ∙ begins))
+          | inr creates ↦ created_nature task r.body creates
+              ∙ ap (λ o. if option_map_or (λ bits. has_flag bits flag.taskwait) o false then Wait else Plain) (sym (read_made says_flags rs place r e))
+              ∙ ap (λ c. if c then Wait else Plain) waits
+        ]
 
 root_made : (rs : List Record) (task place : ℕ) → at made rs place ≡ Some task → (at created rs place ≡ Some task → ⊥) → at begun_root rs place ≡ Some task
 root_made rs task place makes not = there (slice_get rs place) refl

@@ -1,11 +1,11 @@
 -- What a pass over the records has read, one record on.
-use Rattle.std.proofs.Common.{◌≡◌, ◌∙◌, ℕ, zero, suc, ◌+◌, List, [], ◌∷◌, ◌++◌, length, Option, Some, None, Bool, true, false, cond, take, refl, sym, ap, arith, inl, inr, ◌<◌}
-use Rattle.std.proofs.lemmas.Option.{slice_get-map, slice_get_within, get_or_from_slice_get, none-some, same_Some}
-use Rattle.std.proofs.lemmas.Bool.{cases_eq, ne_eqb, false≢true}
+use Rattle.std.proofs.Common.{◌≡◌, ◌∙◌, ℕ, zero, suc, ◌+◌, List, [], ◌∷◌, ◌++◌, length, Option, Some, None, Bool, true, false, cond, take, refl, sym, ap, subst, get_or, arith, inl, inr, ◌<◌}
+use Rattle.std.proofs.lemmas.Option.{slice_get-map, slice_get_within, slice_get-get_or, get_or_from_slice_get, none-some, same_Some}
+use Rattle.std.proofs.lemmas.Bool.{cases_eq, eq-eqb, ne_eqb, false≢true}
 use Rattle.std.proofs.lemmas.List.{length-map, append-nil, append_assoc, take_more}
 use Rattle.std.proofs.lemmas.List.Elements.{All-push, filter-append}
 use Rattle.std.proofs.lemmas.Grind.{flat_map-append}
-use Rattle.std.specs.Prelude.{◌==◌, ◌&&◌, not, map, option_map, filter, slice_get, option_and_then}
+use Rattle.std.specs.Prelude.{◌==◌, ◌&&◌, not, map, option_map, filter, slice_get, option_and_then, is_some}
 use Rattle.std.specs.List.{flat_map, range_with_len}
 use Rattle.std.specs.Option.{option_map_or}
 use Rattle.ompt_events.specs.declared.records.Record.{Record}
@@ -14,33 +14,138 @@ use Rattle.ompt_events.specs.declared.records.Body.TheVariants.{TaskSchedule, Ca
 use Rattle.ompt_events.specs.declared.names.Status.{Status}
 use Rattle.ompt_events.specs.declared.names.Status.TheVariants.{EarlyFulfill}
 use Rattle.ompt_events.specs.declared.state.State.{State}
-use Rattle.ompt_events.specs.Records.{schedule, discarded}
-use Rattle.ompt_events.specs.Places.{at, places}
+use Rattle.ompt_events.specs.Records.{schedule, discarded, started}
+use Rattle.ompt_events.specs.Places.{at, places, thread_at}
+use Rattle.ompt_events.specs.Traces.{IsTrace, HasItsNext}
 use Rattle.ompt_events.specs.States.{Move, Stopped, Started, Discarded, is_task, is_on, is_early, home_of, moves_by, moves_at, moves_of, first_state}
-use Rattle.ompt_events.proofs.PlaceLemmas.{range_more}
-use Rattle.task_tree.specs.Subjects.{subject, Calls}
-use Rattle.task_tree.proofs.SubjectLemmas.{call_task, call_index}
-use Rattle.task_tree.proofs.NamedLemmas.{discarded_subject}
+use Rattle.ompt_events.proofs.PlaceLemmas.{range_more, at_within}
+use Rattle.task_tree.specs.Runs.{RunView, IsRun, IsIndexOf, IsSchedule, status as says_status}
+use Rattle.task_tree.specs.Subjects.{Calls}
+use Rattle.task_tree.proofs.SubjectLemmas.{call_task}
 use Rattle.task_states.specs.declared.moves.Nature as code
 use Rattle.task_states.specs.declared.moves.Move as steps
 use Rattle.task_states.specs.declared.moves.Move.TheVariants as step
 use Rattle.task_states.specs.declared.progress.Pass.{Pass}
 use Rattle.task_states.specs.declared.progress.Pass.TheVariants.{Early, Home, Rest}
-use Rattle.task_states.specs.Progress.{the_nature, the_move, is_read, is_read_for, read_before, moves_read, moves_before, and_move, and_record, early_for, fulfils_early, IsReadWhole, AreLeft, AreNatures, HasCome}
+use Rattle.task_states.specs.Progress.{the_nature, the_move, is_read, is_read_for, read_before, moves_read, moves_before, and_move, and_record, is_early_status, is_early_move, fulfils_early, is_at, reads, IsMoveOf, IsReadWhole, AreLeft, AreNatures, HasCome}
 use Rattle.task_states.specs.Homes.{IsNeverEarly}
 use Rattle.task_states.proofs.ProgressLemmas.{come_same}
 
+-- ---- the record at a place
+
+pub record_at : (rs : List Record) (i : ℕ) → i < length rs → (r : Record) × (slice_get rs i ≡ Some r)
+record_at [] i within = absurd (omega (arith, within))
+record_at (r ∷ rest) i within = (get_or (r ∷ rest) i r, slice_get-get_or (r ∷ rest) i r within)
+
+pub record_there : {X : Type 0} (f : Body → Option X) (rs : List Record) (i : ℕ) (x : X) → at f rs i ≡ Some x → (r : Record) × (slice_get rs i ≡ Some r) × (f r.body ≡ Some x)
+record_there {X} f rs i x says = of (slice_get rs i) refl says
+  where
+    of : (o : Option Record) → slice_get rs i ≡ o → option_and_then (λ (q : Record). f q.body) o ≡ Some x → (r : Record) × (slice_get rs i ≡ Some r) × (f r.body ≡ Some x)
+    of None e is = absurd (none-some x is)
+    of (Some r) e is = (r, e, is)
+
+said_there : {X : Type 0} (f : Body → Option X) (rs : List Record) (i : ℕ) (r : Record) → slice_get rs i ≡ Some r → at f rs i ≡ f r.body
+said_there f rs i r stands = ap (option_and_then (λ (q : Record). f q.body)) stands
+
+-- ---- which moves are early
+
+-- whether the body fulfils the task's event early
+abbrev early_for : ℕ → Body → Bool
+early_for task (TaskSchedule EarlyFulfill prior next share) = prior == task
+early_for task _ = false
+
+early_there : (rs : List Record) (i task : ℕ) (r : Record) → slice_get rs i ≡ Some r → is_early rs task i ≡ early_for task r.body
+early_there rs i task r stands = ap (λ (o : Option Record). option_map_or (λ (q : Record). early_for task q.body) o false) stands
+
+-- of the prior task what the status says
+stop_early : (rs : List Record) (i task : ℕ) (status : Status) (next : Option ℕ) → at schedule rs i ≡ Some (status, task, next) → is_early rs task i ≡ is_early_status status
+stop_early rs i task status next says =
+    let (r, stands, is) = record_there schedule rs i (status, task, next) says in
+    early_there rs i task r stands ∙ of r.body is
+  where
+    by : (s : Status) (prior : ℕ) (follower : Option ℕ) (share : _) → prior ≡ task → early_for task (TaskSchedule s prior follower share) ≡ is_early_status s
+    by EarlyFulfill prior follower share same = eq-eqb prior task same
+    by _ prior follower share same = refl
+
+    of : (b : Body) → schedule b ≡ Some (status, task, next) → early_for task b ≡ is_early_status status
+    of (TaskSchedule s p n share) is =
+        let same : (s, p, n) ≡ (status, task, next) = same_Some (s, p, n) (status, task, next) is in
+        by s p n share (ap (λ (t : Status × ℕ × Option ℕ). t.1) same) ∙ ap (λ (t : Status × ℕ × Option ℕ). is_early_status t.0) same
+    of _ is = absurd (none-some (status, task, next) is)
+
+-- no start is: a trace has no next task where an event is fulfilled
+start_early : (rs : List Record) (i task : ℕ) → IsTrace rs → at started rs i ≡ Some task → is_early rs task i ≡ false
+start_early rs i task is_trace says =
+    let (r, stands, is) = record_there started rs i task says in
+    let P : Record → Type 0 = λ q. HasItsNext q.body in
+    let sound : HasItsNext r.body = subst P (get_or_from_slice_get rs i r r stands) (is_trace.sound i r (slice_get_within rs i r stands)).next in
+    early_there rs i task r stands ∙ of r.body sound is
+  where
+    of : (b : Body) → HasItsNext b → started b ≡ Some task → early_for task b ≡ false
+    of (TaskSchedule EarlyFulfill prior next share) sound is = absurd (false≢true (sym sound ∙ ap is_some is))
+    of _ sound is = refl
+
+discard_early : (rs : List Record) (i task : ℕ) → at discarded rs i ≡ Some task → is_early rs task i ≡ false
+discard_early rs i task says =
+    let (r, stands, is) = record_there discarded rs i task says in
+    early_there rs i task r stands ∙ of r.body is
+  where
+    of : (b : Body) → discarded b ≡ Some task → early_for task b ≡ false
+    of (Cancel flags other share) is = refl
+    of _ is = absurd (none-some task is)
+
+pub stop_move : (run : RunView) (i index : ℕ) (status : Status) (next : Option ℕ) → IsSchedule run i status index next → IsMoveOf run i index (step.Stopped status)
+stop_move run i index status next is = record {
+  within = at_within schedule run.records i (status, is.task, is.follower) is.says;
+  task = is.task;
+  indexed = is.indexed;
+  early = stop_early run.records i is.task status is.follower is.says;
+}
+
+pub start_move : (run : RunView) (i index : ℕ) (next : Option ℕ) → IsRun run → IsIndexOf run started i next → next ≡ Some index → IsMoveOf run i index step.Started
+start_move run i index next is calls same =
+    let (task, says, stands) = call_task run.family.tasks (at started run.records i) next index calls same in
+    record { within = at_within started run.records i task says; task = task; indexed = stands; early = start_early run.records i task is.trace says }
+
+pub discard_move : (run : RunView) (i index : ℕ) (found : Option ℕ) → IsIndexOf run discarded i found → found ≡ Some index → IsMoveOf run i index step.Discarded
+discard_move run i index found calls same =
+    let (task, says, stands) = call_task run.family.tasks (at discarded run.records i) found index calls same in
+    record { within = at_within discarded run.records i task says; task = task; indexed = stands; early = discard_early run.records i task says }
+
+-- the task that runs next is that of the schedule
+scheduled_next : (rs : List Record) (i : ℕ) (status : Status) (task : ℕ) (next : Option ℕ) → at schedule rs i ≡ Some (status, task, next) → at started rs i ≡ next
+scheduled_next rs i status task next says =
+    let (r, stands, is) = record_there schedule rs i (status, task, next) says in
+    said_there started rs i r stands ∙ of r.body is
+  where
+    of : (b : Body) → schedule b ≡ Some (status, task, next) → started b ≡ next
+    of (TaskSchedule s p n share) is = ap (λ (t : Status × ℕ × Option ℕ). t.2) (same_Some (s, p, n) (status, task, next) is)
+    of _ is = absurd (none-some (status, task, next) is)
+
+pub next_calls : (run : RunView) (i index : ℕ) (status : Status) (next : Option ℕ) → IsSchedule run i status index next → IsIndexOf run started i next
+next_calls run i index status next is =
+    let P : Option ℕ → Type 0 = λ o. Calls run.family.tasks o next in
+    subst P (sym (scheduled_next run.records i status is.task is.follower is.says)) is.next_indexed
+
+-- whether a pass reads the record for a task
+read_here : (pass : Pass) (rs : List Record) (task i : ℕ) (move : steps.Move) (home : Option ℕ) (thread : ℕ) → is_early rs task i ≡ is_early_move move → home ≡ home_of rs task → thread_at rs i ≡ Some thread → reads pass (is_early_move move) (is_at home thread) ≡ is_read pass rs task i
+read_here pass rs task i move home thread early same runs =
+    ap (λ b. reads pass b (is_at home thread)) (sym early) ∙ ap (reads pass (is_early rs task i)) there ∙ of pass
+  where
+    there : is_at home thread ≡ is_on rs (home_of rs task) i
+    there = ap (λ (o : Option ℕ). option_map_or (λ h. option_map_or (λ t. t == h) o false) home false) (sym runs) ∙ ap (λ o. is_on rs o i) same
+
+    of : (p : Pass) → reads p (is_early rs task i) (is_on rs (home_of rs task) i) ≡ is_read p rs task i
+    of Early = refl
+    of Home = refl
+    of Rest = refl
+
+pub read_told : (pass : Pass) (run : RunView) (task i index : ℕ) (move : steps.Move) (home : Option ℕ) (thread : ℕ) → IsMoveOf run i index move → slice_get run.family.tasks index ≡ Some task → home ≡ home_of run.records task → thread_at run.records i ≡ Some thread → reads pass (is_early_move move) (is_at home thread) ≡ is_read pass run.records task i
+read_told pass run task i index move home thread is stands same runs =
+    let P : ℕ → Type 0 = λ t. is_early run.records t i ≡ is_early_move move in
+    read_here pass run.records task i move home thread (subst P (same_Some is.task task (sym is.indexed ∙ stands)) is.early) same runs
+
 -- ---- the task that a record names
-
-pub named_stands : (tasks : List ℕ) (named slot : Option ℕ) (task index : ℕ) → Calls tasks named slot → named ≡ Some task → slot ≡ Some index → slice_get tasks index ≡ Some task
-named_stands tasks named slot task index calls is at_index =
-    let (other, says, stands) = call_task tasks named slot index calls at_index in
-    stands ∙ ap Some (same_Some other task (sym says ∙ is))
-
--- the index of the task that is discarded
-pub discard_calls : (rs : List Record) (tasks : List ℕ) (i task : ℕ) (r : Record) (slot : Option ℕ) → slice_get rs i ≡ Some r → discarded r.body ≡ Some task → Calls tasks (at subject rs i) slot → (index : ℕ) × (slot ≡ Some index) × (slice_get tasks index ≡ Some task)
-discard_calls rs tasks i task r slot stands says calls =
-    call_index tasks (at subject rs i) slot task calls (ap (option_and_then (λ (q : Record). subject q.body)) stands ∙ discarded_subject task r.body says)
 
 -- where it names none, nothing moves
 nothing : (pass : Pass) (rs : List Record) (at : ℕ) (move : steps.Move) (moves : ℕ → List (ℕ × Move)) (task : ℕ) → and_move pass rs at None move moves task ≡ moves task
@@ -76,7 +181,7 @@ none before true = append-nil before
 none before false = append-nil before
 
 -- a schedule stops one task and may start another
-pub schedule_moves : (pass : Pass) (rs : List Record) (i : ℕ) (r : Record) (status : Status) (prior : ℕ) (next : Option ℕ) (moves : ℕ → List (ℕ × Move)) → slice_get rs i ≡ Some r → schedule r.body ≡ Some (status, prior, next) → (task : ℕ)
+schedule_moves : (pass : Pass) (rs : List Record) (i : ℕ) (r : Record) (status : Status) (prior : ℕ) (next : Option ℕ) (moves : ℕ → List (ℕ × Move)) → slice_get rs i ≡ Some r → schedule r.body ≡ Some (status, prior, next) → (task : ℕ)
     → and_record pass rs i moves task ≡ and_move pass rs i next step.Started (and_move pass rs i (Some prior) (step.Stopped status) moves) task
 schedule_moves pass rs i r status prior next moves stands says task = ap (λ l. moves task ++ cond (is_read pass rs task i) l []) (moves_there rs i task r stands) ∙ of r.body says
   where
@@ -91,7 +196,7 @@ schedule_moves pass rs i r status prior next moves stands says task = ap (λ l. 
     of _ is = absurd (none-some (status, prior, next) is)
 
 -- a cancellation may discard one
-pub discard_moves : (pass : Pass) (rs : List Record) (i : ℕ) (r : Record) (named : ℕ) (moves : ℕ → List (ℕ × Move)) → slice_get rs i ≡ Some r → discarded r.body ≡ Some named → (task : ℕ)
+discard_moves : (pass : Pass) (rs : List Record) (i : ℕ) (r : Record) (named : ℕ) (moves : ℕ → List (ℕ × Move)) → slice_get rs i ≡ Some r → discarded r.body ≡ Some named → (task : ℕ)
     → and_record pass rs i moves task ≡ and_move pass rs i (Some named) step.Discarded moves task
 discard_moves pass rs i r named moves stands says task = ap (λ l. moves task ++ cond (is_read pass rs task i) l []) (moves_there rs i task r stands) ∙ of r.body says
   where
@@ -103,7 +208,7 @@ discard_moves pass rs i r named moves stands says task = ap (λ l. moves task ++
     of _ is = absurd (none-some named is)
 
 -- all other records move none
-pub no_moves : (pass : Pass) (rs : List Record) (i : ℕ) (r : Record) (moves : ℕ → List (ℕ × Move)) → slice_get rs i ≡ Some r → schedule r.body ≡ None → discarded r.body ≡ None → (task : ℕ) → and_record pass rs i moves task ≡ moves task
+no_moves : (pass : Pass) (rs : List Record) (i : ℕ) (r : Record) (moves : ℕ → List (ℕ × Move)) → slice_get rs i ≡ Some r → schedule r.body ≡ None → discarded r.body ≡ None → (task : ℕ) → and_record pass rs i moves task ≡ moves task
 no_moves pass rs i r moves stands no_schedule no_discard task = ap (λ l. moves task ++ cond (is_read pass rs task i) l []) (moves_there rs i task r stands) ∙ of r.body no_schedule no_discard
   where
     reads : Bool
@@ -125,7 +230,7 @@ read_apart reads (Some other) task all off = elim (cases_eq other task) [
 ]
 
 -- of a schedule these are two, or one
-pub schedule_whole : (pass : Pass) (rs : List Record) (i : ℕ) (r : Record) (status : Status) (prior : ℕ) (next : Option ℕ) → slice_get rs i ≡ Some r → schedule r.body ≡ Some (status, prior, next) → is_read_for pass rs (Some prior) i ≡ true → is_read_for pass rs next i ≡ true → IsReadWhole pass rs i
+schedule_whole : (pass : Pass) (rs : List Record) (i : ℕ) (r : Record) (status : Status) (prior : ℕ) (next : Option ℕ) → slice_get rs i ≡ Some r → schedule r.body ≡ Some (status, prior, next) → is_read_for pass rs (Some prior) i ≡ true → is_read_for pass rs next i ≡ true → IsReadWhole pass rs i
 schedule_whole pass rs i r status prior next stands says first second task off = moves_there rs i task r stands ∙ of r.body says
   where
     reads : ℕ → Bool
@@ -145,7 +250,7 @@ schedule_whole pass rs i r status prior next stands says first second task off =
     of _ is = absurd (none-some (status, prior, next) is)
 
 -- of a cancellation at most one
-pub discard_whole : (pass : Pass) (rs : List Record) (i : ℕ) (r : Record) (named : ℕ) → slice_get rs i ≡ Some r → discarded r.body ≡ Some named → is_read_for pass rs (Some named) i ≡ true → IsReadWhole pass rs i
+discard_whole : (pass : Pass) (rs : List Record) (i : ℕ) (r : Record) (named : ℕ) → slice_get rs i ≡ Some r → discarded r.body ≡ Some named → is_read_for pass rs (Some named) i ≡ true → IsReadWhole pass rs i
 discard_whole pass rs i r named stands says all task off = moves_there rs i task r stands ∙ of r.body says
   where
     reads : ℕ → Bool
@@ -158,13 +263,47 @@ discard_whole pass rs i r named stands says all task off = moves_there rs i task
     of _ is = absurd (none-some named is)
 
 -- and of all others none
-pub still_whole : (pass : Pass) (rs : List Record) (i : ℕ) (r : Record) → slice_get rs i ≡ Some r → schedule r.body ≡ None → discarded r.body ≡ None → IsReadWhole pass rs i
+still_whole : (pass : Pass) (rs : List Record) (i : ℕ) (r : Record) → slice_get rs i ≡ Some r → schedule r.body ≡ None → discarded r.body ≡ None → IsReadWhole pass rs i
 still_whole pass rs i r stands no_schedule no_discard task off = moves_there rs i task r stands ∙ of r.body no_schedule no_discard
   where
     of : (b : Body) → schedule b ≡ None → discarded b ≡ None → map {B = ℕ × Move} (λ move. (i, move)) (moves_by task b) ≡ []
     of (TaskSchedule s p n share) is missing = absurd (none-some (s, p, n) (sym is))
     of (Cancel flags t share) is missing = ap (λ (o : Option ℕ). map {B = ℕ × Move} (λ move. (i, move)) (cond (is_task task o) (Discarded ∷ []) [])) missing
     of _ is missing = refl
+
+-- the same by what is said at the place
+pub schedule_moves_at : (pass : Pass) (rs : List Record) (i : ℕ) (status : Status) (prior : ℕ) (next : Option ℕ) (moves : ℕ → List (ℕ × Move)) → at schedule rs i ≡ Some (status, prior, next) → (task : ℕ)
+    → and_record pass rs i moves task ≡ and_move pass rs i (at started rs i) step.Started (and_move pass rs i (Some prior) (step.Stopped status) moves) task
+schedule_moves_at pass rs i status prior next moves says task =
+    let (r, stands, is) = record_there schedule rs i (status, prior, next) says in
+    schedule_moves pass rs i r status prior next moves stands is task
+    ∙ ap (λ o. and_move pass rs i o step.Started (and_move pass rs i (Some prior) (step.Stopped status) moves) task) (sym (scheduled_next rs i status prior next says))
+
+pub discard_moves_at : (pass : Pass) (rs : List Record) (i named : ℕ) (moves : ℕ → List (ℕ × Move)) → at discarded rs i ≡ Some named → (task : ℕ)
+    → and_record pass rs i moves task ≡ and_move pass rs i (Some named) step.Discarded moves task
+discard_moves_at pass rs i named moves says =
+    let (r, stands, is) = record_there discarded rs i named says in
+    discard_moves pass rs i r named moves stands is
+
+pub no_moves_at : (pass : Pass) (rs : List Record) (i : ℕ) (moves : ℕ → List (ℕ × Move)) → i < length rs → at schedule rs i ≡ None → at discarded rs i ≡ None → (task : ℕ) → and_record pass rs i moves task ≡ moves task
+no_moves_at pass rs i moves within no_schedule no_discard =
+    let (r, stands) = record_at rs i within in
+    no_moves pass rs i r moves stands (sym (said_there schedule rs i r stands) ∙ no_schedule) (sym (said_there discarded rs i r stands) ∙ no_discard)
+
+pub schedule_whole_at : (pass : Pass) (rs : List Record) (i : ℕ) (status : Status) (prior : ℕ) (next : Option ℕ) → at schedule rs i ≡ Some (status, prior, next) → is_read pass rs prior i ≡ true → is_read_for pass rs (at started rs i) i ≡ true → IsReadWhole pass rs i
+schedule_whole_at pass rs i status prior next says first second =
+    let (r, stands, is) = record_there schedule rs i (status, prior, next) says in
+    schedule_whole pass rs i r status prior next stands is first (ap (λ o. is_read_for pass rs o i) (sym (scheduled_next rs i status prior next says)) ∙ second)
+
+pub discard_whole_at : (pass : Pass) (rs : List Record) (i named : ℕ) → at discarded rs i ≡ Some named → is_read pass rs named i ≡ true → IsReadWhole pass rs i
+discard_whole_at pass rs i named says all =
+    let (r, stands, is) = record_there discarded rs i named says in
+    discard_whole pass rs i r named stands is all
+
+pub still_whole_at : (pass : Pass) (rs : List Record) (i : ℕ) → i < length rs → at schedule rs i ≡ None → at discarded rs i ≡ None → IsReadWhole pass rs i
+still_whole_at pass rs i within no_schedule no_discard =
+    let (r, stands) = record_at rs i within in
+    still_whole pass rs i r stands (sym (said_there schedule rs i r stands) ∙ no_schedule) (sym (said_there discarded rs i r stands) ∙ no_discard)
 
 -- the last pass reads nothing of a record that the home pass read for each of its tasks
 pub whole_not_left : (rs : List Record) (i : ℕ) (moves : ℕ → List (ℕ × Move)) → IsReadWhole Home rs i → (task : ℕ) → and_record Rest rs i moves task ≡ moves task
@@ -180,18 +319,22 @@ whole_not_left rs i moves whole task = by (is_read Home rs task i) refl
     by false away = ap (λ l. moves task ++ cond (is_read Rest rs task i) l []) (whole task away) ∙ none (moves task) (is_read Rest rs task i)
 
 -- the first pass reads nothing where no event is fulfilled early
-pub not_early : (rs : List Record) (i : ℕ) (r : Record) → slice_get rs i ≡ Some r → fulfils_early r.body ≡ false → (task : ℕ) → is_early rs task i ≡ false
-not_early rs i r stands says task = ap (λ (o : Option Record). option_map_or (λ (q : Record). early_for task q.body) o false) stands ∙ of r.body says
+pub not_early : (rs : List Record) (i : ℕ) → fulfils_early rs i ≡ false → (task : ℕ) → is_early rs task i ≡ false
+not_early rs i says task = there (slice_get rs i) says
   where
-    of : (b : Body) → fulfils_early b ≡ false → early_for task b ≡ false
+    of : (b : Body) → option_map_or is_early_status (says_status b) false ≡ false → early_for task b ≡ false
     of (TaskSchedule EarlyFulfill prior next share) is = absurd (false≢true (sym is))
     of _ is = refl
+
+    there : (o : Option Record) → option_map_or is_early_status (option_and_then (λ (r : Record). says_status r.body) o) false ≡ false → option_map_or (λ (r : Record). early_for task r.body) o false ≡ false
+    there None is = refl
+    there (Some r) is = of r.body is
 
 unread_early : (rs : List Record) (i task : ℕ) (moves : ℕ → List (ℕ × Move)) → is_early rs task i ≡ false → and_record Early rs i moves task ≡ moves task
 unread_early rs i task moves none = ap (λ b. moves task ++ cond (b && not (is_on rs (home_of rs task) i)) (moves_at rs task i) []) none ∙ append-nil (moves task)
 
-pub early_unread : (rs : List Record) (i : ℕ) (r : Record) (moves : ℕ → List (ℕ × Move)) → slice_get rs i ≡ Some r → fulfils_early r.body ≡ false → (task : ℕ) → and_record Early rs i moves task ≡ moves task
-early_unread rs i r moves stands says task = unread_early rs i task moves (not_early rs i r stands says task)
+pub early_unread : (rs : List Record) (i : ℕ) (moves : ℕ → List (ℕ × Move)) → fulfils_early rs i ≡ false → (task : ℕ) → and_record Early rs i moves task ≡ moves task
+early_unread rs i moves says task = unread_early rs i task moves (not_early rs i says task)
 
 -- one more record that fulfils none
 pub never_more : (rs : List Record) (i : ℕ) → IsNeverEarly rs i → ((task : ℕ) → is_early rs task i ≡ false) → IsNeverEarly rs (i + 1)

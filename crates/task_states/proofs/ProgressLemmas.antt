@@ -224,13 +224,11 @@ read_off pass rs at task step moves reads other = elim (cases_eq task other) [
     and_false false = refl
 
 -- a record that the pass reads for the task moves it on
-pub come_read : (pass : Pass) (rs : List Record) (tasks : List ℕ) (natures : List code.Nature) (index task at : ℕ) (nature : code.Nature) (step : steps.Move) (moves : ℕ → List (ℕ × Move)) (old new : ProgressView) → AreApart tasks → slice_get tasks index ≡ Some task → AreNatures rs tasks natures → slice_get natures index ≡ Some nature → is_read pass rs task at ≡ true
+pub come_read : (pass : Pass) (rs : List Record) (tasks : List ℕ) (index task at : ℕ) (nature : code.Nature) (step : steps.Move) (moves : ℕ → List (ℕ × Move)) (old new : ProgressView) → AreApart tasks → slice_get tasks index ≡ Some task → the_nature nature ≡ nature_of rs task → is_read pass rs task at ≡ true
     → new.states ≡ set old.states index (state_after (the_nature nature) (get_or old.states index None) (at, the_move step))
     → new.refused ≡ refused_after old.refused (get_or old.states index None) (state_after (the_nature nature) (get_or old.states index None) (at, the_move step)) at
     → HasCome rs tasks moves old → HasCome rs tasks (and_move pass rs at (Some task) step moves) new
-come_read pass rs tasks natures index task at nature step moves old new apart stands are read reads states refused come =
-    let (known, there, is) = are index task stands in
-    let same : the_nature nature ≡ nature_of rs task = ap the_nature (same_Some nature known (sym read ∙ there)) ∙ is in
+come_read pass rs tasks index task at nature step moves old new apart stands same reads states refused come =
     come_same rs tasks (and_one task (at, the_move step) moves) (and_move pass rs at (Some task) step moves) new (read_on pass rs at task step moves reads)
     (went_on rs tasks index task at (the_nature nature) (the_move step) moves old new (λ k at_k. apart k index task at_k stands) stands same states refused come)
 
@@ -238,9 +236,11 @@ come_read pass rs tasks natures index task at nature step moves old new apart st
 pub come_unread : (pass : Pass) (rs : List Record) (tasks : List ℕ) (task at : ℕ) (step : steps.Move) (moves : ℕ → List (ℕ × Move)) (progress : ProgressView) → is_read pass rs task at ≡ false → HasCome rs tasks moves progress → HasCome rs tasks (and_move pass rs at (Some task) step moves) progress
 come_unread pass rs tasks task at step moves progress reads come = come_same rs tasks moves (and_move pass rs at (Some task) step moves) progress (read_off pass rs at task step moves reads) come
 
--- the home that was read is the task's
+-- the entry of a table that was read
 pub home_read : (rs : List Record) (tasks : List ℕ) (homes : List (Option ℕ)) (index task : ℕ) (home : Option ℕ) → AreHomes rs tasks homes → slice_get tasks index ≡ Some task → index < length homes → home ≡ get_or homes index home → home ≡ home_of rs task
 home_read rs tasks homes index task home are stands within read = same_Some home (home_of rs task) (sym (slice_get-get_or homes index home within ∙ ap Some (sym read)) ∙ are index task stands)
 
-pub entry_read : {X : Type 0} (xs : List X) (index : ℕ) (x : X) → index < length xs → x ≡ get_or xs index x → slice_get xs index ≡ Some x
-entry_read xs index x within read = slice_get-get_or xs index x within ∙ ap Some (sym read)
+pub nature_read : (rs : List Record) (tasks : List ℕ) (natures : List code.Nature) (index task : ℕ) (nature : code.Nature) → AreNatures rs tasks natures → slice_get tasks index ≡ Some task → index < length natures → nature ≡ get_or natures index nature → the_nature nature ≡ nature_of rs task
+nature_read rs tasks natures index task nature are stands within read =
+    let (known, there, is) = are index task stands in
+    ap the_nature (same_Some nature known (sym (slice_get-get_or natures index nature within ∙ ap Some (sym read)) ∙ there)) ∙ is

@@ -18,7 +18,8 @@ use Rattle.ompt_events.proofs.RegionLemmas.{open_none, open_other, open_own}
 use Rattle.ompt_events.proofs.PlaceLemmas.{at_within}
 use Rattle.task_tree.specs.Numbering.{AreApart}
 use Rattle.task_tree.proofs.LinkLemmas.{get_set_same, get_set_other}
-use Rattle.task_states.specs.Regions.{below_of, top_after, IsStack, AreLinked, IsRegionOf}
+use Rattle.task_tree.specs.Runs.{RunView, IsRegionEvent}
+use Rattle.task_states.specs.Regions.{below_of, top_after, IsStack, AreLinked}
 
 -- a stack stays when one more link is written, or none
 stack_more : (links : List (Option ℕ)) (n : ℕ) (link top : Option ℕ) (stack : List ℕ) → IsStack links n top stack → IsStack (set links n link) (n + 1) top stack
@@ -87,33 +88,33 @@ own_stack links n own kind End link [] low found is = let h = found refl in absu
 own_stack links n own kind End link (begin ∷ below) low found (is, within, rest) = stack_more links n link (below_of links link) below rest
 
 -- a record that begins or ends a region
-pub open_more_own : (rs : List Record) (n index : ℕ) (kind : SyncKind) (endpoint : Endpoint) (tasks : List ℕ) (innermost links : List (Option ℕ)) (link : Option ℕ) → AreApart tasks → AreOpen rs n tasks innermost links → IsRegionOf rs tasks n index kind endpoint → link ≡ top_of innermost index → n < length rs → (endpoint ≡ End → (begin : ℕ) × (link ≡ Some begin) × (kind_at rs begin ≡ Some kind)) → AreOpen rs (n + 1) tasks (set innermost index (top_after links link n endpoint)) (set links n link)
-open_more_own rs n index kind endpoint tasks innermost links link apart_all are own is_top inside found = record {
+pub open_more_own : (run : RunView) (n index : ℕ) (kind : SyncKind) (endpoint : Endpoint) (innermost links : List (Option ℕ)) (link : Option ℕ) → AreApart run.family.tasks → AreOpen run.records n run.family.tasks innermost links → IsRegionEvent run n index kind endpoint → link ≡ top_of innermost index → n < length run.records → (endpoint ≡ End → (begin : ℕ) × (link ≡ Some begin) × (kind_at run.records begin ≡ Some kind)) → AreOpen run.records (n + 1) run.family.tasks (set innermost index (top_after links link n endpoint)) (set links n link)
+open_more_own run n index kind endpoint innermost links link apart_all are own is_top inside found = record {
   all = length-set links n link ∙ are.all;
   tops = length-set innermost index (top_after links link n endpoint) ∙ are.tops;
   stacks = λ other task is. elim (cases_eq other index) [
     | inl same ↦
-        let is_task : task ≡ own.task = same_Some task own.task (sym is ∙ ap (slice_get tasks) same ∙ own.indexed) in
-        rw (same, get_or-set_same innermost index (top_after links link n endpoint) None within, is_task, open_own rs own.task n kind endpoint own.says) (own_stack links n own.task kind endpoint link (open_regions rs own.task n) low (λ e. let h = found e in (h.0, h.1)) own_one)
-    | inr apart ↦ rw (get_or-set_other innermost index other (top_after links link n endpoint) None apart, open_other rs task own.task n kind endpoint own.says (λ e. apart (apart_all other index own.task (is ∙ ap Some e) own.indexed))) (stack_more links n link (top_of innermost other) (open_regions rs task n) (are.stacks other task is))
+        let is_task : task ≡ own.task = same_Some task own.task (sym is ∙ ap (slice_get run.family.tasks) same ∙ own.indexed) in
+        rw (same, get_or-set_same innermost index (top_after links link n endpoint) None within, is_task, open_own run.records own.task n kind endpoint own.says) (own_stack links n own.task kind endpoint link (open_regions run.records own.task n) low (λ e. let h = found e in (h.0, h.1)) own_one)
+    | inr apart ↦ rw (get_or-set_other innermost index other (top_after links link n endpoint) None apart, open_other run.records task own.task n kind endpoint own.says (λ e. apart (apart_all other index own.task (is ∙ ap Some e) own.indexed))) (stack_more links n link (top_of innermost other) (open_regions run.records task n) (are.stacks other task is))
   ];
-  linked = linked_more rs n links link low are.linked ends_here;
+  linked = linked_more run.records n links link low are.linked ends_here;
 }
   where
     low : n < length links
     low = let all = are.all in omega (arith, all, inside)
 
     within : index < length innermost
-    within = let inside = slice_get_within tasks index own.task own.indexed in let tops = are.tops in omega (arith, inside, tops)
+    within = let inside = slice_get_within run.family.tasks index own.task own.indexed in let tops = are.tops in omega (arith, inside, tops)
 
-    own_one : IsStack links n link (open_regions rs own.task n)
-    own_one = let P : Option ℕ → Type 0 = λ t. IsStack links n t (open_regions rs own.task n) in subst P (sym is_top) (are.stacks index own.task own.indexed)
+    own_one : IsStack links n link (open_regions run.records own.task n)
+    own_one = let P : Option ℕ → Type 0 = λ t. IsStack links n t (open_regions run.records own.task n) in subst P (sym is_top) (are.stacks index own.task own.indexed)
 
     head_of : (top : Option ℕ) (stack : List ℕ) (begin : ℕ) → IsStack links n top stack → top ≡ Some begin → slice_get stack 0 ≡ Some begin
     head_of top [] begin is e = absurd (none-some begin (sym is ∙ e))
     head_of top (b ∷ below) begin (is, before, rest) e = sym is ∙ e
 
-    ends_here : (task : ℕ) (kind' : SyncKind) → at region rs n ≡ Some (task, kind', End) → (begin : ℕ) × (link ≡ Some begin) × EndsRegion rs n task kind' begin
+    ends_here : (task : ℕ) (kind' : SyncKind) → at region run.records n ≡ Some (task, kind', End) → (begin : ℕ) × (link ≡ Some begin) × EndsRegion run.records n task kind' begin
     ends_here task kind' ends =
         let same = same_Some (own.task, kind, endpoint) (task, kind', End) (sym own.says ∙ ends) in
         let is_end : endpoint ≡ End = ap (λ (p : ℕ × SyncKind × Endpoint). p.2) same in
@@ -124,7 +125,7 @@ open_more_own rs n index kind endpoint tasks innermost links link apart_all are 
           h.1,
           record {
             ends = ends;
-            innermost = ap (λ t. slice_get (open_regions rs t n) 0) (sym is_task) ∙ head_of link (open_regions rs own.task n) h.0 own_one h.1;
+            innermost = ap (λ t. slice_get (open_regions run.records t n) 0) (sym is_task) ∙ head_of link (open_regions run.records own.task n) h.0 own_one h.1;
             same_kind = h.2 ∙ ap Some is_kind;
           },
         )
@@ -139,13 +140,13 @@ pub first_order : (rs : List Record) (i : ℕ) → ((k : ℕ) → k < i → HasC
 first_order rs i free has = record { within = order_within rs i has; has = has; first = free }
 
 -- an end that misses its begin
-pub misses_here : (rs : List Record) (i index : ℕ) (kind : SyncKind) (endpoint : Endpoint) (tasks : List ℕ) (innermost links : List (Option ℕ)) (link : Option ℕ) → AreOpen rs i tasks innermost links → IsRegionOf rs tasks i index kind endpoint → link ≡ top_of innermost index → (endpoint ≡ End) × ((begin : ℕ) → link ≡ Some begin → kind_at rs begin ≢ Some kind) → HasCause rs i RegionOrder
-misses_here rs i index kind endpoint tasks innermost links link are own is_top (is_end, none) = region_order (
+pub misses_here : (run : RunView) (i index : ℕ) (kind : SyncKind) (endpoint : Endpoint) (innermost links : List (Option ℕ)) (link : Option ℕ) → AreOpen run.records i run.family.tasks innermost links → IsRegionEvent run i index kind endpoint → link ≡ top_of innermost index → (endpoint ≡ End) × ((begin : ℕ) → link ≡ Some begin → kind_at run.records begin ≢ Some kind) → HasCause run.records i RegionOrder
+misses_here run i index kind endpoint innermost links link are own is_top (is_end, none) = region_order (
   own.task,
   kind,
   record {
     ends = own.says ∙ ap (λ e. Some (own.task, kind, e)) is_end;
-    none = λ begin top. none begin (is_top ∙ top_is (top_of innermost index) (open_regions rs own.task i) begin (are.stacks index own.task own.indexed) top);
+    none = λ begin top. none begin (is_top ∙ top_is (top_of innermost index) (open_regions run.records own.task i) begin (are.stacks index own.task own.indexed) top);
   },
 )
   where
@@ -154,19 +155,19 @@ misses_here rs i index kind endpoint tasks innermost links link are own is_top (
     top_is top (b ∷ below) begin (is, within, rest) e = is ∙ e
 
 -- a barrier of an explicit task
-pub barred_here : (rs : List Record) (i index : ℕ) (kind : SyncKind) (endpoint : Endpoint) (tasks : List ℕ) (own : IsRegionOf rs tasks i index kind endpoint) → (is_called_barrier kind ≡ true) × IsExplicit rs own.task → HasCause rs i RegionOrder
-barred_here rs i index kind endpoint tasks own (called, explicit) = barrier_order (own.task, kind, endpoint, own.says, called, explicit)
+pub barred_here : (run : RunView) (i index : ℕ) (kind : SyncKind) (endpoint : Endpoint) (own : IsRegionEvent run i index kind endpoint) → (is_called_barrier kind ≡ true) × IsExplicit run.records own.task → HasCause run.records i RegionOrder
+barred_here run i index kind endpoint own (called, explicit) = barrier_order (own.task, kind, endpoint, own.says, called, explicit)
 
 -- a record that has its begin, or needs none, and is no such barrier
-pub placed_here : (rs : List Record) (n index : ℕ) (kind : SyncKind) (endpoint : Endpoint) (tasks : List ℕ) (links : List (Option ℕ)) (own : IsRegionOf rs tasks n index kind endpoint) → ((is_called_barrier kind ≡ true) × IsExplicit rs own.task → ⊥) → AreLinked rs (n + 1) links → HasCause rs n RegionOrder → ⊥
-placed_here rs n index kind endpoint tasks links own free linked (region_order (task, kind', h)) =
+pub placed_here : (run : RunView) (n index : ℕ) (kind : SyncKind) (endpoint : Endpoint) (links : List (Option ℕ)) (own : IsRegionEvent run n index kind endpoint) → ((is_called_barrier kind ≡ true) × IsExplicit run.records own.task → ⊥) → AreLinked run.records (n + 1) links → HasCause run.records n RegionOrder → ⊥
+placed_here run n index kind endpoint links own free linked (region_order (task, kind', h)) =
     let found = linked n task kind' (omega arith) h.ends in
     h.none found.0 found.2.innermost found.2.same_kind
-placed_here rs n index kind endpoint tasks links own free linked (barrier_order (task, kind', endpoint', says, called, explicit)) =
+placed_here run n index kind endpoint links own free linked (barrier_order (task, kind', endpoint', says, called, explicit)) =
     let same = same_Some (own.task, kind, endpoint) (task, kind', endpoint') (sym own.says ∙ says) in
     let is_task : task ≡ own.task = sym (ap (λ (p : ℕ × SyncKind × Endpoint). p.0) same) in
     let is_kind : kind ≡ kind' = ap (λ (p : ℕ × SyncKind × Endpoint). p.1) same in
-    let P : ℕ → Type 0 = IsExplicit rs in
+    let P : ℕ → Type 0 = IsExplicit run.records in
     free (ap is_called_barrier is_kind ∙ called, subst P is_task explicit)
 
 -- a record of no region

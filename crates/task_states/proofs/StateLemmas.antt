@@ -1,8 +1,8 @@
 -- What the states after all records say, and the causes that they exclude.
 use Rattle.std.proofs.Common.{◌≡◌, ◌∙◌, ℕ, zero, suc, ◌<◌, ◌≤◌, List, [], ◌∷◌, ◌++◌, length, Option, Some, None, Bool, true, false, cond, refl, sym, ap, subst, arith, inl, inr, ◌⊎◌}
 use Rattle.std.proofs.lemmas.Bool.{eqb-true}
-use Rattle.std.proofs.lemmas.Option.{none-some, same_Some, slice_get_within}
-use Rattle.std.specs.Prelude.{◌==◌, ◌↔◌, map, slice_get, Contains, IsSomeAnd, option_and_then}
+use Rattle.std.proofs.lemmas.Option.{none-some, same_Some, slice_get_within, slice_get-get_or}
+use Rattle.std.specs.Prelude.{◌==◌, ◌↔◌, map, slice_get, Contains, IsSomeAnd, option_and_then, slice_index_or, MatchOption}
 use Rattle.std.specs.Option.{option_map_or}
 use Rattle.std.specs.List.{flat_map}
 use Rattle.std.proofs.lemmas.List.Elements.{Contains-append_cases}
@@ -13,10 +13,10 @@ use Rattle.ompt_events.specs.declared.state.State.{State}
 use Rattle.ompt_events.specs.declared.cause.Cause.{Cause}
 use Rattle.ompt_events.specs.declared.cause.Cause.TheVariants.{NotCurrent, Moved, StatusOrder, RegionOrder}
 use Rattle.ompt_events.specs.CauseNames.{cause_number}
-use Rattle.ompt_events.specs.Causes.{HasCause, status_order, HasNoState, IsFirstWith, IsFreeOf, IsMalformed}
+use Rattle.ompt_events.specs.Causes.{HasCause, status_order, HasNoState, IsFirstWith, IsFreeOf}
 use Rattle.ompt_events.specs.Flags as flag
 use Rattle.ompt_events.specs.Flags.{has_flag}
-use Rattle.ompt_events.specs.Records.{made}
+use Rattle.ompt_events.specs.Records.{made, region}
 use Rattle.ompt_events.specs.Places.{at}
 use Rattle.ompt_events.specs.States.{Move, Stopped, Started, Discarded, is_task, moves_by, moves_at, moves_of, nature_of, state_of}
 use Rattle.ompt_events.proofs.PlaceLemmas.{at_within}
@@ -25,11 +25,15 @@ use Rattle.task_tree.specs.Family.{FamilyView, IsFamilyOf}
 use Rattle.task_tree.specs.Subjects.{subject, object}
 use Rattle.task_tree.proofs.SubjectLemmas.{call_index}
 use Rattle.task_tree.proofs.LookupLemmas.{subject_calls, object_calls}
-use Rattle.task_states.specs.declared.fault.StateFault.{StateFault}
-use Rattle.task_states.specs.declared.fault.StateFault.TheVariants.{Memory, Malformed}
-use Rattle.task_states.specs.Fault.{IsFound, IsStateFault}
+use Rattle.ompt_events.specs.declared.fault.Fault.{Fault}
+use Rattle.ompt_events.specs.declared.names.SyncKind.{SyncKind}
+use Rattle.ompt_events.specs.declared.names.Endpoint.{Endpoint}
+use Rattle.ompt_events.specs.declared.names.Endpoint.TheVariants.{Begin, End, BeginEnd}
+use Rattle.ompt_events.specs.Faults.{FindsFirst, IsFault}
+use Rattle.ompt_events.specs.Regions.{EndsRegion, IsRegion, ended, at_once}
+use Rattle.ompt_events.proofs.FaultLemmas.{fault_first, fault_next}
 use Rattle.task_states.specs.Progress.{ProgressView, HasCome, IsRefused}
-use Rattle.task_states.specs.States.{StatesView, AreStates, AreStatesOf, IsLast}
+use Rattle.task_states.specs.States.{StatesView, AreStates, IsStates, IsLast, IsBeginOf}
 use Rattle.task_states.proofs.OriginLemmas.{is_the_task}
 
 -- ---- a task that moves is one that a record makes
@@ -100,14 +104,14 @@ state_of_cause rs i (status_order h) = h
 refused_of : (rs : List Record) (i : ℕ) (h : HasNoState rs i) → IsRefused (nature_of rs h.task) (moves_of rs h.task) i
 refused_of rs i h = record { number = h.number; move = h.move; made_there = h.made_there; allowed = h.allowed; not_allowed = h.not_allowed }
 
-pub none_refused : (rs : List Record) (family : FamilyView) (progress : ProgressView) → IsFamilyOf rs family → HasCome rs family.tasks (moves_of rs) progress → progress.refused ≡ None → IsFreeOf rs StatusOrder
+none_refused : (rs : List Record) (family : FamilyView) (progress : ProgressView) → IsFamilyOf rs family → HasCome rs family.tasks (moves_of rs) progress → progress.refused ≡ None → IsFreeOf rs StatusOrder
 none_refused rs family progress are come none i has =
     let h = state_of_cause rs i has in
     let refused = refused_of rs i h in
     let P : Option ℕ → Type 0 = λ o. IsSomeAnd o (λ first. first ≤ i) in
     subst P none (come.least h.task i (refused_there rs family h.task i are refused).1 refused)
 
-pub first_refused : (rs : List Record) (family : FamilyView) (progress : ProgressView) (i : ℕ) → IsFamilyOf rs family → HasCome rs family.tasks (moves_of rs) progress → progress.refused ≡ Some i → IsFirstWith rs StatusOrder i
+first_refused : (rs : List Record) (family : FamilyView) (progress : ProgressView) (i : ℕ) → IsFamilyOf rs family → HasCome rs family.tasks (moves_of rs) progress → progress.refused ≡ Some i → IsFirstWith rs StatusOrder i
 first_refused rs family progress i are come some =
     let (task, refused) = come.found i some in
     record {
@@ -121,33 +125,41 @@ first_refused rs family progress i are come some =
           absurd (omega (arith, less, below));
     }
 
+pub refused_first : (rs : List Record) (family : FamilyView) (progress : ProgressView) (found : Option ℕ) → IsFamilyOf rs family → HasCome rs family.tasks (moves_of rs) progress → found ≡ progress.refused → FindsFirst rs StatusOrder found
+refused_first rs family progress None are come same = none_refused rs family progress are come (sym same)
+refused_first rs family progress (Some i) are come same = first_refused rs family progress i are come (sym same)
+
 -- ---- the least of the four
 
-pub fault_status : (rs : List Record) (fault : StateFault) → IsFreeOf rs NotCurrent → IsFreeOf rs Moved → IsFound rs StatusOrder fault → IsStateFault rs fault
-fault_status rs Memory current stay found = found
-fault_status rs (Malformed i cause) current stay (is, first) =
-    let P : Cause → Type 0 = λ c. IsMalformed rs (NotCurrent ∷ Moved ∷ StatusOrder ∷ RegionOrder ∷ []) i c in
-    subst P (sym is) (record { sought_for = (2, omega arith, refl); found = first; least = only })
-  where
-    only : (other : Cause) → Contains (NotCurrent ∷ Moved ∷ StatusOrder ∷ RegionOrder ∷ []) other → cause_number other < 6 → IsFreeOf rs other
-    only other (zero, low, same) less = let Q : Cause → Type 0 = IsFreeOf rs in subst Q same current
-    only other (suc zero, low, same) less = let Q : Cause → Type 0 = IsFreeOf rs in subst Q same stay
-    only other (suc (suc zero), low, same) less = absurd (let number = ap cause_number same in omega arith)
-    only other (suc (suc (suc zero)), low, same) less = absurd (let number = ap cause_number same in omega arith)
-    only other (suc (suc (suc (suc k))), low, same) less = absurd (omega arith)
+after_status : (other : Cause) → Contains (RegionOrder ∷ []) other → cause_number other < 6 → ⊥
+after_status other (zero, below, is) less = let number = ap cause_number is in omega (arith, number, less)
+after_status other (suc k, below, is) less = omega arith
 
-pub fault_region : (rs : List Record) (fault : StateFault) → IsFreeOf rs NotCurrent → IsFreeOf rs Moved → IsFreeOf rs StatusOrder → IsFound rs RegionOrder fault → IsStateFault rs fault
-fault_region rs Memory current stay ordered found = found
-fault_region rs (Malformed i cause) current stay ordered (is, first) =
-    let P : Cause → Type 0 = λ c. IsMalformed rs (NotCurrent ∷ Moved ∷ StatusOrder ∷ RegionOrder ∷ []) i c in
-    subst P (sym is) (record { sought_for = (3, omega arith, refl); found = first; least = only })
-  where
-    only : (other : Cause) → Contains (NotCurrent ∷ Moved ∷ StatusOrder ∷ RegionOrder ∷ []) other → cause_number other < 7 → IsFreeOf rs other
-    only other (zero, low, same) less = let Q : Cause → Type 0 = IsFreeOf rs in subst Q same current
-    only other (suc zero, low, same) less = let Q : Cause → Type 0 = IsFreeOf rs in subst Q same stay
-    only other (suc (suc zero), low, same) less = let Q : Cause → Type 0 = IsFreeOf rs in subst Q same ordered
-    only other (suc (suc (suc zero)), low, same) less = absurd (let number = ap cause_number same in omega arith)
-    only other (suc (suc (suc (suc k))), low, same) less = absurd (omega arith)
+after_moved : (other : Cause) → Contains (StatusOrder ∷ RegionOrder ∷ []) other → cause_number other < 5 → ⊥
+after_moved other (zero, below, is) less = let number = ap cause_number is in omega (arith, number, less)
+after_moved other (suc k, below, is) less = after_status other (k, omega arith, is) (omega arith)
+
+after_current : (other : Cause) → Contains (Moved ∷ StatusOrder ∷ RegionOrder ∷ []) other → cause_number other < 4 → ⊥
+after_current other (zero, below, is) less = let number = ap cause_number is in omega (arith, number, less)
+after_current other (suc k, below, is) less = after_moved other (k, omega arith, is) (omega arith)
+
+pub fault_current : (rs : List Record) (fault : Fault) → IsFault rs (NotCurrent ∷ []) fault → IsFault rs (NotCurrent ∷ Moved ∷ StatusOrder ∷ RegionOrder ∷ []) fault
+fault_current rs fault found = fault_first rs NotCurrent (Moved ∷ StatusOrder ∷ RegionOrder ∷ []) fault after_current found
+
+pub fault_moved : (rs : List Record) (fault : Fault) → IsFreeOf rs NotCurrent → IsFault rs (Moved ∷ []) fault → IsFault rs (NotCurrent ∷ Moved ∷ StatusOrder ∷ RegionOrder ∷ []) fault
+fault_moved rs fault current found =
+    fault_next rs NotCurrent (Moved ∷ StatusOrder ∷ RegionOrder ∷ []) fault current
+    (fault_first rs Moved (StatusOrder ∷ RegionOrder ∷ []) fault after_moved found)
+
+pub fault_status : (rs : List Record) (fault : Fault) → IsFreeOf rs NotCurrent → IsFreeOf rs Moved → IsFault rs (StatusOrder ∷ []) fault → IsFault rs (NotCurrent ∷ Moved ∷ StatusOrder ∷ RegionOrder ∷ []) fault
+fault_status rs fault current stay found =
+    fault_next rs NotCurrent (Moved ∷ StatusOrder ∷ RegionOrder ∷ []) fault current
+    (fault_next rs Moved (StatusOrder ∷ RegionOrder ∷ []) fault stay (fault_first rs StatusOrder (RegionOrder ∷ []) fault after_status found))
+
+pub fault_region : (rs : List Record) (fault : Fault) → IsFreeOf rs NotCurrent → IsFreeOf rs Moved → IsFreeOf rs StatusOrder → IsFault rs (RegionOrder ∷ []) fault → IsFault rs (NotCurrent ∷ Moved ∷ StatusOrder ∷ RegionOrder ∷ []) fault
+fault_region rs fault current stay ordered found =
+    fault_next rs NotCurrent (Moved ∷ StatusOrder ∷ RegionOrder ∷ []) fault current
+    (fault_next rs Moved (StatusOrder ∷ RegionOrder ∷ []) fault stay (fault_next rs StatusOrder (RegionOrder ∷ []) fault ordered found))
 
 -- ---- the states after all records
 
@@ -155,14 +167,55 @@ pub states_are : (rs : List Record) (tasks : List ℕ) (progress : ProgressView)
 states_are rs tasks progress states same come n task stands = ap (λ l. slice_get l n) same ∙ come.each n task stands
 
 -- the state that was read
-pub last_is : (rs : List Record) (states : StatesView) (task index : ℕ) (read : Option State) → AreStatesOf rs states → slice_get states.tasks index ≡ Some task → slice_get states.states index ≡ Some read → IsLast rs task read
-last_is rs states task index read are stands read_there = (
-  λ made. same_Some read (state_of (nature_of rs task) (moves_of rs task)) (sym read_there ∙ are.each index task stands),
-  λ unmade. let (place, within, makes) = are.noted.only task (get_contains states.tasks task index stands) in absurd (unmade (place, makes)),
-)
+pub last_is : (states : StatesView) (task index : ℕ) (read : Option State) → IsStates states → slice_get states.run.family.tasks index ≡ Some task → slice_get states.states index ≡ Some read → IsLast states.run.records task read
+last_is states task index read are stands read_there =
+    let rs = states.run.records in (
+      λ made. same_Some read (state_of (nature_of rs task) (moves_of rs task)) (sym read_there ∙ are.each index task stands),
+      λ unmade. let (place, within, makes) = are.run.family.noted.only task (get_contains states.run.family.tasks task index stands) in absurd (unmade (place, makes)),
+    )
 
-pub last_none : (rs : List Record) (states : StatesView) (task : ℕ) (index : Option ℕ) → AreStatesOf rs states → ((k : ℕ) → (index ≡ Some k) ↔ (slice_get states.tasks k ≡ Some task)) → index ≡ None → IsLast rs task None
-last_none rs states task index are is none = (
-  λ (place, makes). let (k, stands) = contains_get states.tasks task (are.noted.each place task (at_within made rs place task makes) makes) in absurd (none-some k (sym none ∙ (is k).1 stands)),
+pub last_none : (states : StatesView) (task : ℕ) (index : Option ℕ) → IsStates states → ((k : ℕ) → (index ≡ Some k) ↔ (slice_get states.run.family.tasks k ≡ Some task)) → index ≡ None → IsLast states.run.records task None
+last_none states task index are is none = (
+  λ (place, makes). let (k, stands) = contains_get states.run.family.tasks task (are.run.family.noted.each place task (at_within made states.run.records place task makes) makes) in absurd (none-some k (sym none ∙ (is k).1 stands)),
   λ unmade. refl,
 )
+
+-- ---- where a region began
+
+same_says : (rs : List Record) (i own task : ℕ) (kind other : SyncKind) (first second : Endpoint) → at region rs i ≡ Some (own, kind, first) → at region rs i ≡ Some (task, other, second) → (own ≡ task) × (kind ≡ other) × (first ≡ second)
+same_says rs i own task kind other first second says there =
+    let same : (own, kind, first) ≡ (task, other, second) = same_Some (own, kind, first) (task, other, second) (sym says ∙ there) in
+    (ap (λ (r : ℕ × SyncKind × Endpoint). r.0) same, ap (λ (r : ℕ × SyncKind × Endpoint). r.1) same, ap (λ (r : ℕ × SyncKind × Endpoint). r.2) same)
+
+-- a begin and end in one began there
+pub once_begin : (rs : List Record) (i own : ℕ) (kind : SyncKind) → at region rs i ≡ Some (own, kind, BeginEnd) → IsBeginOf rs i i
+once_begin rs i own kind says task other endpoint there =
+    let same = same_says rs i own task kind other BeginEnd endpoint says there in
+    let P : Endpoint → Type 0 = λ e. at region rs i ≡ Some (task, other, e) in
+    at_once (subst P (sym same.2) there)
+
+later_begin : (rs : List Record) (i own begin : ℕ) (kind : SyncKind) → at region rs i ≡ Some (own, kind, End) → EndsRegion rs i own kind begin → IsBeginOf rs i begin
+later_begin rs i own begin kind says ends task other endpoint there =
+    let same = same_says rs i own task kind other End endpoint says there in
+    let P : ℕ → Type 0 = λ t. IsRegion rs i t other begin in
+    let Q : SyncKind → Type 0 = λ k. IsRegion rs i own k begin in
+    subst P same.0 (subst Q same.1 (ended ends))
+
+-- a begin ends nothing, nor does a record of no region
+pub begin_ends_none : (rs : List Record) (i own : ℕ) (kind : SyncKind) → at region rs i ≡ Some (own, kind, Begin) → (task begin : ℕ) (other : SyncKind) → IsRegion rs i task other begin → ⊥
+begin_ends_none rs i own kind says task begin other (ended ends) = let same = (same_says rs i own task kind other Begin End says ends.ends).2 in cc
+begin_ends_none rs i own kind says task begin other (at_once once) = let same = (same_says rs i own task kind other Begin BeginEnd says once).2 in cc
+
+pub silent_ends_none : (rs : List Record) (i : ℕ) → at region rs i ≡ None → (task begin : ℕ) (other : SyncKind) → IsRegion rs i task other begin → ⊥
+silent_ends_none rs i none task begin other (ended ends) = none-some (task, other, End) (sym none ∙ ends.ends)
+silent_ends_none rs i none task begin other (at_once once) = none-some (task, other, BeginEnd) (sym none ∙ once)
+
+-- the begin of an end stands in the table
+pub linked_begin : (states : StatesView) (i own : ℕ) (kind : SyncKind) (found : Option ℕ) → IsStates states → at region states.run.records i ≡ Some (own, kind, End) → found ≡ slice_index_or states.begins i None → MatchOption found ((task begin : ℕ) (other : SyncKind) → IsRegion states.run.records i task other begin → ⊥) (IsBeginOf states.run.records i)
+linked_begin states i own kind found are says read =
+    let rs = states.run.records in
+    let there = are.begins i own kind (at_within region rs i (own, kind, End) says) says in
+    let within = slice_get_within states.begins i (Some there.0) there.1 in
+    let same : Some there.0 ≡ found = sym (same_Some (slice_index_or states.begins i None) (Some there.0) (sym (slice_get-get_or states.begins i None within) ∙ there.1)) ∙ sym read in
+    let P : Option ℕ → Type 0 = λ o. MatchOption o ((task begin : ℕ) (other : SyncKind) → IsRegion rs i task other begin → ⊥) (IsBeginOf rs i) in
+    subst P same (later_begin rs i own there.0 kind says there.2)

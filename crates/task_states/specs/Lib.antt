@@ -2,8 +2,8 @@
 -- defined in `ompt_events`.
 pub mod Targets
 pub mod Nesting
+pub mod Walks
 pub mod Homes
 pub mod Regions
-pub mod Fault
 pub mod Progress
 pub mod States

@@ -3,16 +3,16 @@ use Rattle.std.specs.Prelude.{ℕ, ◌≡◌, ◌<◌, ◌≤◌, ◌+◌, ◌++
 use Rattle.std.specs.List.{flat_map, range_with_len}
 use Rattle.ompt_events.specs.declared.records.Record.{Record}
 use Rattle.ompt_events.specs.declared.state.State.{State}
-use Rattle.ompt_events.specs.declared.records.Body.{Body}
-use Rattle.ompt_events.specs.declared.records.Body.TheVariants.{ImplicitTask, TaskCreate, TaskSchedule}
+use Rattle.ompt_events.specs.declared.names.Status.{Status}
 use Rattle.ompt_events.specs.declared.names.Status.TheVariants.{EarlyFulfill}
 use Rattle.std.specs.Option.{option_map_or}
 use Rattle.ompt_events.specs.Flags as flag
 use Rattle.ompt_events.specs.Flags.{has_flag}
-use Rattle.ompt_events.specs.Records.{started}
+use Rattle.ompt_events.specs.Records.{started, flags as says_flags}
 use Rattle.ompt_events.specs.Places.{at, places}
 use Rattle.ompt_events.specs.States as states
 use Rattle.ompt_events.specs.States.{is_task, is_on, is_early, home_of, moves_at, nature_of, state_of}
+use Rattle.task_tree.specs.Runs.{RunView, IsRun, status as says_status}
 use Rattle.task_states.specs.declared.moves.Nature.{Nature}
 use Rattle.task_states.specs.declared.moves.Nature.TheVariants.{Root, Wait, Plain}
 use Rattle.task_states.specs.declared.moves.Move.{Move}
@@ -123,27 +123,50 @@ abbrev pub AreHomes : List Record → List ℕ → List (Option ℕ) → Type 0
 AreHomes rs tasks homes =
     (n task : ℕ) → slice_get tasks n ≡ Some task → slice_get homes n ≡ Some (home_of rs task)
 
--- the nature of the task that a record makes
-abbrev pub nature_made : Body → states.Nature
-nature_made (ImplicitTask endpoint actual index flags parallel task) = states.Root
-nature_made (TaskCreate deps flags task child) =
-    if has_flag flags.0 flag.taskwait then states.Wait else states.Plain
-nature_made _ = states.Plain
+-- the natures and homes are those of the run's tasks
+pub record AreOrigins (run : RunView) (natures : List Nature) (homes : List (Option ℕ)) : Type 0 where
+  pub of_run : IsRun run
+  pub natures_are : AreNatures run.records run.family.tasks natures
+  pub all : length natures ≡ length run.family.tasks
+  pub homes_are : AreHomes run.records run.family.tasks homes
+  pub homes_all : length homes ≡ length run.family.tasks
+
+-- whether the task that the record makes has the flag `taskwait`
+abbrev pub is_wait_made : List Record → ℕ → Bool
+is_wait_made rs i = option_map_or (λ bits. has_flag bits flag.taskwait) (at says_flags rs i) false
 
 -- the first place below n at which the task runs next
 abbrev pub first_start : List Record → ℕ → ℕ → Option ℕ
 first_start rs n task = find (λ i. is_task task (at started rs i)) (range_with_len 0 n)
 
--- whether the body fulfils the task's event early
-abbrev pub early_for : ℕ → Body → Bool
-early_for task (TaskSchedule EarlyFulfill prior next share) = prior == task
-early_for task _ = false
+-- whether it is the status of an early fulfilment
+abbrev pub is_early_status : Status → Bool
+is_early_status EarlyFulfill = true
+is_early_status _ = false
 
--- whether the body fulfils some task's event early
-abbrev pub fulfils_early : Body → Bool
-fulfils_early (TaskSchedule EarlyFulfill prior next share) = true
-fulfils_early _ = false
+-- whether the record fulfils some task's event early
+abbrev pub fulfils_early : List Record → ℕ → Bool
+fulfils_early rs i = option_map_or is_early_status (at says_status rs i) false
+
+-- whether the move is an early fulfilment of the task's event
+abbrev pub is_early_move : Move → Bool
+is_early_move (Stopped status) = is_early_status status
+is_early_move Started = false
+is_early_move Discarded = false
 
 -- whether a record of this thread is at a home
 abbrev pub is_at : Option ℕ → ℕ → Bool
 is_at home thread = option_map_or (λ h. thread == h) home false
+
+-- whether a pass reads a record that is an early fulfilment or not, at home or not
+abbrev pub reads : Pass → Bool → Bool → Bool
+reads Early early home = early && not home
+reads Home early home = home
+reads Rest early home = not early && not home
+
+-- the record at the place may make this move of the task with the index; what is early there, the move tells
+pub record IsMoveOf (run : RunView) (i index : ℕ) (step : Move) : Type 0 where
+  pub within : i < length run.records
+  pub task : ℕ
+  pub indexed : slice_get run.family.tasks index ≡ Some task
+  pub early : is_early run.records task i ≡ is_early_move step

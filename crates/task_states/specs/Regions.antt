@@ -30,10 +30,3 @@ abbrev pub IsStack : List (Option ℕ) → ℕ → Option ℕ → List ℕ → T
 IsStack links n top [] = top ≡ None
 IsStack links n top (begin ∷ below) =
     (top ≡ Some begin) × (begin < n) × IsStack links n (below_of links top) below
-
--- the task with this index begins or ends a region there
-pub record IsRegionOf (rs : List Record) (tasks : List ℕ) (i index : ℕ) (kind : SyncKind)
-    (endpoint : Endpoint) : Type 0 where
-  pub task : ℕ
-  pub says : at region rs i ≡ Some (task, kind, endpoint)
-  pub indexed : slice_get tasks index ≡ Some task

@@ -1,97 +1,90 @@
 //! Whether each record is of the task that its thread runs.
-ghost use Rattle.std.specs.Prelude.{◌≡◌, ◌≢◌, ◌<◌, ◌↔◌, ℕ, List, Some, IsTrue, IsSomeAnd, IfErr, OnOk, length, slice_get};
+ghost use Rattle.std.specs.Prelude.{ℕ, ◌<◌, ◌↔◌, ◌∷◌, [], IsTrue, IfSome, IfErr, OnOk, length};
 ghost use Rattle.ompt_events.specs.declared.cause.Cause.TheVariants.{NotCurrent};
-ghost use Rattle.ompt_events.specs.declared.records.Record.{Record};
-ghost use Rattle.ompt_events.specs.Records.{started, wait_completed};
-ghost use Rattle.ompt_events.specs.Places.{at as says_at};
-ghost use Rattle.ompt_events.specs.Tree.{IsRoot, IsParent};
-ghost use Rattle.ompt_events.specs.Threads.{Misfits};
 ghost use Rattle.ompt_events.specs.Causes.{IsFreeOf};
-ghost use Rattle.task_states.specs.Fault.{IsFound};
-ghost use Rattle.task_tree.specs.Family.{IsFamilyOf};
+ghost use Rattle.ompt_events.specs.Faults.{IsFault};
+ghost use Rattle.task_tree.specs.Runs.{IsThreadEvent};
+ghost use Rattle.task_states.specs.Walks.{PriorMisfits, NextMisfits, ParentMisfits, EndMisfits, EventMisfits};
 
-use crate::fault::StateFault;
 use crate::walk::{ThreadWalk, new_walks};
-use ompt_events::{Body, Cause, Record};
+use ompt_events::{Cause, Fault, Status};
 use std::alloc::Global;
-use task_tree::Family;
+use task_tree::{Run, Schedule, ThreadEvent};
 
 /// Searches for the first record that speaks for a task which its thread does not run (OpenMP 5.2, 12.9).
-pub(crate) fn find_misfit(
-    alloc: Global,
-    records: &[Record],
-    family: &Family,
-) -> Result<(), StateFault>
-    requires { IsFamilyOf records.now family.now }
-    ensures free { OnOk result (IsFreeOf records.now NotCurrent) }
-    ensures found { IfErr result (IsFound records.now NotCurrent) }
+pub(crate) fn find_misfit(alloc: Global, run: &Run) -> Result<(), Fault>
+    ensures free { OnOk result (IsFreeOf run.now.records NotCurrent) }
+    ensures fault { IfErr result (IsFault run.now.records (NotCurrent ∷ [])) }
 {
     let mut walks = new_walks(alloc)?;
-    for (at, event) in records.iter().enumerate() {
-        let walk = &mut walks[event.thread as usize];
-        if misfits(records, family, walk, at) {
-            return Err(StateFault::Malformed {
+    for at in 0..run.len() {
+        let Some(event) = run.thread_event(at) else {
+            continue;
+        };
+        let walk = &mut walks[run.thread(at) as usize];
+        if misfits(run, walk, event) {
+            return Err(Fault::Malformed {
                 at,
                 cause: Cause::NotCurrent,
             });
         }
-        walk.advance(&event.body)?;
+        walk.advance(event)?;
     }
     Ok(())
 }
 
-/// Whether the record at a place speaks for a task that a thread which stands there does not run.
-fn misfits(records: &[Record], family: &Family, walk: &ThreadWalk, at: usize) -> bool
-    requires within { at < length records.now }
-    requires family { IsFamilyOf records.now family.now }
-    ensures { (event : Record) → slice_get records.now at ≡ Some event
-        → IsTrue result ↔ Misfits records.now walk.now event.body }
+/// Whether the event, which some record says, speaks for a task that a thread which stands there does not
+/// run.
+fn misfits(run: &Run, walk: &ThreadWalk, event: ThreadEvent) -> bool
+    requires { (at : ℕ) × IsThreadEvent run.now at event }
+    ensures { IsTrue result ↔ EventMisfits run.now walk.now event }
 {
-    let body = &records[at].body;
-    if differs(body.running(), walk.current()) {
-        return true;
-    }
-    match body {
-        Body::ImplicitTask { .. } => differs(body.ended_root(), walk.innermost()),
-        Body::TaskSchedule { .. } => {
-            differs(root_start(records, family, at), walk.innermost())
-                || differs(wait_parent(family, body), walk.current())
+    match event {
+        ThreadEvent::Scheduled(schedule) => {
+            prior_misfits(walk, schedule)
+                || next_misfits(run, walk, schedule)
+                || parent_misfits(run, walk, schedule)
         }
-        _ => false,
+        ThreadEvent::RootBegin(_) => false,
+        ThreadEvent::RootEnd(root) => end_misfits(walk, root),
+        ThreadEvent::Running(task) => walk.current() != Some(task),
     }
 }
 
-/// Whether there is a task, and it is not the one that is given.
-fn differs(task: Option<u64>, from: Option<u64>) -> bool
-    ensures { IsTrue result ↔ IsSomeAnd task (λ t. from ≢ Some t) }
+/// Whether the prior task must be running, and is not.
+fn prior_misfits(walk: &ThreadWalk, schedule: Schedule) -> bool
+    ensures { IsTrue result ↔ PriorMisfits walk.now schedule }
 {
-    task.is_some() && task != from
+    schedule.status.demands_next() && walk.current() != Some(schedule.prior)
 }
 
-/// The root that runs next after the record at a place, if one does.
-fn root_start(records: &[Record], family: &Family, at: usize) -> Option<u64>
-    requires within { at < length records.now }
-    requires family { IsFamilyOf records.now family.now }
-    ensures { (task : ℕ) → (result ≡ Some task)
-        ↔ ((says_at started records.now at ≡ Some task) × IsRoot records.now task) }
+/// Whether a root runs next that is not the innermost open one.
+fn next_misfits(run: &Run, walk: &ThreadWalk, schedule: Schedule) -> bool
+    requires { IfSome schedule.next (λ next. next < length run.now.family.tasks) }
+    ensures { IsTrue result ↔ NextMisfits run.now walk.now schedule }
 {
-    let task = records[at].body.started()?;
-    let index = family.object(at)?;
-    if family.is_explicit_at(index) {
-        None
-    } else {
-        Some(task)
+    match schedule.next {
+        Some(next) => !run.is_explicit(next) && walk.innermost() != Some(next),
+        None => false,
     }
 }
 
-/// The parent of the taskwait that is complete, if one is.
-fn wait_parent(family: &Family, body: &Body) -> Option<u64>
-    ensures { (records : List Record) → IsFamilyOf records family.now → (parent : ℕ)
-        → (result ≡ Some parent)
-        ↔ ((task : ℕ) × (wait_completed body.now ≡ Some task) × IsParent records parent task) }
+/// Whether a taskwait with dependences is complete whose parent is not the current task.
+fn parent_misfits(run: &Run, walk: &ThreadWalk, schedule: Schedule) -> bool
+    ensures { IsTrue result ↔ ParentMisfits run.now walk.now schedule }
 {
-    match body.wait_completed() {
-        Some(task) => family.parent(task),
-        None => None,
+    if schedule.status != Status::TaskwaitComplete {
+        return false;
     }
+    match run.parent(schedule.prior) {
+        Some(parent) => walk.current() != Some(parent),
+        None => false,
+    }
+}
+
+/// Whether a root that ends does not run, or is not the innermost open one.
+fn end_misfits(walk: &ThreadWalk, root: usize) -> bool
+    ensures { IsTrue result ↔ EndMisfits walk.now root }
+{
+    walk.current() != Some(root) || walk.innermost() != Some(root)
 }

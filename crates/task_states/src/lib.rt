@@ -1,12 +1,12 @@
 //! The states that a task goes through, where each thread stands, and seven causes of malformed records.
 //!
 //! Read `table` first, the states and what changes them, and `walk`, the tasks that a thread runs; then
-//! `states`, which runs all tasks through their states: `current`, `homes`, `progress` (with `moves` and
-//! `origins`) and `regions` find one cause each. `numbering`, `targets` and `nesting` are calls of their own.
+//! `states`, which takes all tasks of a run through their states: `current`, `homes`, `progress` (with
+//! `moves` and `origins`) and `regions` find one cause each. `numbering`, `targets` and `nesting` are calls
+//! of their own. `trace_calls` has the same calls for a trace with its tree.
 #![tactic(auto)]
 
 mod current;
-mod fault;
 mod homes;
 mod moves;
 mod nesting;
@@ -17,12 +17,13 @@ mod regions;
 mod states;
 mod table;
 mod targets;
+mod trace_calls;
 mod walk;
 
-pub use fault::StateFault;
-pub use nesting::nested;
+pub use nesting::find_nested;
 pub use numbering::gap;
 pub use ompt_events::State;
-pub use states::{States, run};
+pub use states::States;
 pub use table::{discard_state, next_state, start_state};
 pub use targets::target;
+pub use trace_calls::{StateFault, nested, run};

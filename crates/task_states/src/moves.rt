@@ -1,10 +1,11 @@
 //! What a record does to a task, and what the task's state then is.
-ghost use Rattle.std.specs.Prelude.{ℕ, ◌≡◌, Some};
+ghost use Rattle.std.specs.Prelude.{ℕ, ◌≡◌, ◌<◌, Some, length};
 ghost use Rattle.ompt_events.specs.States.{may as may_move, state_after};
-ghost use Rattle.task_states.specs.Progress.{the_nature, the_move, fulfils_early};
+ghost use Rattle.task_states.specs.Progress.{the_nature, the_move, fulfils_early, is_early_status, is_early_move};
 
 use crate::table::{discard_state, next_state, start_state};
-use ompt_events::{Body, State, Status};
+use ompt_events::{State, Status};
+use task_tree::Run;
 
 /// What a task is: what may happen to it depends on that.
 #[derive(Clone, Copy)]
@@ -64,14 +65,32 @@ fn may(nature: Nature, step: Move) -> bool
 }
 
 /// Whether the record fulfils the event of any task before that task's body has ended.
-pub(crate) fn fulfils_early(body: &Body) -> bool
-    ensures { result ≡ fulfils_early body.now }
+pub(crate) fn fulfils_early(run: &Run, at: usize) -> bool
+    requires { at < length run.now.records }
+    ensures { result ≡ fulfils_early run.now.records at }
 {
-    match body {
-        Body::TaskSchedule {
-            status: Status::EarlyFulfill,
-            ..
-        } => true,
+    match run.status(at) {
+        Some(status) => is_early(status),
+        None => false,
+    }
+}
+
+/// Whether it is the status of such a fulfilment.
+fn is_early(status: Status) -> bool
+    ensures { result ≡ is_early_status status }
+{
+    match status {
+        Status::EarlyFulfill => true,
         _ => false,
+    }
+}
+
+/// Whether the move is such a fulfilment of the task's own event.
+pub(crate) fn is_early_move(step: Move) -> bool
+    ensures { result ≡ is_early_move step }
+{
+    match step {
+        Move::Stopped(status) => is_early(status),
+        Move::Started | Move::Discarded => false,
     }
 }

@@ -1,128 +1,153 @@
 //! What each task is, and the thread that is its home.
 ghost use Rattle.std.specs.Prelude.{ℕ, ◌≡◌, ◌<◌, IfOk, length, slice_get, Some};
-ghost use Rattle.ompt_events.specs.Places.{thread_at};
 ghost use Rattle.ompt_events.specs.States.{nature_of, home_of};
-ghost use Rattle.task_tree.specs.Family.{IsFamilyOf};
-ghost use Rattle.task_states.specs.Homes.{AreRunOn};
-ghost use Rattle.task_states.specs.Progress.{nature_made, the_nature, AreNatures, AreHomes};
+ghost use Rattle.task_tree.specs.Runs.{IsRun};
+ghost use Rattle.task_states.specs.Progress.{is_wait_made, the_nature, AreNatures, AreHomes};
 
+use crate::homes::Schedules;
 use crate::moves::Nature;
 use bitflags::Flags;
-use ompt_events::{Body, Record, TaskFlags};
+use ompt_events::TaskFlags;
 use std::alloc::{AllocError, Global};
-use task_tree::Family;
+use std::marker::Model;
+use task_tree::Run;
 
-/// By index of the task what it is, and its home: the thread on which it begins as a root, or first runs.
+/// The tasks of a run, by index of the task what it is, and its home: the thread on which it begins as a
+/// root, or first runs.
 #[derive(Drop)]
-pub(crate) struct Origins {
-    pub(crate) natures: Vec<Nature>,
-    pub(crate) homes: Vec<Option<u8>>,
+pub(crate) struct Origins<'a> {
+    run: Run<'a>,
+    natures: Vec<Nature>,
+    homes: Vec<Option<u8>>,
 }
 
-/// What each task is, and its home: of each explicit task it is known already on which thread it runs.
-pub(crate) fn find_origins(
-    alloc: Global,
-    records: &[Record],
-    family: &Family,
-    run_on: &[Option<u8>],
-) -> Result<Origins, AllocError>
-    requires family { IsFamilyOf records.now family.now }
-    requires homes { AreRunOn records.now family.now.tasks run_on.now }
-    requires all { length run_on.now ≡ length family.now.tasks }
-    ensures natures { IfOk result (λ found. AreNatures records.now family.now.tasks found.natures.items) }
-    ensures homes { IfOk result (λ found. AreHomes records.now family.now.tasks found.homes.items) }
-    ensures all { IfOk result (λ found. length found.natures.items ≡ length family.now.tasks) }
-{
-    let natures = find_natures(alloc, records, family)?;
-    let homes = find_homes(alloc, records, family, run_on)?;
-    Ok(Origins { natures, homes })
+impl<'a> Model for Origins<'a> {
+    ghost use Rattle.task_tree.specs.Runs.{RunView};
+    ghost use Rattle.task_states.specs.Progress.{AreOrigins};
+
+    ghost Value = { RunView };
+
+    ghost view = { λ origins. origins.run };
+
+    ghost invariant = { λ origins. AreOrigins origins.run origins.natures.items origins.homes.items };
+}
+
+impl<'a> Origins<'a> {
+    /// What each task is, and its home.
+    pub(crate) fn find(alloc: Global, schedules: &Schedules<'a>) -> Result<Origins<'a>, AllocError>
+        ensures { IfOk result (λ origins. origins ≡ schedules.now) }
+    {
+        let run = schedules.run().again();
+        let natures = find_natures(alloc, &run)?;
+        let homes = find_homes(alloc, schedules)?;
+        Ok(Origins {
+            run,
+            natures,
+            homes,
+        })
+    }
+
+    /// The run.
+    pub(crate) fn run(&self) -> &Run<'a>
+        ensures value { result.now ≡ self.now }
+        ensures is_run { IsRun self.now }
+    {
+        &self.run
+    }
+
+    /// What each task is.
+    pub(crate) fn natures(&self) -> &[Nature]
+        ensures natures { AreNatures self.now.records self.now.family.tasks result.now }
+        ensures all { length result.now ≡ length self.now.family.tasks }
+    {
+        self.natures.as_slice()
+    }
+
+    /// What the task at this index is.
+    pub(crate) fn nature(&self, index: usize) -> Nature
+        requires { index < length self.now.family.tasks }
+        ensures { (task : ℕ) → slice_get self.now.family.tasks index ≡ Some task
+            → the_nature result ≡ nature_of self.now.records task }
+    {
+        self.natures[index]
+    }
+
+    /// The home of the task at this index.
+    pub(crate) fn home(&self, index: usize) -> Option<u8>
+        requires { index < length self.now.family.tasks }
+        ensures { (task : ℕ) → slice_get self.now.family.tasks index ≡ Some task
+            → result ≡ home_of self.now.records task }
+    {
+        self.homes[index]
+    }
 }
 
 /// What each task is.
-fn find_natures(
-    alloc: Global,
-    records: &[Record],
-    family: &Family,
-) -> Result<Vec<Nature>, AllocError>
-    requires { IsFamilyOf records.now family.now }
-    ensures natures { IfOk result (λ natures. AreNatures records.now family.now.tasks natures.items) }
-    ensures all { IfOk result (λ natures. length natures.items ≡ length family.now.tasks) }
+fn find_natures(alloc: Global, run: &Run) -> Result<Vec<Nature>, AllocError>
+    ensures natures { IfOk result (λ natures.
+        AreNatures run.now.records run.now.family.tasks natures.items) }
+    ensures all { IfOk result (λ natures. length natures.items ≡ length run.now.family.tasks) }
 {
-    let count = family.tasks().as_slice().len();
+    let count = run.task_count();
     let mut natures = Vec::with_capacity(alloc, count)?;
     for index in 0..count {
-        natures.push(nature_at(records, family, index))?;
+        natures.push(nature_at(run, index))?;
     }
     Ok(natures)
 }
 
 /// What the task at this index is.
-fn nature_at(records: &[Record], family: &Family, index: usize) -> Nature
-    requires family { IsFamilyOf records.now family.now }
-    requires within { index < length family.now.tasks }
-    ensures { (task : ℕ) → slice_get family.now.tasks index ≡ Some task
-        → the_nature result ≡ nature_of records.now task }
+fn nature_at(run: &Run, index: usize) -> Nature
+    requires within { index < length run.now.family.tasks }
+    requires is_run { IsRun run.now }
+    ensures { (task : ℕ) → slice_get run.now.family.tasks index ≡ Some task
+        → the_nature result ≡ nature_of run.now.records task }
 {
-    let place = family.made_at(index);
-    nature_made(&records[place].body)
+    if !run.is_explicit(index) {
+        return Nature::Root;
+    }
+    if is_wait_made(run, run.made_at(index)) {
+        Nature::Wait
+    } else {
+        Nature::Plain
+    }
 }
 
-/// What the task is that a record makes.
-fn nature_made(body: &Body) -> Nature
-    ensures { the_nature result ≡ nature_made body.now }
+/// Whether the task that the record makes is a taskwait with dependences (OpenMP 5.2, 15.5).
+fn is_wait_made(run: &Run, at: usize) -> bool
+    requires { at < length run.now.records }
+    ensures { result ≡ is_wait_made run.now.records at }
 {
-    match body {
-        Body::ImplicitTask { .. } => Nature::Root,
-        Body::TaskCreate { flags, .. } => {
-            if flags.contains(TaskFlags::TASKWAIT) {
-                Nature::Wait
-            } else {
-                Nature::Plain
-            }
-        }
-        _ => Nature::Plain,
+    match run.record(at).body.flags() {
+        Some(flags) => flags.contains(TaskFlags::TASKWAIT),
+        None => false,
     }
 }
 
 /// For each task its home: the thread of the record that makes it, where it is a root, else the one on which
 /// it runs.
-fn find_homes(
-    alloc: Global,
-    records: &[Record],
-    family: &Family,
-    run_on: &[Option<u8>],
-) -> Result<Vec<Option<u8>>, AllocError>
-    requires family { IsFamilyOf records.now family.now }
-    requires homes { AreRunOn records.now family.now.tasks run_on.now }
-    requires all { length run_on.now ≡ length family.now.tasks }
-    ensures { IfOk result (λ homes. AreHomes records.now family.now.tasks homes.items) }
+fn find_homes(alloc: Global, schedules: &Schedules) -> Result<Vec<Option<u8>>, AllocError>
+    ensures homes { IfOk result (λ homes.
+        AreHomes schedules.now.records schedules.now.family.tasks homes.items) }
+    ensures all { IfOk result (λ homes. length homes.items ≡ length schedules.now.family.tasks) }
 {
-    let count = family.tasks().as_slice().len();
+    let count = schedules.run().task_count();
     let mut homes = Vec::with_capacity(alloc, count)?;
     for index in 0..count {
-        homes.push(home_at(records, family, run_on, index))?;
+        homes.push(home_at(schedules, index))?;
     }
     Ok(homes)
 }
 
 /// The home of the task at this index.
-fn home_at(records: &[Record], family: &Family, run_on: &[Option<u8>], index: usize) -> Option<u8>
-    requires family { IsFamilyOf records.now family.now }
-    requires homes { AreRunOn records.now family.now.tasks run_on.now }
-    requires all { length run_on.now ≡ length family.now.tasks }
-    requires within { index < length family.now.tasks }
-    ensures { (task : ℕ) → slice_get family.now.tasks index ≡ Some task → result ≡ home_of records.now task }
+fn home_at(schedules: &Schedules, index: usize) -> Option<u8>
+    requires { index < length schedules.now.family.tasks }
+    ensures { (task : ℕ) → slice_get schedules.now.family.tasks index ≡ Some task
+        → result ≡ home_of schedules.now.records task }
 {
-    if family.is_explicit_at(index) {
-        return run_on[index];
+    let run = schedules.run();
+    if run.is_explicit(index) {
+        return schedules.home(index);
     }
-    thread_of(records, family.made_at(index))
-}
-
-/// The thread of the record at the place, if there is one.
-fn thread_of(records: &[Record], place: usize) -> Option<u8>
-    ensures { result ≡ thread_at records.now place }
-{
-    let event = records.get(place)?;
-    Some(event.thread)
+    Some(run.thread(run.made_at(index)))
 }

@@ -1,20 +1,20 @@
 //! Where a thread stands: its open roots, and the task that it runs.
-ghost use Rattle.std.specs.Prelude.{◌≡◌, None, IfOk, OnOk, replicate, slice_get};
-ghost use Rattle.ompt_events.specs.Records.{schedule};
-ghost use Rattle.ompt_events.specs.Threads.{at_start, after_body};
+ghost use Rattle.std.specs.Prelude.{◌≡◌, IfOk, OnOk, replicate, slice_get};
+ghost use Rattle.ompt_events.specs.Threads.{at_start};
+ghost use Rattle.task_states.specs.Walks.{after_event};
 
-use ompt_events::Body;
 use std::alloc::{AllocError, Global};
 use std::marker::Model;
+use task_tree::ThreadEvent;
 
 /// Thread numbers are below this.
 const THREADS: usize = 256;
 
-/// Where a thread stands: its open roots, the innermost last, and the task that it runs.
+/// Where a thread stands: its open roots, the innermost last, and the task that it runs, by their indices.
 #[derive(Drop)]
 pub(crate) struct ThreadWalk {
-    roots: Vec<u64>,
-    current: Option<u64>,
+    roots: Vec<usize>,
+    current: Option<usize>,
 }
 
 impl Model for ThreadWalk {
@@ -37,45 +37,40 @@ impl ThreadWalk {
         }
     }
 
-    /// Goes on by one record of the thread.
-    pub(crate) fn advance(&mut self, body: &Body) -> Result<(), AllocError>
-        ensures { OnOk result (self.new ≡ after_body self.old body.now) }
+    /// Goes on by what a record of the thread says of its tasks.
+    pub(crate) fn advance(&mut self, event: ThreadEvent) -> Result<(), AllocError>
+        ensures { OnOk result (self.new ≡ after_event self.old event) }
     {
-        match body {
-            Body::ImplicitTask { .. } => self.advance_root(body),
-            Body::TaskSchedule { status, next, .. } if status.demands_next() => {
-                self.current = *next;
+        match event {
+            ThreadEvent::Scheduled(schedule) => {
+                if schedule.status.demands_next() {
+                    self.current = schedule.next;
+                }
                 Ok(())
             }
-            _ => Ok(()),
+            ThreadEvent::RootBegin(root) => {
+                self.roots.push(root)?;
+                self.current = Some(root);
+                Ok(())
+            }
+            ThreadEvent::RootEnd(_) => {
+                self.roots.pop();
+                self.current = self.roots.last().copied();
+                Ok(())
+            }
+            ThreadEvent::Running(_) => Ok(()),
         }
-    }
-
-    /// The same where a root begins or ends.
-    fn advance_root(&mut self, body: &Body) -> Result<(), AllocError>
-        requires { schedule body.now ≡ None }
-        ensures { OnOk result (self.new ≡ after_body self.old body.now) }
-    {
-        if let Some(root) = body.begun_root() {
-            self.roots.push(root)?;
-            self.current = Some(root);
-        }
-        if body.ended_root().is_some() {
-            self.roots.pop();
-            self.current = self.roots.last().copied();
-        }
-        Ok(())
     }
 
     /// The task that runs.
-    pub(crate) fn current(&self) -> Option<u64>
+    pub(crate) fn current(&self) -> Option<usize>
         ensures { result ≡ self.now.current }
     {
         self.current
     }
 
     /// The innermost open root.
-    pub(crate) fn innermost(&self) -> Option<u64>
+    pub(crate) fn innermost(&self) -> Option<usize>
         ensures { result ≡ slice_get self.now.roots 0 }
     {
         self.roots.last().copied()

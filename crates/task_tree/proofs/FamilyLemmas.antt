@@ -1,5 +1,5 @@
 -- What the tables of a family say of the tree of tasks.
-use Rattle.std.proofs.Common.{◌≡◌, ◌∙◌, ℕ, zero, suc, ◌<◌, List, [], ◌∷◌, ◌++◌, length, get_or, Option, Some, None, refl, sym, ap, subst, arith, inl, inr}
+use Rattle.std.proofs.Common.{◌≡◌, ◌∙◌, ℕ, ◌<◌, List, [], ◌∷◌, ◌++◌, length, get_or, Option, Some, None, refl, sym, ap, subst, arith, inl, inr}
 use Rattle.std.proofs.lemmas.Option.{none-some, same_Some, slice_get_within, slice_get-get_or}
 use Rattle.std.specs.Prelude.{◌↔◌, slice_get, Contains, option_map, option_and_then}
 use Rattle.ompt_events.specs.declared.records.Record.{Record}
@@ -9,16 +9,14 @@ use Rattle.ompt_events.specs.declared.cause.Cause.TheVariants.{CreatedTwice, Roo
 use Rattle.ompt_events.specs.Records.{made, begun_root, created, creation, named}
 use Rattle.ompt_events.specs.Places.{at}
 use Rattle.ompt_events.specs.Tree.{IsParent, IsChild, HasPath, top, below, children}
-use Rattle.ompt_events.specs.Causes.{unmade, rootless, IsFirstWith, IsFreeOf, IsMalformed}
-use Rattle.ompt_events.specs.CauseNames.{cause_number}
-use Rattle.ompt_events.specs.declared.cause.Cause.{Cause}
+use Rattle.ompt_events.specs.Causes.{unmade, rootless, IsFreeOf}
 use Rattle.ompt_events.proofs.PlaceLemmas.{at_within}
 use Rattle.ompt_events.proofs.RecordLemmas.{begun_at_made, creation_at_created, root_or_created}
 use Rattle.ompt_events.proofs.ListLemmas.{contains_get}
 use Rattle.ompt_events.proofs.TreeLemmas.{child_place, before_child}
 use Rattle.task_tree.specs.declared.links.Link.{Link}
-use Rattle.task_tree.specs.Makers.{AreNoted}
-use Rattle.task_tree.specs.Family.{FamilyView, IsFamilyOf, IsLinkOf, IsStandingOf}
+use Rattle.task_tree.specs.Makers.{AreNoted, AreMade}
+use Rattle.task_tree.specs.Family.{FamilyView, IsFamilyOf, AreInFileOrder, IsLinkOf, IsStandingOf}
 use Rattle.task_tree.specs.declared.roots.Standing.{Standing}
 use Rattle.task_tree.proofs.OnceLemmas.{made_once, creation_made, one_number}
 use Rattle.task_tree.proofs.NumberingLemmas.{contains_or_not}
@@ -175,15 +173,12 @@ pub standing_here : (rs : List Record) (family : FamilyView) (index task : ℕ) 
 standing_here rs family index task found are here read root path stands =
     standing_is rs family task found are (table_at family.tasks family.roots task index found (λ k. (λ same. ap (slice_get family.tasks) (sym (same_Some index k same)) ∙ here, λ is. ap Some (are.makers.apart index k task here is))) read) root path stands
 
--- the first cause is that of a fault where the one before it does not occur
-pub rootless_fault : (rs : List Record) (i : ℕ) → IsFreeOf rs CreatedTwice → IsFirstWith rs Rootless i → IsMalformed rs (CreatedTwice ∷ Rootless ∷ []) i Rootless
-rootless_fault rs i free first = record {
-  sought_for = (1, omega arith, refl);
-  found = first;
-  least = λ other sought less. only other sought less;
-}
-  where
-    only : (other : Cause) → Contains (CreatedTwice ∷ Rootless ∷ []) other → cause_number other < 3 → IsFreeOf rs other
-    only other (zero, low, is) less = let P : Cause → Type 0 = IsFreeOf rs in subst P is free
-    only other (suc zero, low, is) less = absurd (let same = ap cause_number is in omega arith)
-    only other (suc (suc k), low, is) less = absurd (omega arith)
+-- the tasks stand in the order in which they are made
+pub in_file_order : (rs : List Record) (tasks places : List ℕ) → AreMade rs (length rs) tasks places → IsFreeOf rs CreatedTwice → AreInFileOrder rs tasks
+in_file_order rs tasks places are once a b first second place later less at_a at_b makes_first makes_second =
+    let one = are.each a first at_a in
+    let other = are.each b second at_b in
+    let low : one.0 < other.0 = are.in_order.rising a b one.0 other.0 less one.1 other.1 in
+    let same_place = made_once rs first one.0 place once one.3 makes_first in
+    let same_later = made_once rs second other.0 later once other.3 makes_second in
+    omega (arith, low, same_place, same_later)

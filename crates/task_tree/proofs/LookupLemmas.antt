@@ -134,3 +134,11 @@ root_is rs family index task false are is both = (
   λ holds. let place = are.makers.each index task is in made_so rs task place.0 place.3 (λ explicit. false≢true (both.1 explicit)),
   λ root. refl,
 )
+
+-- an explicit task is created where it is made, and nowhere else
+pub created_place : (rs : List Record) (task place c : ℕ) → IsFreeOf rs CreatedTwice → IsExplicit rs task → at made rs place ≡ Some task → (Some place ≡ Some c) ↔ (at created rs c ≡ Some task)
+created_place rs task place c once (by, creates) makes =
+    let same : by ≡ place = made_once rs task by place once (created_at_made task rs by creates) makes in (
+      λ here. ap (at created rs) (sym (same ∙ same_Some place c here)) ∙ creates,
+      λ there. ap Some (sym same ∙ made_once rs task by c once (created_at_made task rs by creates) (created_at_made task rs c there)),
+    )

@@ -14,7 +14,7 @@ use Rattle.ompt_events.specs.Causes.{HasCause, created_twice, forked_twice, IsFi
 use Rattle.ompt_events.proofs.PlaceLemmas.{at_within}
 use Rattle.ompt_events.proofs.ListLemmas.{get_pushed, get_last, get_contains, contains_get, pushed_cases}
 use Rattle.task_tree.specs.Numbering.{IsNoted, AreApart}
-use Rattle.task_tree.specs.Makers.{AreNoted, AreMade, AreGathered, AreForkedOnce, AreMadeOnce, forked_region}
+use Rattle.task_tree.specs.Makers.{AreNoted, AreInOrder, AreMade, AreGathered, AreForkedOnce, AreMadeOnce, forked_region}
 
 -- nothing is noted of no records
 pub noted_none : (says : Body → Option ℕ) (rs : List Record) (ids : List ℕ) → ids ≡ [] → AreNoted says rs 0 ids
@@ -115,6 +115,38 @@ first_here rs i before has = record { within = twice_within rs i has; has = has;
 pub free_of_twice : (rs : List Record) (n : ℕ) → ((k : ℕ) → k < n → HasCause rs k CreatedTwice → ⊥) → length rs ≤ n → IsFreeOf rs CreatedTwice
 free_of_twice rs n none all i has = none i (let inside = twice_within rs i has in omega arith) has
 
+-- ---- places in their order
+
+in_order_none : (places : List ℕ) → places ≡ [] → AreInOrder 0 places
+in_order_none places none = record {
+  below = λ index place is. absurd (none-some place (sym (ap (λ l. slice_get l index) none) ∙ is));
+  rising = λ a b place later less is. absurd (none-some place (sym (ap (λ l. slice_get l a) none) ∙ is));
+}
+
+in_order_still : (n : ℕ) (places : List ℕ) → AreInOrder n places → AreInOrder (n + 1) places
+in_order_still n places are = record {
+  below = λ index place is. let low = are.below index place is in omega (arith, low);
+  rising = are.rising;
+}
+
+in_order_more : (n : ℕ) (places : List ℕ) → AreInOrder n places → AreInOrder (n + 1) (places ++ n ∷ [])
+in_order_more n places are = record {
+  below = λ index place is. elim (pushed_cases places n place index is) [
+    | inl before ↦ let low = are.below index place before in omega (arith, low)
+    | inr last ↦ omega (arith, last.1)
+  ];
+  rising = λ a b place later less at_a at_b. elim (pushed_cases places n place a at_a) [
+    | inl before_a ↦ elim (pushed_cases places n later b at_b) [
+      | inl before_b ↦ are.rising a b place later less before_a before_b
+      | inr last_b ↦ let low = are.below a place before_a in omega (arith, low, last_b.1)
+    ]
+    | inr last_a ↦ absurd (elim (pushed_cases places n later b at_b) [
+      | inl before_b ↦ let inside = slice_get_within places b later before_b in omega (arith, inside, less, last_a.0)
+      | inr last_b ↦ omega (arith, less, last_a.0, last_b.0)
+    ])
+  ];
+}
+
 -- ---- where each task is made
 
 pub made_none : (rs : List Record) (tasks places : List ℕ) → tasks ≡ [] → places ≡ [] → AreMade rs 0 tasks places
@@ -123,6 +155,7 @@ made_none rs tasks places empty none = record {
   few = let zero_long = ap length empty in omega (arith, zero_long);
   apart = λ a b id is. absurd (none-some id (sym (ap (λ l. slice_get l a) empty) ∙ is));
   each = λ index task is. absurd (none-some task (sym (ap (λ l. slice_get l index) empty) ∙ is));
+  in_order = in_order_none places none;
 }
 
 -- a record that makes none
@@ -133,6 +166,7 @@ made_other rs i None old new places are makes none (same, new_one) = rw same (re
   few = let few = are.few in omega (arith, few);
   apart = are.apart;
   each = λ index task is. let place = are.each index task is in (place.0, place.1, omega (arith, place.2), place.3);
+  in_order = in_order_still i places are.in_order;
 })
 
 -- one that does
@@ -155,6 +189,7 @@ made_more rs i (Some task) old new places are makes some (same, fresh) = rw same
     | inl before ↦ let place = are.each index other before in (place.0, get_pushed places i place.0 index place.1, omega (arith, place.2), place.3)
     | inr last ↦ (i, get_last places i index (last.0 ∙ sym are.all), omega arith, makes ∙ ap Some last.1)
   ];
+  in_order = in_order_more i places are.in_order;
 })
 
 -- ---- tasks that are gathered before it is known whether one is made again
@@ -165,6 +200,7 @@ gathered_none rs tasks places empty none = record {
   few = let zero_long = ap length empty in omega (arith, zero_long);
   each = λ i task below. absurd (omega arith);
   only = λ index task place is. absurd (none-some task (sym (ap (λ l. slice_get l index) empty) ∙ is));
+  in_order = in_order_none places none;
 }
 
 pub gathered_other : (rs : List Record) (n : ℕ) (tasks places : List ℕ) → AreGathered rs n tasks places → at made rs n ≡ None → AreGathered rs (n + 1) tasks places
@@ -176,6 +212,7 @@ gathered_other rs n tasks places are none = record {
     | inr apart ↦ are.each i task (omega arith) makes
   ];
   only = λ index task place is stands. let old = are.only index task place is stands in (omega (arith, old.0), old.1);
+  in_order = in_order_still n places are.in_order;
 }
 
 pub gathered_more : (rs : List Record) (n task : ℕ) (tasks places : List ℕ) → AreGathered rs n tasks places → at made rs n ≡ Some task → AreGathered rs (n + 1) (tasks ++ task ∷ []) (places ++ n ∷ [])
@@ -198,6 +235,7 @@ gathered_more rs n task tasks places are makes = record {
       | inr too ↦ (omega (arith, too.1), ap (at made rs) (sym too.1) ∙ makes ∙ ap Some last.1)
     ]
   ];
+  in_order = in_order_more n places are.in_order;
 }
 
 pub forked_more : (rs : List Record) (n : ℕ) → AreForkedOnce rs n → (Repeats forked_region rs n → ⊥) → AreForkedOnce rs (n + 1)
@@ -213,7 +251,7 @@ made_once_each rs tasks places regions are apart begun forked_once = record {
     each = λ i task below makes. let there = are.each i task below makes in get_contains tasks task there.0 there.1;
     only = λ task has. let index = contains_get tasks task has in let place = place_of index.0 task index.1 in (place.0, place.2, place.3);
   };
-  made_there = record { all = are.all; few = are.few; apart = apart; each = place_of };
+  made_there = record { all = are.all; few = are.few; apart = apart; each = place_of; in_order = are.in_order };
   begun = begun;
   once = λ i has. elim (twice_cases rs i has) [
     | inl (task, k, below, there, here) ↦

@@ -1,8 +1,9 @@
 -- When a family is that of the records.
-use Rattle.std.specs.Prelude.{ℕ, ◌≡◌, ◌+◌, List, length, Option, Some, slice_get}
+use Rattle.std.specs.Prelude.{ℕ, ◌≡◌, ◌<◌, ◌+◌, List, length, Option, Some, slice_get}
 use Rattle.ompt_events.specs.declared.records.Record.{Record}
 use Rattle.ompt_events.specs.declared.cause.Cause.TheVariants.{CreatedTwice, Rootless}
 use Rattle.ompt_events.specs.Records.{made}
+use Rattle.ompt_events.specs.Places.{at}
 use Rattle.task_tree.specs.Subjects.{subject, object, AreFound}
 use Rattle.ompt_events.specs.Causes.{IsFreeOf}
 use Rattle.task_tree.specs.declared.links.Link.{Link}
@@ -41,6 +42,12 @@ pub record IsFamilyOf (rs : List Record) (family : FamilyView) : Type 0 where
   pub roots : AreRoots rs family.tasks family.roots
   pub once : IsFreeOf rs CreatedTwice
   pub rooted : IsFreeOf rs Rootless
+
+-- the tasks stand in the order in which the records make them
+abbrev pub AreInFileOrder : List Record → List ℕ → Type 0
+AreInFileOrder rs tasks =
+    (a b first second place later : ℕ) → a < b → slice_get tasks a ≡ Some first → slice_get tasks b ≡ Some second
+    → at made rs place ≡ Some first → at made rs later ≡ Some second → place < later
 
 -- what the tables say of a task
 abbrev pub IsLinkOf : FamilyView → ℕ → Link → Type 0

@@ -12,6 +12,12 @@ use Rattle.task_tree.specs.Numbering.{AreApart}
 abbrev pub forked_region : Body → Option ℕ
 forked_region body = option_map (λ (p : ℕ × ℕ). p.1) (forked body)
 
+-- the places are some of the first n, in their order
+pub record AreInOrder (n : ℕ) (places : List ℕ) : Type 0 where
+  pub below : (index place : ℕ) → slice_get places index ≡ Some place → place < n
+  pub rising : (a b place later : ℕ) → a < b → slice_get places a ≡ Some place → slice_get places b ≡ Some later
+      → place < later
+
 -- at the index of each task stands the place of the record that makes it, of the first n records
 pub record AreMade (rs : List Record) (n : ℕ) (tasks places : List ℕ) : Type 0 where
   pub all : length places ≡ length tasks
@@ -19,6 +25,7 @@ pub record AreMade (rs : List Record) (n : ℕ) (tasks places : List ℕ) : Type
   pub apart : AreApart tasks
   pub each : (index task : ℕ) → slice_get tasks index ≡ Some task
       → (place : ℕ) × (slice_get places index ≡ Some place) × (place < n) × (at made rs place ≡ Some task)
+  pub in_order : AreInOrder n places
 
 -- the ids are those that the first n records say
 pub record AreNoted (says : Body → Option ℕ) (rs : List Record) (n : ℕ) (ids : List ℕ) : Type 0 where
@@ -39,6 +46,7 @@ pub record AreGathered (rs : List Record) (n : ℕ) (tasks places : List ℕ) : 
       → (index : ℕ) × (slice_get tasks index ≡ Some task) × (slice_get places index ≡ Some i)
   pub only : (index task place : ℕ) → slice_get tasks index ≡ Some task
       → slice_get places index ≡ Some place → (place < n) × (at made rs place ≡ Some task)
+  pub in_order : AreInOrder n places
 
 -- all that is known where nothing is made again
 pub record AreMadeOnce (rs : List Record) (tasks places regions : List ℕ) : Type 0 where

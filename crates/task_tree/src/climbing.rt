@@ -10,6 +10,7 @@ impl Family {
     /// Whether the task at this index stands below the root at this path, the numbers of the children from
     /// the root down. It climbs as many steps as the path has numbers.
     pub fn has_path(&self, index: usize, root: u64, path: &[u32]) -> bool
+        requires { index < length self.now.tasks }
         ensures { (records : List Record) → IsFamilyOf records self.now → (task : ℕ)
             → slice_get self.now.tasks index ≡ Some task
             → IsTrue result ↔ HasPath records root task path.now }

@@ -1,15 +1,15 @@
 //! Parents, numbers, roots and children.
-ghost use Rattle.std.specs.Prelude.{ℕ, ◌≡◌, ◌↔◌, ◌<◌, List, Some, None, IfOk, IfErr, IsTrue, length, slice_get, slice_index_or};
+ghost use Rattle.std.specs.Prelude.{ℕ, ◌≡◌, ◌↔◌, ◌<◌, List, [], ◌∷◌, Some, None, IfOk, IfErr, IsTrue, length, slice_get, slice_index_or};
 ghost use Rattle.ompt_events.specs.declared.records.Record.{Record};
+ghost use Rattle.ompt_events.specs.declared.cause.Cause.TheVariants.{CreatedTwice, Rootless};
+ghost use Rattle.ompt_events.specs.Faults.{IsFault};
 ghost use Rattle.ompt_events.specs.Records.{made};
 ghost use Rattle.ompt_events.specs.Places.{at as says_at};
 ghost use Rattle.ompt_events.specs.Tree.{IsRoot, IsExplicit, IsParent, IsChild, HasPath, children};
-ghost use Rattle.task_tree.specs.Family.{IsFamilyOf, IsLinkOf, IsStandingOf};
+ghost use Rattle.task_tree.specs.Family.{IsFamilyOf, AreInFileOrder, IsLinkOf, IsStandingOf};
 ghost use Rattle.task_tree.specs.Subjects.{subject, object, Calls};
-ghost use Rattle.task_tree.specs.Fault.{IsTreeFault};
 
 use crate::children::{Children, find_children};
-use crate::fault::TreeFault;
 use crate::link_slot::LinkSlot;
 use crate::links::Link;
 use crate::makers::{Made, find_made};
@@ -19,7 +19,7 @@ use crate::roots::{Standing, find_roots};
 use crate::rows::Rows;
 use crate::slot::Slot;
 use crate::standing_slot::StandingSlot;
-use ompt_events::{Cause, Record, Trace};
+use ompt_events::{Cause, Fault, Record, Trace, exclude};
 use std::alloc::Global;
 use std::marker::Model;
 
@@ -59,9 +59,10 @@ impl Model for Family {
 impl Family {
     /// The family of the trace's tasks. Refused are records in which a task or a parallel region is made
     /// again, or else one is spoken of that has no root or no begin; and any records where memory runs out.
-    pub fn build(alloc: Global, trace: &Trace) -> Result<Family, TreeFault>
+    pub fn build(alloc: Global, trace: &Trace) -> Result<Family, Fault>
         ensures family { IfOk result (IsFamilyOf trace.now.records) }
-        ensures fault { IfErr result (IsTreeFault trace.now.records) }
+        ensures order { IfOk result (λ family. AreInFileOrder trace.now.records family.tasks) }
+        ensures fault { IfErr result (IsFault trace.now.records (CreatedTwice ∷ Rootless ∷ [])) }
     {
         let records = trace.records();
         let Made {
@@ -71,21 +72,17 @@ impl Family {
         } = find_made(alloc, records)?;
         let Children { named, rows, links } = find_children(alloc, records, &tasks, &regions)?;
         let roots = find_roots(alloc, records, &tasks, &places, &links, &rows)?;
-        match find_rootless(records, &tasks, &named, &regions, roots.as_slice()) {
-            Some(at) => Err(TreeFault::Malformed {
-                at,
-                cause: Cause::Rootless,
-            }),
-            None => Ok(Family {
-                tasks,
-                places,
-                subjects: named.subjects,
-                objects: named.objects,
-                rows,
-                links,
-                roots,
-            }),
-        }
+        let unrooted = find_rootless(records, &tasks, &named, &regions, roots.as_slice());
+        exclude(Cause::Rootless, unrooted)?;
+        Ok(Family {
+            tasks,
+            places,
+            subjects: named.subjects,
+            objects: named.objects,
+            rows,
+            links,
+            roots,
+        })
     }
 
     /// The tasks in the order in which the records make them.

@@ -1,8 +1,9 @@
 //! The tree of tasks: which task created which, in which order, and the root below which each one stands.
 //!
 //! `Family` has parents, numbers, roots and children, and the index of each task that a record names, so
-//! that no later phase searches for a task again; `Tree` has the paths too. Read `family` and `tree` for
-//! what a caller sees, then `makers`, `children` (after `links`, `subjects` and `rows`), `roots` (after
+//! that no later phase searches for a task again; `Tree` has the paths too. `Run` is the records with their
+//! family, which all later phases take: it says by place what a record is. Read `run`, `family` and `tree`
+//! for what a caller sees, then `makers`, `children` (after `links`, `subjects` and `rows`), `roots` (after
 //! `forward`) and `rootless`, the steps of a build. `numbering` is the list of ids that they share
 //! (`ranking` searches it), `slot` an index or none in 32 bits, `link_slot` a link or none, `standing_slot`
 //! where a task stands or nothing, and `hints` says where a task is looked for first.
@@ -11,7 +12,6 @@
 mod children;
 mod climbing;
 mod family;
-mod fault;
 mod forward;
 mod hints;
 mod lineage;
@@ -24,13 +24,14 @@ mod ranking;
 mod rootless;
 mod roots;
 mod rows;
+mod run;
 mod slot;
 mod standing_slot;
 mod subjects;
 mod tree;
 
 pub use family::Family;
-pub use fault::TreeFault;
 pub use numbering::Numbering;
+pub use run::{Creation, Finishing, RegionEvent, Run, Schedule, ThreadEvent, WaitEvent};
 pub use slot::Slot;
-pub use tree::Tree;
+pub use tree::{Tree, TreeFault};

@@ -4,11 +4,10 @@ ghost use Rattle.ompt_events.specs.declared.cause.Cause.TheVariants.{CreatedTwic
 ghost use Rattle.ompt_events.specs.Records.{made};
 ghost use Rattle.ompt_events.specs.Causes.{IsFreeOf};
 ghost use Rattle.task_tree.specs.Makers.{AreNoted, AreMade, AreMadeOnce, AreGathered, AreForkedOnce, forked_region};
-ghost use Rattle.task_tree.specs.Fault.{IsFound};
+ghost use Rattle.ompt_events.specs.Faults.{IsFault};
 
-use crate::fault::TreeFault;
 use crate::numbering::Numbering;
-use ompt_events::{Body, Cause, Record};
+use ompt_events::{Body, Cause, Fault, Record};
 use std::alloc::{AllocError, Global};
 
 /// The tasks that the records make and the parallel regions that they begin, each in file order, and by index
@@ -27,7 +26,7 @@ struct Gathered {
 }
 
 /// Notes what the records make, or finds the first record that makes a task or a region again.
-pub(crate) fn find_made(alloc: Global, records: &[Record]) -> Result<Made, TreeFault>
+pub(crate) fn find_made(alloc: Global, records: &[Record]) -> Result<Made, Fault>
     requires few { length records.now ≤ 2 ^ 22 }
     ensures tasks { IfOk result (λ found. AreNoted made records.now (length records.now) found.tasks) }
     ensures places { IfOk result (λ found. AreMade records.now
@@ -35,7 +34,7 @@ pub(crate) fn find_made(alloc: Global, records: &[Record]) -> Result<Made, TreeF
     ensures regions { IfOk result (λ found. AreNoted forked_region records.now
         (length records.now) found.regions) }
     ensures free { IfOk result (λ _. IsFreeOf records.now CreatedTwice) }
-    ensures found { IfErr result (IsFound records.now CreatedTwice) }
+    ensures found { IfErr result (IsFault records.now (CreatedTwice ∷ [])) }
 {
     match made_at_once(alloc, records)? {
         Some(made) => Ok(made),
@@ -114,7 +113,7 @@ fn add_task(
 }
 
 /// The same one record after another, up to the first that makes a task or a region again.
-fn made_in_turn(alloc: Global, records: &[Record]) -> Result<Made, TreeFault>
+fn made_in_turn(alloc: Global, records: &[Record]) -> Result<Made, Fault>
     requires few { length records.now ≤ 2 ^ 22 }
     ensures tasks { IfOk result (λ found. AreNoted made records.now (length records.now) found.tasks) }
     ensures places { IfOk result (λ found. AreMade records.now
@@ -122,7 +121,7 @@ fn made_in_turn(alloc: Global, records: &[Record]) -> Result<Made, TreeFault>
     ensures regions { IfOk result (λ found. AreNoted forked_region records.now
         (length records.now) found.regions) }
     ensures free { IfOk result (λ _. IsFreeOf records.now CreatedTwice) }
-    ensures found { IfErr result (IsFound records.now CreatedTwice) }
+    ensures found { IfErr result (IsFault records.now (CreatedTwice ∷ [])) }
 {
     let mut tasks = Numbering::new(alloc);
     let mut places: Vec<u32> = Vec::new(alloc);
@@ -132,7 +131,7 @@ fn made_in_turn(alloc: Global, records: &[Record]) -> Result<Made, TreeFault>
         let task_again = tasks.note(task)?;
         let region_again = regions.note(forked_region(&event.body))?;
         if task_again || region_again {
-            return Err(TreeFault::Malformed {
+            return Err(Fault::Malformed {
                 at,
                 cause: Cause::CreatedTwice,
             });

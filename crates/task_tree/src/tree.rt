@@ -1,16 +1,19 @@
 //! The tree of tasks with the path of each.
-ghost use Rattle.std.specs.Prelude.{ℕ, ◌≡◌, ◌↔◌, List, Some, IfOk, IfErr, option_copied};
+ghost use Rattle.std.specs.Prelude.{ℕ, ◌≡◌, ◌↔◌, List, [], ◌∷◌, Some, IfOk, IfErr, option_copied};
 ghost use Rattle.ompt_events.specs.declared.records.Record.{Record};
 ghost use Rattle.ompt_events.specs.Tree.{IsParent, IsChild, HasPath, children};
-ghost use Rattle.task_tree.specs.Fault.{IsTreeFault};
+ghost use Rattle.ompt_events.specs.declared.cause.Cause.TheVariants.{CreatedTwice, Rootless};
+ghost use Rattle.ompt_events.specs.Faults.{IsFault};
 ghost use Rattle.task_tree.specs.Paths.{IsTreeOf};
 
 use crate::family::Family;
-use crate::fault::TreeFault;
 use crate::paths::find_paths;
-use ompt_events::Trace;
+use ompt_events::{Fault, Trace};
 use std::alloc::Global;
 use std::marker::Model;
+
+/// Why a tree can't be built: memory, or `CreatedTwice` or, where that does not occur, `Rootless`.
+pub type TreeFault = Fault;
 
 /// The tasks that the records of a trace make, each with its parent, its number, its path, its root and its
 /// children. Paths are stored: their memory is the sum of the depths of all tasks, which a chain of tasks
@@ -37,7 +40,7 @@ impl Tree {
     /// again, or else one is spoken of that has no root or no begin; and any records where memory runs out.
     pub fn build(alloc: Global, trace: &Trace) -> Result<Tree, TreeFault>
         ensures tree { IfOk result (IsTreeOf trace.now.records) }
-        ensures fault { IfErr result (IsTreeFault trace.now.records) }
+        ensures fault { IfErr result (IsFault trace.now.records (CreatedTwice ∷ Rootless ∷ [])) }
     {
         let family = Family::build(alloc, trace)?;
         let paths = find_paths(alloc, &family)?;

@@ -1,13 +1,12 @@
 //! The predecessors of a trace's tasks.
-ghost use Rattle.std.specs.Prelude.{◌≡◌};
-ghost use Rattle.task_tree.specs.Family.{IsFamilyOf};
+ghost use Rattle.task_tree.specs.Paths.{IsTreeOf};
 
 use crate::lines::trace_of_input;
 use anyhow::{Result, bail};
 use depend_edges::{EdgeFault, Edges};
-use ompt_events::{Record, Trace};
+use ompt_events::Trace;
 use std::alloc::Global;
-use task_tree::Family;
+use task_tree::Tree;
 
 /// Prints which tasks must be finished before each created task of the trace on standard input starts.
 pub fn of_input(rt: &HostRuntime) -> Result<()> {
@@ -15,19 +14,19 @@ pub fn of_input(rt: &HostRuntime) -> Result<()> {
 }
 
 fn of_trace(rt: &HostRuntime, trace: &Trace) -> Result<()> {
-    match Family::build(rt.alloc(), trace) {
-        Ok(family) => of_family(rt, trace, &family),
+    match Tree::build(rt.alloc(), trace) {
+        Ok(tree) => of_tree(rt, trace, &tree),
         Err(_) => bail!("no tree"),
     }
 }
 
 /// Prints the predecessors, or the first record with misplaced dependences.
-fn of_family(rt: &HostRuntime, trace: &Trace, family: &Family) -> Result<()>
-    requires { IsFamilyOf trace.now.records family.now }
+fn of_tree(rt: &HostRuntime, trace: &Trace, tree: &Tree) -> Result<()>
+    requires { IsTreeOf trace.now.records tree.now }
 {
-    match Edges::build(rt.alloc(), trace, family) {
-        Ok(edges) => of_edges(rt, trace.records(), family, &edges),
-        Err(EdgeFault::Misplaced(at)) => {
+    match Edges::build(rt.alloc(), trace, tree) {
+        Ok(edges) => of_edges(rt, &edges),
+        Err(EdgeFault::Malformed { at, .. }) => {
             println!(rt; "misplaced at {at}")?;
             Ok(())
         }
@@ -36,10 +35,9 @@ fn of_family(rt: &HostRuntime, trace: &Trace, family: &Family) -> Result<()>
 }
 
 /// Prints the predecessors of each created task, and the last of them in the order in which tasks are made.
-fn of_edges(rt: &HostRuntime, records: &[Record], family: &Family, edges: &Edges) -> Result<()>
-    requires { edges.now.family ≡ family.now }
-{
-    let tasks = family.tasks().as_slice().len();
+fn of_edges(rt: &HostRuntime, edges: &Edges) -> Result<()> {
+    let run = edges.run();
+    let tasks = run.task_count();
     let own = ordinals(rt.alloc(), tasks)?;
     if own.len() != tasks {
         bail!("there is not one number for each task");
@@ -47,14 +45,14 @@ fn of_edges(rt: &HostRuntime, records: &[Record], family: &Family, edges: &Edges
     let Ok(latest) = edges.latest(rt.alloc(), own.as_slice()) else {
         bail!("out of memory");
     };
-    for event in records {
+    for event in run.records() {
         let Some(task) = event.body.created() else {
             continue;
         };
         let Ok(predecessors) = edges.of(task) else {
             bail!("out of memory");
         };
-        let last = match family.tasks().index_of(task) {
+        let last = match run.index_of(task) {
             Some(index) if index < latest.len() => latest[index],
             _ => 0,
         };

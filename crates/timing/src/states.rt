@@ -1,11 +1,11 @@
 //! The states of a trace's tasks after all records, and whether its parallel regions are nested.
-ghost use Rattle.task_tree.specs.Family.{IsFamilyOf};
+ghost use Rattle.task_tree.specs.Paths.{IsTreeOf};
 
 use crate::lines::traces_of_input;
 use anyhow::{Result, bail};
 use ompt_events::Trace;
 use task_states::{StateFault, nested, run};
-use task_tree::{Family, TreeFault};
+use task_tree::{Tree, TreeFault};
 
 /// For each of the trace files that stand one after another on standard input: the state of each task.
 pub fn each(rt: &HostRuntime) -> Result<()> {
@@ -17,10 +17,10 @@ pub fn each(rt: &HostRuntime) -> Result<()> {
 
 /// Prints the states of one trace, or why there is no tree.
 fn of_trace(rt: &HostRuntime, trace: &Trace) -> Result<()> {
-    match Family::build(rt.alloc(), trace) {
-        Ok(family) => {
-            of_family(rt, trace, &family)?;
-            of_regions(rt, trace, &family)
+    match Tree::build(rt.alloc(), trace) {
+        Ok(tree) => {
+            of_tasks(rt, trace, &tree)?;
+            of_regions(rt, trace, &tree)
         }
         Err(TreeFault::Memory) => bail!("out of memory"),
         Err(TreeFault::Malformed { at, cause }) => {
@@ -31,12 +31,12 @@ fn of_trace(rt: &HostRuntime, trace: &Trace) -> Result<()> {
 }
 
 /// Prints each task's state, or why there are none.
-fn of_family(rt: &HostRuntime, trace: &Trace, family: &Family) -> Result<()>
-    requires { IsFamilyOf trace.now.records family.now }
+fn of_tasks(rt: &HostRuntime, trace: &Trace, tree: &Tree) -> Result<()>
+    requires { IsTreeOf trace.now.records tree.now }
 {
-    match run(rt.alloc(), trace, family) {
+    match run(rt.alloc(), trace, tree) {
         Ok(states) => {
-            for task in family.tasks().as_slice() {
+            for task in tree.family().tasks().as_slice() {
                 let state = states.last(*task);
                 println!(rt; "{task}: {state:?}")?;
             }
@@ -53,10 +53,10 @@ fn of_family(rt: &HostRuntime, trace: &Trace, family: &Family) -> Result<()>
 }
 
 /// Prints where a parallel region lies inside another.
-fn of_regions(rt: &HostRuntime, trace: &Trace, family: &Family) -> Result<()>
-    requires { IsFamilyOf trace.now.records family.now }
+fn of_regions(rt: &HostRuntime, trace: &Trace, tree: &Tree) -> Result<()>
+    requires { IsTreeOf trace.now.records tree.now }
 {
-    match nested(rt.alloc(), trace, family) {
+    match nested(rt.alloc(), trace, tree) {
         Ok(found) => {
             println!(rt; "nested: {found:?}")?;
             Ok(())

@@ -1,7 +1,6 @@
 //! The waits of traces, with the credit that each waits for and what of it is unfinished.
-ghost use Rattle.std.specs.Prelude.{◌<◌, length};
+ghost use Rattle.std.specs.Prelude.{◌≡◌, ◌<◌, length};
 ghost use Rattle.task_tree.specs.Paths.{IsTreeOf};
-ghost use Rattle.task_states.specs.States.{AreStatesOf};
 
 use crate::lines::traces_of_input;
 use anyhow::{Result, bail};
@@ -10,7 +9,7 @@ use ompt_events::{Path, Record, Trace, finish};
 use std::alloc::Global;
 use task_states::{States, run};
 use task_tree::Tree;
-use wait_coverage::{Coverage, TeamFault};
+use wait_coverage::{CoverFault, Coverage};
 
 /// For each of the trace files that stand one after another on standard input: each end of a wait, whether
 /// it waits for children or for descendants, its spans, and the task that is unfinished there.
@@ -31,7 +30,7 @@ fn of_trace(rt: &HostRuntime, trace: &Trace) -> Result<()> {
 fn of_tree(rt: &HostRuntime, trace: &Trace, tree: &Tree) -> Result<()>
     requires tree { IsTreeOf trace.now.records tree.now }
 {
-    match run(rt.alloc(), trace, tree.family()) {
+    match run(rt.alloc(), trace, tree) {
         Ok(states) => of_states(rt, trace, tree, &states),
         Err(_) => bail!("no states"),
     }
@@ -39,15 +38,16 @@ fn of_tree(rt: &HostRuntime, trace: &Trace, tree: &Tree) -> Result<()>
 
 fn of_states(rt: &HostRuntime, trace: &Trace, tree: &Tree, states: &States) -> Result<()>
     requires tree { IsTreeOf trace.now.records tree.now }
-    requires states { AreStatesOf trace.now.records states.now }
+    requires records { states.now.run.records ≡ trace.now.records }
+    requires family { states.now.run.family ≡ tree.now.family }
 {
     let coverage = match Coverage::build(rt.alloc(), trace, tree, states) {
         Ok(coverage) => coverage,
-        Err(TeamFault::Short(at)) => {
+        Err(CoverFault::Malformed { at, .. }) => {
             println!(rt; "short at {at}")?;
             return Ok(());
         }
-        Err(TeamFault::Memory) => bail!("out of memory"),
+        Err(CoverFault::Memory) => bail!("out of memory"),
     };
     let ledger = ledger_of(rt.alloc(), trace.records())?;
     for number in 0..coverage.ends().len() {

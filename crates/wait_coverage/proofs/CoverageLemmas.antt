@@ -31,19 +31,20 @@ use Rattle.credit_ledger.specs.Entries.{IsSpanHeld}
 use Rattle.wait_coverage.specs.Entries.{IsLedgerOf}
 use Rattle.wait_coverage.specs.Spans as spans
 use Rattle.wait_coverage.specs.Spans.{AreSpans, AreMemberSpans, IsSpan, IsCoverComplete, IsFreeUpTo}
-use Rattle.wait_coverage.specs.Teams.{TeamsView, IsTeamsOf, AreTeams, IsMemberNumbered}
+use Rattle.wait_coverage.specs.Teams.{IsTeamsOf}
+use Rattle.teams.specs.Teams.{TeamsView, AreTeams, IsMemberNumbered}
 use Rattle.wait_coverage.specs.Waits.{EndsNoWaitAt, IsWaitAt, waits, groups, meets, cover_of, IsFirstOpen, waiting}
 use Rattle.wait_coverage.specs.Coverage.{IsEnd, AreEnds, AreWaits, IsCoverAt, IsOnly, HasBegun, HaveBegun, IsMemberSpan, AreRosterSpans, CoverageView, IsCoverage, AreFirstOpen}
 use Rattle.wait_coverage.specs.declared.waits.Wait.{Wait}
 use Rattle.wait_coverage.specs.declared.waits.Wait.TheVariants.{Taskwait as ForTaskwait, Taskgroup as ForTaskgroup, Barrier as ForBarrier}
-use Rattle.wait_coverage.proofs.CoverLemmas.{ends_at}
+use Rattle.teams.proofs.RegionEndLemmas.{ends_at}
 use Rattle.wait_coverage.proofs.CreditLaw.{held_is_complete}
-use Rattle.wait_coverage.proofs.BarrierLemmas.{barrier_is_other, begun_subject, begin_says}
+use Rattle.teams.proofs.BarrierLemmas.{barrier_is_other, begun_subject, begin_says}
 use Rattle.wait_coverage.proofs.MateLemmas.{mate_of_number, begin_within}
-use Rattle.wait_coverage.proofs.MemberLemmas.{mate_index}
+use Rattle.teams.proofs.MemberLemmas.{mate_index}
 use Rattle.wait_coverage.proofs.OpenLemmas.{barrier_waits}
-use Rattle.wait_coverage.specs.Rows.{row_at}
-use Rattle.wait_coverage.proofs.RowLemmas.{row_there}
+use Rattle.teams.specs.Rows.{row_at}
+use Rattle.teams.proofs.RowLemmas.{row_there}
 
 -- ---- the ends
 

@@ -22,10 +22,11 @@ use Rattle.credit_ledger.specs.declared.entry.Cover.TheVariants.{Children, Desce
 use Rattle.credit_ledger.specs.Entries.{IsSpanHeld}
 use Rattle.ompt_events.proofs.ListLemmas.{get_contains, contains_get}
 use Rattle.wait_coverage.specs.Entries.{IsLedgerOf}
-use Rattle.wait_coverage.specs.Teams.{IsMemberNumbered}
+use Rattle.teams.specs.Teams.{IsMemberNumbered}
 use Rattle.wait_coverage.specs.Spans.{IsSpan, AreSpans, waited, grouped, synchronised, AreMemberSpans, AreHeldAt, IsCoverComplete, IsFreeUpTo}
-use Rattle.wait_coverage.proofs.CoverLemmas.{ends_at, one_region, child_with, dropped, number_between, done_there, complete_there}
-use Rattle.wait_coverage.proofs.BarrierLemmas.{one_number}
+use Rattle.teams.proofs.RegionEndLemmas.{ends_at, one_region}
+use Rattle.wait_coverage.proofs.CoverLemmas.{child_with, dropped, number_between, done_there, complete_there}
+use Rattle.teams.proofs.BarrierLemmas.{one_number}
 use Rattle.wait_coverage.proofs.MateLemmas.{one_member, number_of_mate, mate_of_number, begin_within}
 use Rattle.wait_coverage.proofs.TreeLaw.{IsKnown, tree_held, tree_done}
 use Rattle.wait_coverage.proofs.PoolLaw.{pool_held, pool_done}

@@ -20,7 +20,7 @@ use Rattle.task_tree.specs.Numbering.{AreApart}
 use Rattle.task_tree.specs.Subjects.{subject, object, Calls}
 use Rattle.task_tree.proofs.LinkLemmas.{get_set_same, get_set_other}
 use Rattle.task_tree.proofs.NamedLemmas.{region_subject, creation_subject, creation_object, subject_index, object_index}
-use Rattle.task_tree.proofs.SubjectLemmas.{call_task, call_index, call_none}
+use Rattle.teams.proofs.CallLemmas.{call_same, call_never}
 use Rattle.wait_coverage.specs.Entries.{IsDone}
 use Rattle.wait_coverage.specs.declared.lengths.Lengths.{Lengths}
 use Rattle.wait_coverage.specs.Lengths.{never, no_lengths, length_of, with_length, done_length, AreLeast, AreLengths}
@@ -180,24 +180,9 @@ parent_index rs tasks i index parent child slot calls is creates =
     let called = subject_index creation (parent, child) parent rs i tasks slot (creation_subject parent child) calls creates in
     ap (slice_get tasks) (same_Some index called.0 (sym is ∙ called.1)) ∙ called.2
 
--- the same of any task that is called
-pub call_same : (tasks : List ℕ) (found slot : Option ℕ) (index task : ℕ) → Calls tasks found slot → slot ≡ Some index → found ≡ Some task → slice_get tasks index ≡ Some task
-call_same tasks found slot index task calls is says =
-    let called = call_index tasks found slot task calls says in
-    ap (slice_get tasks) (same_Some index called.0 (sym is ∙ called.1)) ∙ called.2
-
 -- the task that does what a region's record says
 pub region_index : (rs : List Record) (tasks : List ℕ) (i index own : ℕ) (kind : SyncKind) (endpoint : Endpoint) (slot : Option ℕ) → Calls tasks (at subject rs i) slot → slot ≡ Some index → at region rs i ≡ Some (own, kind, endpoint) → slice_get tasks index ≡ Some own
 region_index rs tasks i index own kind endpoint slot calls is says = call_same tasks (at subject rs i) slot index own calls is (at_through region subject (own, kind, endpoint) own rs i (region_subject own kind endpoint) says)
-
-pub call_never : (tasks : List ℕ) (found slot : Option ℕ) (task : ℕ) → Calls tasks found slot → slot ≡ None → found ≡ Some task → ⊥
-call_never tasks found slot task calls none says = none-some task (sym (call_none tasks found slot calls none) ∙ says)
-
-pub index_within : {X : Type 0} (tasks : List ℕ) (table : List X) (found slot : Option ℕ) (index : ℕ) → Calls tasks found slot → slot ≡ Some index → length table ≡ length tasks → index < length table
-index_within tasks table found slot index calls is all =
-    let called = call_task tasks found slot index calls is in
-    let inside = slice_get_within tasks index called.0 called.2 in
-    omega (arith, inside, all)
 
 -- a record that creates has both tasks called
 pub some_creation : (rs : List Record) (i : ℕ) {found : Option (ℕ × ℕ)} → at creation rs i ≡ found → is_some found ≡ true → (parent child : ℕ) × (at creation rs i ≡ Some (parent, child))

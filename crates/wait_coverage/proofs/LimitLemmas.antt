@@ -26,14 +26,14 @@ use Rattle.task_tree.specs.Numbering.{AreApart}
 use Rattle.task_tree.specs.Subjects.{subject}
 use Rattle.task_tree.proofs.NamedLemmas.{region_subject}
 use Rattle.task_tree.proofs.LinkLemmas.{get_set_same, get_set_other}
-use Rattle.task_states.specs.States.{IsBegin}
 use Rattle.wait_coverage.specs.Entries.{IsDone}
 use Rattle.wait_coverage.specs.Done.{IsFamilyLimit}
 use Rattle.wait_coverage.specs.Limits.{IsChildLimit, IsFamiliesLimit, IsLimitOfBegin, IsOnChain, Gathers, HasNode, AreLatest, AreLatestFamilies, AreChains, IsMark, AreNoted}
 use Rattle.wait_coverage.specs.declared.limits.Node.{Node}
 use Rattle.wait_coverage.specs.declared.limits.Progress.{Progress}
-use Rattle.wait_coverage.proofs.BarrierLemmas.{begun_region, begun_other}
-use Rattle.wait_coverage.proofs.CoverLemmas.{ends_at, one_region, child_with, number_between}
+use Rattle.teams.proofs.BarrierLemmas.{begun_region, begun_other}
+use Rattle.teams.proofs.RegionEndLemmas.{ends_at, one_region}
+use Rattle.wait_coverage.proofs.CoverLemmas.{child_with, number_between}
 use Rattle.wait_coverage.proofs.StandLemmas.{created_child}
 use Rattle.wait_coverage.proofs.ChainLemmas.{chains_other, chains_more}
 
@@ -323,23 +323,13 @@ closed_noted rs n own parent begin tasks nodes new before after apart are ends i
         let later : begin < has.place = elim (cases_eq c begin) [ inl same ↦ absurd (apart_from same) | inr other ↦ omega (arith, from, after, other) ] in
         weaker born has.node has.limit (gathered.within has.place has.node has.on later has.there)
 
--- the begin that is found for the end of a region
-pub begin_found : (rs : List Record) (i task begin found : ℕ) (kind : SyncKind) (slot : Option ℕ) → IsBegin rs i task kind slot → EndsRegion rs i task kind begin → slot ≡ Some found → found ≡ begin
-begin_found rs i task begin found kind slot known ends is =
-    let there = known ends.ends in
-    let same = one_region rs i task task there.0 begin kind kind (ended there.2) (ended ends) in
-    same_Some found there.0 (sym is ∙ there.1) ∙ same.begin_is
+-- the begin of a region that ends at a later record
+pub ended_region : (rs : List Record) (i task begin : ℕ) (kind : SyncKind) → at region rs i ≡ Some (task, kind, End) → IsRegion rs i task kind begin → EndsRegion rs i task kind begin
+ended_region rs i task begin kind says (ended ends) = ends
+ended_region rs i task begin kind says (at_once once) = absurd (let same = same_Some (task, kind, End) (task, kind, BeginEnd) (sym says ∙ once) in let never : End ≡ BeginEnd = ap (λ (p : ℕ × SyncKind × Endpoint). p.2) same in cc)
 
-pub begin_within : (rs : List Record) (i : ℕ) (found : ℕ) (slot : Option ℕ) → ((task : ℕ) (kind : SyncKind) → IsBegin rs i task kind slot) → ((task : ℕ) × (kind : SyncKind) × (at region rs i ≡ Some (task, kind, End))) → slot ≡ Some found → found < i
-begin_within rs i found slot known (task, kind, says) is =
-    let there = known task kind says in
-    let less = begin_before rs i task there.0 kind there.2 in
-    let same = same_Some found there.0 (sym is ∙ there.1) in
-    omega (arith, less, same)
-
--- what is read at an index
-pub read_at : {X : Type 0} (table : List X) (index : ℕ) (x : X) → index < length table → x ≡ get_or table index x → slice_get table index ≡ Some x
-read_at table index x within is = slice_get-get_or table index x within ∙ ap Some (sym is)
+pub begin_earlier : (rs : List Record) (i task begin : ℕ) (kind : SyncKind) → EndsRegion rs i task kind begin → begin < i
+begin_earlier rs i task begin kind ends = begin_before rs i task begin kind ends
 
 -- a record that creates
 pub creation_there : (rs : List Record) (i : ℕ) → (at creation rs i ≡ None → ⊥) → (parent child : ℕ) × (at creation rs i ≡ Some (parent, child))
@@ -405,6 +395,19 @@ begun_noted rs n task endpoint tasks nodes new progress are says not_end alone l
     waits : (p b : ℕ) → IsRegion rs n p Taskwait b → IsChildLimit rs b p new.limit
     waits p b (ended ends) = absurd (not_end (same_says rs n task p Taskwait Taskwait endpoint End says ends.ends).2)
     waits p b (at_once once) = mine p BeginEnd once
+
+-- the end of a taskgroup that belongs to no begin
+pub unended_noted : (rs : List Record) (n own : ℕ) (tasks : List ℕ) (nodes : List Node) (new : Node) (progress : Progress) → AreNoted rs n tasks nodes progress → at region rs n ≡ Some (own, Taskgroup, End) → ((task begin : ℕ) (kind : SyncKind) → IsRegion rs n task kind begin → ⊥) → new.previous ≡ None → AreNoted rs (n + 1) tasks (nodes ++ new ∷ []) progress
+unended_noted rs n own tasks nodes new progress are says never alone =
+    noted_alone rs n tasks nodes new progress are (no_creation rs n own Taskgroup End says) alone
+    (record {
+      begins = λ t begins. absurd (let same = (same_says rs n own t Taskgroup Taskwait End Begin says begins).2 in cc);
+      meets = λ t begun. absurd (begun_other rs n t own Taskgroup End says refl begun);
+      ends = record {
+        waits = λ p b there. absurd (never p b Taskwait there);
+        groups = λ p b c t there from less creates. absurd (never p b Taskgroup there);
+      };
+    })
 
 -- a record that is no creation, no part of a taskwait and no end of a taskgroup that began before it
 pub other_noted : (rs : List Record) (n : ℕ) (tasks : List ℕ) (nodes : List Node) (new : Node) (progress : Progress) → AreNoted rs n tasks nodes progress → at creation rs n ≡ None → ((task : ℕ) (endpoint : Endpoint) → at region rs n ≡ Some (task, Taskwait, endpoint) → ⊥) → ((task : ℕ) → at region rs n ≡ Some (task, Taskgroup, End) → ⊥) → ((task : ℕ) → barrier_begun (at region rs n) ≡ Some task → IsFamiliesLimit rs n task new.limit) → new.previous ≡ None → AreNoted rs (n + 1) tasks (nodes ++ new ∷ []) progress

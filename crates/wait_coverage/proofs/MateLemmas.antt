@@ -12,10 +12,10 @@ use Rattle.ompt_events.specs.Teams.{members, IsInitial, IsTeammate, alone, toget
 use Rattle.ompt_events.specs.Regions.{IsBarrierBegin}
 use Rattle.ompt_events.specs.Causes.{IsFreeOf, team_short, same_index}
 use Rattle.ompt_events.proofs.PlaceLemmas.{at_within}
-use Rattle.wait_coverage.specs.Teams.{IsMemberNumbered}
-use Rattle.wait_coverage.specs.Teams as numbered
-use Rattle.wait_coverage.proofs.BarrierLemmas.{begin_says, begun_region}
-use Rattle.wait_coverage.proofs.MemberLemmas.{IsMemberAt, member_place, place_member, joined_once, initial_once}
+use Rattle.teams.specs.Teams.{IsMemberNumbered}
+use Rattle.teams.specs.Teams as numbered
+use Rattle.teams.proofs.BarrierLemmas.{begin_says, begun_region}
+use Rattle.teams.proofs.MemberLemmas.{IsMemberAt, member_place, place_member, joined_once, initial_once}
 
 -- a number belongs to one member of a team
 one_index : (rs : List Record) (parallel : ℕ) (m e : Membership) → IsFreeOf rs TeamShort → IsMemberAt rs parallel (length rs) m → IsMemberAt rs parallel (length rs) e → m.index ≡ e.index → m ≡ e

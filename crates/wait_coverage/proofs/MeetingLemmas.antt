@@ -24,12 +24,12 @@ use Rattle.task_tree.proofs.SubjectLemmas.{call_index}
 use Rattle.wait_coverage.specs.Limits.{IsFamiliesLimit, IsWaitLimit, IsEndLimit, AreEndLimits}
 use Rattle.wait_coverage.specs.declared.limits.Node.{Node}
 use Rattle.wait_coverage.specs.Meetings.{IsBarrierEnd, IsMeeting, AreMet, IsRaised, AreMeetingsAdded}
-use Rattle.wait_coverage.specs.Rows.{row_at, AreSameRows}
-use Rattle.wait_coverage.specs.Teams.{AreTeams}
-use Rattle.wait_coverage.proofs.BarrierLemmas.{begin_says, begun_subject, begun_region, one_number, barrier_is_other}
-use Rattle.wait_coverage.proofs.CoverLemmas.{ends_at, one_region, says_same}
+use Rattle.teams.specs.Rows.{row_at, AreSameRows}
+use Rattle.teams.specs.Teams.{AreTeams}
+use Rattle.teams.proofs.BarrierLemmas.{begin_says, begun_subject, begun_region, one_number, barrier_is_other}
+use Rattle.teams.proofs.RegionEndLemmas.{ends_at, one_region, says_same}
 use Rattle.wait_coverage.proofs.LimitLemmas.{covers_cases}
-use Rattle.wait_coverage.proofs.RowLemmas.{row_here, row_there, row_set_same, row_set_other}
+use Rattle.teams.proofs.RowLemmas.{row_here, row_there, row_set_same, row_set_other}
 use Rattle.wait_coverage.proofs.WaitLemmas.{not_begin}
 
 -- ---- the members' begins, one record more

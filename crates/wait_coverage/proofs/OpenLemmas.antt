@@ -22,9 +22,10 @@ use Rattle.wait_coverage.specs.Limits.{AreEndLimits}
 use Rattle.wait_coverage.specs.Waits.{EndsNoWaitAt, IsWaitAt, waits, groups, meets, IsWithin, before_begin, in_group, by_member, cover_of, IsAwaitedBy, IsAwaited, IsFirstOpen, IsFirstOpenEnd, IsLateAt, IsFirstLate}
 use Rattle.wait_coverage.specs.declared.waits.Wait.{Wait}
 use Rattle.wait_coverage.specs.declared.waits.Wait.TheVariants.{Taskwait as ForTaskwait, Taskgroup as ForTaskgroup, Barrier as ForBarrier}
-use Rattle.wait_coverage.proofs.BarrierLemmas.{one_number, barrier_is_other}
+use Rattle.teams.proofs.BarrierLemmas.{one_number, barrier_is_other}
 use Rattle.wait_coverage.specs.declared.limits.Node.{Node}
-use Rattle.wait_coverage.proofs.CoverLemmas.{EndsAt, ends_at, one_region, child_with, child_stays, dropped, done_there, complete_there}
+use Rattle.teams.proofs.RegionEndLemmas.{EndsAt, ends_at, one_region}
+use Rattle.wait_coverage.proofs.CoverLemmas.{child_with, child_stays, dropped, done_there, complete_there}
 use Rattle.wait_coverage.proofs.CompleteLemmas.{done_or_not}
 use Rattle.wait_coverage.proofs.StandLemmas.{created_child}
 use Rattle.wait_coverage.proofs.LimitLemmas.{covers_cases}

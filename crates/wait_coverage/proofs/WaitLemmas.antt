@@ -4,7 +4,7 @@ use Rattle.std.proofs.lemmas.Bool.{cases_eq, false≢true}
 use Rattle.std.proofs.lemmas.Option.{none-some, same_Some, slice_get_within, slice_get-get_or}
 use Rattle.std.proofs.lemmas.List.{length-set, get_or-set_same, get_or-set_other}
 use Rattle.std.proofs.Math.ListN.{set}
-use Rattle.std.specs.Prelude.{◌↔◌, IsTrue, MatchOption, slice_get, slice_index, slice_index_or}
+use Rattle.std.specs.Prelude.{◌↔◌, IsTrue, slice_get, slice_index, slice_index_or}
 use Rattle.ompt_events.specs.declared.records.Record.{Record}
 use Rattle.ompt_events.specs.declared.names.Endpoint.{Endpoint}
 use Rattle.ompt_events.specs.declared.names.Endpoint.TheVariants.{Begin, End, BeginEnd}
@@ -13,7 +13,7 @@ use Rattle.ompt_events.specs.declared.names.SyncKind.TheVariants.{Barrier, Barri
 use Rattle.ompt_events.specs.Records.{made, created, creation, region}
 use Rattle.ompt_events.specs.Places.{at}
 use Rattle.ompt_events.specs.Tree.{child, deeper}
-use Rattle.ompt_events.specs.Regions.{IsRegion, EndsRegion, ended, at_once, is_barrier, waits_for_tasks}
+use Rattle.ompt_events.specs.Regions.{IsRegion, ended, at_once, is_barrier, waits_for_tasks}
 use Rattle.ompt_events.specs.Coverage.{IsFamily}
 use Rattle.task_tree.specs.Family.{FamilyView, IsFamilyOf}
 use Rattle.task_tree.specs.Lineage.{parent_index, IsParentAt}
@@ -21,17 +21,16 @@ use Rattle.task_tree.proofs.OnceLemmas.{made_once, creation_made}
 use Rattle.task_tree.proofs.LineageLemmas.{parent_is_at, parent_at_is}
 use Rattle.credit_ledger.specs.declared.entry.Cover.TheVariants.{Descendants}
 use Rattle.ompt_events.proofs.PlaceLemmas.{at_index, at_within}
-use Rattle.task_states.specs.States.{IsBegin}
 use Rattle.wait_coverage.specs.Entries.{IsDone}
 use Rattle.wait_coverage.specs.Done.{IsDoneFrom, AreOwn, IsParentsFirst}
-use Rattle.wait_coverage.specs.Waits.{IsWaitAt, waits, groups, IsOwnChild, IsAwaitedBy, IsAwaited, AreAwaited, AreMarked, IsMarkedAbove, EndsNoWait, EndsNoWaitAt, IsBeginOf, IsLateAt, cover_of, IsWithin, before_begin, in_group, by_member, meets}
-use Rattle.wait_coverage.specs.Teams.{AreBeginNumbers, begins_before}
+use Rattle.wait_coverage.specs.Waits.{IsWaitAt, waits, groups, IsOwnChild, IsAwaitedBy, IsAwaited, AreAwaited, AreMarked, IsMarkedAbove, EndsNoWait, EndsNoWaitAt, IsLateAt, cover_of, IsWithin, before_begin, in_group, by_member, meets}
+use Rattle.teams.specs.Teams.{AreBeginNumbers, begins_before}
 use Rattle.wait_coverage.specs.declared.waits.Wait.{Wait}
 use Rattle.wait_coverage.specs.declared.waits.Wait.TheVariants.{Taskwait as ForTaskwait, Taskgroup as ForTaskgroup, Barrier as ForBarrier}
-use Rattle.wait_coverage.proofs.BarrierLemmas.{barrier_begins_at}
+use Rattle.teams.proofs.BarrierLemmas.{barrier_begins_at}
 use Rattle.task_tree.specs.Numbering.{AreApart}
 use Rattle.ompt_events.specs.Teams.{IsTeammate}
-use Rattle.wait_coverage.proofs.CoverLemmas.{ends_at}
+use Rattle.teams.proofs.RegionEndLemmas.{ends_at, says_same}
 use Rattle.wait_coverage.proofs.DoneLemmas.{indices_of}
 
 -- ---- the children
@@ -186,43 +185,10 @@ marked_all rs family wait order n marks first all are = record {
 
 -- ---- the record that ends a wait
 
-same_says : (rs : List Record) (i task other : ℕ) (kind another : SyncKind) (e f : Endpoint) → at region rs i ≡ Some (task, kind, e) → at region rs i ≡ Some (other, another, f) → (task ≡ other) × (kind ≡ another) × (e ≡ f)
-same_says rs i task other kind another e f here there =
-    let same = same_Some (task, kind, e) (other, another, f) (sym here ∙ there) in
-    (ap (λ (p : ℕ × SyncKind × Endpoint). p.0) same, ap (λ (p : ℕ × SyncKind × Endpoint). p.1) same, ap (λ (p : ℕ × SyncKind × Endpoint). p.2) same)
-
-pub once_begin : (rs : List Record) (i own : ℕ) (kind : SyncKind) → at region rs i ≡ Some (own, kind, BeginEnd) → IsBeginOf rs i i
-once_begin rs i own kind says task other endpoint there =
-    let same = same_says rs i own task kind other BeginEnd endpoint says there in
-    let P : Endpoint → Type 0 = λ e. at region rs i ≡ Some (task, other, e) in
-    at_once (subst P (sym same.2) there)
-
-pub later_begin : (rs : List Record) (i own begin : ℕ) (kind : SyncKind) → at region rs i ≡ Some (own, kind, End) → EndsRegion rs i own kind begin → IsBeginOf rs i begin
-later_begin rs i own begin kind says ends task other endpoint there =
-    let same = same_says rs i own task kind other End endpoint says there in
-    let P : ℕ → Type 0 = λ t. IsRegion rs i t other begin in
-    let Q : SyncKind → Type 0 = λ k. IsRegion rs i own k begin in
-    subst P same.0 (subst Q same.1 (ended ends))
-
--- a begin ends nothing
-pub begin_ends_none : (rs : List Record) (i own : ℕ) (kind : SyncKind) → at region rs i ≡ Some (own, kind, Begin) → (task begin : ℕ) (other : SyncKind) → IsRegion rs i task other begin → ⊥
-begin_ends_none rs i own kind says task begin other (ended ends) = let same = (same_says rs i own task kind other Begin End says ends.ends).2 in cc
-begin_ends_none rs i own kind says task begin other (at_once once) = let same = (same_says rs i own task kind other Begin BeginEnd says once).2 in cc
-
-pub silent_ends_none : (rs : List Record) (i : ℕ) → at region rs i ≡ None → (task begin : ℕ) (other : SyncKind) → IsRegion rs i task other begin → ⊥
-silent_ends_none rs i none task begin other there = let ends = ends_at rs i task begin other there in none-some (task, other, ends.endpoint) (sym none ∙ ends.says)
-
-pub found_begin : (rs : List Record) (i own : ℕ) (kind : SyncKind) (found : Option ℕ) → at region rs i ≡ Some (own, kind, End) → IsBegin rs i own kind found → MatchOption found ((task begin : ℕ) (other : SyncKind) → IsRegion rs i task other begin → ⊥) (IsBeginOf rs i)
-found_begin rs i own kind None says known = let there = known says in absurd (none-some there.0 there.1)
-found_begin rs i own kind (Some begin) says known =
-    let there = known says in
-    let P : ℕ → Type 0 = IsBeginOf rs i in
-    subst P (sym (same_Some begin there.0 there.1)) (later_begin rs i own there.0 kind says there.2)
-
 -- a region that ends does not begin there alone
 pub not_begin : (rs : List Record) (i task begin own : ℕ) (kind other : SyncKind) (endpoint : Endpoint) → IsRegion rs i task kind begin → at region rs i ≡ Some (own, other, endpoint) → endpoint ≢ Begin
-not_begin rs i task begin own kind other endpoint (ended ends) says same = let e = (same_says rs i task own kind other End endpoint ends.ends says).2 in let never : End ≡ Begin = e ∙ same in cc
-not_begin rs i task begin own kind other endpoint (at_once once) says same = let e = (same_says rs i task own kind other BeginEnd endpoint once says).2 in let never : BeginEnd ≡ Begin = e ∙ same in cc
+not_begin rs i task begin own kind other endpoint (ended ends) says same = let e = (says_same rs i task own kind other End endpoint ends.ends says).2 in let never : End ≡ Begin = e ∙ same in cc
+not_begin rs i task begin own kind other endpoint (at_once once) says same = let e = (says_same rs i task own kind other BeginEnd endpoint once says).2 in let never : BeginEnd ≡ Begin = e ∙ same in cc
 
 pub no_wait_there : (rs : List Record) (i : ℕ) (r : Record) → i < length rs → EndsNoWait (get_or rs i r).body → EndsNoWaitAt rs i
 no_wait_there rs i r within ends_none task begin kind demands there =

@@ -7,12 +7,13 @@ use Rattle.ompt_events.specs.declared.names.SyncKind.TheVariants.{Taskwait}
 use Rattle.ompt_events.specs.Traces.{IsTrace}
 use Rattle.ompt_events.specs.Tree.{child_number}
 use Rattle.ompt_events.specs.Regions.{IsRegion, IsBarrierBegin, waits_for_tasks}
-use Rattle.wait_coverage.specs.Rows.{row_at}
+use Rattle.teams.specs.Rows.{row_at}
 use Rattle.credit_ledger.specs.declared.entry.Span.{Span}
 use Rattle.credit_ledger.specs.declared.entry.Cover.{Cover}
 use Rattle.credit_ledger.specs.declared.entry.Cover.TheVariants.{Children}
 use Rattle.task_tree.specs.Paths.{TreeView, IsTreeOf}
-use Rattle.wait_coverage.specs.Teams.{TeamsView, IsTeamsOf}
+use Rattle.wait_coverage.specs.Teams.{IsTeamsOf}
+use Rattle.teams.specs.Teams.{TeamsView}
 use Rattle.wait_coverage.specs.Known.{IsKnown}
 use Rattle.wait_coverage.specs.Numbers.{AreNumbers}
 use Rattle.wait_coverage.specs.Spans.{IsSpan, IsCoverComplete}

@@ -7,15 +7,8 @@ pub mod Lengths
 pub mod Codes
 pub mod Done
 pub mod Limits
-pub mod Rows
 pub mod Meetings
 pub mod Waits
 pub mod Known
 pub mod Numbers
 pub mod Coverage
-pub mod Begins
-pub mod Members
-pub mod Fewest
-pub mod Missed
-pub mod Seats
-pub mod Short

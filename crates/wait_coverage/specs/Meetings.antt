@@ -9,7 +9,7 @@ use Rattle.ompt_events.specs.declared.names.SyncKind.{SyncKind}
 use Rattle.ompt_events.specs.Records.{region}
 use Rattle.ompt_events.specs.Places.{at}
 use Rattle.ompt_events.specs.Regions.{is_barrier, IsBarrierBegin}
-use Rattle.wait_coverage.specs.Rows.{row_at}
+use Rattle.teams.specs.Rows.{row_at}
 use Rattle.wait_coverage.specs.Limits.{IsFamiliesLimit, IsWaitLimit, IsEndLimit}
 use Rattle.wait_coverage.specs.declared.limits.Node.{Node}
 

@@ -16,7 +16,7 @@ use Rattle.credit_ledger.specs.declared.entry.Entry.{Entry}
 use Rattle.credit_ledger.specs.declared.entry.Span.{Span}
 use Rattle.credit_ledger.specs.declared.entry.Cover.{Cover}
 use Rattle.credit_ledger.specs.Entries.{IsSpanHeld}
-use Rattle.wait_coverage.specs.Teams.{IsMemberNumbered}
+use Rattle.teams.specs.Teams.{IsMemberNumbered}
 
 -- the children of the task with these numbers, by the place of the task below its root
 pub record IsSpan (rs : List Record) (task from to : ℕ) (span : Span) : Type 0 where

@@ -114,11 +114,6 @@ pub record EndsWaitOf (body : Body) (kind : SyncKind) : Type 0 where
   pub ends : endpoint ≡ Begin → ⊥
   pub waits : waits_for_tasks kind ≡ true
 
--- the region that ends at i began there
-abbrev pub IsBeginOf : List Record → ℕ → ℕ → Type 0
-IsBeginOf rs i begin = (task : ℕ) (kind : SyncKind) (endpoint : Endpoint)
-    → at region rs i ≡ Some (task, kind, endpoint) → IsRegion rs i task kind begin
-
 -- ---- what is unfinished
 
 -- the end at i covers the task, which is unfinished there

@@ -1,38 +1,42 @@
 //! The ends of waits in a trace, the credit that each waits for, and the task that is unfinished at each.
-ghost use Rattle.std.specs.Prelude.{ℕ, ◌≡◌, ◌<◌, List, Some, All, IfOk, IfErr, IsTrue, MatchOption, Contains, Option, length, slice_get, take};
+ghost use Rattle.std.specs.Prelude.{ℕ, ◌≡◌, ◌<◌, ◌∷◌, [], List, Some, All, IfOk, IfErr, IsTrue, MatchOption, Contains, Option, length, slice_get, take};
 ghost use Rattle.ompt_events.specs.declared.records.Record.{Record};
+ghost use Rattle.ompt_events.specs.declared.cause.Cause.TheVariants.{TeamShort};
+ghost use Rattle.ompt_events.specs.declared.fault.Fault.TheVariants.{Memory};
+ghost use Rattle.ompt_events.specs.Faults.{IsFault};
 ghost use Rattle.ompt_events.specs.Tree.{HasPath};
 ghost use Rattle.task_tree.specs.Family.{IsFamilyOf};
 ghost use Rattle.task_tree.specs.Paths.{IsTreeOf};
-ghost use Rattle.task_states.specs.States.{AreStatesOf};
 ghost use Rattle.credit_ledger.specs.declared.entry.Span.{Span};
 ghost use Rattle.credit_ledger.specs.declared.entry.Cover.{Cover};
 ghost use Rattle.credit_ledger.specs.Entries.{IsSpanHeld};
 ghost use Rattle.wait_coverage.specs.Entries.{IsLedgerOf};
 ghost use Rattle.wait_coverage.specs.declared.waits.Wait.TheVariants.{Barrier};
 ghost use Rattle.wait_coverage.specs.Spans.{AreSpans, AreMemberSpans, IsSpan, IsCoverComplete, IsFreeUpTo};
-ghost use Rattle.wait_coverage.specs.Teams.{IsTeamsOf, IsTeamFault};
+ghost use Rattle.wait_coverage.specs.Teams.{IsTeamsOf};
 ghost use Rattle.wait_coverage.specs.Waits.{IsWaitAt, IsFirstOpen, cover_of};
 ghost use Rattle.wait_coverage.specs.Coverage.{AreEnds, AreWaits, AreFirstOpen, IsCoverAt, IsOnly, HasBegun, HaveBegun, IsMemberSpan, AreRosterSpans};
 
-use crate::fault::{CoverFault, TeamFault};
 use crate::numbers::find_numbers;
-use crate::teams::Teams;
 use crate::unfinished::{Known, find_known, open_of};
 use crate::waits::{Wait, wait_at};
 use credit_ledger::{Cover, Ledger, Span};
-use ompt_events::{Path, Record, Trace};
+use ompt_events::{Fault, Path, Record, Trace};
 use std::alloc::{AllocError, Global};
 use std::marker::Model;
 use task_states::States;
 use task_tree::{Family, Slot, Tree};
+use teams::Teams;
+
+/// Why a call on the coverage of waits has no answer.
+pub type CoverFault = Fault;
 
 /// What each wait of a trace waits for.
 #[derive(Debug, Drop)]
 pub struct Coverage<'a> {
     records: &'a [Record],
     tree: &'a Tree,
-    teams: Teams,
+    teams: Teams<'a>,
     known: Known,
     /// For each record how many children its task had created before it.
     numbers: Vec<u32>,
@@ -73,19 +77,20 @@ impl<'a> Coverage<'a> {
         alloc: Global,
         trace: &'a Trace,
         tree: &'a Tree,
-        states: &States,
-    ) -> Result<Coverage<'a>, TeamFault>
+        states: &'a States<'a>,
+    ) -> Result<Coverage<'a>, CoverFault>
         requires tree { IsTreeOf trace.now.records tree.now }
-        requires states { AreStatesOf trace.now.records states.now }
+        requires records { states.now.run.records ≡ trace.now.records }
+        requires family { states.now.run.family ≡ tree.now.family }
         ensures coverage { IfOk result (λ coverage. coverage.records ≡ trace.now.records) }
-        ensures fault { IfErr result (IsTeamFault trace.now.records) }
+        ensures fault { IfErr result (IsFault trace.now.records (TeamShort ∷ [])) }
     {
         let records = trace.records();
         let family = tree.family();
-        let teams = Teams::build(alloc, records, family, states)?;
-        let known = find_known(alloc, records, family, states, &teams)?;
+        let teams = Teams::in_run(alloc, states)?;
+        let known = find_known(alloc, &teams)?;
         let numbers = find_numbers(alloc, records, family)?;
-        let (ends, waits) = find_ends(alloc, records, family, states, &teams)?;
+        let (ends, waits) = find_ends(alloc, records, family, &teams)?;
         Ok(Coverage {
             records,
             tree,
@@ -118,7 +123,8 @@ impl<'a> Coverage<'a> {
     /// shares must have come back. `Memory` is the only refusal.
     pub fn spans(&self, number: usize) -> Result<Vec<Span>, CoverFault>
         requires { number < length self.now.ends }
-        ensures { IfOk result (λ spans. (end : ℕ) → slice_get self.now.ends number ≡ Some end
+        ensures fault { IfErr result (λ fault. fault ≡ Memory) }
+        ensures spans { IfOk result (λ spans. (end : ℕ) → slice_get self.now.ends number ≡ Some end
             → (cover : Cover) × IsCoverAt self.now.records end cover
             × AreSpans self.now.records end cover spans.items) }
     {
@@ -131,7 +137,8 @@ impl<'a> Coverage<'a> {
     /// and none of the causes 1 to 13 occurs in it. `Memory` is the only refusal.
     pub fn first_open(&self, number: usize, ledger: &Ledger) -> Result<Option<u64>, CoverFault>
         requires { number < length self.now.ends }
-        ensures { IsLedgerOf self.now.records ledger.now → IsFreeUpTo self.now.records 13
+        ensures fault { IfErr result (λ fault. fault ≡ Memory) }
+        ensures first { IsLedgerOf self.now.records ledger.now → IsFreeUpTo self.now.records 13
             → IfOk result (λ found. (end : ℕ) → slice_get self.now.ends number ≡ Some end
             → MatchOption found (IsCoverComplete self.now.records end) (IsFirstOpen self.now.records end)) }
     {
@@ -161,7 +168,8 @@ impl<'a> Coverage<'a> {
         ledger: &Ledger,
     ) -> Result<Vec<Option<u64>>, CoverFault>
         requires { All (λ number. number < length self.now.ends) of.now }
-        ensures { IsLedgerOf self.now.records ledger.now → IsFreeUpTo self.now.records 13
+        ensures fault { IfErr result (λ fault. fault ≡ Memory) }
+        ensures first { IsLedgerOf self.now.records ledger.now → IsFreeUpTo self.now.records 13
             → IfOk result (λ found.
             AreFirstOpen self.now.records self.now.ends of.now (length of.now) found.items) }
     {
@@ -272,7 +280,8 @@ fn stands_at(alloc: Global, tree: &Tree, task: u64) -> Result<(u64, Path), Alloc
 
 /// Whether the first entries of the ledger, so many as were seen, hold all the spans.
 fn are_held(ledger: &Ledger, seen: u32, spans: &[Span], cover: Cover) -> Result<bool, CoverFault>
-    ensures { IfOk result (λ held. IsTrue held → (span : Span) → Contains spans.now span
+    ensures fault { IfErr result (λ fault. fault ≡ Memory) }
+    ensures held { IfOk result (λ held. IsTrue held → (span : Span) → Contains spans.now span
         → IsSpanHeld (take seen ledger.now) span cover) }
 {
     for index in 0..spans.len() {
@@ -286,14 +295,15 @@ fn are_held(ledger: &Ledger, seen: u32, spans: &[Span], cover: Cover) -> Result<
 /// Whether the first entries of the ledger, so many as were seen, hold the span. No credit comes back from
 /// deeper than 1,024 steps below a root.
 fn is_held(ledger: &Ledger, seen: u32, span: &Span, cover: Cover) -> Result<bool, CoverFault>
-    ensures { IfOk result (λ held. IsTrue held → IsSpanHeld (take seen ledger.now) span.now cover) }
+    ensures fault { IfErr result (λ fault. fault ≡ Memory) }
+    ensures held { IfOk result (λ held. IsTrue held → IsSpanHeld (take seen ledger.now) span.now cover) }
 {
     if span.path.as_slice().len() > 1024 {
         return Ok(false);
     }
     match ledger.holds(seen, span, cover) {
         Ok(held) => Ok(held),
-        Err(_) => Err(CoverFault::Memory),
+        Err(_) => Err(Fault::Memory),
     }
 }
 
@@ -302,11 +312,9 @@ fn find_ends(
     alloc: Global,
     records: &[Record],
     family: &Family,
-    states: &States,
     teams: &Teams,
 ) -> Result<(Vec<usize>, Vec<Wait>), AllocError>
     requires family { IsFamilyOf records.now family.now }
-    requires states { AreStatesOf records.now states.now }
     requires teams { IsTeamsOf records.now family.now.tasks teams.now }
     ensures ends { IfOk result (λ found. AreEnds records.now (length records.now) found.0.items) }
     ensures waits { IfOk result (λ found.
@@ -315,7 +323,7 @@ fn find_ends(
     let mut ends = Vec::new(alloc);
     let mut waits = Vec::new(alloc);
     for at in 0..records.len() {
-        if let Some(wait) = wait_at(records, family, states, teams, at) {
+        if let Some(wait) = wait_at(records, family, teams, at) {
             ends.push(at)?;
             waits.push(wait)?;
         }

@@ -2,35 +2,23 @@
 //! finished tasks holds their credit.
 //!
 //! `find_open` looks at the ends of a whole trace, `Coverage` answers for single ones with their credit, and
-//! `laws` says why held credit means finished tasks. Read `unfinished` first, then what it stands on:
-//! `teams` (who meets at a barrier; after `rows`, `begins`, `members`, `fewest`, `missed`, `seats` and
-//! `short`), `order` (tasks behind their parents), `done` (after `lengths`: from which ledger length on each
-//! task is finished, and its descendants), `limits` and `meetings` (the same of what each end covers; after
-//! `limit`, a length in 32 bits), `waits` (the search where one is not); then `coverage`, after `numbers`.
+//! `laws` says why held credit means finished tasks. Read `unfinished` first, then what it stands on: `order`
+//! (tasks behind their parents), `done` (after `lengths`: from which ledger length on each task is finished,
+//! and its descendants), `limits` and `meetings` (the same of what each end covers; after `limit`, a length in
+//! 32 bits), `waits` (the search where one is not); then `coverage`, after `numbers`.
 #![tactic(auto)]
 
-mod begins;
 mod coverage;
 mod done;
-mod fault;
-mod fewest;
 pub mod laws;
 mod lengths;
 mod limit;
 mod limits;
 mod meetings;
-mod members;
-mod missed;
 mod numbers;
 mod order;
-mod rows;
-mod seats;
-mod short;
-mod teams;
 mod unfinished;
 mod waits;
 
-pub use coverage::Coverage;
-pub use fault::{CoverFault, TeamFault};
-pub use teams::Teams;
+pub use coverage::{CoverFault, Coverage};
 pub use unfinished::{Known, find_known, find_open};

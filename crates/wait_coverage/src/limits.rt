@@ -3,7 +3,6 @@ ghost use Rattle.std.specs.Prelude.{ℕ, ◌≡◌, ◌<◌, ◌≤◌, ◌+◌,
 ghost use Rattle.ompt_events.specs.Records.{creation, region};
 ghost use Rattle.ompt_events.specs.Places.{at as says_at};
 ghost use Rattle.task_tree.specs.Family.{IsFamilyOf};
-ghost use Rattle.task_states.specs.States.{AreStatesOf};
 ghost use Rattle.wait_coverage.specs.Done.{AreDone};
 ghost use Rattle.task_tree.specs.Subjects.{subject};
 ghost use Rattle.wait_coverage.specs.Limits.{IsChildLimit, IsFamiliesLimit, IsLimitOfBegin, AreFalling, Gathers, AreLatest, AreLatestFamilies, AreNoted, AreNodes};
@@ -11,15 +10,14 @@ ghost use Rattle.ompt_events.specs.Regions.{barrier_begun};
 ghost use Rattle.wait_coverage.specs.Meetings.{AreMet};
 ghost use Rattle.wait_coverage.specs.Teams.{IsTeamsOf};
 
-use crate::begins::begins_barrier;
 use crate::done::Done;
 use crate::limit::Limit;
 use crate::meetings::meet;
-use crate::teams::Teams;
+use crate::waits::begin_of;
 use ompt_events::{Body, Endpoint, Record, SyncKind};
 use std::alloc::{AllocError, Global};
-use task_states::States;
 use task_tree::{Family, Slot};
+use teams::Teams;
 
 /// What is noted at one record.
 #[derive(Clone, Copy, Debug, PartialEq, Eq)]
@@ -70,13 +68,11 @@ pub(crate) fn find_limits(
     alloc: Global,
     records: &[Record],
     family: &Family,
-    states: &States,
     teams: &Teams,
     done: &Done,
 ) -> Result<Noted, AllocError>
     requires few { length records.now ≤ 2 ^ 22 }
     requires family { IsFamilyOf records.now family.now }
-    requires states { AreStatesOf records.now states.now }
     requires teams { IsTeamsOf records.now family.now.tasks teams.now }
     requires done { AreDone records.now family.now.tasks done.now }
     ensures nodes { IfOk result (λ noted. AreNodes records.now noted.nodes.items) }
@@ -90,7 +86,7 @@ pub(crate) fn find_limits(
         let node = node_at(
             records,
             family,
-            states,
+            teams,
             done,
             nodes.as_slice(),
             &mut progress,
@@ -119,7 +115,7 @@ fn no_progress(alloc: Global, tasks: usize) -> Result<Progress, AllocError>
 fn node_at(
     records: &[Record],
     family: &Family,
-    states: &States,
+    teams: &Teams,
     done: &Done,
     nodes: &[Node],
     progress: &mut Progress,
@@ -128,7 +124,7 @@ fn node_at(
     requires within { at < length records.now }
     requires few { length records.now ≤ 2 ^ 22 }
     requires family { IsFamilyOf records.now family.now }
-    requires states { AreStatesOf records.now states.now }
+    requires teams { teams.now.run.records ≡ records.now }
     requires done { AreDone records.now family.now.tasks done.now }
     requires noted { AreNoted records.now at family.now.tasks nodes.now progress.old }
     ensures { AreNoted records.now (at + 1) family.now.tasks (nodes.now ++ result ∷ []) progress.new }
@@ -138,11 +134,11 @@ fn node_at(
         return create(records, family, done, nodes, progress, at);
     }
     if ends_taskgroup(body) {
-        return close(records, family, states, nodes, progress, at);
+        return close(records, family, teams, nodes, progress, at);
     }
     match taskwait_endpoint(body) {
         Some(endpoint) => match endpoint {
-            Endpoint::End => Node::alone(limit_of_begin(records, states, nodes, at)),
+            Endpoint::End => Node::alone(limit_of_begin(records, teams, nodes, at)),
             Endpoint::Begin | Endpoint::BeginEnd => {
                 Node::alone(latest_limit(records, family, progress.latest.as_slice(), at))
             }
@@ -171,6 +167,25 @@ fn taskwait_endpoint(body: &Body) -> Option<Endpoint>
         Some((_, SyncKind::Taskwait, endpoint)) => Some(endpoint),
         _ => None,
     }
+}
+
+/// Whether the record begins a barrier that waits for tasks.
+pub(crate) fn begins_barrier(body: &Body) -> bool
+    ensures { IsTrue result ↔ ((task : ℕ) × (barrier_begun (region body.now) ≡ Some task)) }
+{
+    barrier_begun(body).is_some()
+}
+
+/// The task that begins a barrier of the kinds that wait for the tasks of the team, whether or not it ends
+/// there too.
+fn barrier_begun(body: &Body) -> Option<u64>
+    ensures { result ≡ barrier_begun (region body.now) }
+{
+    let (task, kind, endpoint) = body.region()?;
+    if endpoint == Endpoint::End {
+        return None;
+    }
+    if kind.is_barrier() { Some(task) } else { None }
 }
 
 /// The node of a creation, which is the child's.
@@ -209,7 +224,7 @@ fn create(
 fn close(
     records: &[Record],
     family: &Family,
-    states: &States,
+    teams: &Teams,
     nodes: &[Node],
     progress: &mut Progress,
     at: usize,
@@ -217,7 +232,7 @@ fn close(
     requires within { at < length records.now }
     requires few { length records.now ≤ 2 ^ 22 }
     requires family { IsFamilyOf records.now family.now }
-    requires states { AreStatesOf records.now states.now }
+    requires teams { teams.now.run.records ≡ records.now }
     requires ends { (task : ℕ)
         × (says_at region records.now at ≡ Some (task, SyncKind.Taskgroup, Endpoint.End)) }
     requires noted { AreNoted records.now at family.now.tasks nodes.now progress.old }
@@ -226,7 +241,7 @@ fn close(
     let Some(parent) = family.subject(at) else {
         return Node::alone(Limit::zero());
     };
-    let Some(begin) = states.begin(at) else {
+    let Some(begin) = begin_of(records, teams, at) else {
         return Node::alone(Limit::zero());
     };
     let node = gather(nodes, progress.heads[parent], begin);
@@ -263,14 +278,14 @@ fn later(slot: Slot, begin: usize) -> Option<usize>
 }
 
 /// The limit at the begin of the taskwait that ends at the place.
-fn limit_of_begin(records: &[Record], states: &States, nodes: &[Node], at: usize) -> Limit
-    requires states { AreStatesOf records.now states.now }
+fn limit_of_begin(records: &[Record], teams: &Teams, nodes: &[Node], at: usize) -> Limit
+    requires teams { teams.now.run.records ≡ records.now }
     requires count { length nodes.now ≡ at }
     requires ends { (task : ℕ)
         × (says_at region records.now at ≡ Some (task, SyncKind.Taskwait, Endpoint.End)) }
     ensures { IsLimitOfBegin records.now nodes.now at result }
 {
-    match states.begin(at) {
+    match begin_of(records, teams, at) {
         Some(begin) => nodes[begin].limit,
         None => Limit::zero(),
     }

@@ -5,41 +5,35 @@ ghost use Rattle.ompt_events.specs.Records.{region};
 ghost use Rattle.ompt_events.specs.Places.{at as says_at};
 ghost use Rattle.ompt_events.specs.Regions.{barrier_begun};
 ghost use Rattle.task_tree.specs.Family.{IsFamilyOf};
-ghost use Rattle.task_states.specs.States.{AreStatesOf};
 ghost use Rattle.wait_coverage.specs.Teams.{IsTeamsOf};
 ghost use Rattle.wait_coverage.specs.Limits.{IsFamiliesLimit, IsEndLimit, AreNodes, AreEndLimits};
 ghost use Rattle.wait_coverage.specs.Meetings.{EndsBarrier, IsBarrierEnd, AreMet, IsRaised, AreMeetingsAdded};
 
-use crate::begins::begins_barrier;
 use crate::limit::Limit;
-use crate::limits::Node;
-use crate::rows::reach;
-use crate::teams::Teams;
+use crate::limits::{Node, begins_barrier};
 use crate::waits::begin_of;
 use ompt_events::{Body, Endpoint, Record};
 use std::alloc::{AllocError, Global};
-use task_states::States;
 use task_tree::Family;
+use teams::{Teams, reach};
 
 /// Makes the nodes of the ends of barriers right; those of all other records stay as they are. It takes a
 /// few steps for each record.
 pub(crate) fn add_meetings(
     records: &[Record],
     family: &Family,
-    states: &States,
     teams: &Teams,
     meetings: &[Vec<Limit>],
     nodes: &mut Vec<Node>,
 )
     requires family { IsFamilyOf records.now family.now }
-    requires states { AreStatesOf records.now states.now }
     requires teams { IsTeamsOf records.now family.now.tasks teams.now }
     requires met { AreMet records.now (length records.now) family.now.tasks teams.now.teams meetings.now }
     requires nodes { AreNodes records.now nodes.old.items }
     ensures { AreEndLimits records.now nodes.new.items }
 {
     for at in 0..records.len() {
-        add_meeting(records, family, states, teams, meetings, nodes, at);
+        add_meeting(records, family, teams, meetings, nodes, at);
     }
 }
 
@@ -102,7 +96,6 @@ fn ends_barrier(body: &Body) -> bool
 fn add_meeting(
     records: &[Record],
     family: &Family,
-    states: &States,
     teams: &Teams,
     meetings: &[Vec<Limit>],
     nodes: &mut Vec<Node>,
@@ -110,14 +103,13 @@ fn add_meeting(
 )
     requires within { at < length records.now }
     requires family { IsFamilyOf records.now family.now }
-    requires states { AreStatesOf records.now states.now }
     requires teams { IsTeamsOf records.now family.now.tasks teams.now }
     requires met { AreMet records.now (length records.now) family.now.tasks teams.now.teams meetings.now }
     requires nodes { AreMeetingsAdded records.now at nodes.old.items }
     ensures { AreMeetingsAdded records.now (at + 1) nodes.new.items }
 {
     if ends_barrier(&records[at].body) {
-        nodes[at].limit = end_limit(records, family, states, teams, meetings, at);
+        nodes[at].limit = end_limit(records, family, teams, meetings, at);
     }
 }
 
@@ -125,7 +117,6 @@ fn add_meeting(
 fn end_limit(
     records: &[Record],
     family: &Family,
-    states: &States,
     teams: &Teams,
     meetings: &[Vec<Limit>],
     at: usize,
@@ -133,7 +124,6 @@ fn end_limit(
     requires within { at < length records.now }
     requires ends { IsBarrierEnd records.now at }
     requires family { IsFamilyOf records.now family.now }
-    requires states { AreStatesOf records.now states.now }
     requires teams { IsTeamsOf records.now family.now.tasks teams.now }
     requires met { AreMet records.now (length records.now) family.now.tasks teams.now.teams meetings.now }
     ensures { IsEndLimit records.now at result }
@@ -144,7 +134,7 @@ fn end_limit(
     let Some(team) = teams.team(index) else {
         return Limit::zero();
     };
-    let Some(begin) = begin_of(records, states, at) else {
+    let Some(begin) = begin_of(records, teams, at) else {
         return Limit::zero();
     };
     let number = teams.number(begin) as usize;

@@ -1,8 +1,8 @@
 //! The first end of a region that covers an unfinished task.
-ghost use Rattle.std.specs.Prelude.{ℕ, ◌≡◌, ◌<◌, ◌≤◌, ◌^◌, List, IfOk, MatchOption, length};
+ghost use Rattle.std.specs.Prelude.{ℕ, ◌≡◌, ◌<◌, ◌≤◌, ◌^◌, List, IfOk, IfErr, MatchOption, length};
 ghost use Rattle.ompt_events.specs.declared.records.Record.{Record};
+ghost use Rattle.ompt_events.specs.declared.fault.Fault.TheVariants.{Memory};
 ghost use Rattle.task_tree.specs.Family.{IsFamilyOf, FamilyView};
-ghost use Rattle.task_states.specs.States.{AreStatesOf};
 ghost use Rattle.wait_coverage.specs.Teams.{IsTeamsOf};
 ghost use Rattle.wait_coverage.specs.Done.{AreOwn};
 ghost use Rattle.wait_coverage.specs.Spans.{IsCoverComplete};
@@ -13,12 +13,11 @@ use crate::done::{Done, find_done};
 use crate::limits::{Node, Noted, find_limits};
 use crate::meetings::add_meetings;
 use crate::order::parents_first;
-use crate::teams::Teams;
 use crate::waits::{Wait, find_awaited, first_late, wait_at};
-use ompt_events::Record;
+use ompt_events::{Fault, Record};
 use std::alloc::{AllocError, Global};
-use task_states::States;
 use task_tree::Family;
+use teams::Teams;
 
 /// What is known of all tasks and records before an end is looked at.
 #[derive(Debug, Drop)]
@@ -39,51 +38,68 @@ impl Known {
 }
 
 /// What is known of all tasks and records. It takes a few steps for each record, and memory linear in the
-/// records.
-pub fn find_known(
+/// records. `Memory` is the only refusal.
+pub fn find_known(alloc: Global, teams: &Teams) -> Result<Known, Fault>
+    ensures known { IfOk result (IsKnown teams.now.run.records teams.now.run.family) }
+    ensures fault { IfErr result (λ fault. fault ≡ Memory) }
+{
+    let run = teams.run();
+    Ok(known_of(alloc, run.records(), run.family(), teams)?)
+}
+
+/// The same of the records and their family.
+fn known_of(
     alloc: Global,
     records: &[Record],
     family: &Family,
-    states: &States,
     teams: &Teams,
 ) -> Result<Known, AllocError>
     requires few { length records.now ≤ 2 ^ 22 }
     requires family { IsFamilyOf records.now family.now }
-    requires states { AreStatesOf records.now states.now }
     requires teams { IsTeamsOf records.now family.now.tasks teams.now }
     ensures { IfOk result (IsKnown records.now family.now) }
 {
     let done = find_done(alloc, records, family)?;
-    let noted = find_limits(alloc, records, family, states, teams, &done)?;
+    let noted = find_limits(alloc, records, family, teams, &done)?;
     let Noted {
         mut nodes,
         meetings,
     } = noted;
-    add_meetings(records, family, states, teams, &meetings, &mut nodes);
+    add_meetings(records, family, teams, &meetings, &mut nodes);
     Ok(Known { done, nodes })
 }
 
 /// The first record that ends a region that waits for tasks, and that covers an unfinished one; and of the
 /// tasks that it covers the first created one that is unfinished (OpenMP 5.2, 15.3 to 15.5). It takes a few
-/// steps for each record, and memory linear in the records.
-pub fn find_open(
+/// steps for each record, and memory linear in the records. What is known must be what is known of the run.
+/// `Memory` is the only refusal.
+pub fn find_open(alloc: Global, teams: &Teams, known: &Known) -> Result<Option<(usize, u64)>, Fault>
+    requires { IsKnown teams.now.run.records teams.now.run.family known.now }
+    ensures first { IfOk result (λ found.
+        MatchOption found ((i : ℕ) → IsCoverComplete teams.now.run.records i)
+        (λ f. IsFirstOpenEnd teams.now.run.records f.0 f.1)) }
+    ensures fault { IfErr result (λ fault. fault ≡ Memory) }
+{
+    let run = teams.run();
+    Ok(first_open_end(alloc, run.records(), run.family(), teams, known)?)
+}
+
+/// The same of the records and their family.
+fn first_open_end(
     alloc: Global,
     records: &[Record],
     family: &Family,
-    states: &States,
     teams: &Teams,
     known: &Known,
 ) -> Result<Option<(usize, u64)>, AllocError>
-    requires few { length records.now ≤ 2 ^ 22 }
     requires family { IsFamilyOf records.now family.now }
-    requires states { AreStatesOf records.now states.now }
     requires teams { IsTeamsOf records.now family.now.tasks teams.now }
     requires known { IsKnown records.now family.now known.now }
     ensures { IfOk result (λ found. MatchOption found ((i : ℕ) → IsCoverComplete records.now i)
         (λ f. IsFirstOpenEnd records.now f.0 f.1)) }
 {
     for at in 0..records.len() {
-        if let Some(task) = open_at(alloc, records, family, states, teams, known, at)? {
+        if let Some(task) = open_at(alloc, records, family, teams, known, at)? {
             return Ok(Some((at, task)));
         }
     }
@@ -95,14 +111,12 @@ fn open_at(
     alloc: Global,
     records: &[Record],
     family: &Family,
-    states: &States,
     teams: &Teams,
     known: &Known,
     at: usize,
 ) -> Result<Option<u64>, AllocError>
     requires within { at < length records.now }
     requires family { IsFamilyOf records.now family.now }
-    requires states { AreStatesOf records.now states.now }
     requires teams { IsTeamsOf records.now family.now.tasks teams.now }
     requires known { IsKnown records.now family.now known.now }
     ensures { IfOk result (λ found. MatchOption found (IsCoverComplete records.now at)
@@ -112,7 +126,7 @@ fn open_at(
     if known.nodes[at].limit.is_reached(records[at].seen) {
         return Ok(None);
     }
-    match wait_at(records, family, states, teams, at) {
+    match wait_at(records, family, teams, at) {
         Some(wait) => open_of(alloc, records, family, teams, known, &wait, at),
         None => Ok(None),
     }

@@ -6,20 +6,20 @@ ghost use Rattle.ompt_events.specs.Regions.{IsRegion, waits_for_tasks};
 ghost use Rattle.ompt_events.specs.Places.{at as says_at};
 ghost use Rattle.ompt_events.specs.Records.{created};
 ghost use Rattle.task_tree.specs.Family.{IsFamilyOf};
-ghost use Rattle.task_states.specs.States.{AreStatesOf};
 ghost use Rattle.wait_coverage.specs.Done.{AreOwn, IsParentsFirst};
-ghost use Rattle.wait_coverage.specs.Rows.{row_at};
-ghost use Rattle.wait_coverage.specs.Teams.{IsTeamsOf, AreTeams, AreBeginNumbers};
+ghost use Rattle.teams.specs.Rows.{row_at};
+ghost use Rattle.wait_coverage.specs.Teams.{IsTeamsOf};
+ghost use Rattle.teams.specs.Teams.{AreTeams, AreBeginNumbers};
 ghost use Rattle.ompt_events.specs.Teams.{IsTeammate};
 ghost use Rattle.wait_coverage.specs.declared.waits.Wait.{Wait};
-ghost use Rattle.wait_coverage.specs.Waits.{EndsNoWaitAt, EndsNoWait, EndsWaitOf, IsBeginOf, IsMarkedAbove, IsWaitAt, IsWithin, IsOwnChild, IsAwaited, AreAwaited, AreMarked, IsLateAt, IsFirstLate, cover_of, waiting};
+ghost use Rattle.task_states.specs.States.{IsBeginOf};
+ghost use Rattle.wait_coverage.specs.Waits.{EndsNoWaitAt, EndsNoWait, EndsWaitOf, IsMarkedAbove, IsWaitAt, IsWithin, IsOwnChild, IsAwaited, AreAwaited, AreMarked, IsLateAt, IsFirstLate, cover_of, waiting};
 
-use crate::teams::Teams;
 use credit_ledger::Cover;
 use ompt_events::{Body, Endpoint, Record, SyncKind};
 use std::alloc::{AllocError, Global};
-use task_states::States;
 use task_tree::Family;
+use teams::Teams;
 
 /// What the end of a region waits for. The task is an index, and the others but the number are places.
 #[derive(Clone, Copy, Debug)]
@@ -56,22 +56,15 @@ impl Wait {
 }
 
 /// What the record at a place waits for, if it ends a region that waits for tasks.
-pub(crate) fn wait_at(
-    records: &[Record],
-    family: &Family,
-    states: &States,
-    teams: &Teams,
-    at: usize,
-) -> Option<Wait>
+pub(crate) fn wait_at(records: &[Record], family: &Family, teams: &Teams, at: usize) -> Option<Wait>
     requires within { at < length records.now }
     requires family { IsFamilyOf records.now family.now }
-    requires states { AreStatesOf records.now states.now }
     requires teams { IsTeamsOf records.now family.now.tasks teams.now }
     ensures { MatchOption result (EndsNoWaitAt records.now at) (IsWaitAt records.now family.now.tasks at) }
 {
     let kind = waited_kind(&records[at].body)?;
     let task = family.subject(at)?;
-    let begin = begin_of(records, states, at)?;
+    let begin = begin_of(records, teams, at)?;
     Some(wait_of(records, teams, kind, task, begin, at))
 }
 
@@ -120,19 +113,14 @@ fn wait_of(
 }
 
 /// Where the region began that ends at the place.
-pub(crate) fn begin_of(records: &[Record], states: &States, at: usize) -> Option<usize>
+pub(crate) fn begin_of(records: &[Record], teams: &Teams, at: usize) -> Option<usize>
     requires within { at < length records.now }
-    requires states { AreStatesOf records.now states.now }
+    requires teams { teams.now.run.records ≡ records.now }
     ensures { MatchOption result ((task begin : ℕ) (kind : SyncKind)
         → IsRegion records.now at task kind begin → ⊥)
         (IsBeginOf records.now at) }
 {
-    let (_, _, endpoint) = records[at].body.region()?;
-    match endpoint {
-        Endpoint::Begin => None,
-        Endpoint::End => states.begin(at),
-        Endpoint::BeginEnd => Some(at),
-    }
+    teams.begin_of(at)
 }
 
 /// Whether each task is waited for, by its index. The order has each task behind its parent.

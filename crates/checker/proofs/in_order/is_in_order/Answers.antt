@@ -1,11 +1,11 @@
-use Rattle.std.proofs.Common.{◌≡◌, ◌∙◌, ℕ, ◌≤◌, List, length, Some, refl, sym, ap, arith, below_more}
+use Rattle.std.proofs.Common.{◌≡◌, ◌∙◌, ℕ, ◌<◌, ◌≤◌, List, length, Some, refl, sym, ap, arith, below_more}
 use Rattle.ompt_events.specs.declared.records.Record.{Record}
 use Rattle.ompt_events.specs.Places.{thread_at, seen_at}
-use Rattle.ompt_events.proofs.PlaceLemmas.{at_within, read_get, thread_read, seen_read}
+use Rattle.ompt_events.proofs.PlaceLemmas.{at_within}
 use Rattle.checker.specs.Merge.{awaited}
 use Rattle.checker.specs.InOrder.{AreInOrder, FitsBehind}
 use Rattle.checker.proofs.LengthLemmas.{known_start, known_more, not_behind, free_of_back}
-use Rattle.checker.proofs.ScheduleLemmas.{steps_less}
+use Rattle.checker.proofs.ScheduleLemmas.{steps_less, trace_apart}
 use Rattle.checker.proofs.InOrderLemmas.{fit_more, count_more, entries_most, created_more, AllFit, fit_once, fit_reached, fit_entered}
 use Rattle.checker.proofs.in_order.is_in_order.Goals as goal
 
@@ -15,32 +15,31 @@ loop-at-init c = record {
   short = omega arith;
   fit = λ i below. absurd (omega (arith, below));
   created = λ i place below waits. absurd (omega (arith, below));
-  is_known = known_start c.args.records.now;
+  is_known = known_start c.args.run.now.records;
   free = λ k below is. absurd (omega (arith, below));
 }
 
 pub loop-at-preserved : goal.loop-at-preserved
 loop-at-preserved c =
-    let rs = c.args.records.now in
+    let rs = c.args.run.now.records in
     let i = c.loop-at.at in
-    let r = c.index-records-at.result in
-    let within = c.loop-at-test.true in
+    let within : i < length rs = rw c.len-at-end.ensures.value at c.loop-at-test.true in
     let was = c.loop-at.invariant in
-    let here = read_get rs i r within c.index-records-at.is in
-    let own : thread_at rs i ≡ Some c.from-thread.result = thread_read rs i r within c.index-records-at.is ∙ ap Some (sym c.from-thread.ensures) in
-    let seen : seen_at rs i ≡ c.from.result = seen_read rs i r within c.index-records-at.is ∙ sym c.from.ensures in
+    let own : thread_at rs i ≡ Some c.from-thread.result = c.thread.ensures ∙ ap Some (sym c.from-thread.ensures) in
+    let seen : seen_at rs i ≡ c.from.result = sym c.seen.ensures ∙ sym c.from.ensures in
     let more = c.if-from-known.false in
-    let fits : FitsBehind rs i c.loop-at.entries = c.fits_behind.ensures c.if-not-fits_behind.false rs i here in
+    let apart = trace_apart rs c.len-at-end.ensures.is_run.trace in
+    let fits : FitsBehind rs i c.loop-at.entries = c.fits_behind.ensures c.if-not-fits_behind.false in
     let follows = c.follows_creation.ensures c.if-not-follows_creation.false in
     record {
-      count = count_more rs i c.loop-at.entries c.entries_after-entries.result r within was.count (c.entries_after-entries.ensures rs i here);
-      short = let step = entries_most rs i c.loop-at.entries c.entries_after-entries.result (c.entries_after-entries.ensures rs i here) in let before = was.short in omega (arith, step, before);
+      count = count_more rs i c.loop-at.entries c.entries_after-entries.result within was.count c.entries_after-entries.ensures;
+      short = let step = entries_most rs i c.loop-at.entries c.entries_after-entries.result c.entries_after-entries.ensures in let before = was.short in omega (arith, step, before);
       fit = fit_more rs i c.loop-at.entries was.count fits was.fit;
       created = created_more rs i was.created (λ place waits. (follows place waits).0);
-      is_known = known_more rs i r c.from-thread.result c.length_after.result c.loop-at.known within c.index-records-at.is c.from-thread.ensures (let low = c.from-thread.ensures in omega (arith, low))
-          (c.length_after.ensures rs i here)
+      is_known = known_more rs i c.from-thread.result c.known_after.result c.loop-at.known own (let low = c.from-thread.ensures in omega (arith, low))
+          c.known_after.ensures
           (omega (arith, more, seen)) was.is_known;
-      free = below_more _ _ was.free (not_behind rs i c.from-thread.result c.loop-at.known c.requires.apart own (omega (arith, more, seen))
+      free = below_more _ _ was.free (not_behind rs i c.from-thread.result c.loop-at.known apart own (omega (arith, more, seen))
           (λ (place, waits, less). let low = (follows place waits).1 in omega (arith, low, less)) was.is_known);
     }
 
@@ -49,17 +48,17 @@ all_fit rs n entries known end are i below = are.fit i (omega (arith, end, below
 
 pub returns-clause-steps : goal.returns-clause-steps
 returns-clause-steps c = λ _.
-    let rs = c.args.records.now in
-    let fit = all_fit rs c.loop-at.at c.loop-at.entries c.loop-at.known (omega arith) c.loop-at.invariant in
-    steps_less rs c.requires.apart
-    (λ i place waits. c.loop-at.invariant.created i place (let within = at_within awaited rs i waits.0 waits.1 in omega (arith, within)) waits)
+    let rs = c.args.run.now.records in
+    let fit = all_fit rs c.loop-at.at c.loop-at.entries c.loop-at.known (let end = rw c.len-at-end.ensures.value at c.loop-at-test.false in omega (arith, end)) c.loop-at.invariant in
+    steps_less rs (trace_apart rs c.len-at-end.ensures.is_run.trace)
+    (λ i place waits. c.loop-at.invariant.created i place (let within = at_within awaited rs i waits.0 waits.1 in let end = rw c.len-at-end.ensures.value at c.loop-at-test.false in omega (arith, within, end)) waits)
     (fit_entered rs fit)
 
 pub returns-clause-once : goal.returns-clause-once
-returns-clause-once c = λ _. fit_once c.args.records.now (all_fit c.args.records.now c.loop-at.at c.loop-at.entries c.loop-at.known (omega arith) c.loop-at.invariant)
+returns-clause-once c = λ _. fit_once c.args.run.now.records (all_fit c.args.run.now.records c.loop-at.at c.loop-at.entries c.loop-at.known (let end = rw c.len-at-end.ensures.value at c.loop-at-test.false in omega (arith, end)) c.loop-at.invariant)
 
 pub returns-clause-reached : goal.returns-clause-reached
-returns-clause-reached c = λ _. fit_reached c.args.records.now (all_fit c.args.records.now c.loop-at.at c.loop-at.entries c.loop-at.known (omega arith) c.loop-at.invariant)
+returns-clause-reached c = λ _. fit_reached c.args.run.now.records (all_fit c.args.run.now.records c.loop-at.at c.loop-at.entries c.loop-at.known (let end = rw c.len-at-end.ensures.value at c.loop-at-test.false in omega (arith, end)) c.loop-at.invariant)
 
 pub returns-clause-rise : goal.returns-clause-rise
-returns-clause-rise c = λ _. free_of_back c.args.records.now c.loop-at.at c.loop-at.invariant.free (omega arith)
+returns-clause-rise c = λ _. free_of_back c.args.run.now.records c.loop-at.at c.loop-at.invariant.free (let end = rw c.len-at-end.ensures.value at c.loop-at-test.false in omega (arith, end))

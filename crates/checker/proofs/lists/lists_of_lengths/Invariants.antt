@@ -5,8 +5,10 @@ use Rattle.checker.proofs.lists.lists_of_lengths.Given as goal
 
 -- from the end on the records so far are in their lists
 abbrev pub invariant-loop-step : goal.invariant-loop-step
-invariant-loop-step l = record {
-  keys : length l.lists.firsts.items ≡ l.entries + 1;
-  lists : (from : ℕ) → from + l.step ≡ length l.records → AreLists (length_of l.records) (length l.records) from l.lists.firsts.items l.lists.nexts.items;
-  rising : IsRising (length l.records) l.lists.nexts.items;
-}
+invariant-loop-step l =
+    let rs = l.makers.run.records in
+    record {
+      keys : length l.lists.firsts.items ≡ length l.makers.places + 1;
+      lists : (from : ℕ) → from + l.step ≡ length rs → AreLists (length_of rs) (length rs) from l.lists.firsts.items l.lists.nexts.items;
+      rising : IsRising (length rs) l.lists.nexts.items;
+    }

@@ -6,7 +6,7 @@ use Rattle.checker.proofs.lists.lists_of_tasks.Given as goal
 -- from the end on the records so far are in their lists
 abbrev pub invariant-loop-step : goal.invariant-loop-step
 invariant-loop-step l = record {
-  keys : length l.lists.firsts.items ≡ length l.family.tasks;
-  lists : (from : ℕ) → from + l.step ≡ length l.records → AreLists (task_of l.family.tasks l.records) (length l.records) from l.lists.firsts.items l.lists.nexts.items;
-  rising : IsRising (length l.records) l.lists.nexts.items;
+  keys : length l.lists.firsts.items ≡ length l.run.family.tasks;
+  lists : (from : ℕ) → from + l.step ≡ length l.run.records → AreLists (task_of l.run.family.tasks l.run.records) (length l.run.records) from l.lists.firsts.items l.lists.nexts.items;
+  rising : IsRising (length l.run.records) l.lists.nexts.items;
 }

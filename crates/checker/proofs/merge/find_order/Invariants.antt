@@ -7,11 +7,11 @@ use Rattle.checker.proofs.merge.find_order.Given as goal
 -- the merge has come so far, of the entries before `low` each maker stands, and what may stand next is known
 abbrev pub invariant-merge : goal.invariant-merge
 invariant-merge l = record {
-  merging : IsMerging l.records l.placed.items l.heads.items l.order.items;
-  within : l.low ≤ length l.makers;
-  passed : (k : ℕ) → k < l.low → slice_index l.makers k < length l.placed.items → Stands l.placed.items (slice_index l.makers k);
-  missing : l.low < length l.makers → IsUnplaced l.placed.items (slice_index l.makers l.low);
-  ready : AreOffered l.records l.placed.items l.ready;
+  merging : IsMerging l.run.records l.placed.items l.heads.items l.order.items;
+  within : l.low ≤ length l.places;
+  passed : (k : ℕ) → k < l.low → slice_index l.places k < length l.placed.items → Stands l.placed.items (slice_index l.places k);
+  missing : l.low < length l.places → IsUnplaced l.placed.items (slice_index l.places l.low);
+  ready : AreOffered l.run.records l.placed.items l.ready;
 }
 
 -- each turn leaves one record less to place

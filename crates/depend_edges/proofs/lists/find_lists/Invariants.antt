@@ -3,4 +3,4 @@ use Rattle.depend_edges.proofs.lists.find_lists.Given as goal
 
 -- the lists so far
 abbrev pub invariant-loop-at : goal.invariant-loop-at
-invariant-loop-at l = AreListed l.records l.at l.family.tasks l.lists.items
+invariant-loop-at l = AreListed l.run.records l.at l.run.family.tasks l.lists.items

@@ -4,6 +4,6 @@ use Rattle.depend_edges.proofs.placement.find_marks.Given as goal
 -- the threads and the marks so far
 abbrev pub invariant-loop-at : goal.invariant-loop-at
 invariant-loop-at l = record {
-  last : AreLast l.records l.at l.last.items;
-  marks : AreMarked l.records l.at l.marks.items;
+  last : AreLast l.run.records l.at l.last.items;
+  marks : AreMarked l.run.records l.at l.marks.items;
 }

@@ -4,4 +4,4 @@ use Rattle.depend_edges.proofs.placement.has_none.Given as goal
 
 -- no record so far has dependences
 abbrev pub invariant-loop-at : goal.invariant-loop-at
-invariant-loop-at l = (k : ℕ) → k < l.at → HasNoneAt l.records k
+invariant-loop-at l = (k : ℕ) → k < l.at → HasNoneAt l.run.records k

@@ -1,11 +1,8 @@
-use Rattle.std.proofs.Common.{◌<◌, get_or, rules}
-use Rattle.ompt_events.proofs.PlaceLemmas.{thread_index}
+use Rattle.std.proofs.Common.{◌<◌, rules}
 use Rattle.depend_edges.proofs.PlacementLemmas.{last_more}
 use Rattle.depend_edges.proofs.placement.note_last.Goals as goal
 
 pub returns : goal.returns
 returns c =
-    let r = c.index-records-at.result in
-    let low : r.thread < 256 = search rules in
-    let own : (get_or c.args.records.now c.args.at r).thread < 256 = rw (← c.index-records-at.is) low in
-    rw c.some.ensures (last_more c.args.records.now c.args.at (get_or c.args.records.now c.args.at r).thread c.args.last.now.items (thread_index c.args.records.now c.args.at r c.requires.within) own c.requires.last)
+    let low : c.thread-thread.result < 256 = search rules in
+    rw c.some.ensures (last_more c.args.run.now.records c.args.at c.thread-thread.result c.args.last.now.items c.thread-thread.ensures low c.requires.last)

@@ -1,4 +1,4 @@
-use Rattle.std.proofs.Common.{◌≡◌, ◌+◌, ◌≤◌, ◌^◌, ◌∙◌, ◌<◌, take, length, arith, sym, ap, true, false}
+use Rattle.std.proofs.Common.{◌≡◌, ◌+◌, ◌≤◌, ◌∙◌, ◌<◌, take, length, arith, sym, ap, true, false}
 use Rattle.std.specs.Prelude.{is_some}
 use Rattle.ompt_events.specs.Limits.{max_tasks}
 use Rattle.ompt_events.specs.Traces.{IsSound, tasks_in}

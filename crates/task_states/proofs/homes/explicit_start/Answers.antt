@@ -1,15 +1,5 @@
-use Rattle.std.proofs.Common.{◌≡◌, ◌∙◌, Some, sym}
-use Rattle.ompt_events.specs.Records.{started}
-use Rattle.ompt_events.specs.Places.{at}
-use Rattle.ompt_events.proofs.PlaceLemmas.{at_index}
-use Rattle.task_tree.specs.Subjects.{object, Calls}
 use Rattle.task_states.proofs.HomeLemmas.{explicit_start_is}
 use Rattle.task_states.proofs.homes.explicit_start.Goals as goal
 
-pub returns-then-is_explicit_at : goal.returns-then-is_explicit_at
-returns-then-is_explicit_at c =
-    let rs = c.args.records.now in
-    let family = c.args.family.now in
-    let starts : at started rs c.args.at ≡ Some c.in_ok-_task._task = at_index started rs c.args.at c.index-records-at.result c.requires.within ∙ sym c.started.ensures ∙ c.in_ok-_task.was in
-    let calls : Calls family.tasks (at object rs c.args.at) (Some c.in_ok-index.index) = rw (← c.in_ok-index.was) (c.object.ensures rs c.requires.family) in
-    explicit_start_is rs family.tasks c.args.at c.in_ok-index.index c.in_ok-_task._task c.requires.family.makers.apart starts calls (λ task is. (c.is_explicit_at.ensures rs c.requires.family task is).0 c.if-is_explicit_at.true)
+pub returns-then-is_explicit : goal.returns-then-is_explicit
+returns-then-is_explicit c = explicit_start_is c.args.run.now c.args.at c.in_ok-index.index c.started.result c.requires.is_run c.started.ensures c.in_ok-index.was (λ task is. (c.is_explicit.ensures task is).0 c.if-is_explicit.true)

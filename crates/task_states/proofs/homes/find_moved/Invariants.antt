@@ -7,7 +7,7 @@ use Rattle.task_states.proofs.homes.find_moved.Given as goal
 -- the homes so far are known, no task has moved, and it is known whether any event was fulfilled early
 abbrev pub invariant-loop-at : goal.invariant-loop-at
 invariant-loop-at l = record {
-  homes : AreHomes l.records l.at l.family.tasks l.homes.items;
-  free : (k : ℕ) → k < l.at → IsMoved l.records k → ⊥;
-  early : l.any_early ≡ false → IsNeverEarly l.records l.at;
+  homes : AreHomes l.run.records l.at l.run.family.tasks l.homes.items;
+  free : (k : ℕ) → k < l.at → IsMoved l.run.records k → ⊥;
+  early : l.any_early ≡ false → IsNeverEarly l.run.records l.at;
 }

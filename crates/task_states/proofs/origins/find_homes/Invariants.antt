@@ -7,6 +7,6 @@ use Rattle.task_states.proofs.origins.find_homes.Given as goal
 -- the home is known of each task that was gone over
 abbrev pub invariant-loop-index : goal.invariant-loop-index
 invariant-loop-index l = record {
-  count : l.count ≡ length l.family.tasks;
-  filled : IsFilled (λ (i : ℕ) (home : Option ℕ). (task : ℕ) → slice_get l.family.tasks i ≡ Some task → home ≡ home_of l.records task) l.index l.homes.items;
+  count : l.count ≡ length l.schedules.family.tasks;
+  filled : IsFilled (λ (i : ℕ) (home : Option ℕ). (task : ℕ) → slice_get l.schedules.family.tasks i ≡ Some task → home ≡ home_of l.schedules.records task) l.index l.homes.items;
 }

@@ -1,18 +1,23 @@
-use Rattle.std.proofs.Common.{◌∙◌, ap, sym}
-use Rattle.ompt_events.specs.declared.records.Record.{Record}
-use Rattle.task_states.specs.Progress.{nature_made}
-use Rattle.ompt_events.proofs.PlaceLemmas.{read_get}
-use Rattle.task_states.proofs.OriginLemmas.{made_within, nature_there}
+use Rattle.std.proofs.Common.{◌∙◌, sym}
+use Rattle.std.proofs.lemmas.Bool.{false≢true}
+use Rattle.task_states.proofs.OriginLemmas.{made_within, root_nature, explicit_nature}
 use Rattle.task_states.proofs.origins.nature_at.Goals as goal
 
-pub bounds-records-place : goal.bounds-records-place
-bounds-records-place c = made_within c.args.records.now c.args.family.now.tasks c.args.index c.made_at-place.result c.requires.within (c.made_at-place.ensures c.args.records.now c.requires.family)
+pub returns-then-not-is_explicit : goal.returns-then-not-is_explicit
+returns-then-not-is_explicit c = λ task stands.
+    let run = c.args.run.now in
+    let (place, at_index, within, makes) = c.requires.is_run.family.makers.each c.args.index task stands in
+    sym (root_nature run.records run.family.tasks c.args.index task place c.requires.is_run.family.once (makes ∙ sym stands) stands (λ explicit. false≢true (sym c.if-not-is_explicit.true ∙ (c.is_explicit.ensures task stands).1 explicit)))
 
-pub returns : goal.returns
-returns c = λ task stands.
-    let rs = c.args.records.now in
-    let tasks = c.args.family.now.tasks in
-    let place = c.made_at-place.result in
-    let makes = c.made_at-place.ensures rs c.requires.family in
-    let r = c.index-records-place.result in
-    c.nature_made.ensures ∙ sym (nature_there rs tasks c.args.index task place r c.requires.family.once makes (read_get rs place r (made_within rs tasks c.args.index place c.requires.within makes) c.index-records-place.is) stands ∙ ap (λ (q : Record). nature_made q.body) c.index-records-place.is)
+pub is_wait_made-requires : goal.is_wait_made-requires
+is_wait_made-requires c = made_within c.args.run.now.records c.args.run.now.family.tasks c.args.index c.made_at.result c.requires.within c.made_at.ensures
+
+pub returns-then-is_wait_made : goal.returns-then-is_wait_made
+returns-then-is_wait_made c = λ task stands.
+    let run = c.args.run.now in
+    sym (explicit_nature run.records run.family.tasks c.args.index task c.made_at.result _ c.requires.is_run.family.once c.made_at.ensures stands ((c.is_explicit.ensures task stands).0 c.if-not-is_explicit.false) (sym c.is_wait_made.ensures ∙ c.if-is_wait_made.true))
+
+pub returns-else-is_wait_made : goal.returns-else-is_wait_made
+returns-else-is_wait_made c = λ task stands.
+    let run = c.args.run.now in
+    sym (explicit_nature run.records run.family.tasks c.args.index task c.made_at.result _ c.requires.is_run.family.once c.made_at.ensures stands ((c.is_explicit.ensures task stands).0 c.if-not-is_explicit.false) (sym c.is_wait_made.ensures ∙ c.if-is_wait_made.false))

@@ -1,35 +1,51 @@
-use Rattle.task_states.specs.Progress.{moves_before}
-use Rattle.std.proofs.Common.{◌∙◌, ℕ, length, []}
+use Rattle.std.proofs.Common.{◌∙◌, ℕ, length, [], refl, sym, subst}
+use Rattle.ompt_events.specs.States.{moves_of}
+use Rattle.ompt_events.specs.declared.cause.Cause.TheVariants.{StatusOrder}
+use Rattle.ompt_events.specs.Faults.{FindsFirst}
+use Rattle.task_tree.specs.Runs.{RunView, IsRun}
+use Rattle.task_states.specs.Homes.{IsNeverEarly}
+use Rattle.task_states.specs.Progress.{moves_before, HasCome}
 use Rattle.task_states.specs.declared.progress.Pass.TheVariants.{Early, Home, Rest}
 use Rattle.task_states.proofs.ProgressLemmas.{come_same}
 use Rattle.task_states.proofs.PassLemmas.{early_start, early_none, home_start, rest_start, rest_end}
+use Rattle.task_states.proofs.StateLemmas.{refused_first}
 use Rattle.task_states.proofs.progress.find_progress.Goals as goal
-use Rattle.task_states.proofs.progress.find_progress.Goals.{then-schedules, else-schedules}
+use Rattle.task_states.proofs.progress.find_progress.Goals.{then-any_early, else-any_early}
 
-pub read_early-requires-clause-come : goal.read_early-requires-clause-come
-read_early-requires-clause-come c =
-    let rs = c.args.records.now in
-    let tasks = c.args.family.now.tasks in
-    come_same rs tasks (λ _. []) _ c.in_ok-progress.progress (early_start rs) (c.in_ok-progress.ensures rs tasks (rw c.as_slice-2.ensures.value c.in_ok-origins.ensures.all) (rw c.as_slice-2.ensures.value c.in_ok-origins.ensures.natures))
+pub read_early-requires : goal.read_early-requires
+read_early-requires c =
+    let run = c.in_ok-origins.origins in
+    come_same run.records run.family.tasks (λ _. []) _ c.in_ok-progress.progress (early_start run.records) c.in_ok-progress.ensures
 
-pub read_home-requires-clause-come : goal.read_home-requires-clause-come
-read_home-requires-clause-come c =
-    let rs = c.args.records.now in
-    let tasks = c.args.family.now.tasks in
-    elim c.if-schedules.branch [
-      | then-schedules w ↦ rw w.progress-is (come_same rs tasks (moves_before Early rs (length rs)) (moves_before Home rs 0) w.read_early.new.self (home_start rs) w.read_early.ensures)
-      | else-schedules w ↦
-          let start = c.in_ok-progress.ensures rs tasks (rw c.as_slice-2.ensures.value c.in_ok-origins.ensures.all) (rw c.as_slice-2.ensures.value c.in_ok-origins.ensures.natures) in
-          let none = λ (task : ℕ). home_start rs task ∙ early_none rs (length rs) (c.requires.early w.if-schedules.false) task in
-          rw w.progress-is (come_same rs tasks (λ _. []) (moves_before Home rs 0) c.in_ok-progress.progress none start)
+pub read_home-requires : goal.read_home-requires
+read_home-requires c =
+    let run = c.in_ok-origins.origins in
+    let rs = run.records in
+    let tasks = run.family.tasks in
+    elim c.if-any_early.branch [
+      | then-any_early w ↦ rw w.progress-is (come_same rs tasks (moves_before Early rs (length rs)) (moves_before Home rs 0) w.read_early.new.self (home_start rs) w.read_early.ensures)
+      | else-any_early w ↦
+          let P : RunView → Type 0 = λ r. IsNeverEarly r.records (length r.records) in
+          let never : IsNeverEarly rs (length rs) = subst P (sym c.in_ok-origins.ensures) (c.any_early.ensures w.if-any_early.false) in
+          let none = λ (task : ℕ). home_start rs task ∙ early_none rs (length rs) never task in
+          rw w.progress-is (come_same rs tasks (λ _. []) (moves_before Home rs 0) c.in_ok-progress.progress none c.in_ok-progress.ensures)
     ]
 
 pub read_rest-requires-clause-come : goal.read_rest-requires-clause-come
 read_rest-requires-clause-come c =
-    let rs = c.args.records.now in
-    come_same rs c.args.family.now.tasks (moves_before Home rs (length rs)) _ c.read_home.new.self (rest_start rs) c.in_ok-left.ensures.come
+    let run = c.in_ok-origins.origins in
+    come_same run.records run.family.tasks (moves_before Home run.records (length run.records)) _ c.read_home.new.self (rest_start run.records) c.in_ok-left.ensures.come
 
-pub returns : goal.returns
-returns c =
-    let rs = c.args.records.now in
-    come_same rs c.args.family.now.tasks (moves_before Rest rs (length rs)) _ c.read_rest.new.self (rest_end rs) c.read_rest.ensures
+pub returns-clause-come : goal.returns-clause-come
+returns-clause-come c =
+    let run = c.in_ok-origins.origins in
+    let P : RunView → Type 0 = λ r. HasCome r.records r.family.tasks (moves_of r.records) c.read_rest.new.self in
+    subst P c.in_ok-origins.ensures (come_same run.records run.family.tasks (moves_before Rest run.records (length run.records)) _ c.read_rest.new.self (rest_end run.records) c.read_rest.ensures)
+
+pub returns-clause-refused : goal.returns-clause-refused
+returns-clause-refused c =
+    let run = c.in_ok-origins.origins in
+    let progress = c.read_rest.new.self in
+    let is : IsRun run = subst IsRun c.origins.view_is c.origins.invariant.of_run in
+    let P : RunView → Type 0 = λ r. FindsFirst r.records StatusOrder progress.refused in
+    subst P c.in_ok-origins.ensures (refused_first run.records run.family progress progress.refused is.family (come_same run.records run.family.tasks (moves_before Rest run.records (length run.records)) _ progress (rest_end run.records) c.read_rest.ensures) refl)

@@ -7,6 +7,6 @@ use Rattle.task_states.proofs.regions.find_links.Given as goal
 -- the open regions are known, and no record so far has the cause
 abbrev pub invariant-loop-at : goal.invariant-loop-at
 invariant-loop-at l = record {
-  open_ones : AreOpen l.records l.at l.family.tasks l.innermost.items l.links.items;
-  free : (k : ℕ) → k < l.at → HasCause l.records k RegionOrder → ⊥;
+  open_ones : AreOpen l.run.records l.at l.run.family.tasks l.innermost.items l.links.items;
+  free : (k : ℕ) → k < l.at → HasCause l.run.records k RegionOrder → ⊥;
 }

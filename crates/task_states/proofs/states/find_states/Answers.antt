@@ -1,13 +1,11 @@
-use Rattle.std.proofs.Common.{◌∙◌, sym, refl}
-use Rattle.ompt_events.specs.declared.cause.Cause.TheVariants.{StatusOrder}
-use Rattle.task_states.specs.declared.fault.StateFault.TheVariants.{Malformed}
-use Rattle.task_states.proofs.StateLemmas.{none_refused, first_refused, fault_status}
+use Rattle.std.proofs.lemmas.Result.{err_from_is_err_and}
 use Rattle.task_states.proofs.states.find_states.Goals as goal
 
-pub returns-in-Some-clause-fault : goal.returns-in-Some-clause-fault
-returns-in-Some-clause-fault c =
-    fault_status c.args.records.now (Malformed c.in-Some.at StatusOrder) c.requires.current c.requires.stay
-    (refl, first_refused c.args.records.now c.args.family.now c.in_ok-progress.progress c.in-Some.at c.requires.family c.in_ok-progress.ensures (sym c.refused.ensures ∙ c.in-Some.is))
+pub returns-in_err-exclude-clause-fault : goal.returns-in_err-exclude-clause-fault
+returns-in_err-exclude-clause-fault c =
+    let p = err_from_is_err_and c.from_residual-in_err-exclude.result c.from_residual-in_err-exclude.ensures.1 in
+    let rs = c.args.schedules.now.records in
+    rw (p.1, p.2) (c.in_err-exclude.ensures.fault rs (rw c.refused.ensures c.in_ok-progress.ensures.refused))
 
-pub returns-in-None-clause-ordered : goal.returns-in-None-clause-ordered
-returns-in-None-clause-ordered c = none_refused c.args.records.now c.args.family.now c.in_ok-progress.progress c.requires.family c.in_ok-progress.ensures (sym c.refused.ensures ∙ c.in-None.is)
+pub returns-clause-ordered : goal.returns-clause-ordered
+returns-clause-ordered c = c.in_ok-exclude.ensures.free c.args.schedules.now.records (rw c.refused.ensures c.in_ok-progress.ensures.refused)

@@ -1,8 +1,9 @@
-use Rattle.std.proofs.Common.{◌≡◌, ◌∙◌, false, sym, refl, below_more, inl, inr}
+use Rattle.std.proofs.Common.{◌≡◌, ◌∙◌, false, sym, below_more, inl, inr}
 use Rattle.ompt_events.specs.declared.cause.Cause.TheVariants.{CreatedTwice}
 use Rattle.ompt_events.specs.Records.{made}
 use Rattle.ompt_events.specs.Places.{at}
 use Rattle.ompt_events.specs.Causes.{HasCause}
+use Rattle.ompt_events.proofs.FaultLemmas.{malformed_alone}
 use Rattle.ompt_events.proofs.PlaceLemmas.{at_read}
 use Rattle.task_tree.specs.Makers.{forked_region}
 use Rattle.task_tree.proofs.MakerLemmas.{noted_more, noted_again, noted_new, made_more, made_other, twice_cases, twice_task, twice_region, first_here, free_of_twice}
@@ -20,7 +21,7 @@ returns-then-task_again-clause-found c =
       | then-task_again-via-then-task_again w ↦ twice_task rs i (noted_again made rs i c.loop-at.tasks c.note.new.self c.made-task.result c.loop-at.invariant.tasks makes (rw w.if-task_again.true at c.in_ok-task_again.ensures))
       | then-task_again-via-else-task_again+then-region_again w ↦ twice_region rs i (noted_again forked_region rs i c.loop-at.regions c.note-in-loop-at.new.self c.forked_region.result c.loop-at.invariant.regions forks (rw w.if-region_again.true at c.in_ok-region_again.ensures))
     ] in
-    (refl, first_here rs i c.loop-at.invariant.free has)
+    malformed_alone rs CreatedTwice i (first_here rs i c.loop-at.invariant.free has)
 
 pub loop-at-preserved : goal.loop-at-preserved
 loop-at-preserved c =

@@ -6,7 +6,8 @@ use Rattle.ompt_events.proofs.PlaceLemmas.{at_read, seen_read}
 use Rattle.ompt_events.proofs.RecordLemmas.{at_through}
 use Rattle.task_tree.proofs.NamedLemmas.{finish_subject}
 use Rattle.wait_coverage.specs.Lengths.{with_length}
-use Rattle.wait_coverage.proofs.LengthLemmas.{lengths_more, lengths_other, call_same, call_never}
+use Rattle.teams.proofs.CallLemmas.{call_same, call_never}
+use Rattle.wait_coverage.proofs.LengthLemmas.{lengths_more, lengths_other}
 use Rattle.wait_coverage.proofs.lengths.note_finish.Goals as goal
 
 pub returns-in-Some-subject : goal.returns-in-Some-subject

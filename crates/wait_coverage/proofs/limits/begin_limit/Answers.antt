@@ -5,9 +5,9 @@ use Rattle.ompt_events.specs.Places.{at}
 use Rattle.ompt_events.specs.Regions.{barrier_begun}
 use Rattle.ompt_events.proofs.PlaceLemmas.{at_index}
 use Rattle.task_tree.specs.Subjects.{subject}
-use Rattle.wait_coverage.proofs.LengthLemmas.{index_within, call_same, call_never}
-use Rattle.wait_coverage.proofs.LimitLemmas.{read_at}
-use Rattle.wait_coverage.proofs.BarrierLemmas.{begun_subject}
+use Rattle.teams.proofs.CallLemmas.{index_within, call_same, call_never}
+use Rattle.teams.proofs.CallLemmas.{read_at}
+use Rattle.teams.proofs.BarrierLemmas.{begun_subject}
 use Rattle.wait_coverage.proofs.limits.begin_limit.Goals as goal
 
 pub returns-then-not-begins_barrier : goal.returns-then-not-begins_barrier

@@ -4,7 +4,8 @@ use Rattle.std.proofs.Math.ListN.{set}
 use Rattle.std.specs.Prelude.{max, slice_get}
 use Rattle.wait_coverage.specs.declared.limits.Node.{Node}
 use Rattle.wait_coverage.proofs.LengthLemmas.{parent_index, child_index}
-use Rattle.wait_coverage.proofs.LimitLemmas.{creation_there, read_at, created_noted}
+use Rattle.teams.proofs.CallLemmas.{read_at}
+use Rattle.wait_coverage.proofs.LimitLemmas.{creation_there, created_noted}
 use Rattle.wait_coverage.proofs.limits.create.Goals as goal
 
 pub returns : goal.returns

@@ -1,8 +1,8 @@
 use Rattle.std.proofs.Common.{◌<◌, length}
 use Rattle.ompt_events.specs.Places.{at}
 use Rattle.task_tree.specs.Subjects.{subject}
-use Rattle.wait_coverage.proofs.LengthLemmas.{index_within, call_same}
-use Rattle.wait_coverage.proofs.LimitLemmas.{read_at}
+use Rattle.teams.proofs.CallLemmas.{index_within, call_same}
+use Rattle.teams.proofs.CallLemmas.{read_at}
 use Rattle.wait_coverage.proofs.limits.latest_limit.Goals as goal
 
 pub returns-in-Some : goal.returns-in-Some

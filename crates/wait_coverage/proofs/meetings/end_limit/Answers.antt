@@ -1,8 +1,9 @@
 use Rattle.std.proofs.Common.{◌∙◌, ◌<◌, length, Some, ap, arith, rules}
 use Rattle.wait_coverage.proofs.LengthLemmas.{region_index}
-use Rattle.wait_coverage.proofs.LimitLemmas.{read_at, none_else}
-use Rattle.wait_coverage.proofs.BarrierLemmas.{barrier_begins_at}
-use Rattle.wait_coverage.proofs.CoverLemmas.{ends_at}
+use Rattle.teams.proofs.CallLemmas.{read_at}
+use Rattle.wait_coverage.proofs.LimitLemmas.{none_else}
+use Rattle.teams.proofs.BarrierLemmas.{barrier_begins_at}
+use Rattle.teams.proofs.RegionEndLemmas.{ends_at}
 use Rattle.wait_coverage.proofs.MeetingLemmas.{met_limit, own_row, own_meeting, teamless_limit}
 use Rattle.wait_coverage.proofs.meetings.end_limit.Goals as goal
 

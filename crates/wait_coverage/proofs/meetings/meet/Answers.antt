@@ -8,9 +8,9 @@ use Rattle.ompt_events.specs.Regions.{barrier_begun}
 use Rattle.ompt_events.proofs.PlaceLemmas.{at_index}
 use Rattle.task_tree.specs.Subjects.{subject}
 use Rattle.task_tree.proofs.SubjectLemmas.{call_index}
-use Rattle.wait_coverage.proofs.LengthLemmas.{index_within, call_same}
-use Rattle.wait_coverage.proofs.LimitLemmas.{read_at}
-use Rattle.wait_coverage.proofs.BarrierLemmas.{begun_subject}
+use Rattle.teams.proofs.CallLemmas.{index_within, call_same}
+use Rattle.teams.proofs.CallLemmas.{read_at}
+use Rattle.teams.proofs.BarrierLemmas.{begun_subject}
 use Rattle.credit_ledger.proofs.LockLemmas.{if_ok-map}
 use Rattle.wait_coverage.proofs.MeetingLemmas.{met_other, met_more}
 use Rattle.wait_coverage.proofs.meetings.meet.Goals as goal

@@ -4,8 +4,9 @@ use Rattle.ompt_events.specs.Places.{at}
 use Rattle.ompt_events.proofs.PlaceLemmas.{at_index, none_from_test}
 use Rattle.ompt_events.proofs.TreeLemmas.{children_few}
 use Rattle.task_tree.specs.Subjects.{subject}
-use Rattle.wait_coverage.proofs.LengthLemmas.{index_within, some_creation, parent_index, creates_subject}
-use Rattle.wait_coverage.proofs.LimitLemmas.{read_at}
+use Rattle.teams.proofs.CallLemmas.{index_within}
+use Rattle.wait_coverage.proofs.LengthLemmas.{some_creation, parent_index, creates_subject}
+use Rattle.teams.proofs.CallLemmas.{read_at}
 use Rattle.wait_coverage.proofs.NumberLemmas.{counts_other, counts_more}
 use Rattle.wait_coverage.proofs.numbers.count_child.Goals as goal
 

@@ -2,7 +2,7 @@ use Rattle.std.proofs.Common.{get_or}
 use Rattle.std.proofs.lemmas.Option.{slice_get-get_or}
 use Rattle.ompt_events.specs.Places.{at}
 use Rattle.task_tree.specs.Subjects.{subject}
-use Rattle.wait_coverage.proofs.LengthLemmas.{index_within, call_same}
+use Rattle.teams.proofs.CallLemmas.{index_within, call_same}
 use Rattle.wait_coverage.proofs.numbers.number_at.Goals as goal
 
 pub bounds-counts-index : goal.bounds-counts-index

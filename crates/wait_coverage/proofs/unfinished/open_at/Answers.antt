@@ -1,6 +1,6 @@
 use Rattle.std.proofs.Common.{◌<◌, ◌^◌, get_or, arith, rules}
 use Rattle.wait_coverage.proofs.LengthLemmas.{seen_index}
-use Rattle.wait_coverage.proofs.LimitLemmas.{read_at}
+use Rattle.teams.proofs.CallLemmas.{read_at}
 use Rattle.wait_coverage.proofs.OpenLemmas.{limit_complete, none_complete}
 use Rattle.wait_coverage.proofs.unfinished.open_at.Goals as goal
 

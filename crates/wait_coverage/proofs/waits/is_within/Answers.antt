@@ -1,6 +1,6 @@
 use Rattle.std.proofs.Common.{◌<◌, length, get_or, ap, arith}
 use Rattle.std.proofs.lemmas.Option.{slice_get-get_or}
-use Rattle.wait_coverage.specs.Rows.{row_at}
+use Rattle.teams.specs.Rows.{row_at}
 use Rattle.wait_coverage.specs.Waits.{waiting}
 use Rattle.wait_coverage.proofs.WaitLemmas.{within_taskwait, within_taskgroup, within_barrier}
 use Rattle.wait_coverage.proofs.waits.is_within.Goals as goal

@@ -5,7 +5,7 @@ use Rattle.ompt_events.proofs.PlaceLemmas.{at_index}
 use Rattle.ompt_events.proofs.RecordLemmas.{at_through}
 use Rattle.task_tree.specs.Subjects.{object}
 use Rattle.task_tree.proofs.NamedLemmas.{created_object}
-use Rattle.wait_coverage.proofs.LengthLemmas.{call_same}
+use Rattle.teams.proofs.CallLemmas.{call_same}
 use Rattle.wait_coverage.proofs.WaitLemmas.{late_task, not_late}
 use Rattle.wait_coverage.proofs.waits.late_at.Goals as goal
 

@@ -5,7 +5,8 @@ use Rattle.task_tree.specs.Subjects.{subject}
 use Rattle.ompt_events.proofs.PlaceLemmas.{at_index}
 use Rattle.ompt_events.proofs.RecordLemmas.{at_through}
 use Rattle.task_tree.proofs.NamedLemmas.{region_subject}
-use Rattle.wait_coverage.proofs.LengthLemmas.{region_index, call_never}
+use Rattle.teams.proofs.CallLemmas.{call_never}
+use Rattle.wait_coverage.proofs.LengthLemmas.{region_index}
 use Rattle.wait_coverage.proofs.WaitLemmas.{no_wait_there}
 use Rattle.wait_coverage.proofs.waits.wait_at.Goals as goal
 

@@ -7,7 +7,7 @@ use Rattle.checker.proofs.front.Front.offer_list.Goals as goal
 
 pub list-init : goal.list-init
 list-init c = record {
-  more = more_refl c.args.self.now.records.now c.args.self.now.placed.now c.args.ready.now;
+  more = more_refl c.args.self.now.run.now.records c.args.self.now.placed.now c.args.ready.now;
   offered = λ of lists.
       let firsts = c.args.lists.now.firsts.items in
       let read : slice_index firsts c.args.key ≡ c.index.result.now = get_or_default firsts c.args.key 0 c.index.result.now c.requires.key ∙ sym c.index.ensures in
@@ -17,11 +17,11 @@ list-init c = record {
 
 pub list-preserved : goal.list-preserved
 list-preserved c = record {
-  more = more_then c.args.self.now.records.now c.args.self.now.placed.now c.args.ready.now c.list.ready c.offer.new.ready c.list.invariant.more c.in_ok-offer.ensures.more;
+  more = more_then c.args.self.now.run.now.records c.args.self.now.placed.now c.args.ready.now c.list.ready c.offer.new.ready c.list.invariant.more c.in_ok-offer.ensures.more;
   offered = λ of lists.
-      let rs = c.args.self.now.records.now in
+      let rs = c.args.self.now.run.now.records in
       let place = c.list.place in
-      let inside = c.list-test.true in
+      let inside = rw c.len.ensures.value at c.list-test.true in
       let nexts = c.args.lists.now.nexts.items in
       let before = c.list.invariant.offered of lists in
       let here = before.1 inside in

@@ -7,11 +7,11 @@ use Rattle.checker.proofs.front.Front.offer_list.Given as goal
 -- the places of the list before this one are offered
 abbrev pub invariant-list : goal.invariant-list
 invariant-list l = record {
-  more : AreMore l.self.records.now l.self.placed.now l.initial.ready l.ready;
-  offered : (of : ℕ → Option ℕ) → AreLists of (length l.self.records.now) 0 l.lists.firsts.items l.lists.nexts.items
-      → ((i : ℕ) → i < l.place → of i ≡ Some l.key → MayFollow l.self.records.now l.self.placed.now i → Contains l.ready i)
-      × (l.place < length l.self.records.now → of l.place ≡ Some l.key);
+  more : AreMore l.self.run.now.records l.self.placed.now l.initial.ready l.ready;
+  offered : (of : ℕ → Option ℕ) → AreLists of (length l.self.run.now.records) 0 l.lists.firsts.items l.lists.nexts.items
+      → ((i : ℕ) → i < l.place → of i ≡ Some l.key → MayFollow l.self.run.now.records l.self.placed.now i → Contains l.ready i)
+      × (l.place < length l.self.run.now.records → of l.place ≡ Some l.key);
 }
 
 abbrev pub decreases-list : goal.decreases-list
-decreases-list l = length l.self.records.now - l.place
+decreases-list l = length l.self.run.now.records - l.place

@@ -1,35 +1,25 @@
-use Rattle.std.proofs.Common.{◌∙◌, sym}
-use Rattle.ompt_events.proofs.PlaceLemmas.{read_get}
-use Rattle.task_states.proofs.ProgressLemmas.{come_read, come_unread, home_read, entry_read}
+use Rattle.std.proofs.Common.{◌∙◌, sym, ap}
+use Rattle.task_states.specs.Progress.{reads, is_early_move}
+use Rattle.task_states.proofs.ProgressLemmas.{come_read, come_unread}
+use Rattle.task_states.proofs.PassLemmas.{read_told}
 use Rattle.task_states.proofs.progress.Progress.note.Goals as goal
 
-pub returns-then-is_read-clause-come : goal.returns-then-is_read-clause-come
-returns-then-is_read-clause-come c = λ tasks moves apart stands natures homes come.
-    let rs = c.args.records.now in
-    let here = read_get rs c.args.at c.index-records-at.result c.requires.within c.index-records-at.is in
-    let home = home_read rs tasks c.args.origins.now.homes.items c.args.index c.args.task c.index.result.now homes stands c.requires.homes c.index.ensures in
-    let reads = sym (c.is_read.ensures rs c.args.at here home) ∙ c.if-is_read.true in
-    let nature = entry_read c.args.origins.now.natures.items c.args.index c.index-then-is_read.result.now c.requires.natures c.index-then-is_read.ensures in
-    come_read c.args.pass rs tasks c.args.origins.now.natures.items c.args.index c.args.task c.args.at c.index-then-is_read.result.now c.args.step moves c.args.self.now c.go_on.new.self apart stands natures nature reads c.go_on.ensures.states c.go_on.ensures.refused come
-
-pub returns-then-is_read-clause-read : goal.returns-then-is_read-clause-read
-returns-then-is_read-clause-read c = λ tasks stands homes.
-    let rs = c.args.records.now in
-    let here = read_get rs c.args.at c.index-records-at.result c.requires.within c.index-records-at.is in
-    let home = home_read rs tasks c.args.origins.now.homes.items c.args.index c.args.task c.index.result.now homes stands c.requires.homes c.index.ensures in
-    sym c.if-is_read.true ∙ c.is_read.ensures rs c.args.at here home
+pub returns-then-reads-clause-come : goal.returns-then-reads-clause-come
+returns-then-reads-clause-come c = λ task stands moves come.
+    let run = c.args.origins.now in
+    let moved = c.args.moved in
+    let told = read_told c.args.pass run task moved.at moved.index moved.step c.home.result c.thread.result c.requires.moves stands (c.home.ensures task stands) (rw c.run.ensures.value at c.thread.ensures) in
+    let early = ap (λ b. reads c.args.pass b c.is_at-is_home.result) c.is_early_move.ensures in
+    let home = ap (reads c.args.pass (is_early_move moved.step)) c.is_at-is_home.ensures in
+    let is_read_there = sym (c.reads.ensures ∙ early ∙ home ∙ told) ∙ c.if-reads.true in
+    come_read c.args.pass run.records run.family.tasks moved.index task moved.at c.nature.result moved.step moves c.args.self.now c.go_on.new.self c.run.ensures.is_run.family.makers.apart stands (c.nature.ensures task stands) is_read_there c.go_on.ensures.states c.go_on.ensures.refused come
 
 pub returns-clause-come : goal.returns-clause-come
-returns-clause-come c = λ tasks moves apart stands natures homes come.
-    let rs = c.args.records.now in
-    let here = read_get rs c.args.at c.index-records-at.result c.requires.within c.index-records-at.is in
-    let home = home_read rs tasks c.args.origins.now.homes.items c.args.index c.args.task c.index.result.now homes stands c.requires.homes c.index.ensures in
-    let reads = sym (c.is_read.ensures rs c.args.at here home) ∙ c.if-is_read.false in
-    come_unread c.args.pass rs tasks c.args.task c.args.at c.args.step moves c.args.self.now reads come
-
-pub returns-clause-read : goal.returns-clause-read
-returns-clause-read c = λ tasks stands homes.
-    let rs = c.args.records.now in
-    let here = read_get rs c.args.at c.index-records-at.result c.requires.within c.index-records-at.is in
-    let home = home_read rs tasks c.args.origins.now.homes.items c.args.index c.args.task c.index.result.now homes stands c.requires.homes c.index.ensures in
-    sym c.if-is_read.false ∙ c.is_read.ensures rs c.args.at here home
+returns-clause-come c = λ task stands moves come.
+    let run = c.args.origins.now in
+    let moved = c.args.moved in
+    let told = read_told c.args.pass run task moved.at moved.index moved.step c.home.result c.thread.result c.requires.moves stands (c.home.ensures task stands) (rw c.run.ensures.value at c.thread.ensures) in
+    let early = ap (λ b. reads c.args.pass b c.is_at-is_home.result) c.is_early_move.ensures in
+    let home = ap (reads c.args.pass (is_early_move moved.step)) c.is_at-is_home.ensures in
+    let is_read_there = sym (c.reads.ensures ∙ early ∙ home ∙ told) ∙ c.if-reads.false in
+    come_unread c.args.pass run.records run.family.tasks task moved.at moved.step moves c.args.self.now is_read_there come

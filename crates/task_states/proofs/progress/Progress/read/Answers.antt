@@ -1,74 +1,46 @@
-use Rattle.std.proofs.Common.{◌∙◌, sym, ap, Some}
-use Rattle.std.proofs.lemmas.Bool.{and_parts}
-use Rattle.ompt_events.specs.declared.records.Record.{Record}
-use Rattle.ompt_events.specs.Records.{schedule, discarded}
-use Rattle.ompt_events.proofs.PlaceLemmas.{read_get}
+use Rattle.std.proofs.Common.{◌≡◌, Some, None}
+use Rattle.ompt_events.specs.Records.{started, discarded, schedule}
+use Rattle.ompt_events.specs.Places.{at}
+use Rattle.task_tree.specs.Runs.{IsSchedule, IsIndexOf}
+use Rattle.task_tree.proofs.SubjectLemmas.{call_task, call_none}
 use Rattle.task_states.specs.Progress.{and_move}
 use Rattle.task_states.specs.declared.moves.Move.TheVariants as step
 use Rattle.task_states.proofs.ProgressLemmas.{come_same}
-use Rattle.task_states.proofs.PassLemmas.{schedule_moves, discard_moves, no_moves, discard_calls, schedule_whole, discard_whole, still_whole}
+use Rattle.task_states.proofs.PassLemmas.{discard_move, schedule_moves_at, discard_moves_at, no_moves_at}
 use Rattle.task_states.proofs.progress.Progress.read.Goals as goal
 
 pub returns-in-Some-clause-come : goal.returns-in-Some-clause-come
 returns-in-Some-clause-come c = λ moves come.
-    let rs = c.args.records.now in
-    let tasks = c.args.family.now.tasks in
-    let r = c.index-records-at.result in
-    let stands = read_get rs c.args.at r c.requires.within c.index-records-at.is in
-    let says = ap (λ (q : Record). schedule q.body) c.index-records-at.is ∙ sym c.schedule.ensures ∙ c.in-Some.is in
-    let stopped = and_move c.args.pass rs c.args.at (Some c.in-Some.prior) (step.Stopped c.in-Some.status) moves in
-    come_same rs tasks (and_move c.args.pass rs c.args.at c.in-Some.next step.Started stopped) _ c.note_named-started.new.self
-    (schedule_moves c.args.pass rs c.args.at r c.in-Some.status c.in-Some.prior c.in-Some.next moves stands says)
-    (c.note_named-started.ensures.come stopped (c.note_named-stopped.ensures.come moves come))
-
-pub returns-clause-come : goal.returns-clause-come
-returns-clause-come c = λ moves come.
-    let rs = c.args.records.now in
-    let r = c.index-records-at.result in
-    let stands = read_get rs c.args.at r c.requires.within c.index-records-at.is in
-    come_same rs c.args.family.now.tasks (and_move c.args.pass rs c.args.at (Some c.in-Some-discarded.task) step.Discarded moves) _ c.note_named.new.self
-    (discard_moves c.args.pass rs c.args.at r c.in-Some-discarded.task moves stands (ap (λ (q : Record). discarded q.body) c.index-records-at.is ∙ sym c.discarded.ensures ∙ c.in-Some-discarded.is))
-    (c.note_named.ensures.come moves come)
+    let run = c.args.origins.now in
+    let i = c.args.at in
+    let pass = c.args.pass in
+    let event = c.in-Some.event in
+    let is : IsSchedule run i event.status event.prior event.next = rw c.run-run.ensures.value at c.in-Some.ensures in
+    let stopped = and_move pass run.records i (Some is.task) (step.Stopped event.status) moves in
+    come_same run.records run.family.tasks (and_move pass run.records i (at started run.records i) step.Started stopped) _ c.note_next-started.new.self
+    (schedule_moves_at pass run.records i event.status is.task is.follower moves is.says)
+    (c.note_next-started.ensures.come stopped (c.note-stopped.ensures.come is.task is.indexed moves come))
 
 pub returns-in_default-discarded-clause-come : goal.returns-in_default-discarded-clause-come
 returns-in_default-discarded-clause-come c = λ moves come.
-    let rs = c.args.records.now in
-    let r = c.index-records-at.result in
-    let stands = read_get rs c.args.at r c.requires.within c.index-records-at.is in
-    let no_schedule = ap (λ (q : Record). schedule q.body) c.index-records-at.is ∙ sym c.schedule.ensures ∙ c.in_default.is in
-    let no_discard = ap (λ (q : Record). discarded q.body) c.index-records-at.is ∙ sym c.discarded.ensures ∙ c.in_default-discarded.is in
-    come_same rs c.args.family.now.tasks moves _ c.args.self.now (no_moves c.args.pass rs c.args.at r moves stands no_schedule no_discard) come
+    let run = c.args.origins.now in
+    let i = c.args.at in
+    let no_schedule : at schedule run.records i ≡ None = rw c.run-run.ensures.value at c.in_default.ensures in
+    let calls : IsIndexOf run discarded i c.discarded.result = rw c.run-run.ensures.value at c.discarded.ensures in
+    come_same run.records run.family.tasks moves _ c.args.self.now (no_moves_at c.args.pass run.records i moves c.requires.within no_schedule (call_none run.family.tasks _ c.discarded.result calls c.in_default-discarded.is)) come
 
-pub note_named-requires-clause-calls : goal.note_named-requires-clause-calls
-note_named-requires-clause-calls c =
-    let rs = c.args.records.now in
-    let r = c.index-records-at.result in
-    let says = ap (λ (q : Record). discarded q.body) c.index-records-at.is ∙ sym c.discarded.ensures ∙ c.in-Some-discarded.is in
-    let stands = read_get rs c.args.at r c.requires.within c.index-records-at.is in
-    discard_calls rs c.args.family.now.tasks c.args.at c.in-Some-discarded.task r c.subject-slot-2.result stands says (c.subject-slot-2.ensures rs c.requires.family)
+pub note-requires-clause-moves : goal.note-requires-clause-moves
+note-requires-clause-moves c =
+    let run = c.args.origins.now in
+    let calls : IsIndexOf run discarded c.args.at c.discarded.result = rw c.run-run.ensures.value at c.discarded.ensures in
+    discard_move run c.args.at c.in-Some-discarded.index c.discarded.result calls c.in-Some-discarded.is
 
-pub returns-in-Some-clause-whole : goal.returns-in-Some-clause-whole
-returns-in-Some-clause-whole c = λ holds.
-    let rs = c.args.records.now in
-    let r = c.index-records-at.result in
-    let stands = read_get rs c.args.at r c.requires.within c.index-records-at.is in
-    let says = ap (λ (q : Record). schedule q.body) c.index-records-at.is ∙ sym c.schedule.ensures ∙ c.in-Some.is in
-    let (first, second) = and_parts _ _ holds in
-    schedule_whole c.args.pass rs c.args.at r c.in-Some.status c.in-Some.prior c.in-Some.next stands says (sym c.note_named-stopped.ensures.read ∙ first) (sym c.note_named-started.ensures.read ∙ second)
-
-pub returns-clause-whole : goal.returns-clause-whole
-returns-clause-whole c = λ holds.
-    let rs = c.args.records.now in
-    let r = c.index-records-at.result in
-    let stands = read_get rs c.args.at r c.requires.within c.index-records-at.is in
-    let says = ap (λ (q : Record). discarded q.body) c.index-records-at.is ∙ sym c.discarded.ensures ∙ c.in-Some-discarded.is in
-    discard_whole c.args.pass rs c.args.at r c.in-Some-discarded.task stands says (sym c.note_named.ensures.read ∙ holds)
-
-pub returns-in_default-discarded-clause-whole : goal.returns-in_default-discarded-clause-whole
-returns-in_default-discarded-clause-whole c = λ holds.
-    let rs = c.args.records.now in
-    let r = c.index-records-at.result in
-    let stands = read_get rs c.args.at r c.requires.within c.index-records-at.is in
-    let no_schedule = ap (λ (q : Record). schedule q.body) c.index-records-at.is ∙ sym c.schedule.ensures ∙ c.in_default.is in
-    let no_discard = ap (λ (q : Record). discarded q.body) c.index-records-at.is ∙ sym c.discarded.ensures ∙ c.in_default-discarded.is in
-    still_whole c.args.pass rs c.args.at r stands no_schedule no_discard
+pub returns-clause-come : goal.returns-clause-come
+returns-clause-come c = λ moves come.
+    let run = c.args.origins.now in
+    let i = c.args.at in
+    let calls : IsIndexOf run discarded i c.discarded.result = rw c.run-run.ensures.value at c.discarded.ensures in
+    let (task, says, stands) = call_task run.family.tasks (at discarded run.records i) c.discarded.result c.in-Some-discarded.index calls c.in-Some-discarded.is in
+    come_same run.records run.family.tasks (and_move c.args.pass run.records i (Some task) step.Discarded moves) _ c.note.new.self
+    (discard_moves_at c.args.pass run.records i task moves says)
+    (c.note.ensures.come task stands moves come)

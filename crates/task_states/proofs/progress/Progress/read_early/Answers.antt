@@ -1,8 +1,6 @@
-use Rattle.std.proofs.Common.{◌≡◌, ◌∙◌, ◌+◌, length, subst, sym, ap, arith}
-use Rattle.ompt_events.specs.declared.records.Record.{Record}
-use Rattle.ompt_events.proofs.PlaceLemmas.{read_get}
+use Rattle.std.proofs.Common.{◌≡◌, ◌∙◌, ◌+◌, length, subst, sym, arith}
 use Rattle.task_states.specs.declared.progress.Pass.TheVariants.{Early}
-use Rattle.task_states.specs.Progress.{HasCome, moves_before, and_record, fulfils_early}
+use Rattle.task_states.specs.Progress.{HasCome, moves_before, and_record}
 use Rattle.task_states.proofs.ProgressLemmas.{come_same}
 use Rattle.task_states.proofs.PassLemmas.{moves_more, early_unread}
 use Rattle.task_states.proofs.progress.Progress.read_early.Goals as goal
@@ -13,21 +11,19 @@ read-requires-clause-all c = c.loop-at.invariant.all
 
 pub loop-at-preserved : goal.loop-at-preserved
 loop-at-preserved c =
-    let rs = c.args.records.now in
-    let tasks = c.args.family.now.tasks in
+    let rs = c.args.origins.now.records in
+    let tasks = c.args.origins.now.family.tasks in
     let i = c.loop-at.at in
-    let r = c.index-records-at.result in
     let before = moves_before Early rs i in
     elim c.if-fulfils_early.branch [
       | then-fulfils_early w ↦ rw w.self-is (come_same rs tasks (and_record Early rs i before) (moves_before Early rs (i + 1)) w.read.new.self (moves_more Early rs i) (w.read.ensures.come before c.loop-at.invariant))
       | else-fulfils_early w ↦
-          let stands = read_get rs i r c.loop-at-test.true c.index-records-at.is in
-          let late = ap (λ (q : Record). fulfils_early q.body) c.index-records-at.is ∙ sym c.fulfils_early.ensures ∙ w.if-fulfils_early.false in
-          rw w.self-is (come_same rs tasks before (moves_before Early rs (i + 1)) c.loop-at.self (λ task. moves_more Early rs i task ∙ early_unread rs i r before stands late task) c.loop-at.invariant)
+          let late = sym (rw c.run-run.ensures.value at c.fulfils_early.ensures) ∙ w.if-fulfils_early.false in
+          rw w.self-is (come_same rs tasks before (moves_before Early rs (i + 1)) c.loop-at.self (λ task. moves_more Early rs i task ∙ early_unread rs i before late task) c.loop-at.invariant)
     ]
 
 pub returns : goal.returns
 returns c =
-    let rs = c.args.records.now in
-    let all : c.loop-at.at ≡ length rs = omega (arith, c.loop-at-test.false, c.loop-at.auto.at-end) in
-    subst (λ n. HasCome rs c.args.family.now.tasks (moves_before Early rs n) c.loop-at.self) all c.loop-at.invariant
+    let rs = c.args.origins.now.records in
+    let all : c.loop-at.at ≡ length rs = omega (arith, c.loop-at-test.false, c.loop-at.auto.at-end, rw c.run-run.ensures.value at c.len-at-end.ensures.value) in
+    subst (λ n. HasCome rs c.args.origins.now.family.tasks (moves_before Early rs n) c.loop-at.self) all c.loop-at.invariant

@@ -5,6 +5,6 @@ use Rattle.task_states.proofs.progress.Progress.read_home.Given as goal
 -- the records so far that the pass reads were gone over, and what they leave is noted
 abbrev pub invariant-loop-at : goal.invariant-loop-at
 invariant-loop-at l = record {
-  come : HasCome l.records l.family.tasks (moves_before Home l.records l.at) l.self;
-  left : AreLeft l.records l.at l.left.items;
+  come : HasCome l.origins.records l.origins.family.tasks (moves_before Home l.origins.records l.at) l.self;
+  left : AreLeft l.origins.records l.at l.left.items;
 }

@@ -5,7 +5,7 @@ use Rattle.ompt_events.specs.Places.{seen_at}
 use Rattle.wait_coverage.specs.Spans.{IsCoverComplete}
 use Rattle.wait_coverage.specs.Waits.{IsFirstOpen, cover_of}
 use Rattle.wait_coverage.proofs.LengthLemmas.{seen_index}
-use Rattle.wait_coverage.proofs.LimitLemmas.{read_at}
+use Rattle.teams.proofs.CallLemmas.{read_at}
 use Rattle.wait_coverage.proofs.CoverageLemmas.{has_wait, end_within, wait_at_end, held_complete}
 use Rattle.wait_coverage.proofs.coverage.Coverage.first_open.Goals as goal
 
@@ -37,8 +37,8 @@ open_of-requires-clause-wait c =
     let here = read_at c.self.inside.ends.items c.args.number c.index-at.result.now below c.index-at.ensures in
     rw c.family.ensures (wait_at_end _ c.args.number c.index-at.result.now c.index-wait.result.now c.self.invariant c.index-wait.ensures here)
 
-pub returns-then-branch : goal.returns-then-branch
-returns-then-branch c =
+pub returns-then-branch-clause-first : goal.returns-then-branch-clause-first
+returns-then-branch-clause-first c =
     let below = rw (← c.self.view_is) at c.requires in
     let spans = rw (← c.self.view_is) at c.in_ok-spans.ensures in
     rw (← c.self.view_is) (λ ledger free end here.
@@ -49,11 +49,11 @@ returns-then-branch c =
     let low = (c.self.invariant.ends.only c.args.number end here).0 in
     let seen = (get_or inside.records.now c.index-at.result.now c.index-self-at.result).seen in
     let names = ap (seen_at inside.records.now) (sym at_end) ∙ seen_index inside.records.now c.index-at.result.now c.index-self-at.result (omega (arith, at_end, low)) in
-    held_complete _ c.args.ledger.now end seen (cover_of wait) c.in_ok-spans.spans.items c.self.invariant free ledger (spans end is_wait) names (rw (c.cover.ensures, c.as_slice.ensures.value) at (c.in_ok-are_held.ensures c.if-branch.true))
+    held_complete _ c.args.ledger.now end seen (cover_of wait) c.in_ok-spans.spans.items c.self.invariant free ledger (spans end is_wait) names (rw (c.cover.ensures, c.as_slice.ensures.value) at (c.in_ok-are_held.ensures.held c.if-branch.true))
     )
 
-pub returns : goal.returns
-returns c =
+pub returns-clause-first : goal.returns-clause-first
+returns-clause-first c =
     let below = rw (← c.self.view_is) at c.requires in
     rw (← c.self.view_is) (λ ledger free end here.
     let inside = c.self.inside in

@@ -1,6 +1,6 @@
 use Rattle.std.proofs.Common.{◌<◌, length, get_or, rules}
 use Rattle.credit_ledger.proofs.LockLemmas.{if_ok-map}
-use Rattle.wait_coverage.proofs.LimitLemmas.{read_at}
+use Rattle.teams.proofs.CallLemmas.{read_at}
 use Rattle.wait_coverage.proofs.CoverageLemmas.{read_start, member_span_is}
 use Rattle.wait_coverage.proofs.coverage.Coverage.member_span.Goals as goal
 

@@ -8,8 +8,8 @@ spans_of-requires c =
     let is = has_wait _ c.args.number c.index.result.now c.self.invariant below c.index.ensures in
     rw (← c.self.view_is) (is.end, is.is_wait)
 
-pub returns : goal.returns
-returns c =
+pub returns-clause-spans : goal.returns-clause-spans
+returns-clause-spans c =
     let spans = rw (← c.self.view_is) at c.in_ok-spans_of.ensures in
     rw (← c.self.view_is) (λ end here.
     let wait = c.index.result.now in

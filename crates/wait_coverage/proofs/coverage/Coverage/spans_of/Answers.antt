@@ -1,6 +1,6 @@
 use Rattle.std.proofs.Common.{◌<◌, length, rules}
 use Rattle.credit_ledger.proofs.LockLemmas.{if_ok-map}
-use Rattle.wait_coverage.proofs.LimitLemmas.{read_at}
+use Rattle.teams.proofs.CallLemmas.{read_at}
 use Rattle.wait_coverage.proofs.CoverageLemmas.{wait_begin, group_numbers, wait_spans, group_spans, barrier_spans, waiting_within}
 use Rattle.wait_coverage.proofs.coverage.Coverage.spans_of.Goals as goal
 

@@ -1,6 +1,0 @@
-use Rattle.checker.proofs.LateLemmas.{AreDoneUpTo}
-use Rattle.checker.proofs.starts.first_behind.Given as goal
-
--- the first ones are finished
-abbrev pub invariant-loop-place : goal.invariant-loop-place
-invariant-loop-place l = AreDoneUpTo l.records l.predecessors l.bound l.place

@@ -1,0 +1,162 @@
+//! Which record makes each entry of the ledger.
+ghost use Rattle.std.specs.Prelude.{ℕ, ◌≡◌, ◌∷◌, [], ◌<◌, ◌≤◌, ◌^◌, ◌+◌, ◌==◌, ◌||◌, ◌↔◌, IfOk, IfErr, OnOk, IsTrue, false, length, slice_set};
+ghost use Rattle.ompt_events.specs.declared.cause.Cause.TheVariants.{EntryTwice, LengthAhead};
+ghost use Rattle.ompt_events.specs.Causes.{RepeatsEntry, entries_in, IsAhead, IsFreeOf};
+ghost use Rattle.ompt_events.specs.Faults.{FindsFirst, IsFault};
+ghost use Rattle.checker.specs.Entries.{AreMakers, IsLedger};
+ghost use Rattle.checker.specs.Makers.{is_named, IsNaming};
+
+use ompt_events::{Cause, Fault, exclude, finish};
+use std::alloc::{AllocError, Global};
+use std::collections::BTreeSet;
+use std::marker::Model;
+use task_tree::Run;
+
+/// The ledger of a run: by entry the record that makes it. No entry is made twice, and no record names a greater
+/// length than the ledger ever has.
+#[derive(Drop)]
+pub(crate) struct Makers<'a> {
+    run: Run<'a>,
+    places: Vec<u32>,
+}
+
+impl<'a> Model for Makers<'a> {
+    ghost use Rattle.checker.specs.Entries.{MakersView, IsLedger};
+
+    ghost Value = { MakersView };
+
+    ghost view = { λ makers. record { run = makers.run; places = makers.places.items } };
+
+    ghost invariant = { λ makers. IsLedger (record { run = makers.run; places = makers.places.items }) };
+}
+
+impl<'a> Makers<'a> {
+    /// The ledger of the run. Refused is a finishing record that names the entry of an earlier one; or else a
+    /// record that names more than the ledger ever has.
+    pub(crate) fn in_run(alloc: Global, run: &Run<'a>) -> Result<Makers<'a>, Fault>
+        ensures run { IfOk result (λ makers. makers.run ≡ run.now) }
+        ensures fault { IfErr result (IsFault run.now.records (EntryTwice ∷ LengthAhead ∷ [])) }
+    {
+        let places = find_makers(alloc, run)?;
+        exclude(Cause::LengthAhead, find_ahead(run, places.len()))?;
+        Ok(Makers {
+            run: run.again(),
+            places,
+        })
+    }
+
+    /// The run.
+    pub(crate) fn run(&self) -> &Run<'a>
+        ensures value { result.now ≡ self.now.run }
+        ensures is_ledger { IsLedger self.now }
+    {
+        &self.run
+    }
+
+    /// By entry the place of the record that makes it.
+    pub(crate) fn places(&self) -> &[u32]
+        ensures { result.now ≡ self.now.places }
+    {
+        self.places.as_slice()
+    }
+}
+
+/// The entries that are named so far.
+#[derive(Drop)]
+struct Named {
+    /// By entry the place of the record that makes it, or the number of records; as many as there are
+    /// finishing records.
+    makers: Vec<u32>,
+    /// Any other entries.
+    beyond: BTreeSet<u32>,
+}
+
+/// How many entries the records make.
+fn entry_count(run: &Run) -> usize
+    ensures { result ≡ entries_in run.now.records }
+{
+    run.records()
+        .iter()
+        .filter(|event| finish(event).is_some())
+        .count()
+}
+
+/// By entry of the ledger the record that makes it. Searches for the first finishing record that names the
+/// entry of an earlier one.
+fn find_makers(alloc: Global, run: &Run) -> Result<Vec<u32>, Fault>
+    ensures makers { IfOk result (λ makers. AreMakers run.now.records (length run.now.records) makers.items) }
+    ensures entries { IfOk result (λ makers. length makers.items ≡ entries_in run.now.records) }
+    ensures free { OnOk result (IsFreeOf run.now.records EntryTwice) }
+    ensures fault { IfErr result (IsFault run.now.records (EntryTwice ∷ [])) }
+{
+    let mut named = Named {
+        makers: vec![in alloc; run.len() as u32; entry_count(run)]?,
+        beyond: BTreeSet::new(alloc),
+    };
+    for at in 0..run.len() {
+        if repeats_entry(run, &mut named, at)? {
+            return Err(Fault::Malformed {
+                at,
+                cause: Cause::EntryTwice,
+            });
+        }
+    }
+    let Named { makers, .. } = named;
+    Ok(makers)
+}
+
+/// Whether the record at a place names the entry of an earlier one; if not, its own is named afterwards.
+fn repeats_entry(run: &Run, named: &mut Named, at: usize) -> Result<bool, AllocError>
+    requires within { at < length run.now.records }
+    requires named { IsNaming run.now.records at named.old }
+    ensures repeats { IfOk result (λ repeats. IsTrue repeats ↔ RepeatsEntry run.now.records at) }
+    ensures named { IfOk result (λ repeats. repeats ≡ false → IsNaming run.now.records (at + 1) named.new) }
+{
+    if run.is_finishing(at) {
+        name_entry(named, run.len(), run.seen(at), at)
+    } else {
+        Ok(false)
+    }
+}
+
+/// Whether the entry was named already; afterwards it is, by the record at a place.
+fn name_entry(named: &mut Named, records: usize, entry: u32, at: usize) -> Result<bool, AllocError>
+    requires within { at < records }
+    requires few { records ≤ 2 ^ 22 }
+    ensures known { IfOk result (λ known. known ≡ is_named records named.old entry) }
+    ensures more { OnOk result ((e : ℕ) → is_named records named.new e
+        ≡ ((e == entry) || is_named records named.old e)) }
+    ensures makers { OnOk result (named.new.makers.items ≡ slice_set named.old.makers.items entry at) }
+{
+    let index = entry as usize;
+    if index < named.makers.len() {
+        let known = (named.makers[index] as usize) < records;
+        named.makers[index] = at as u32;
+        Ok(known)
+    } else {
+        Ok(!named.beyond.insert(entry)?)
+    }
+}
+
+/// The first record that names an entry past the ledger's end, or a greater length than it ever has.
+fn find_ahead(run: &Run, entries: usize) -> Option<usize>
+    requires { entries ≡ entries_in run.now.records }
+    ensures { FindsFirst run.now.records LengthAhead result }
+{
+    for at in 0..run.len() {
+        if is_ahead(run, entries, at) {
+            return Some(at);
+        }
+    }
+    None
+}
+
+/// Whether the record at a place is one.
+fn is_ahead(run: &Run, entries: usize, at: usize) -> bool
+    requires within { at < length run.now.records }
+    requires entries { entries ≡ entries_in run.now.records }
+    ensures { IsTrue result ↔ IsAhead run.now.records at }
+{
+    let seen = run.seen(at) as usize;
+    seen > entries || (seen == entries && run.is_finishing(at))
+}

@@ -1,0 +1,540 @@
+//! The records of a trace with the family of its tasks: what all phases of an audit are about.
+ghost use Rattle.std.specs.Prelude.{ℕ, ◌≡◌, ◌↔◌, ◌<◌, Option, Some, None, IsTrue, MatchOption, is_some, length, option_copied, slice_get};
+ghost use Rattle.ompt_events.specs.declared.records.Body.{Body};
+ghost use Rattle.ompt_events.specs.Records.{begun_initial, begun_root, claim, created, created_with_deps, creation, dependences, discarded, ended_root, finish, forked, fulfilled, joined, made, region, running, schedule, started, wait_completed};
+ghost use Rattle.ompt_events.specs.Places.{at as says_at, thread_at, seen_at};
+ghost use Rattle.ompt_events.specs.Causes.{known_after};
+ghost use Rattle.ompt_events.specs.Tree.{IsExplicit, HasPath, children};
+ghost use Rattle.task_tree.specs.Family.{IsFamilyOf};
+ghost use Rattle.task_tree.specs.Lineage.{parent_index};
+ghost use Rattle.task_tree.specs.Runs.{status, IsRun, IsIndexOf, IsCreation, IsFinish, IsRegionEvent, IsSchedule, IsThreadEvent, IsNoThreadEvent, IsFork, IsNoWaitEvent, IsWaitEvent, AreDependences};
+ghost use Rattle.task_tree.specs.Subjects.{subject, object};
+
+use crate::family::Family;
+use ompt_events::{
+    Claim, Dep, Endpoint, Membership, Part, Record, Status, SyncKind, Trace, WaitKind, finish,
+};
+use std::marker::Model;
+
+/// The records of a trace and the family of its tasks. What a record says is asked by its place, from 0, and
+/// answered by indices of tasks, their places in the order in which the records make them.
+#[derive(Debug, Drop)]
+pub struct Run<'a> {
+    records: &'a [Record],
+    family: &'a Family,
+}
+
+impl<'a> Model for Run<'a> {
+    ghost use Rattle.task_tree.specs.Runs.{RunView, IsRun};
+
+    ghost Value = { RunView };
+
+    ghost view = { λ run. record { records = run.records.now; family = run.family.now } };
+
+    ghost invariant = { λ run. IsRun (record { records = run.records.now; family = run.family.now }) };
+}
+
+/// A creation, by the indices of its tasks.
+#[derive(Clone, Copy, Debug, PartialEq, Eq)]
+pub struct Creation {
+    /// The task that creates.
+    pub parent: usize,
+    /// The explicit task that it creates.
+    pub child: usize,
+}
+
+/// A finish, by the index of its task.
+#[derive(Clone, Copy, Debug, PartialEq, Eq)]
+pub struct Finishing {
+    /// The task that is finished.
+    pub task: usize,
+    /// How much of it.
+    pub part: Part,
+}
+
+/// The begin or end of a synchronisation region, by the index of its task.
+#[derive(Clone, Copy, Debug, PartialEq, Eq)]
+pub struct RegionEvent {
+    /// The task that begins or ends the region.
+    pub task: usize,
+    /// The region's kind.
+    pub kind: SyncKind,
+    /// Whether it begins, ends or both.
+    pub endpoint: Endpoint,
+}
+
+/// A task_schedule event, by the indices of its tasks.
+#[derive(Clone, Copy, Debug, PartialEq, Eq)]
+pub struct Schedule {
+    /// What became of the prior task.
+    pub status: Status,
+    /// The task that ran, or whose event was fulfilled, or that is complete.
+    pub prior: usize,
+    /// The task that runs next, if the status demands one.
+    pub next: Option<usize>,
+}
+
+/// What a record says of the tasks that its thread runs, by their indices.
+#[derive(Clone, Copy, Debug, PartialEq, Eq)]
+pub enum ThreadEvent {
+    /// A task_schedule event.
+    Scheduled(Schedule),
+    /// An initial or implicit task begins, and runs.
+    RootBegin(usize),
+    /// An initial or implicit task ends. It must be running.
+    RootEnd(usize),
+    /// Any other record of a task that must be running.
+    Running(usize),
+}
+
+/// The begin or end of a region that waits for tasks, by the index of its task.
+#[derive(Clone, Copy, Debug, PartialEq, Eq)]
+pub struct WaitEvent {
+    /// The task that begins or ends the region.
+    pub task: usize,
+    /// What its end waits for.
+    pub kind: WaitKind,
+    /// Whether it begins, ends or both.
+    pub endpoint: Endpoint,
+}
+
+impl<'a> Run<'a> {
+    /// The run of the trace's records. The family must be that of its tasks. Takes no memory.
+    pub fn of(trace: &'a Trace, family: &'a Family) -> Run<'a>
+        requires { IsFamilyOf trace.now.records family.now }
+        ensures records { result.records ≡ trace.now.records }
+        ensures family { result.family ≡ family.now }
+    {
+        Run {
+            records: trace.records(),
+            family,
+        }
+    }
+
+    /// The same run once more. Takes no memory.
+    pub fn again(&self) -> Run<'a>
+        ensures { result ≡ self.now }
+    {
+        Run {
+            records: self.records,
+            family: self.family,
+        }
+    }
+
+    /// The records in file order.
+    pub fn records(&self) -> &'a [Record]
+        ensures value { result.now ≡ self.now.records }
+        ensures is_run { IsRun self.now }
+    {
+        self.records
+    }
+
+    /// The family of the tasks.
+    pub fn family(&self) -> &'a Family
+        ensures value { result.now ≡ self.now.family }
+        ensures is_run { IsRun self.now }
+    {
+        self.family
+    }
+
+    /// How many records there are.
+    pub fn len(&self) -> usize
+        ensures value { result ≡ length self.now.records }
+        ensures is_run { IsRun self.now }
+    {
+        self.records.len()
+    }
+
+    /// How many tasks there are.
+    pub fn task_count(&self) -> usize
+        ensures value { result ≡ length self.now.family.tasks }
+        ensures is_run { IsRun self.now }
+    {
+        self.family.tasks().as_slice().len()
+    }
+}
+
+// What a record says.
+impl<'a> Run<'a> {
+    /// The record at a place.
+    pub fn record(&self, at: usize) -> &'a Record
+        requires { at < length self.now.records }
+        ensures { slice_get self.now.records at ≡ Some result.now }
+    {
+        let records = self.records;
+        &records[at]
+    }
+
+    /// The thread that made the record.
+    pub fn thread(&self, at: usize) -> u8
+        requires { at < length self.now.records }
+        ensures { thread_at self.now.records at ≡ Some result }
+    {
+        self.record(at).thread
+    }
+
+    /// The ledger length that the record names.
+    pub fn seen(&self, at: usize) -> u32
+        requires { at < length self.now.records }
+        ensures { result ≡ seen_at self.now.records at }
+    {
+        self.record(at).seen
+    }
+
+    /// The task that the record is of: the root that begins or ends, the parent that creates, the prior task
+    /// of a schedule, the task that is discarded, or the one that does what the record says; none for the
+    /// begin or end of a thread.
+    pub fn subject(&self, at: usize) -> Option<usize>
+        ensures { IsIndexOf self.now subject at result }
+    {
+        self.family.subject(at)
+    }
+
+    /// The second task that the record names: the child that is created, or the next task of a schedule.
+    pub fn object(&self, at: usize) -> Option<usize>
+        ensures { IsIndexOf self.now object at result }
+    {
+        self.family.object(at)
+    }
+
+    /// The creation of an explicit task, if the record is one (OpenMP 5.2, 19.5.2.7).
+    pub fn creation(&self, at: usize) -> Option<Creation>
+        requires { at < length self.now.records }
+        ensures { MatchOption result (says_at creation self.now.records at ≡ None)
+            (λ made. IsCreation self.now at made.parent made.child) }
+    {
+        self.record(at).body.creation()?;
+        let parent = self.family.subject(at)?;
+        let child = self.family.object(at)?;
+        Some(Creation { parent, child })
+    }
+
+    /// The task that runs from the record on, if one is scheduled (19.5.2.10).
+    pub fn started(&self, at: usize) -> Option<usize>
+        requires { at < length self.now.records }
+        ensures { IsIndexOf self.now started at result }
+    {
+        self.object_if(self.record(at).body.started(), at)
+    }
+
+    /// The explicit task that is created there.
+    pub fn created(&self, at: usize) -> Option<usize>
+        requires { at < length self.now.records }
+        ensures { IsIndexOf self.now created at result }
+    {
+        self.object_if(self.record(at).body.created(), at)
+    }
+
+    /// The task whose event is fulfilled there, early or late (12.5.2).
+    pub fn fulfilled(&self, at: usize) -> Option<usize>
+        requires { at < length self.now.records }
+        ensures { IsIndexOf self.now fulfilled at result }
+    {
+        self.subject_if(self.record(at).body.fulfilled(), at)
+    }
+
+    /// The task that is discarded there before it began (11.5).
+    pub fn discarded(&self, at: usize) -> Option<usize>
+        requires { at < length self.now.records }
+        ensures { IsIndexOf self.now discarded at result }
+    {
+        self.subject_if(self.record(at).body.discarded(), at)
+    }
+
+    /// The taskwait with dependences that is complete there (15.5).
+    pub fn wait_completed(&self, at: usize) -> Option<usize>
+        requires { at < length self.now.records }
+        ensures { IsIndexOf self.now wait_completed at result }
+    {
+        self.subject_if(self.record(at).body.wait_completed(), at)
+    }
+
+    /// The task that must be running on the record's thread.
+    pub fn running(&self, at: usize) -> Option<usize>
+        requires { at < length self.now.records }
+        ensures { IsIndexOf self.now running at result }
+    {
+        self.subject_if(self.record(at).body.running(), at)
+    }
+
+    /// The task that is finished there, and how much of it.
+    pub fn finishing(&self, at: usize) -> Option<Finishing>
+        requires { at < length self.now.records }
+        ensures { MatchOption result (says_at finish self.now.records at ≡ None)
+            (λ found. IsFinish self.now at found.task found.part) }
+    {
+        let (_, part) = finish(self.record(at))?;
+        let task = self.family.subject(at)?;
+        Some(Finishing { task, part })
+    }
+
+    /// Whether a task is finished there, in whole or in part.
+    pub fn is_finishing(&self, at: usize) -> bool
+        requires { at < length self.now.records }
+        ensures { result ≡ is_some (says_at finish self.now.records at) }
+    {
+        finish(self.record(at)).is_some()
+    }
+
+    /// The ledger length that is known after the record: one more than it names where it makes an entry.
+    pub fn known_after(&self, at: usize) -> u64
+        requires { at < length self.now.records }
+        ensures { result ≡ known_after self.now.records at }
+    {
+        u64::from(self.seen(at)) + u64::from(self.is_finishing(at))
+    }
+
+    /// The synchronisation region that begins or ends there (19.5.2.13).
+    pub fn region(&self, at: usize) -> Option<RegionEvent>
+        requires { at < length self.now.records }
+        ensures { MatchOption result (says_at region self.now.records at ≡ None)
+            (λ event. IsRegionEvent self.now at event.task event.kind event.endpoint) }
+    {
+        let (_, kind, endpoint) = self.record(at).body.region()?;
+        let task = self.family.subject(at)?;
+        Some(RegionEvent {
+            task,
+            kind,
+            endpoint,
+        })
+    }
+}
+
+// What a record says of the tasks that its thread runs.
+impl<'a> Run<'a> {
+    /// The status of the task_schedule event there, if the record is one (19.5.2.10).
+    pub fn status(&self, at: usize) -> Option<Status>
+        requires { at < length self.now.records }
+        ensures { result ≡ says_at status self.now.records at }
+    {
+        let (status, _, _) = self.record(at).body.schedule()?;
+        Some(status)
+    }
+
+    /// The task_schedule event there, if the record is one (19.5.2.10).
+    pub fn schedule(&self, at: usize) -> Option<Schedule>
+        requires { at < length self.now.records }
+        ensures { MatchOption result (says_at schedule self.now.records at ≡ None)
+            (λ event. IsSchedule self.now at event.status event.prior event.next) }
+    {
+        let (status, _, _) = self.record(at).body.schedule()?;
+        let prior = self.family.subject(at)?;
+        let next = self.family.object(at);
+        Some(Schedule {
+            status,
+            prior,
+            next,
+        })
+    }
+
+    /// What the record says of the tasks that its thread runs (12.9), if it says anything of them.
+    pub fn thread_event(&self, at: usize) -> Option<ThreadEvent>
+        requires { at < length self.now.records }
+        ensures { MatchOption result (IsNoThreadEvent self.now at) (IsThreadEvent self.now at) }
+    {
+        if let Some(event) = self.schedule(at) {
+            return Some(ThreadEvent::Scheduled(event));
+        }
+        if let Some(root) = self.begun_root(at) {
+            return Some(ThreadEvent::RootBegin(root));
+        }
+        if let Some(root) = self.ended_root(at) {
+            return Some(ThreadEvent::RootEnd(root));
+        }
+        let task = self.running(at)?;
+        Some(ThreadEvent::Running(task))
+    }
+}
+
+// What a record says of waits, teams and dependences.
+impl<'a> Run<'a> {
+    /// The task that begins a parallel region there (19.5.2.3).
+    pub fn forking(&self, at: usize) -> Option<usize>
+        requires { at < length self.now.records }
+        ensures { MatchOption result (says_at forked self.now.records at ≡ None)
+            (IsFork self.now at) }
+    {
+        self.record(at).body.forked()?;
+        self.family.subject(at)
+    }
+
+    /// The begin or end of a region that waits for tasks (15.3, 15.4 and 15.5), if the record is one.
+    pub fn wait_event(&self, at: usize) -> Option<WaitEvent>
+        requires { at < length self.now.records }
+        ensures { MatchOption result (IsNoWaitEvent self.now at)
+            (λ event. IsWaitEvent self.now at event.task event.kind event.endpoint) }
+    {
+        let (_, kind, endpoint) = self.record(at).body.region()?;
+        let kind = kind.wait_kind()?;
+        let task = self.family.subject(at)?;
+        Some(WaitEvent {
+            task,
+            kind,
+            endpoint,
+        })
+    }
+
+    /// The initial or implicit task that begins there.
+    pub fn begun_root(&self, at: usize) -> Option<usize>
+        requires { at < length self.now.records }
+        ensures { IsIndexOf self.now begun_root at result }
+    {
+        self.subject_if(self.record(at).body.begun_root(), at)
+    }
+
+    /// The initial or implicit task that ends there.
+    pub fn ended_root(&self, at: usize) -> Option<usize>
+        requires { at < length self.now.records }
+        ensures { IsIndexOf self.now ended_root at result }
+    {
+        self.subject_if(self.record(at).body.ended_root(), at)
+    }
+
+    /// The initial task that begins there.
+    pub fn begun_initial(&self, at: usize) -> Option<usize>
+        requires { at < length self.now.records }
+        ensures { IsIndexOf self.now begun_initial at result }
+    {
+        self.subject_if(self.record(at).body.begun_initial(), at)
+    }
+
+    /// The place in its team of the implicit task that begins there; an initial task has none.
+    pub fn joined(&self, at: usize) -> Option<Membership>
+        requires { at < length self.now.records }
+        ensures { result ≡ says_at joined self.now.records at }
+    {
+        self.record(at).body.joined()
+    }
+
+    /// What the record claims of the task that it finishes.
+    pub fn claim(&self, at: usize) -> Option<&'a Claim>
+        requires { at < length self.now.records }
+        ensures { option_copied result ≡ says_at claim self.now.records at }
+    {
+        self.record(at).body.claim()
+    }
+
+    /// The task that is created there with dependences, which follow.
+    pub fn created_with_deps(&self, at: usize) -> Option<usize>
+        requires { at < length self.now.records }
+        ensures { IsIndexOf self.now created_with_deps at result }
+    {
+        self.object_if(self.record(at).body.created_with_deps(), at)
+    }
+
+    /// The dependences that the record lists, and whose they are (15.9.5).
+    pub fn dependences(&self, at: usize) -> Option<(usize, &'a [Dep])>
+        requires { at < length self.now.records }
+        ensures { MatchOption result (says_at dependences self.now.records at ≡ None)
+            (λ list. AreDependences self.now at list.0 list.1.now) }
+    {
+        let (_, items) = self.record(at).body.dependences()?;
+        let task = self.family.subject(at)?;
+        Some((task, items))
+    }
+}
+
+impl Run<'_> {
+    /// The index of the task that the record is of, if the record names one in this way.
+    fn subject_if(&self, named: Option<u64>, at: usize) -> Option<usize>
+        ensures { (says : Body → Option ℕ) → named ≡ says_at says self.now.records at
+            → ((task : ℕ) (body : Body) → says body ≡ Some task → subject body ≡ Some task)
+            → IsIndexOf self.now says at result }
+    {
+        named?;
+        self.family.subject(at)
+    }
+
+    /// The index of the second task of the record, if the record names one in this way.
+    fn object_if(&self, named: Option<u64>, at: usize) -> Option<usize>
+        ensures { (says : Body → Option ℕ) → named ≡ says_at says self.now.records at
+            → ((task : ℕ) (body : Body) → says body ≡ Some task → object body ≡ Some task)
+            → IsIndexOf self.now says at result }
+    {
+        named?;
+        self.family.object(at)
+    }
+}
+
+// What is known of a task.
+impl<'a> Run<'a> {
+    /// The id of the task at this index.
+    pub fn task(&self, index: usize) -> u64
+        requires { index < length self.now.family.tasks }
+        ensures { slice_get self.now.family.tasks index ≡ Some result }
+    {
+        self.family.tasks().as_slice()[index]
+    }
+
+    /// The index of the task, if a record makes it. Takes logarithmic time.
+    pub fn index_of(&self, task: u64) -> Option<usize>
+        ensures { (index : ℕ) → (result ≡ Some index) ↔ (slice_get self.now.family.tasks index ≡ Some task) }
+    {
+        self.family.tasks().index_of(task)
+    }
+
+    /// The place of the record that makes the task at this index.
+    pub fn made_at(&self, index: usize) -> usize
+        requires { index < length self.now.family.tasks }
+        ensures { says_at made self.now.records result ≡ slice_get self.now.family.tasks index }
+    {
+        self.family.made_at(index)
+    }
+
+    /// The place of the record that creates the task at this index; none for a root.
+    pub fn created_at(&self, index: usize) -> Option<usize>
+        requires { index < length self.now.family.tasks }
+        ensures { (task place : ℕ) → slice_get self.now.family.tasks index ≡ Some task
+            → (result ≡ Some place) ↔ (says_at created self.now.records place ≡ Some task) }
+    {
+        if self.family.is_explicit_at(index) {
+            Some(self.family.made_at(index))
+        } else {
+            None
+        }
+    }
+
+    /// Whether another task created the task at this index.
+    pub fn is_explicit(&self, index: usize) -> bool
+        requires { index < length self.now.family.tasks }
+        ensures { (task : ℕ) → slice_get self.now.family.tasks index ≡ Some task
+            → IsTrue result ↔ IsExplicit self.now.records task }
+    {
+        self.family.is_explicit_at(index)
+    }
+
+    /// The index of the task that created the one at this index; none for a root.
+    pub fn parent(&self, index: usize) -> Option<usize>
+        ensures { result ≡ parent_index self.now.family index }
+    {
+        self.family.parent_at(index)
+    }
+
+    /// The children of the task at this index, in the order of their numbers.
+    pub fn children(&self, index: usize) -> &'a [u64]
+        requires { index < length self.now.family.tasks }
+        ensures { (task : ℕ) → slice_get self.now.family.tasks index ≡ Some task
+            → result.now ≡ children self.now.records task }
+    {
+        self.family.children_at(index)
+    }
+
+    /// How many children the task at this index has.
+    pub fn child_count(&self, index: usize) -> usize
+        requires { index < length self.now.family.tasks }
+        ensures { (task : ℕ) → slice_get self.now.family.tasks index ≡ Some task
+            → result ≡ length (children self.now.records task) }
+    {
+        self.family.child_count(index)
+    }
+
+    /// Whether the task at this index stands below the root at this path, the numbers of the children from
+    /// the root down. It takes as many steps as the path has numbers.
+    pub fn has_path(&self, index: usize, root: u64, path: &[u32]) -> bool
+        requires { index < length self.now.family.tasks }
+        ensures { (task : ℕ) → slice_get self.now.family.tasks index ≡ Some task
+            → IsTrue result ↔ HasPath self.now.records root task path.now }
+    {
+        self.family.has_path(index, root, path)
+    }
+}

@@ -1,0 +1,11 @@
+pub mod CallLemmas
+pub mod RegionEndLemmas
+pub mod BarrierLemmas
+pub mod RowLemmas
+pub mod BeginLemmas
+pub mod MemberLemmas
+pub mod FewestLemmas
+pub mod MissedLemmas
+pub mod EventLemmas
+pub mod SeatLemmas
+pub mod ShortLemmas

@@ -1,0 +1,245 @@
+-- The first record that shows a team or a barrier that lacks a member, and what is known where none does.
+use Rattle.std.proofs.Common.{◌≡◌, ◌∙◌, ℕ, ◌<◌, ◌≤◌, ◌+◌, List, [], ◌∷◌, length, get_or, Option, Some, None, refl, sym, ap, subst, arith, inl, inr, ◌⊎◌}
+use Rattle.std.proofs.lemmas.Bool.{cases_eq, cases_lt}
+use Rattle.std.proofs.lemmas.Option.{same_Some, slice_get_within, slice_get_past, slice_get-get_or}
+use Rattle.std.specs.Global.{Vec}
+use Rattle.std.specs.Prelude.{◌↔◌, slice_get}
+use Rattle.ompt_events.specs.declared.records.Record.{Record}
+use Rattle.ompt_events.specs.declared.records.Membership.{Membership}
+use Rattle.ompt_events.specs.declared.cause.Cause.TheVariants.{CreatedTwice, TeamShort}
+use Rattle.ompt_events.specs.Records.{joined}
+use Rattle.ompt_events.specs.Places.{at}
+use Rattle.ompt_events.specs.Causes.{IsShort, outside, same_index, other_size, few, missed, HasCause, team_short, IsFreeOf, IsFirstWith}
+use Rattle.ompt_events.specs.Teams.{IsInitial}
+use Rattle.ompt_events.proofs.PlaceLemmas.{at_within}
+use Rattle.task_tree.specs.Numbering.{AreApart}
+use Rattle.teams.specs.Tables.{TablesView, AreTables}
+use Rattle.teams.specs.Fewest.{AreTeamsWithin, AreShort}
+use Rattle.teams.specs.Members.{IsInTeam, in_own, in_joined, AreInTeams}
+use Rattle.teams.specs.Missed.{IsMissed}
+use Rattle.teams.proofs.MissedLemmas.{AreFewestOf}
+use Rattle.teams.specs.Seats.{IsSeatOf, AreSeats, AreSeated, LacksNothing, IsWholeBefore}
+use Rattle.teams.specs.Rows.{row_items, row_at}
+use Rattle.teams.specs.Short.{IsSearched}
+use Rattle.ompt_events.specs.Faults.{FindsFirst}
+use Rattle.teams.specs.Teams.{IsMemberNumbered, alone, together, AreRosters, AreBegins, IsTeams}
+use Rattle.teams.proofs.BeginLemmas.{begins_few}
+use Rattle.teams.proofs.RegionEndLemmas.{ends_at}
+use Rattle.teams.proofs.MemberLemmas.{member_place, place_member, initial_once, joined_once, teams_are}
+use Rattle.teams.proofs.SeatLemmas.{all_taken}
+
+-- ---- the first record
+
+-- a record whose member lacks nothing, and that ends no barrier that a member misses, shows no lack
+pub not_short : (rs : List Record) (i : ℕ) → LacksNothing rs i → (IsMissed rs i → ⊥) → IsShort rs i → ⊥
+not_short rs i fine none (outside m joins out) = let inside = (fine m joins).fits.inside in omega (arith, inside, out)
+not_short rs i fine none (same_index m e joins has same) = (fine m joins).alone e has same
+not_short rs i fine none (other_size m e joins has different) = different ((fine m joins).fits.one_size e has)
+not_short rs i fine none (few m joins less) = let enough = (fine m joins).fits.enough in omega (arith, enough, less)
+not_short rs i fine none (missed task member begin number kind ends barrier numbered mate never) = none (record {
+  begin = begin;
+  barrier = record { task = task; kind = kind; ends = ends; barrier = barrier };
+  number = number;
+  numbered = numbered;
+  member = member;
+  mate = mate;
+  never = never;
+})
+
+pub missed_short : (rs : List Record) (i : ℕ) → IsMissed rs i → IsShort rs i
+missed_short rs i m = missed m.barrier.task m.member m.begin m.number m.barrier.kind m.barrier.ends m.barrier.barrier m.numbered m.mate m.never
+
+short_within : (rs : List Record) (i : ℕ) → IsShort rs i → i < length rs
+short_within rs i (outside m joins out) = at_within joined rs i m joins
+short_within rs i (same_index m e joins has same) = at_within joined rs i m joins
+short_within rs i (other_size m e joins has different) = at_within joined rs i m joins
+short_within rs i (few m joins less) = at_within joined rs i m joins
+short_within rs i (missed task member begin number kind ends barrier numbered mate never) = (ends_at rs i task begin kind ends).inside
+
+of_cause : (rs : List Record) (i : ℕ) → HasCause rs i TeamShort → IsShort rs i
+of_cause rs i (team_short is) = is
+
+pub whole_start : (rs : List Record) → IsWholeBefore rs 0
+whole_start rs = λ k below. absurd (omega (arith, below))
+
+pub whole_more : (rs : List Record) (n : ℕ) → IsWholeBefore rs n → (IsShort rs n → ⊥) → IsWholeBefore rs (n + 1)
+whole_more rs n whole none = λ k below short. elim (cases_eq k n) [
+  | inl same ↦ let P : ℕ → Type 0 = IsShort rs in none (subst P same short)
+  | inr apart ↦ whole k (omega (arith, below, apart)) short
+]
+
+pub first_short : (rs : List Record) (i : ℕ) → IsWholeBefore rs i → IsShort rs i → IsFirstWith rs TeamShort i
+first_short rs i whole short = record {
+  within = short_within rs i short;
+  has = team_short short;
+  first = λ k below has. whole k below (of_cause rs k has);
+}
+
+pub free_short : (rs : List Record) → IsWholeBefore rs (length rs) → IsFreeOf rs TeamShort
+free_short rs whole = λ i has. let short = of_cause rs i has in whole i (short_within rs i short) short
+
+-- ---- the tables
+
+pub teams_within : (rs : List Record) (n : ℕ) (tasks : List ℕ) (teams : List (Option ℕ)) → AreInTeams rs n tasks teams → AreTeamsWithin teams
+teams_within rs n tasks teams are = λ index team stands.
+    let inside = slice_get_within teams index (Some team) stands in
+    let all = are.all in
+    let within : index < length tasks = omega (arith, inside, all) in
+    let lead = of (are.known index (get_or tasks index 0) team (slice_get-get_or tasks index 0 within) stands) within in
+    omega (arith, lead, all)
+  where
+    of : {index task team : ℕ} → IsInTeam rs n tasks index task team → index < length tasks → team < length tasks
+    of (in_own i below is same) within = omega (arith, within, same)
+    of {team = team} (in_joined i m below joins is leads) within = slice_get_within tasks team leads.first.member leads.here
+
+pub begins_short : (rs : List Record) (n most : ℕ) (tasks : List ℕ) (begins : List (Vec ℕ)) → AreBegins rs n tasks begins → n ≤ most → AreShort begins most
+begins_short rs n most tasks begins are less = λ index. elim (cases_lt index (length tasks)) [
+  | inl within ↦
+      let task = get_or tasks index 0 in
+      let long = ap length (are.each index task (slice_get-get_or tasks index 0 within)) in
+      let few = begins_few rs task n in
+      omega (arith, long, few, less)
+  | inr past ↦
+      let made = are.within in
+      let none : length (row_at begins index) ≡ 0 = ap (λ o. length (row_items o)) (slice_get_past begins index (omega (arith, past, made))) in
+      omega (arith, none)
+]
+
+-- ---- the rosters
+
+-- the member that a seat is of, in the words of the teams
+seat_numbered : (rs : List Record) (tasks : List ℕ) (task mate number other i : ℕ) (m : Membership) → at joined rs i ≡ Some m → m.member ≡ task → slice_get tasks other ≡ Some mate → IsSeatOf rs (length rs) tasks m.parallel number other → IsMemberNumbered rs task number mate
+seat_numbered rs tasks task mate number other i m joins is is_mate seat =
+    let P : ℕ → Type 0 = λ k. IsMemberNumbered rs task k mate in
+    let Q : ℕ → Type 0 = IsMemberNumbered rs task seat.m.index in
+    let own = place_member rs m.parallel (length rs) i m (at_within joined rs i m joins) joins refl in
+    let mates = place_member rs m.parallel (length rs) seat.place seat.m seat.before seat.joins seat.same in
+    subst P seat.numbered (subst Q (same_Some seat.m.member mate (sym seat.here ∙ is_mate)) (together m.parallel m seat.m own is mates))
+
+-- a member's number in the words of the teams
+record AreNumbered (rs : List Record) (task number mate : ℕ) : Type 0 where
+  own : Membership
+  other : Membership
+  own_place : ℕ
+  other_place : ℕ
+  own_joins : at joined rs own_place ≡ Some own
+  other_joins : at joined rs other_place ≡ Some other
+  own_is : own.member ≡ task
+  other_is : other.member ≡ mate
+  same : own.parallel ≡ other.parallel
+  numbered : other.index ≡ number
+
+numbered_cases : (rs : List Record) (task number mate : ℕ) → IsMemberNumbered rs task number mate → (IsInitial rs task × (mate ≡ task) × (number ≡ 0)) ⊎ AreNumbered rs task number mate
+numbered_cases rs task number mate (alone initial) = inl (initial, refl, refl)
+numbered_cases rs task number mate (together parallel own other has_own is_own has_other) =
+    let first = member_place rs parallel (length rs) own has_own in
+    let second = member_place rs parallel (length rs) other has_other in
+    inr (record {
+      own = own;
+      other = other;
+      own_place = first.place;
+      other_place = second.place;
+      own_joins = first.joins;
+      other_joins = second.joins;
+      own_is = is_own;
+      other_is = refl;
+      same = first.same ∙ sym second.same;
+      numbered = refl;
+    })
+
+-- the one seat of an initial task
+only_seat : (seats : List (Option ℕ)) (index number other : ℕ) → seats ≡ Some index ∷ [] → slice_get seats number ≡ Some (Some other) → (number ≡ 0) × (other ≡ index)
+only_seat seats index number other is stands =
+    let one : length seats ≡ 1 = ap length is in
+    let inside = slice_get_within seats number (Some other) stands in
+    let first : number ≡ 0 = omega (arith, one, inside) in
+    (first, same_Some other index (same_Some (Some other) (Some index) (sym stands ∙ ap (slice_get seats) first ∙ ap (λ l. slice_get l 0) is)))
+
+own_numbered : (rs : List Record) (tasks : List ℕ) (index task other mate number : ℕ) (seats : List (Option ℕ)) → IsFreeOf rs CreatedTwice → AreApart tasks → IsInitial rs task → slice_get tasks index ≡ Some task → slice_get tasks other ≡ Some mate → seats ≡ Some index ∷ [] → (slice_get seats number ≡ Some (Some other)) ↔ IsMemberNumbered rs task number mate
+own_numbered rs tasks index task other mate number seats free apart initial is_task is_mate is = (
+  λ stands.
+      let only = only_seat seats index number other is stands in
+      let P : ℕ → Type 0 = λ k. IsMemberNumbered rs task k mate in
+      let Q : ℕ → Type 0 = IsMemberNumbered rs task 0 in
+      let same : task ≡ mate = same_Some task mate (sym is_task ∙ ap (slice_get tasks) (sym only.1) ∙ is_mate) in
+      subst P (sym only.0) (subst Q same (alone initial)),
+  λ numbered. elim (numbered_cases rs task number mate numbered) [
+    | inl own ↦
+        let same : other ≡ index = apart other index task (is_mate ∙ ap Some own.1) is_task in
+        ap (slice_get seats) own.2 ∙ ap (λ l. slice_get l 0) is ∙ ap (λ k. Some (Some k)) (sym same)
+    | inr both ↦ absurd (initial_once rs initial.0 both.own_place task both.own free initial.1 both.own_joins both.own_is)
+  ],
+)
+
+joined_numbered : (rs : List Record) (tasks : List ℕ) (task other mate number i : ℕ) (m : Membership) (seats : List (Option ℕ)) → IsFreeOf rs CreatedTwice → at joined rs i ≡ Some m → m.member ≡ task → slice_get tasks other ≡ Some mate → AreSeats rs (length rs) tasks m.parallel seats → (slice_get seats number ≡ Some (Some other)) ↔ IsMemberNumbered rs task number mate
+joined_numbered rs tasks task other mate number i m seats free joins is is_mate are = (
+  λ stands. seat_numbered rs tasks task mate number other i m joins is is_mate (are.only number other stands),
+  λ numbered. elim (numbered_cases rs task number mate numbered) [
+    | inl own ↦ absurd (initial_once rs own.0.0 i task m free own.0.1 joins is)
+    | inr both ↦
+        let one = (joined_once rs both.own_place i both.own m free both.own_joins joins (both.own_is ∙ sym is)).1 in
+        let same : both.other.parallel ≡ m.parallel = sym both.same ∙ ap (λ (x : Membership). x.parallel) one in
+        ap (slice_get seats) (sym both.numbered) ∙ are.seated both.other_place other both.other (at_within joined rs both.other_place both.other both.other_joins) both.other_joins same (is_mate ∙ ap Some (sym both.other_is))
+  ],
+)
+
+numbered_in : (rs : List Record) (tasks : List ℕ) (rosters : List (Vec (Option ℕ))) (index task team other mate number : ℕ) (roster : Vec (Option ℕ)) → IsFreeOf rs CreatedTwice → AreApart tasks → AreSeated rs (length rs) tasks rosters → slice_get tasks index ≡ Some task → slice_get rosters team ≡ Some roster → slice_get tasks other ≡ Some mate → IsInTeam rs (length rs) tasks index task team → (slice_get roster.items number ≡ Some (Some other)) ↔ IsMemberNumbered rs task number mate
+numbered_in rs tasks rosters index task team other mate number roster free apart are is_task is_roster is_mate (in_own i below is same) = own_numbered rs tasks index task other mate number roster.items free apart (i, is) is_task is_mate (are.own index task roster is_task (i, is) (ap (slice_get rosters) (sym same) ∙ is_roster))
+numbered_in rs tasks rosters index task team other mate number roster free apart are is_task is_roster is_mate (in_joined i m below joins is leads) = joined_numbered rs tasks task other mate number i m roster.items free joins is is_mate (are.each m.parallel team roster leads is_roster)
+
+-- a team has no empty seat where all its members began
+full_seats : (rs : List Record) (tasks : List ℕ) (parallel number : ℕ) (seats : List (Option ℕ)) → AreSeats rs (length rs) tasks parallel seats → number < length seats → (other : ℕ) × (slice_get seats number ≡ Some (Some other)) × (other < length tasks)
+full_seats rs tasks parallel number seats are within =
+    let long = are.long in
+    let rest = are.rest in
+    let found = all_taken seats number (omega (arith, long, rest)) within in
+    let seat = are.only number found.0 found.1 in
+    (found.0, found.1, slice_get_within tasks found.0 seat.m.member seat.here)
+
+full_roster : (rs : List Record) (tasks : List ℕ) (rosters : List (Vec (Option ℕ))) (team number : ℕ) (roster : Vec (Option ℕ)) → AreSeated rs (length rs) tasks rosters → slice_get rosters team ≡ Some roster → number < length roster.items → (other : ℕ) × (slice_get roster.items number ≡ Some (Some other)) × (other < length tasks)
+full_roster rs tasks rosters team number roster are stands within = elim (are.other team roster stands) [
+  | inl none ↦ let nothing : length roster.items ≡ 0 = ap length none in absurd (omega (arith, nothing, within))
+  | inr (inl leads) ↦ full_seats rs tasks leads.0 number roster.items (are.each leads.0 team roster leads.1 stands) within
+  | inr (inr own) ↦
+      let is = are.own team own.0 roster own.1 own.2 stands in
+      let one : length roster.items ≡ 1 = ap length is in
+      let first : number ≡ 0 = omega (arith, one, within) in
+      (team, ap (slice_get roster.items) first ∙ ap (λ l. slice_get l 0) is, slice_get_within tasks team own.0 own.1)
+]
+
+pub rosters_are : (rs : List Record) (tasks : List ℕ) (teams : List (Option ℕ)) (rosters : List (Vec (Option ℕ))) → IsFreeOf rs CreatedTwice → AreApart tasks → AreInTeams rs (length rs) tasks teams → AreSeated rs (length rs) tasks rosters → AreRosters rs tasks teams rosters
+rosters_are rs tasks teams rosters free apart are seated = record {
+  within = λ index team stands. let inside = teams_within rs (length rs) tasks teams are index team stands in let all = are.all in let all_rosters = seated.all in omega (arith, inside, all, all_rosters);
+  each = λ index task team number other mate roster is_task is_team is_roster is_mate. numbered_in rs tasks rosters index task team other mate number roster free apart seated is_task is_roster is_mate (are.known index task team is_task is_team);
+  full = λ team number roster is_roster within. full_roster rs tasks rosters team number roster seated is_roster within;
+}
+
+-- ---- the tables
+
+pub tables_fewest : (tables : TablesView) → AreTables tables → AreFewestOf tables.run.records tables.run.family.tasks tables.teams tables.fewest
+tables_fewest tables are = record {
+  within = teams_within tables.run.records (length tables.run.records) tables.run.family.tasks tables.teams are.teams;
+  begins = tables.begins;
+  are_begins = are.begins;
+  are_fewest = are.fewest;
+}
+
+-- what the search for a lack found
+pub searched_finds : (rs : List Record) (tasks : List ℕ) (rosters : List (Vec (Option ℕ))) (found : Option ℕ) → IsSearched rs tasks rosters found → FindsFirst rs TeamShort found
+searched_finds rs tasks rosters None searched = searched.0
+searched_finds rs tasks rosters (Some i) searched = searched
+
+searched_none : (rs : List Record) (tasks : List ℕ) (rosters : List (Vec (Option ℕ))) (found : Option ℕ) → IsSearched rs tasks rosters found → IsFreeOf rs TeamShort → AreSeated rs (length rs) tasks rosters
+searched_none rs tasks rosters None searched free = searched.1
+searched_none rs tasks rosters (Some i) searched free = absurd (free i searched.has)
+
+-- the teams, where no record shows a lack
+pub teams_of : (tables : TablesView) (rosters : List (Vec (Option ℕ))) (found : Option ℕ) → AreTables tables → IsSearched tables.run.records tables.run.family.tasks rosters found → IsFreeOf tables.run.records TeamShort → IsTeams (record { run = tables.run; teams = tables.teams; rosters = rosters; begins = tables.begins; numbers = tables.numbers })
+teams_of tables rosters found are searched free = record {
+  run = are.run;
+  teams = teams_are tables.run.records tables.run.family.tasks tables.teams are.run.family.once are.run.family.makers.apart are.teams;
+  rosters = rosters_are tables.run.records tables.run.family.tasks tables.teams rosters are.run.family.once are.run.family.makers.apart are.teams (searched_none tables.run.records tables.run.family.tasks rosters found searched free);
+  begins = are.begins;
+  numbers = are.numbers;
+  whole = free;
+}

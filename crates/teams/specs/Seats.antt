@@ -1,0 +1,99 @@
+-- The seats of the members of a team, by their numbers, while the records are gone over.
+use Rattle.std.specs.Prelude.{ℕ, zero, suc, ◌≡◌, ◌<◌, ◌≤◌, ◌+◌, ◌⊎◌, ◌∷◌, [], List, length, Bool, true, false, Option, Some, None, Contains, slice_get, slice_set, replicate}
+use Rattle.std.specs.Global.{Vec}
+use Rattle.ompt_events.specs.declared.records.Record.{Record}
+use Rattle.ompt_events.specs.declared.records.Membership.{Membership}
+use Rattle.ompt_events.specs.Records.{joined}
+use Rattle.ompt_events.specs.Places.{at}
+use Rattle.ompt_events.specs.Teams.{IsInitial, members, members_before}
+use Rattle.ompt_events.specs.Causes.{IsShort}
+use Rattle.teams.specs.Members.{IsLead}
+
+-- how many seats are empty
+abbrev pub empty_seats : List (Option ℕ) → ℕ
+empty_seats [] = zero
+empty_seats (None ∷ seats) = suc (empty_seats seats)
+empty_seats (Some index ∷ seats) = empty_seats seats
+
+-- the seat of this number is that of a member that begins by the first n records
+pub record IsSeatOf (rs : List Record) (n : ℕ) (tasks : List ℕ) (parallel number index : ℕ) : Type 0 where
+  pub place : ℕ
+  pub m : Membership
+  pub before : place < n
+  pub joins : at joined rs place ≡ Some m
+  pub same : m.parallel ≡ parallel
+  pub numbered : m.index ≡ number
+  pub here : slice_get tasks index ≡ Some m.member
+
+-- there are as many seats as members, and each member that begins by the first n records has its own
+pub record AreSeats (rs : List Record) (n : ℕ) (tasks : List ℕ) (parallel : ℕ)
+    (seats : List (Option ℕ)) : Type 0 where
+  pub long : length seats ≡ length (members rs parallel)
+  pub rest : empty_seats seats + length (members_before rs parallel n) ≡ length seats
+  pub seated : (k index : ℕ) (m : Membership) → k < n → at joined rs k ≡ Some m → m.parallel ≡ parallel
+      → slice_get tasks index ≡ Some m.member → slice_get seats m.index ≡ Some (Some index)
+  pub only : (number index : ℕ) → slice_get seats number ≡ Some (Some index)
+      → IsSeatOf rs n tasks parallel number index
+
+-- at the number of each team stand the seats of its members, an initial task has its own, and any other
+-- number has none
+pub record AreSeated (rs : List Record) (n : ℕ) (tasks : List ℕ)
+    (rosters : List (Vec (Option ℕ))) : Type 0 where
+  pub all : length rosters ≡ length tasks
+  pub each : (parallel lead : ℕ) (roster : Vec (Option ℕ)) → IsLead rs tasks parallel lead
+      → slice_get rosters lead ≡ Some roster → AreSeats rs n tasks parallel roster.items
+  pub own : (index task : ℕ) (roster : Vec (Option ℕ)) → slice_get tasks index ≡ Some task
+      → IsInitial rs task → slice_get rosters index ≡ Some roster → roster.items ≡ Some index ∷ []
+  pub other : (index : ℕ) (roster : Vec (Option ℕ)) → slice_get rosters index ≡ Some roster
+      → (roster.items ≡ []) ⊎ (((parallel : ℕ) × IsLead rs tasks parallel index)
+      ⊎ ((task : ℕ) × (slice_get tasks index ≡ Some task) × IsInitial rs task))
+
+-- before the first record: the seat of an initial task, or as many empty ones as the team has members
+pub data AreFirstSeats (rs : List Record) (tasks sizes : List ℕ) (index : ℕ)
+    (seats : List (Option ℕ)) : Type 0 where
+  own_seat : (task : ℕ) → slice_get tasks index ≡ Some task → IsInitial rs task
+      → seats ≡ replicate 1 (Some index) → AreFirstSeats rs tasks sizes index seats
+  empty : (task size : ℕ) → slice_get tasks index ≡ Some task → (IsInitial rs task → ⊥)
+      → slice_get sizes index ≡ Some size → seats ≡ replicate size None
+      → AreFirstSeats rs tasks sizes index seats
+
+-- that stands for each of the first n tasks
+pub record AreFirstRosters (rs : List Record) (tasks sizes : List ℕ) (n : ℕ)
+    (rosters : List (Vec (Option ℕ))) : Type 0 where
+  pub all : length rosters ≡ n
+  pub each : (index : ℕ) (roster : Vec (Option ℕ)) → slice_get rosters index ≡ Some roster
+      → AreFirstSeats rs tasks sizes index roster.items
+
+-- the member's number is one of its team, which has as many members as it says, as each earlier one says
+pub record Fits (rs : List Record) (i : ℕ) (m : Membership) : Type 0 where
+  pub inside : m.index < m.actual
+  pub enough : m.actual ≤ length (members rs m.parallel)
+  pub one_size : (e : Membership) → Contains (members_before rs m.parallel i) e → e.actual ≡ m.actual
+
+abbrev pub IsFitting : List Record → ℕ → Membership → Bool → Type 0
+IsFitting rs i m true = Fits rs i m
+IsFitting rs i m false = IsShort rs i
+
+-- and no earlier member has its number
+pub record HasSeat (rs : List Record) (i : ℕ) (m : Membership) : Type 0 where
+  pub fits : Fits rs i m
+  pub alone : (e : Membership) → Contains (members_before rs m.parallel i) e → e.index ≡ m.index → ⊥
+
+-- the member that begins there, if one does, lacks nothing
+abbrev pub LacksNothing : List Record → ℕ → Type 0
+LacksNothing rs i = (m : Membership) → at joined rs i ≡ Some m → HasSeat rs i m
+
+-- no record before the place shows a team that lacks a member
+abbrev pub IsWholeBefore : List Record → ℕ → Type 0
+IsWholeBefore rs i = (k : ℕ) → k < i → IsShort rs k → ⊥
+
+-- the seat was empty and is the index's now, or it is taken
+abbrev pub TakesSeat : List (Option ℕ) → List (Option ℕ) → ℕ → ℕ → Bool → Type 0
+TakesSeat old new number index true =
+    (slice_get old number ≡ Some None) × (new ≡ slice_set old number (Some index))
+TakesSeat old new number index false = (other : ℕ) × (slice_get old number ≡ Some (Some other))
+
+-- the record shows a team that lacks a member; or its member lacks nothing, and has its seat
+abbrev pub IsSeating : List Record → ℕ → List ℕ → List (Vec (Option ℕ)) → Bool → Type 0
+IsSeating rs i tasks rosters true = IsShort rs i
+IsSeating rs i tasks rosters false = LacksNothing rs i × AreSeated rs (i + 1) tasks rosters

@@ -1,0 +1,23 @@
+//! The teams of a run: who meets at a barrier, where each member begins barriers, and the first record that
+//! shows a team or a barrier that lacks a member.
+//!
+//! Read `teams` first, what a caller sees, then the steps of a build: `tables` brings together `begins`
+//! (where tasks begin barriers), `members` (the team of each task) and `fewest` (the least number of barriers
+//! in a team); over these go `missed` (barriers that a member doesn't begin), `seats` (the members by their
+//! numbers), and `short`, the search for the first record that shows a lack. `rows` is a table of rows, of
+//! which few are written.
+#![tactic(auto)]
+
+mod begins;
+mod fewest;
+mod members;
+mod missed;
+mod rows;
+mod seats;
+mod short;
+mod tables;
+mod teams;
+
+pub use begins::barrier_begun;
+pub use rows::reach;
+pub use teams::Teams;

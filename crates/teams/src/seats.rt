@@ -1,0 +1,119 @@
+//! The seats of the members of each team, by their numbers, and the first member for which there is none.
+ghost use Rattle.std.specs.Prelude.{ℕ, ◌≡◌, ◌<◌, ◌↔◌, IfOk, IsTrue, Some, length, replicate, slice_get};
+ghost use Rattle.ompt_events.specs.declared.records.Membership.{Membership};
+ghost use Rattle.ompt_events.specs.Records.{joined};
+ghost use Rattle.ompt_events.specs.Places.{at as says_at};
+ghost use Rattle.teams.specs.Members.{IsJoining};
+ghost use Rattle.teams.specs.Seats.{AreFirstSeats, AreSeated, IsFitting, IsWholeBefore, TakesSeat, IsSeating};
+
+use crate::tables::Tables;
+use ompt_events::Membership;
+use std::alloc::{AllocError, Global};
+use task_tree::{Run, Slot};
+
+/// By number of the team an empty seat for each of its members; an initial task is in its own.
+pub(crate) fn empty_rosters(alloc: Global, tables: &Tables) -> Result<Vec<Vec<Slot>>, AllocError>
+    ensures { IfOk result (λ rosters. AreSeated tables.now.run.records 0
+        tables.now.run.family.tasks rosters.items) }
+{
+    let tasks = tables.run().task_count();
+    let mut rosters = Vec::with_capacity(alloc, tasks)?;
+    for index in 0..tasks {
+        rosters.push(empty_roster(alloc, tables, index)?)?;
+    }
+    Ok(rosters)
+}
+
+/// The seats of the team whose number is this index.
+fn empty_roster(alloc: Global, tables: &Tables, index: usize) -> Result<Vec<Slot>, AllocError>
+    requires { index < length tables.now.run.family.tasks }
+    ensures { IfOk result (λ roster. AreFirstSeats tables.now.run.records
+        tables.now.run.family.tasks tables.now.sizes index roster.items) }
+{
+    let run = tables.run();
+    if run.begun_initial(run.made_at(index)).is_some() {
+        same_seats(alloc, Slot::some(index), 1)
+    } else {
+        same_seats(alloc, Slot::none(), tables.size(index) as usize)
+    }
+}
+
+/// So many seats with the same in each.
+fn same_seats(alloc: Global, slot: Slot, count: usize) -> Result<Vec<Slot>, AllocError>
+    ensures { IfOk result (λ seats. seats.items ≡ replicate count slot) }
+{
+    vec![in alloc; slot; count]
+}
+
+/// Whether the member that begins at a place shows that its team lacks a member. Else it takes its seat.
+pub(crate) fn lacks_member(tables: &Tables, rosters: &mut Vec<Vec<Slot>>, at: usize) -> bool
+    requires within { at < length tables.now.run.records }
+    requires whole { IsWholeBefore tables.now.run.records at }
+    requires seated { AreSeated tables.now.run.records at tables.now.run.family.tasks rosters.old.items }
+    ensures { IsSeating tables.now.run.records at tables.now.run.family.tasks rosters.new.items result }
+{
+    let run = tables.run();
+    let Some(member) = run.joined(at) else {
+        return false;
+    };
+    let Some(index) = run.begun_root(at) else {
+        return false;
+    };
+    let Some(lead) = tables.team(index) else {
+        return false;
+    };
+    if !fits(tables, lead, member, at) {
+        return true;
+    }
+    if take_seat(&mut rosters[lead], member.index as usize, index) {
+        return false;
+    }
+    true
+}
+
+/// Whether the number of the member that begins at a place is one of its team, which has as many members as
+/// it says and as the first one says.
+fn fits(tables: &Tables, lead: usize, member: Membership, at: usize) -> bool
+    requires joins { IsJoining tables.now.run at member lead }
+    requires whole { IsWholeBefore tables.now.run.records at }
+    ensures { IsFitting tables.now.run.records at member result }
+{
+    let run = tables.run();
+    if member.actual <= member.index {
+        return false;
+    }
+    if tables.size(lead) < member.actual {
+        return false;
+    }
+    if !names_size(run, lead, member.actual) {
+        return false;
+    }
+    true
+}
+
+/// Whether the member whose index is given says this size of its team.
+fn names_size(run: &Run, lead: usize, actual: u32) -> bool
+    requires { lead < length run.now.family.tasks }
+    ensures { (place : ℕ) (first : Membership) → says_at joined run.now.records place ≡ Some first
+        → slice_get run.now.family.tasks lead ≡ Some first.member
+        → IsTrue result ↔ (first.actual ≡ actual) }
+{
+    let _tasks = run.task_count();
+    match run.joined(run.made_at(lead)) {
+        Some(first) => first.actual == actual,
+        None => false,
+    }
+}
+
+/// Gives the seat of this number to the task at an index, unless it is taken.
+fn take_seat(roster: &mut Vec<Slot>, number: usize, index: usize) -> bool
+    requires inside { number < length roster.old.items }
+    requires small { index < 4294967295 }
+    ensures { TakesSeat roster.old.items roster.new.items number index result }
+{
+    if roster[number].get().is_some() {
+        return false;
+    }
+    roster[number] = Slot::some(index);
+    true
+}

@@ -1,0 +1,112 @@
+//! The tables of the teams of a run, before it is known that no member is missing.
+ghost use Rattle.std.specs.Prelude.{◌≡◌, ◌<◌, Some, IfOk, length, slice_get};
+ghost use Rattle.teams.specs.Tables.{AreTables};
+
+use crate::begins::{Begins, find_begins};
+use crate::fewest::find_fewest;
+use crate::members::{Members, find_members};
+use std::alloc::{AllocError, Global};
+use std::marker::Model;
+use task_states::States;
+use task_tree::{Run, Slot};
+
+/// Who is in which team, how many members each has, and which barriers they begin.
+#[derive(Drop)]
+pub(crate) struct Tables<'a> {
+    pub(crate) states: &'a States<'a>,
+    /// By index of the task the number of its team; none for an explicit task.
+    pub(crate) teams: Vec<Slot>,
+    /// By number of the team how many members it has.
+    sizes: Vec<u32>,
+    /// By index of the task the places at which it begins barriers; no row past the last task that begins one.
+    pub(crate) begins: Vec<Vec<u32>>,
+    /// For each record that begins a barrier how many its task began before.
+    pub(crate) numbers: Vec<u32>,
+    /// By number of the team the least number of barriers that a member begins.
+    fewest: Vec<u32>,
+}
+
+impl<'a> Model for Tables<'a> {
+    ghost use Rattle.teams.specs.Tables.{TablesView, AreTables};
+
+    ghost Value = { TablesView };
+
+    ghost view = { λ tables. record {
+      run = tables.states.now.run;
+      teams = tables.teams.items;
+      sizes = tables.sizes.items;
+      begins = tables.begins.items;
+      numbers = tables.numbers.items;
+      fewest = tables.fewest.items;
+    } };
+
+    ghost invariant = { λ tables. AreTables (record {
+      run = tables.states.now.run;
+      teams = tables.teams.items;
+      sizes = tables.sizes.items;
+      begins = tables.begins.items;
+      numbers = tables.numbers.items;
+      fewest = tables.fewest.items;
+    }) };
+}
+
+impl<'a> Tables<'a> {
+    /// The tables of the run. It takes a few steps for each record, and a look-up of logarithmic time for each
+    /// member.
+    pub(crate) fn in_run(alloc: Global, states: &'a States<'a>) -> Result<Tables<'a>, AllocError>
+        ensures { IfOk result (λ tables. tables.run ≡ states.now.run) }
+    {
+        let run = states.run();
+        let Begins { begins, numbers } = find_begins(alloc, run)?;
+        let Members { teams, sizes } = find_members(alloc, run)?;
+        let fewest = find_fewest(alloc, teams.as_slice(), begins.as_slice())?;
+        Ok(Tables {
+            states,
+            teams,
+            sizes,
+            begins,
+            numbers,
+            fewest,
+        })
+    }
+
+    /// The run.
+    pub(crate) fn run(&self) -> &Run<'a>
+        ensures value { result.now ≡ self.now.run }
+        ensures are_tables { AreTables self.now }
+    {
+        self.states.run()
+    }
+
+    /// The number of the team of the task at this index.
+    pub(crate) fn team(&self, index: usize) -> Option<usize>
+        requires { index < length self.now.teams }
+        ensures { slice_get self.now.teams index ≡ Some result }
+    {
+        self.teams[index].get()
+    }
+
+    /// How many members the team has.
+    pub(crate) fn size(&self, team: usize) -> u32
+        requires { team < length self.now.sizes }
+        ensures { slice_get self.now.sizes team ≡ Some result }
+    {
+        self.sizes[team]
+    }
+
+    /// How many barriers the task that begins one at this place began before.
+    pub(crate) fn number(&self, at: usize) -> u32
+        requires { at < length self.now.numbers }
+        ensures { slice_get self.now.numbers at ≡ Some result }
+    {
+        self.numbers[at]
+    }
+
+    /// The least number of barriers that a member of the team begins.
+    pub(crate) fn fewest(&self, team: usize) -> u32
+        requires { team < length self.now.fewest }
+        ensures { slice_get self.now.fewest team ≡ Some result }
+    {
+        self.fewest[team]
+    }
+}

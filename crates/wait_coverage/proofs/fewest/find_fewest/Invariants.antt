@@ -1,6 +1,0 @@
-use Rattle.wait_coverage.specs.Fewest.{AreFewest}
-use Rattle.wait_coverage.proofs.fewest.find_fewest.Given as goal
-
--- the least numbers of the tasks so far
-abbrev pub invariant-loop-index : goal.invariant-loop-index
-invariant-loop-index l = AreFewest l.teams l.begins l.index l.fewest.items
