@@ -1,5 +1,5 @@
 use Rattle.std.proofs.Common.{rules, ◌∙◌, arith}
-use Rattle.credit_ledger.proofs.LockLemmas.{gathers, told_claims}
+use Rattle.credit_ledger.proofs.SeatLemmas.{gathers, told_claims}
 use Rattle.credit_ledger.proofs.shared.gather.Goals as goal
 
 pub join_seat-requires : goal.join_seat-requires

@@ -1,5 +1,5 @@
 use Rattle.std.proofs.Common.{arith}
-use Rattle.credit_ledger.proofs.LockLemmas.{sits}
+use Rattle.credit_ledger.proofs.SeatLemmas.{sits}
 use Rattle.credit_ledger.proofs.shared.SharedLedger.close.Goals as goal
 
 pub load_new_seat-place-requires : goal.load_new_seat-place-requires

@@ -1,5 +1,5 @@
 use Rattle.std.proofs.Common.{arith}
-use Rattle.credit_ledger.proofs.LockLemmas.{tells}
+use Rattle.credit_ledger.proofs.SeatLemmas.{tells}
 use Rattle.credit_ledger.proofs.shared.SharedLedger.join.Goals as goal
 
 pub join_seat-requires : goal.join_seat-requires

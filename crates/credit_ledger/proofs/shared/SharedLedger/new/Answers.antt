@@ -1,7 +1,7 @@
 use Rattle.std.proofs.Common.{◌∷◌, ◌++◌, [], Some, sym, ap, ◌∙◌, subst}
 use Rattle.atomic_table.specs.Table.{opening}
 use Rattle.credit_ledger.specs.Seats.{Kept, newcomer}
-use Rattle.credit_ledger.proofs.LockLemmas.{begins}
+use Rattle.credit_ledger.proofs.SeatLemmas.{begins}
 use Rattle.credit_ledger.proofs.shared.SharedLedger.new.Goals as goal
 
 pub new-requires-2 : goal.new-requires-2

@@ -1,5 +1,5 @@
 use Rattle.std.proofs.Common.{ap, ◌∙◌, arith}
-use Rattle.credit_ledger.proofs.LockLemmas.{copies, settles, hears}
+use Rattle.credit_ledger.proofs.SeatLemmas.{copies, settles, hears}
 use Rattle.credit_ledger.proofs.shared.SharedLedger.split.Goals as goal
 
 pub split_seat-place-requires : goal.split_seat-place-requires
