@@ -1,10 +1,10 @@
 //! Whether the records of a file stand in an order that also shows that the ledger is right.
-ghost use Rattle.std.specs.Prelude.{ℕ, ◌<◌, ◌≤◌, ◌+◌, ◌^◌, ◌≡◌, IsTrue, is_some, if◌then◌else◌, length};
+ghost use Rattle.std.specs.Prelude.{ℕ, ◌<◌, ◌≤◌, ◌≡◌, List, IsTrue, length};
+ghost use Rattle.ompt_events.specs.declared.records.Record.{Record};
 ghost use Rattle.ompt_events.specs.declared.cause.Cause.TheVariants.{EntryTwice, LengthAhead, LengthBack};
-ghost use Rattle.ompt_events.specs.Records.{finish};
-ghost use Rattle.ompt_events.specs.Places.{at as says_at, seen_at};
+ghost use Rattle.ompt_events.specs.Places.{seen_at};
 ghost use Rattle.ompt_events.specs.HappensBefore.{IsStep};
-ghost use Rattle.ompt_events.specs.Causes.{IsFreeOf};
+ghost use Rattle.ompt_events.specs.Causes.{IsFreeOf, known_after};
 ghost use Rattle.checker.specs.InOrder.{FitsBehind};
 ghost use Rattle.checker.specs.Merge.{Awaits};
 
@@ -25,42 +25,31 @@ pub(crate) fn is_in_order(run: &Run) -> bool
     let mut known = [0u64; 256];
     for at in 0..run.len() {
         let thread = usize::from(run.thread(at));
-        if u64::from(run.seen(at)) < known[thread]
-            || !fits_behind(run, at, entries)
+        let seen = u64::from(run.seen(at));
+        let after = run.known_after(at);
+        if seen < known[thread]
+            || !fits_behind(seen, after, entries)
             || !follows_creation(run, at)
         {
             return false;
         }
-        known[thread] = run.known_after(at);
-        entries = entries_after(run, at, entries);
+        known[thread] = after;
+        // A record that makes an entry is the one that lets this rise.
+        entries = entries.max(after);
     }
     true
 }
 
-/// Whether the record at a place, behind records that make so many entries, names no more, and makes the next
-/// one if it makes any.
-fn fits_behind(run: &Run, at: usize, entries: u64) -> bool
-    requires { at < length run.now.records }
-    ensures { IsTrue result → FitsBehind run.now.records at entries }
+/// Whether a record that names this length, and after which that one is known, names no more entries than the
+/// records before it make, and makes the next one if it makes any.
+fn fits_behind(seen: u64, after: u64, entries: u64) -> bool
+    ensures { IsTrue result → (records : List Record) (at : ℕ) → seen ≡ seen_at records at
+        → after ≡ known_after records at → FitsBehind records at entries }
 {
-    let seen = u64::from(run.seen(at));
-    if run.is_finishing(at) {
+    if seen < after {
         return seen == entries;
     }
     seen <= entries
-}
-
-/// How many entries there are after the record at a place, of so many before it.
-fn entries_after(run: &Run, at: usize, entries: u64) -> u64
-    requires within { at < length run.now.records }
-    requires few { entries < 2 ^ 32 }
-    ensures { result ≡ if is_some (says_at finish run.now.records at) then entries + 1 else entries }
-{
-    if run.is_finishing(at) {
-        entries + 1
-    } else {
-        entries
-    }
 }
 
 /// Whether the creation that the record at a place awaits, if there is one, stands before it and names no

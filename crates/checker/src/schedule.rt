@@ -5,7 +5,9 @@ ghost use Rattle.checker.specs.Merge.{awaited, Awaits};
 
 use task_tree::Run;
 
-/// The creation of the task that the record at a place starts, discards or fulfils, if it is explicit.
+/// The creation of the task that the record at a place starts, discards or fulfils, if it is explicit. Inlined
+/// into the loops over all records.
+#[inline(always)]
 pub(crate) fn creation_awaited(run: &Run, at: usize) -> Option<usize>
     requires { at < length run.now.records }
     ensures { (c : ℕ) → (result ≡ Some c) ↔ Awaits run.now.records at c }

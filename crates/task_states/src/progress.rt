@@ -52,6 +52,7 @@ impl Model for Progress {
 
 impl Progress {
     /// Goes on by one move of a task of this nature.
+    #[inline(always)]
     fn go_on(&mut self, nature: Nature, moved: TaskMove)
         requires { moved.index < length self.old.states }
         ensures states { self.new.states ≡ set self.old.states moved.index (state_after (the_nature nature)
@@ -63,14 +64,14 @@ impl Progress {
     {
         if let Some(state) = self.states[moved.index] {
             let after = after_move(nature, state, moved.step);
-            self.refused = first_refused(self.refused, after, moved.at);
+            note_refused(&mut self.refused, after, moved.at);
             self.states[moved.index] = after;
         }
     }
 
     /// Goes on by one move of a task, where this pass reads the record for the task, and says whether it
     /// does.
-    // It is inlined, as are `note_next` and `read`, so that each pass has a copy of its own, in which the
+    // It is inlined, as are `go_on`, `note_next` and `read`, so that each pass has a copy of its own, in which the
     // tests for the other passes are left out: that takes half as long as a call.
     #[inline(always)]
     fn note(&mut self, origins: &Origins, pass: Pass, moved: TaskMove) -> bool
@@ -276,14 +277,13 @@ fn is_at(home: Option<u8>, thread: u8) -> bool
     }
 }
 
-/// The first place at which a move was not allowed, after one at this place that led to this state.
-fn first_refused(refused: Option<usize>, after: Option<State>, at: usize) -> Option<usize>
-    ensures { (before : State) → result ≡ refused_after refused (Some before) after at }
+/// Keeps the first place at which a move was not allowed, after one at this place that led to this state.
+fn note_refused(refused: &mut Option<usize>, after: Option<State>, at: usize)
+    ensures { (before : State) → refused.new ≡ refused_after refused.old (Some before) after at }
 {
-    if after.is_some() {
-        return refused;
+    if after.is_none() {
+        *refused = Some(earlier(*refused, at));
     }
-    Some(earlier(refused, at))
 }
 
 /// The earlier of the two, where there are two.

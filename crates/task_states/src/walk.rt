@@ -37,7 +37,8 @@ impl ThreadWalk {
         }
     }
 
-    /// Goes on by what a record of the thread says of its tasks.
+    /// Goes on by what a record of the thread says of its tasks. Inlined into the loop over all records.
+    #[inline(always)]
     pub(crate) fn advance(&mut self, event: ThreadEvent) -> Result<(), AllocError>
         ensures { OnOk result (self.new ≡ after_event self.old event) }
     {

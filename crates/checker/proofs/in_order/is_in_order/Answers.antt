@@ -1,12 +1,14 @@
-use Rattle.std.proofs.Common.{◌≡◌, ◌∙◌, ℕ, ◌<◌, ◌≤◌, List, length, Some, refl, sym, ap, arith, below_more}
+use Rattle.std.proofs.Common.{◌≡◌, ◌∙◌, ℕ, ◌<◌, ◌≤◌, ◌+◌, List, length, Some, refl, sym, ap, arith, below_more}
+use Rattle.std.specs.Prelude.{is_some, cond}
 use Rattle.ompt_events.specs.declared.records.Record.{Record}
-use Rattle.ompt_events.specs.Places.{thread_at, seen_at}
+use Rattle.ompt_events.specs.Records.{finish}
+use Rattle.ompt_events.specs.Places.{at, thread_at, seen_at}
 use Rattle.ompt_events.proofs.PlaceLemmas.{at_within}
 use Rattle.checker.specs.Merge.{awaited}
 use Rattle.checker.specs.InOrder.{AreInOrder, FitsBehind}
 use Rattle.checker.proofs.LengthLemmas.{known_start, known_more, not_behind, free_of_back}
 use Rattle.checker.proofs.ScheduleLemmas.{steps_less, trace_apart}
-use Rattle.checker.proofs.InOrderLemmas.{fit_more, count_more, entries_most, created_more, AllFit, fit_once, fit_reached, fit_entered}
+use Rattle.checker.proofs.InOrderLemmas.{fit_more, entries_by_known, count_more, entries_most, created_more, AllFit, fit_once, fit_reached, fit_entered}
 use Rattle.checker.proofs.in_order.is_in_order.Goals as goal
 
 pub loop-at-init : goal.loop-at-init
@@ -26,18 +28,20 @@ loop-at-preserved c =
     let within : i < length rs = rw c.len-at-end.ensures.value at c.loop-at-test.true in
     let was = c.loop-at.invariant in
     let own : thread_at rs i ≡ Some c.from-thread.result = c.thread.ensures ∙ ap Some (sym c.from-thread.ensures) in
-    let seen : seen_at rs i ≡ c.from.result = sym c.seen.ensures ∙ sym c.from.ensures in
-    let more = c.if-from-known.false in
+    let seen : seen_at rs i ≡ c.from-seen.result = sym c.seen.ensures ∙ sym c.from-seen.ensures in
+    let more = c.if-seen-known.false in
     let apart = trace_apart rs c.len-at-end.ensures.is_run.trace in
-    let fits : FitsBehind rs i c.loop-at.entries = c.fits_behind.ensures c.if-not-fits_behind.false in
+    let fits : FitsBehind rs i c.loop-at.entries = c.fits_behind.ensures c.if-not-fits_behind.false rs i (sym seen) c.known_after-after.ensures in
+    let behind = entries_by_known rs i c.known_after-after.result c.loop-at.entries c.known_after-after.ensures fits in
+    let next : c.max-entries.result ≡ cond (is_some (at finish rs i)) (c.loop-at.entries + 1) c.loop-at.entries = c.max-entries.ensures ∙ behind in
     let follows = c.follows_creation.ensures c.if-not-follows_creation.false in
     record {
-      count = count_more rs i c.loop-at.entries c.entries_after-entries.result within was.count c.entries_after-entries.ensures;
-      short = let step = entries_most rs i c.loop-at.entries c.entries_after-entries.result c.entries_after-entries.ensures in let before = was.short in omega (arith, step, before);
+      count = count_more rs i c.loop-at.entries c.max-entries.result within was.count next;
+      short = let step = entries_most rs i c.loop-at.entries c.max-entries.result next in let before = was.short in omega (arith, step, before);
       fit = fit_more rs i c.loop-at.entries was.count fits was.fit;
       created = created_more rs i was.created (λ place waits. (follows place waits).0);
-      is_known = known_more rs i c.from-thread.result c.known_after.result c.loop-at.known own (let low = c.from-thread.ensures in omega (arith, low))
-          c.known_after.ensures
+      is_known = known_more rs i c.from-thread.result c.known_after-after.result c.loop-at.known own (let low = c.from-thread.ensures in omega (arith, low))
+          c.known_after-after.ensures
           (omega (arith, more, seen)) was.is_known;
       free = below_more _ _ was.free (not_behind rs i c.from-thread.result c.loop-at.known apart own (omega (arith, more, seen))
           (λ (place, waits, less). let low = (follows place waits).1 in omega (arith, low, less)) was.is_known);
