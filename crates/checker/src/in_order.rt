@@ -27,9 +27,9 @@ pub(crate) fn is_in_order(run: &Run) -> bool
         let thread = usize::from(run.thread(at));
         let seen = u64::from(run.seen(at));
         let after = run.known_after(at);
-        if seen < known[thread]
+        if !follows_creation(run, at)
+            || seen < known[thread]
             || !fits_behind(seen, after, entries)
-            || !follows_creation(run, at)
         {
             return false;
         }
@@ -46,10 +46,10 @@ fn fits_behind(seen: u64, after: u64, entries: u64) -> bool
     ensures { IsTrue result → (records : List Record) (at : ℕ) → seen ≡ seen_at records at
         → after ≡ known_after records at → FitsBehind records at entries }
 {
-    if seen < after {
-        return seen == entries;
+    if seen < entries {
+        return seen == after;
     }
-    seen <= entries
+    seen == entries
 }
 
 /// Whether the creation that the record at a place awaits, if there is one, stands before it and names no
