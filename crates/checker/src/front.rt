@@ -36,7 +36,9 @@ impl Front<'_, '_> {
         Ok(())
     }
 
-    /// Puts the record to those that may stand next, if it may.
+    /// Puts the record to those that may stand next, if it may. Inlined into the merge: of the records that are
+    /// offered two in five may not.
+    #[inline(always)]
     pub(crate) fn offer(&self, ready: &mut Queue, place: usize) -> Result<(), AllocError>
         requires front { IsFront self.now.run.now.records self.now.run.now.family
             self.now.placed.now self.now.heads.now self.now.low }

@@ -18,10 +18,12 @@ pub(crate) fn find_back(run: &Run) -> Option<usize>
     let mut known = [0u64; 256];
     for at in 0..run.len() {
         let thread = usize::from(run.thread(at));
-        if u64::from(run.seen(at)) < known[thread] || precedes_creation(run, at) {
+        let seen = u64::from(run.seen(at));
+        let after = run.known_after(at);
+        if precedes_creation(run, at) || seen < known[thread] {
             return Some(at);
         }
-        known[thread] = run.known_after(at);
+        known[thread] = after;
     }
     None
 }

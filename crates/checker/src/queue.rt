@@ -34,7 +34,8 @@ impl Queue {
         }
     }
 
-    /// Puts the place in.
+    /// Puts the place in. Never inlined, so that the merge has one copy of the heap's code.
+    #[inline(never)]
     pub(crate) fn put(&mut self, place: usize) -> Result<(), AllocError>
         ensures { OnOk result (IsPermutation (place ∷ self.old) self.new) }
     {
