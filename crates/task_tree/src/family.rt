@@ -131,6 +131,24 @@ impl Family {
         slot_at(self.objects.as_slice(), at)
     }
 
+    /// The same as `subject` where there is a record, without a look at how many there are.
+    pub(crate) fn subject_of(&self, at: usize) -> Option<usize>
+        requires { at < length self.now.subjects }
+        ensures { (records : List Record) → IsFamilyOf records self.now
+            → Calls self.now.tasks (says_at subject records at) result }
+    {
+        slot_of(self.subjects.as_slice(), at)
+    }
+
+    /// The same as `object` where there is a record, without a look at how many there are.
+    pub(crate) fn object_of(&self, at: usize) -> Option<usize>
+        requires { at < length self.now.objects }
+        ensures { (records : List Record) → IsFamilyOf records self.now
+            → Calls self.now.tasks (says_at object records at) result }
+    {
+        slot_of(self.objects.as_slice(), at)
+    }
+
     /// Whether the task is an initial or implicit one.
     pub fn is_root(&self, task: u64) -> bool
         ensures { (records : List Record) → IsFamilyOf records self.now
@@ -258,4 +276,12 @@ fn slot_at(slots: &[Slot], at: usize) -> Option<usize>
     } else {
         None
     }
+}
+
+/// The index that stands in the slot there, which must be one of the slots.
+fn slot_of(slots: &[Slot], at: usize) -> Option<usize>
+    requires { at < length slots.now }
+    ensures { result ≡ slice_index_or slots.now at None }
+{
+    slots[at].get()
 }

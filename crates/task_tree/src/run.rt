@@ -204,8 +204,8 @@ impl<'a> Run<'a> {
             (λ made. IsCreation self.now at made.parent made.child) }
     {
         self.record(at).body.creation()?;
-        let parent = self.family.subject(at)?;
-        let child = self.family.object(at)?;
+        let parent = self.subject_of(at)?;
+        let child = self.object_of(at)?;
         Some(Creation { parent, child })
     }
 
@@ -264,7 +264,7 @@ impl<'a> Run<'a> {
             (λ found. IsFinish self.now at found.task found.part) }
     {
         let (_, part) = finish(self.record(at))?;
-        let task = self.family.subject(at)?;
+        let task = self.subject_of(at)?;
         Some(Finishing { task, part })
     }
 
@@ -291,7 +291,7 @@ impl<'a> Run<'a> {
             (λ event. IsRegionEvent self.now at event.task event.kind event.endpoint) }
     {
         let (_, kind, endpoint) = self.record(at).body.region()?;
-        let task = self.family.subject(at)?;
+        let task = self.subject_of(at)?;
         Some(RegionEvent {
             task,
             kind,
@@ -318,8 +318,8 @@ impl<'a> Run<'a> {
             (λ event. IsSchedule self.now at event.status event.prior event.next) }
     {
         let (status, _, _) = self.record(at).body.schedule()?;
-        let prior = self.family.subject(at)?;
-        let next = self.family.object(at);
+        let prior = self.subject_of(at)?;
+        let next = self.object_of(at);
         Some(Schedule {
             status,
             prior,
@@ -355,7 +355,7 @@ impl<'a> Run<'a> {
             (IsFork self.now at) }
     {
         self.record(at).body.forked()?;
-        self.family.subject(at)
+        self.subject_of(at)
     }
 
     /// The begin or end of a region that waits for tasks (15.3, 15.4 and 15.5), if the record is one.
@@ -366,7 +366,7 @@ impl<'a> Run<'a> {
     {
         let (_, kind, endpoint) = self.record(at).body.region()?;
         let kind = kind.wait_kind()?;
-        let task = self.family.subject(at)?;
+        let task = self.subject_of(at)?;
         Some(WaitEvent {
             task,
             kind,
@@ -429,30 +429,48 @@ impl<'a> Run<'a> {
             (λ list. AreDependences self.now at list.0 list.1.now) }
     {
         let (_, items) = self.record(at).body.dependences()?;
-        let task = self.family.subject(at)?;
+        let task = self.subject_of(at)?;
         Some((task, items))
     }
 }
 
 impl Run<'_> {
+    /// The task that the record is of, as `subject`. A run has an entry for each record, so none is missed.
+    fn subject_of(&self, at: usize) -> Option<usize>
+        requires { at < length self.now.records }
+        ensures { IsIndexOf self.now subject at result }
+    {
+        self.family.subject_of(at)
+    }
+
+    /// The second task that the record names, as `object`.
+    fn object_of(&self, at: usize) -> Option<usize>
+        requires { at < length self.now.records }
+        ensures { IsIndexOf self.now object at result }
+    {
+        self.family.object_of(at)
+    }
+
     /// The index of the task that the record is of, if the record names one in this way.
     fn subject_if(&self, named: Option<u64>, at: usize) -> Option<usize>
+        requires { at < length self.now.records }
         ensures { (says : Body → Option ℕ) → named ≡ says_at says self.now.records at
             → ((task : ℕ) (body : Body) → says body ≡ Some task → subject body ≡ Some task)
             → IsIndexOf self.now says at result }
     {
         named?;
-        self.family.subject(at)
+        self.subject_of(at)
     }
 
     /// The index of the second task of the record, if the record names one in this way.
     fn object_if(&self, named: Option<u64>, at: usize) -> Option<usize>
+        requires { at < length self.now.records }
         ensures { (says : Body → Option ℕ) → named ≡ says_at says self.now.records at
             → ((task : ℕ) (body : Body) → says body ≡ Some task → object body ≡ Some task)
             → IsIndexOf self.now says at result }
     {
         named?;
-        self.family.object(at)
+        self.object_of(at)
     }
 }
 
