@@ -87,24 +87,17 @@ entries_most rs n entries after is = of (is_some (at finish rs n)) is
     of true is' = omega (arith, is')
     of false is' = omega (arith, is')
 
--- what is known after a record is one more than it names where it makes an entry, and else what it names
-pub fits_by_known : (rs : List Record) (i seen after entries : ℕ) → seen ≡ seen_at rs i → after ≡ known_after rs i → (seen < after → seen ≡ entries) → (after ≤ seen → seen ≤ entries) → FitsBehind rs i entries
-fits_by_known rs i seen after entries names knows makes none = of (is_some (at finish rs i)) refl knows
-  where
-    of : (b : Bool) → is_some (at finish rs i) ≡ b → after ≡ cond b (seen_at rs i + 1) (seen_at rs i) → FitsBehind rs i entries
-    of true is knows' =
-        let own = makes (omega (arith, names, knows')) in
-        record { named = omega (arith, names, own); own = λ _. omega (arith, names, own) }
-    of false is knows' =
-        let low = none (omega (arith, names, knows')) in
-        record { named = omega (arith, names, low); own = λ makes'. absurd (false≢true (sym is ∙ makes')) }
-
--- so the greater of that and the entries before it is how many there are behind it
-pub entries_by_known : (rs : List Record) (i after entries : ℕ) → after ≡ known_after rs i → FitsBehind rs i entries → max entries after ≡ cond (is_some (at finish rs i)) (entries + 1) entries
+-- what is known after a record that makes an entry is how many entries there are then, and after one that makes
+-- none it is no more than there are: the greater of that and the entries before is how many there are behind it
+pub entries_by_known : (rs : List Record) (i after entries : ℕ) → after ≡ known_after rs i
+    → FitsBehind rs i entries → max entries after ≡ cond (is_some (at finish rs i)) (entries + 1) entries
 entries_by_known rs i after entries knows fits = of (is_some (at finish rs i)) refl knows
   where
-    of : (b : Bool) → is_some (at finish rs i) ≡ b → after ≡ cond b (seen_at rs i + 1) (seen_at rs i) → max entries after ≡ cond b (entries + 1) entries
-    of true is knows' = let own = fits.own is in max-eq_right (omega (arith, own, knows')) ∙ omega (arith, own, knows')
+    of : (b : Bool) → is_some (at finish rs i) ≡ b → after ≡ cond b (seen_at rs i + 1) (seen_at rs i)
+        → max entries after ≡ cond b (entries + 1) entries
+    of true is knows' =
+        let own = fits.own is in
+        max-eq_right (omega (arith, own, knows')) ∙ omega (arith, own, knows')
     of false is knows' = let low = fits.named in max-eq_left (omega (arith, low, knows'))
 
 pub created_more : (rs : List Record) (n : ℕ) → ((i c : ℕ) → i < n → Awaits rs i c → c < i) → ((c : ℕ) → Awaits rs n c → c < n) → (i c : ℕ) → i < n + 1 → Awaits rs i c → c < i

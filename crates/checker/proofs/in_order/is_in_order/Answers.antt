@@ -31,18 +31,19 @@ loop-at-preserved c =
     let seen : seen_at rs i ≡ c.from-seen.result = sym c.seen.ensures ∙ sym c.from-seen.ensures in
     let more = c.if-seen-known.false in
     let apart = trace_apart rs c.len-at-end.ensures.is_run.trace in
-    let fits : FitsBehind rs i c.loop-at.entries = c.fits_behind.ensures c.if-not-fits_behind.false rs i (sym seen) c.known_after-after.ensures in
+    let fits : FitsBehind rs i c.loop-at.entries =
+        c.fits_behind.ensures c.if-not-fits_behind.false rs i (sym seen) c.known_after-after.ensures in
     let behind = entries_by_known rs i c.known_after-after.result c.loop-at.entries c.known_after-after.ensures fits in
-    let next : c.max-entries.result ≡ cond (is_some (at finish rs i)) (c.loop-at.entries + 1) c.loop-at.entries = c.max-entries.ensures ∙ behind in
+    let next : c.max-entries.result ≡ cond (is_some (at finish rs i)) (c.loop-at.entries + 1) c.loop-at.entries =
+        c.max-entries.ensures ∙ behind in
     let follows = c.follows_creation.ensures c.if-not-follows_creation.false in
     record {
       count = count_more rs i c.loop-at.entries c.max-entries.result within was.count next;
       short = let step = entries_most rs i c.loop-at.entries c.max-entries.result next in let before = was.short in omega (arith, step, before);
       fit = fit_more rs i c.loop-at.entries was.count fits was.fit;
       created = created_more rs i was.created (λ place waits. (follows place waits).0);
-      is_known = known_more rs i c.from-thread.result c.known_after-after.result c.loop-at.known own (let low = c.from-thread.ensures in omega (arith, low))
-          c.known_after-after.ensures
-          (omega (arith, more, seen)) was.is_known;
+      is_known = known_more rs i c.from-thread.result c.known_after-after.result c.loop-at.known own
+          (let low = c.from-thread.ensures in omega (arith, low)) c.known_after-after.ensures (omega (arith, more, seen)) was.is_known;
       free = below_more _ _ was.free (not_behind rs i c.from-thread.result c.loop-at.known apart own (omega (arith, more, seen))
           (λ (place, waits, less). let low = (follows place waits).1 in omega (arith, low, less)) was.is_known);
     }
