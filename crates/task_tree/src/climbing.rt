@@ -4,7 +4,7 @@ ghost use Rattle.ompt_events.specs.declared.records.Record.{Record};
 ghost use Rattle.ompt_events.specs.Tree.{HasPath, children};
 ghost use Rattle.task_tree.specs.Family.{IsFamilyOf};
 
-use crate::family::{Family, link_in};
+use crate::family::Family;
 
 impl Family {
     /// Whether the task at this index stands below the root at this path, the numbers of the children from
@@ -33,10 +33,9 @@ impl Family {
             → slice_get self.now.tasks index ≡ Some task → HasPath records root task whole
             → length whole ≡ length path.now → IsTrue result ↔ (whole ≡ path.now) }
     {
-        let links = self.links();
         let mut current = index;
         for step in 0..path.len() {
-            let Some(link) = link_in(links, current) else {
+            let Some(link) = self.link_at(current) else {
                 return false;
             };
             if link.number != path[path.len() - 1 - step] {

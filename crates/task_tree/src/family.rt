@@ -229,18 +229,15 @@ impl Family {
         self.rows.row(index)
     }
 
-    /// By index of the task its link.
-    pub(crate) fn links(&self) -> &[LinkSlot]
-        ensures { result.now ≡ self.now.links }
-    {
-        self.links.as_slice()
-    }
-
     /// The link of the created task at this index.
     pub(crate) fn link_at(&self, index: usize) -> Option<Link>
         ensures { (link : Link) → (result ≡ Some link) ↔ (slice_get self.now.links index ≡ Some (Some link)) }
     {
-        link_in(self.links(), index)
+        if index < self.links.len() {
+            self.links[index].get()
+        } else {
+            None
+        }
     }
 
     /// The link of a created task.
@@ -267,17 +264,6 @@ impl Family {
         ensures { (standing : Standing) → (result ≡ Some standing) ↔ IsStandingOf self.now task standing }
     {
         self.standing_at(self.tasks.index_of(task)?)
-    }
-}
-
-/// The link that stands there, if one does.
-pub(crate) fn link_in(links: &[LinkSlot], index: usize) -> Option<Link>
-    ensures { (link : Link) → (result ≡ Some link) ↔ (slice_get links.now index ≡ Some (Some link)) }
-{
-    if index < links.len() {
-        links[index].get()
-    } else {
-        None
     }
 }
 

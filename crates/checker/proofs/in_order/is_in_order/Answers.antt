@@ -32,10 +32,10 @@ loop-at-preserved c =
     let more = c.if-seen-known.false in
     let apart = trace_apart rs c.len-at-end.ensures.is_run.trace in
     let fits : FitsBehind rs i c.loop-at.entries =
-        c.fits_behind.ensures c.if-not-fits_behind.false rs i (sym seen) c.known_after-after.ensures in
+    c.fits_behind.ensures c.if-not-fits_behind.false rs i (sym seen) c.known_after-after.ensures in
     let behind = entries_by_known rs i c.known_after-after.result c.loop-at.entries c.known_after-after.ensures fits in
     let next : c.max-entries.result ≡ cond (is_some (at finish rs i)) (c.loop-at.entries + 1) c.loop-at.entries =
-        c.max-entries.ensures ∙ behind in
+    c.max-entries.ensures ∙ behind in
     let follows = c.follows_creation.ensures c.if-not-follows_creation.false in
     record {
       count = count_more rs i c.loop-at.entries c.max-entries.result within was.count next;
