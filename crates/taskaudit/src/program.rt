@@ -1,17 +1,45 @@
 //! The program from the words of its command line to its exit status.
 ghost use Rattle.std.specs.Prelude.{◌≡◌, map, IfOk, IfErr, OnOk};
+ghost use Rattle.std.specs.Result.{result_map_both};
 ghost use Rattle.taskaudit.specs.Audits.{Reports};
 ghost use Rattle.taskaudit.specs.Commands.{AsksFor};
-ghost use Rattle.taskaudit.specs.Programs.{IsRefused};
+ghost use Rattle.taskaudit.specs.Programs.{IsRefused, Ends, Runs};
 ghost use Rattle.taskaudit.specs.Statuses.{exit_status_of};
 
 use crate::auditing::audit;
 use crate::report::{WRONG_WORDS, fault_status, usage_status};
+use crate::telling::{Console, tell};
 use crate::words::job;
 use crate::work::{Job, Outcome, Refusal};
 use certificate::{Sink, Source};
 use std::alloc::Global;
 use std::convert::AsStr;
+
+/// Runs the program on the words of its command line, or why there are none, on this input and output. Tells
+/// on the console why there is no verdict, and returns the exit status.
+pub fn run<S: AsStr + Drop, C: Console, I: Source, O: Sink>(
+    words: Result<Vec<S>, Refusal>,
+    alloc: Global,
+    console: &C,
+    source: &mut I,
+    sink: &mut O,
+) -> u8
+    ensures { Runs (C.made console.now)
+        (result_map_both (λ list. map S.text list.items) (λ refusal. refusal) words)
+        (I.remaining source.old) (O.contents sink.old) (O.contents sink.new) result }
+{
+    match words {
+        Ok(words) => end(console, serve(alloc, words.as_slice(), source, sink)),
+        Err(refusal) => end(console, Err(refusal)),
+    }
+}
+
+/// Tells why there is no verdict, and returns the exit status.
+fn end<C: Console>(console: &C, ending: Result<Outcome, Refusal>) -> u8
+    ensures { Ends (C.made console.now) ending result }
+{
+    exit_status(&tell(console, ending))
+}
 
 /// Does what the words of the command line ask for (the first of them is the program's name), on this input
 /// and output.

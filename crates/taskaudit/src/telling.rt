@@ -48,10 +48,7 @@ impl<R: Print + Eprint + AllocGlobal> Console for R {
 
 /// Tells why there is no verdict, or shows the help that was asked for. The ending becomes another one only
 /// where there is no memory for the text of a fault, or the help is not written.
-pub fn tell<C: Console>(
-    console: &C,
-    ending: Result<Outcome, Refusal>,
-) -> Result<Outcome, Refusal>
+pub fn tell<C: Console>(console: &C, ending: Result<Outcome, Refusal>) -> Result<Outcome, Refusal>
     ensures { IsTold (C.made console.now) ending result }
 {
     match ending {
