@@ -1,5 +1,5 @@
 -- How the state of a reader goes from line to line.
-use Rattle.std.proofs.Common.{◌≡◌, ◌≢◌, ℕ, ◌+◌, ◌-◌, ◌<◌, ◌≤◌, List, [], ◌∷◌, ◌++◌, length, take, drop, get_or, Option, Some, None, Result, Ok, Err, true, false, cond, arith, refl, sym, ap, ◌∙◌, subst, eqb-true, eq-eqb, append_assoc, append-nil, zero-add, add-zero, length-append, length-take}
+use Rattle.std.proofs.Common.{◌≡◌, ◌≢◌, ℕ, ◌+◌, ◌*◌, ◌-◌, ◌<◌, ◌≤◌, List, [], ◌∷◌, ◌++◌, length, take, drop, get_or, Option, Some, None, Result, Ok, Err, true, false, cond, arith, refl, sym, ap, ◌∙◌, subst, inl, inr, eqb-true, eq-eqb, append_assoc, append-nil, zero-add, add-zero, length-append, length-take}
 use Rattle.std.specs.Prelude.{nat_lt, ◌==◌, IfSome}
 use Rattle.std.specs.Io.KnownBytes.{Keeps, IsAtEnd, prepend_known}
 use Rattle.ompt_events.specs.declared.records.Record.{Record}
@@ -17,7 +17,7 @@ use Rattle.certificate.specs.Windows.{LineFeedAt, ShowsFault, ShowsLine}
 use Rattle.certificate.specs.Files.{file_says, records_said, rest_says, trace_of, IsFaultlessBefore, go_on, fault_in, text_adds, with_record, with_header, has_room, is_long, line_feeds}
 use Rattle.std.proofs.lemmas.Bool.{ltb-true}
 use Rattle.certificate.specs.Counts.{breaks_told}
-use Rattle.certificate.specs.Reading.{IsLineAfterGiven, IsLineGiven, IsToldRightly, IsBetween, Grows, IsOfText}
+use Rattle.certificate.specs.Reading.{IsLineAfterGiven, IsFromLine, IsLineBeingRead, IsToldRightly, IsAnswer, IsBetween, Grows, IsOfText}
 use Rattle.certificate.proofs.FileLemmas.{IsUnbroken, unbroken-before, unbroken-all, unbroken-front, window-parts, rest_says-line, rest_says-end, rest_says-long}
 use Rattle.certificate.proofs.LawLemmas.{faultless-before}
 use Rattle.certificate.proofs.RecordLemmas.{ok_not_err, both-first}
@@ -81,9 +81,29 @@ text_adds-cause n before line e h =
 
 -- ---- between two lines
 
+-- all bytes begin with line 1
+from_first : (bytes : List ℕ) → IsFromLine 1 bytes bytes
+from_first bytes = record { before = []; lines = record { count = refl; ended = inl refl }; parts = refl }
+
+-- one line more is done with
+from_next : (n : ℕ) (bytes line rest : List ℕ) → IsUnbroken line → IsFromLine n bytes (line ++ (10 ∷ rest)) → IsFromLine (n + 1) bytes rest
+from_next n bytes line rest all from =
+    let front = from.before ++ line in
+    let one : line_feeds (front ++ (10 ∷ [])) ≡ line_feeds from.before + 1 =
+    ap line_feeds (append_assoc from.before line (10 ∷ [])) ∙ line_feeds-append from.before (line ++ (10 ∷ [])) ∙ ap (λ (k : ℕ). line_feeds from.before + k) (line_feeds-one line [] all) in
+    record {
+      before = front ++ (10 ∷ []);
+      lines = record { count = omega (arith, one, from.lines.count); ended = inr (front, refl) };
+      parts = from.parts ∙ sym (append_assoc from.before line (10 ∷ rest)) ∙ sym (append_assoc front (10 ∷ []) rest);
+    }
+
+-- so many line feeds are left
+from_feeds : (n : ℕ) (bytes rest : List ℕ) → IsFromLine n bytes rest → n + line_feeds rest ≡ line_feeds bytes + 1
+from_feeds n bytes rest from = omega (arith, ap line_feeds from.parts, line_feeds-append from.before rest, from.lines.count)
+
 pub IsBetween-start : (known : Option (List ℕ)) → IsBetween known 1 [] [] known
 IsBetween-start None = tt
-IsBetween-start (Some bytes) = (refl, omega arith)
+IsBetween-start (Some bytes) = (refl, from_first bytes)
 
 pub IsBetween-keeps : (known : Option (List ℕ)) (n : ℕ) (kept : List Record) (w w' : List ℕ) (left left' : Option (List ℕ)) → Keeps (prepend_known w left) (prepend_known w' left') → IsBetween known n kept w left → IsBetween known n kept w' left'
 IsBetween-keeps None n kept w w' left left' keeps now = tt
@@ -105,9 +125,9 @@ pub IsBetween-line : (known : Option (List ℕ)) (n : ℕ) (kept kept' : List Re
 IsBetween-line None n kept kept' w len left at short adds now = tt
 IsBetween-line (Some bytes) n kept kept' w len None at short adds now = absurd now
 IsBetween-line (Some bytes) n kept kept' w len (Some l) at short adds now =
-    let one : line_feeds (w ++ l) ≡ line_feeds (drop (len + 1) w ++ l) + 1 = ap (λ (xs : List ℕ). line_feeds xs) (parts w l len at) ∙ line_feeds-one (take len w) (drop (len + 1) w ++ l) (unbroken-before w len at) in (
+    let from : IsFromLine n bytes (take len w ++ (10 ∷ (drop (len + 1) w ++ l))) = subst (λ (rest : List ℕ). IsFromLine n bytes rest) (parts w l len at) now.1 in (
       now.0 ∙ rest_says-window n kept w l len at short ∙ ap (λ r. go_on n r (λ records. rest_says (n + 1) records (drop (len + 1) w ++ l))) (sym adds),
-      omega (arith, now.1),
+      from_next n bytes (take len w) (drop (len + 1) w ++ l) (unbroken-before w len at) from,
     )
 
 -- ---- the ends
@@ -139,15 +159,30 @@ IsAfter-text (Some bytes) n kept w len (Some l) e at short fault now =
     told_of_text e n bytes (Some l) (text_adds-cause n kept (take len w) e fault)
     (fault_said bytes (fault_in n e) (now.0 ∙ rest_says-window n kept w l len at short ∙ ap (λ r. go_on n r (λ records. rest_says (n + 1) records (drop (len + 1) w ++ l))) (sym fault)))
 
-pub IsAfter-memory : (known : Option (List ℕ)) (n : ℕ) (kept : List Record) (w : List ℕ) (left : Option (List ℕ)) → 1 ≤ n → IsBetween known n kept w left → IfSome known (λ bytes. IsLineGiven n bytes left × IsFaultlessBefore n bytes)
-IsAfter-memory None n kept w left low now = tt
-IsAfter-memory (Some bytes) n kept w None low now = absurd now
-IsAfter-memory (Some bytes) n kept w (Some l) low now = ((low, omega (arith, now.1, line_feeds-append w l)), faultless-before bytes n kept (w ++ l) now.0 (omega (arith, now.1)))
+-- no memory for the text of a line, which waits
+pub IsAfter-memory : (known : Option (List ℕ)) (n : ℕ) (kept : List Record) (w : List ℕ) (len : ℕ) (left : Option (List ℕ)) → LineFeedAt w (Some len) → length w ≤ 2 * (max_line + 1) → IsBetween known n kept w left → IfSome known (λ bytes. IsLineBeingRead n bytes left × IsFaultlessBefore n bytes)
+IsAfter-memory None n kept w len left at few now = tt
+IsAfter-memory (Some bytes) n kept w len None at few now = absurd now
+IsAfter-memory (Some bytes) n kept w len (Some l) at few now =
+    let one : line_feeds w ≡ line_feeds (drop (len + 1) w) + 1 = ap line_feeds (window-parts w len at) ∙ line_feeds-one (take len w) (drop (len + 1) w) (unbroken-before w len at) in (
+      record { waiting = w; begins = now.1; few = few; whole = inr (omega (arith, one)) },
+      faultless-before bytes n kept (w ++ l) now.0 (omega (arith, from_feeds n bytes (w ++ l) now.1)),
+    )
+
+-- no memory for the window: nothing was given yet
+pub IsAnswer-no_window : (known : Option (List ℕ)) → IfSome known (λ bytes. IsAnswer (Err (fault_in 1 Memory)) bytes known)
+IsAnswer-no_window None = tt
+IsAnswer-no_window (Some bytes) = (
+  record { waiting = []; begins = from_first bytes; few = omega arith; whole = inl refl },
+  (λ k below. absurd (omega (arith, below))),
+)
 
 pub IsAfter-device : (known : Option (List ℕ)) (n : ℕ) (kept : List Record) (w : List ℕ) (left : Option (List ℕ)) → LineFeedAt w None → IsBetween known n kept w left → IfSome known (λ bytes. IsLineAfterGiven n bytes left × IsFaultlessBefore n bytes)
 IsAfter-device None n kept w left none now = tt
 IsAfter-device (Some bytes) n kept w None none now = absurd now
-IsAfter-device (Some bytes) n kept w (Some l) none now = (omega (arith, now.1, line_feeds-append w l, line_feeds-unbroken w (unbroken-all w none)), faultless-before bytes n kept (w ++ l) now.0 (omega (arith, now.1)))
+IsAfter-device (Some bytes) n kept w (Some l) none now =
+    let left = from_feeds n bytes (w ++ l) now.1 in
+    (omega (arith, left, line_feeds-append w l, line_feeds-unbroken w (unbroken-all w none)), faultless-before bytes n kept (w ++ l) now.0 (omega (arith, left)))
 
 -- a line that is too long
 pub IsAfter-long : (known : Option (List ℕ)) (n : ℕ) (kept : List Record) (w : List ℕ) (left : Option (List ℕ)) → ((k : ℕ) → k ≤ max_line → (k < length w) × (get_or w k 0 ≢ 10)) → IsBetween known n kept w left → IfSome known (λ bytes. file_says bytes ≡ Err (fault_in n LineTooLong))
@@ -205,17 +240,17 @@ breaks_told-text Unended count is = refl
 breaks_told-text TurnsSpent count is = refl
 
 -- the fault of a text, as the answer to its line
-pub IsAfter-text_fault : (known : Option (List ℕ)) (n : ℕ) (kept : List Record) (w : List ℕ) (len : ℕ) (left : Option (List ℕ)) (e : ReadCause) → 1 ≤ n → LineFeedAt w (Some len) → len ≤ max_line
+pub IsAfter-text_fault : (known : Option (List ℕ)) (n : ℕ) (kept : List Record) (w : List ℕ) (len : ℕ) (left : Option (List ℕ)) (e : ReadCause) → length w ≤ 2 * (max_line + 1) → LineFeedAt w (Some len) → len ≤ max_line
     → (◌≢◌ {A = Result (List Record) ReadCause} (Err e) (Err Memory) → Err e ≡ text_adds n kept (take len w)) → IsBetween known n kept w left → IfSome known (λ bytes. IsToldRightly e n bytes left)
-IsAfter-text_fault known n kept w len left Memory low at short said now = IsAfter-memory known n kept w left low now
-IsAfter-text_fault known n kept w len left Device low at short said now = IsAfter-text known n kept w len left Device at short (said (λ same. cc)) now
-IsAfter-text_fault known n kept w len left Header low at short said now = IsAfter-text known n kept w len left Header at short (said (λ same. cc)) now
-IsAfter-text_fault known n kept w len left LineTooLong low at short said now = IsAfter-text known n kept w len left LineTooLong at short (said (λ same. cc)) now
-IsAfter-text_fault known n kept w len left NotJson low at short said now = IsAfter-text known n kept w len left NotJson at short (said (λ same. cc)) now
-IsAfter-text_fault known n kept w len left Field low at short said now = IsAfter-text known n kept w len left Field at short (said (λ same. cc)) now
-IsAfter-text_fault known n kept w len left Limit low at short said now = IsAfter-text known n kept w len left Limit at short (said (λ same. cc)) now
-IsAfter-text_fault known n kept w len left Unended low at short said now = IsAfter-text known n kept w len left Unended at short (said (λ same. cc)) now
-IsAfter-text_fault known n kept w len left TurnsSpent low at short said now = IsAfter-text known n kept w len left TurnsSpent at short (said (λ same. cc)) now
+IsAfter-text_fault known n kept w len left Memory few at short said now = IsAfter-memory known n kept w len left at few now
+IsAfter-text_fault known n kept w len left Device few at short said now = IsAfter-text known n kept w len left Device at short (said (λ same. cc)) now
+IsAfter-text_fault known n kept w len left Header few at short said now = IsAfter-text known n kept w len left Header at short (said (λ same. cc)) now
+IsAfter-text_fault known n kept w len left LineTooLong few at short said now = IsAfter-text known n kept w len left LineTooLong at short (said (λ same. cc)) now
+IsAfter-text_fault known n kept w len left NotJson few at short said now = IsAfter-text known n kept w len left NotJson at short (said (λ same. cc)) now
+IsAfter-text_fault known n kept w len left Field few at short said now = IsAfter-text known n kept w len left Field at short (said (λ same. cc)) now
+IsAfter-text_fault known n kept w len left Limit few at short said now = IsAfter-text known n kept w len left Limit at short (said (λ same. cc)) now
+IsAfter-text_fault known n kept w len left Unended few at short said now = IsAfter-text known n kept w len left Unended at short (said (λ same. cc)) now
+IsAfter-text_fault known n kept w len left TurnsSpent few at short said now = IsAfter-text known n kept w len left TurnsSpent at short (said (λ same. cc)) now
 
 -- where there is no next line
 pub IsAfter-no_line : (known : Option (List ℕ)) (n : ℕ) (kept : List Record) (w : List ℕ) (left : Option (List ℕ)) (e : ReadCause) → ShowsFault e w left → IsBetween known n kept w left → IfSome known (λ bytes. IsToldRightly e n bytes left)

@@ -1,11 +1,12 @@
 -- What a reader answers on a source that tells its bytes.
-use Rattle.std.specs.Prelude.{ℕ, ◌≡◌, ◌≢◌, ◌+◌, ◌≤◌, ◌<◌, ◌==◌, Bool, true, false, List, ◌++◌, length, Option, Some, None, Result, Ok, Err, IfSome, if◌then◌else◌}
+use Rattle.std.specs.Prelude.{ℕ, ◌≡◌, ◌≢◌, ◌⊎◌, ◌+◌, ◌*◌, ◌≤◌, ◌<◌, ◌==◌, Bool, true, false, List, [], ◌∷◌, ◌++◌, length, Option, Some, None, Result, Ok, Err, IfSome, if◌then◌else◌}
 use Rattle.ompt_events.specs.declared.records.Record.{Record}
 use Rattle.ompt_events.specs.Limits.{max_records}
 use Rattle.ompt_events.specs.Traces.{TraceView}
 use Rattle.certificate.specs.declared.faults.ReadCause.{ReadCause}
 use Rattle.certificate.specs.declared.faults.ReadCause.TheVariants.{Device, Memory, Header, NotJson, Field, Limit, TurnsSpent}
 use Rattle.certificate.specs.declared.faults.ReadFault.{ReadFault}
+use Rattle.certificate.specs.Limits.{max_line}
 use Rattle.certificate.specs.Files.{file_says, records_said, trace_of, rest_says, fault_in, line_feeds, IsFaultlessBefore}
 
 -- n is one more than the line feeds that were given, where these bytes are left
@@ -13,17 +14,36 @@ abbrev pub IsLineAfterGiven : ℕ → List ℕ → Option (List ℕ) → Type 0
 IsLineAfterGiven n bytes None = ⊥
 IsLineAfterGiven n bytes (Some left) = n + line_feeds left ≡ line_feeds bytes + 1
 
--- n is at most that
-abbrev pub IsLineGiven : ℕ → List ℕ → Option (List ℕ) → Type 0
-IsLineGiven n bytes None = ⊥
-IsLineGiven n bytes (Some left) = (1 ≤ n) × (n + line_feeds left ≤ line_feeds bytes + 1)
+-- these are the lines before number n, each with its line feed
+pub record AreLinesBefore (n : ℕ) (before : List ℕ) : Type 0 where
+  pub count : n ≡ line_feeds before + 1
+  pub ended : (before ≡ []) ⊎ ((front : List ℕ) × (before ≡ front ++ 10 ∷ []))
+
+-- the rest of the bytes begins with the line of number n
+pub record IsFromLine (n : ℕ) (bytes rest : List ℕ) : Type 0 where
+  pub before : List ℕ
+  pub lines : AreLinesBefore n before
+  pub parts : bytes ≡ before ++ rest
+
+-- the line of number n is being read: behind the lines before it at most as many bytes were given as two of the
+-- longest lines have, and among them this line with its line feed; or nothing was given yet
+pub record IsBeingRead (n : ℕ) (bytes left : List ℕ) : Type 0 where
+  pub waiting : List ℕ
+  pub begins : IsFromLine n bytes (waiting ++ left)
+  pub few : length waiting ≤ 2 * (max_line + 1)
+  pub whole : (left ≡ bytes) ⊎ (0 < line_feeds waiting)
+
+-- the same, where these bytes are left
+abbrev pub IsLineBeingRead : ℕ → List ℕ → Option (List ℕ) → Type 0
+IsLineBeingRead n bytes None = ⊥
+IsLineBeingRead n bytes (Some left) = IsBeingRead n bytes left
 
 -- a fault that is told in the line of number n is that of the file, or one of the device or of memory while
 -- that line was read, and then no line before it has a fault
 abbrev pub IsToldRightly : ReadCause → ℕ → List ℕ → Option (List ℕ) → Type 0
 IsToldRightly Device n bytes left = IsLineAfterGiven n bytes left × IsFaultlessBefore n bytes
 IsToldRightly TurnsSpent n bytes left = IsLineAfterGiven n bytes left × IsFaultlessBefore n bytes
-IsToldRightly Memory n bytes left = IsLineGiven n bytes left × IsFaultlessBefore n bytes
+IsToldRightly Memory n bytes left = IsLineBeingRead n bytes left × IsFaultlessBefore n bytes
 IsToldRightly cause n bytes left = file_says bytes ≡ Err (fault_in n cause)
 
 -- the answer is the trace that the bytes stand for, or a fault that is told rightly
@@ -38,8 +58,7 @@ abbrev pub IsBetween : Option (List ℕ) → ℕ → List Record → List ℕ �
 IsBetween None n kept window left = Unit {0}
 IsBetween (Some bytes) n kept window None = ⊥
 IsBetween (Some bytes) n kept window (Some left) =
-    (records_said bytes ≡ rest_says n kept (window ++ left))
-    × (n + line_feeds (window ++ left) ≡ line_feeds bytes + 1)
+    (records_said bytes ≡ rest_says n kept (window ++ left)) × IsFromLine n bytes (window ++ left)
 
 -- after the line of number n was read: there was one, there was none, or it has a fault
 abbrev pub IsAfter : Result Bool ReadCause → Option (List ℕ) → ℕ → List Record → List ℕ → Option (List ℕ)

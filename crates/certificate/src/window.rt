@@ -72,10 +72,11 @@ impl Window {
         }
     }
 
-    /// The first bytes.
+    /// The first bytes. At most two of the longest lines wait.
     pub(crate) fn front(&self, count: usize) -> &[u8]
         requires { count ≤ length self.now }
-        ensures { result.now ≡ take count self.now }
+        ensures bytes { result.now ≡ take count self.now }
+        ensures size { length self.now ≤ SIZE }
     {
         &self.bytes[self.start..self.start + count]
     }

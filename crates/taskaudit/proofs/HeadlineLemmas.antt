@@ -1,14 +1,13 @@
 -- What a yes says of the records.
-use Rattle.std.proofs.Common.{◌≡◌, ◌∙◌, ℕ, List}
+use Rattle.std.proofs.Common.{◌≡◌, List}
 use Rattle.ompt_events.specs.declared.records.Record.{Record}
 use Rattle.ompt_events.specs.Violations.{covered, preceding, awaited}
 use Rattle.checker.specs.declared.verdict.Verdict.{Verdict}
 use Rattle.checker.specs.declared.verdict.Verdict.TheVariants.{Yes, No, Malformed}
 use Rattle.checker.specs.Verdicts.{IsVerdict}
-use Rattle.taskaudit.specs.declared.work.Outcome.{Outcome}
 use Rattle.taskaudit.specs.declared.work.Outcome.TheVariants as outcome
 use Rattle.taskaudit.specs.Reports.{outcome_of}
-use Rattle.taskaudit.specs.Audits.{IsSynchronised}
+use Rattle.taskaudit.specs.Headline.{IsSynchronised}
 
 pub synchronised : (rs : List Record) (verdict : Verdict) → IsVerdict rs verdict → outcome_of verdict ≡ outcome.Yes → IsSynchronised rs
 synchronised rs (Yes order) is says = record {

@@ -1,7 +1,11 @@
--- What the program promises. Read Audits first (the headline is `Reports.kept`), then Reports (what is
--- printed), Statuses, and Commands and Programs (the command line).
+-- What the program promises. Read Headline first: it quotes nothing but definitions of ompt_events. Then Audits
+-- (`Reports.kept` ties the headline to an answer), Reports (what is printed), Devices, Statuses, and Commands,
+-- Tellings and Programs (from the command line to the exit status).
+pub mod Headline
 pub mod Audits
 pub mod Reports
+pub mod Devices
 pub mod Statuses
 pub mod Commands
+pub mod Tellings
 pub mod Programs

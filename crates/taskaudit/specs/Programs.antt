@@ -1,16 +1,15 @@
--- What the program does with its command line, and what becomes of an answer when it is told.
-use Rattle.std.specs.Prelude.{◌≡◌, ◌≢◌, ◌⊎◌, ℕ, List, Option, None, Result, Ok, Err}
+-- The program, from the words of its command line to its exit status.
+use Rattle.std.specs.Prelude.{◌≡◌, ℕ, List, Option, None, Result, Ok, Err, OnOk, IfOk, IfErr}
 use Rattle.std.specs.Io.KnownBytes.{Keeps}
-use Rattle.clap.specs.Words.{Text, fault_of, kind_of, HasKind}
-use Rattle.certificate.specs.declared.faults.WriteFault.TheVariants.{Device}
-use Rattle.taskaudit.specs.declared.work.AuditFault.TheVariants.{Memory, Write}
+use Rattle.clap.specs.Words.{Text, fault_of, HasKind}
 use Rattle.taskaudit.specs.declared.work.Job.TheVariants.{Check}
 use Rattle.taskaudit.specs.declared.work.Outcome.{Outcome}
 use Rattle.taskaudit.specs.declared.work.Refusal.{Refusal}
 use Rattle.taskaudit.specs.declared.work.Refusal.TheVariants.{NotText, Words, Audit}
-use Rattle.taskaudit.specs.Audits.{Leaves}
+use Rattle.taskaudit.specs.Audits.{Reports, Leaves}
 use Rattle.taskaudit.specs.Commands.{command_line, AsksFor}
-use Rattle.taskaudit.specs.Statuses.{usage_status_of}
+use Rattle.taskaudit.specs.Statuses.{exit_status_of}
+use Rattle.taskaudit.specs.Tellings.{Call, IsTold}
 
 -- words are refused for what clap says of them, and nothing is written; an audit is refused only where the
 -- words ask for one, and leaves what such a fault leaves
@@ -19,12 +18,22 @@ IsRefused words bytes old new NotText = ⊥
 IsRefused words bytes old new (Words error) = HasKind (fault_of command_line words) error × Keeps old new
 IsRefused words bytes old new (Audit fault) = AsksFor words (Check None) × Leaves bytes old new fault
 
--- an answer stays what it is when it is told, unless there is no memory for the text of a fault, or the help
--- can't be written; wrong arguments stay wrong arguments
-abbrev pub IsTold : Result Outcome Refusal → Result Outcome Refusal → Type 0
-IsTold (Ok outcome) told = told ≡ Ok outcome
-IsTold (Err NotText) told = told ≡ Err NotText
-IsTold (Err (Words error)) told =
-    (told ≡ Err (Words error)) ⊎ ((usage_status_of (kind_of error) ≢ 4)
-    × ((told ≡ Err (Audit (Write Device))) ⊎ (told ≡ Err (Audit Memory))))
-IsTold (Err (Audit fault)) told = (told ≡ Err (Audit fault)) ⊎ (told ≡ Err (Audit Memory))
+-- what the words ask for is done, or why there are none is how it ends, and nothing is written
+abbrev pub IsServed : Result (List Text) Refusal → Option (List ℕ) → Option (List ℕ) → Option (List ℕ)
+    → Result Outcome Refusal → Type 0
+IsServed (Ok words) bytes old new ending =
+    OnOk ending (AsksFor words (Check None)) × IfOk ending (Reports bytes old new)
+    × IfErr ending (IsRefused words bytes old new)
+IsServed (Err refusal) bytes old new ending = (ending ≡ Err refusal) × Keeps old new
+
+-- the exit status is that of the ending after it was told
+abbrev pub Ends : (Call → Type 0) → Result Outcome Refusal → ℕ → Type 0
+Ends made ending status =
+    (told : Result Outcome Refusal) × IsTold made ending told × (status ≡ exit_status_of told)
+
+-- a run on these words, or on why there are none, ends with this status
+pub record Runs (made : Call → Type 0) (words : Result (List Text) Refusal) (bytes old new : Option (List ℕ))
+    (status : ℕ) : Type 0 where
+  pub ending : Result Outcome Refusal
+  pub served : IsServed words bytes old new ending
+  pub ended : Ends made ending status

@@ -1,11 +1,11 @@
 //! The audit of a file.
-ghost use Rattle.std.specs.Prelude.{◌≡◌, ◌≢◌, ℕ, Err, IfOk, IfErr};
-ghost use Rattle.certificate.specs.Counts.{TakesTurns, breaks_told, breaks_written};
-ghost use Rattle.taskaudit.specs.Audits.{AsksForTurns, Reports, Leaves, IsReadRightly, read_cause_of, written_of};
+ghost use Rattle.std.specs.Prelude.{IfOk, IfErr};
+ghost use Rattle.taskaudit.specs.Audits.{Reports, Leaves, IsReadRightly};
+ghost use Rattle.taskaudit.specs.Devices.{TellsDevices};
 
 use crate::report::report_text;
 use crate::work::{AuditFault, Outcome};
-use certificate::{Sink, Source, WriteFault, read, write_bytes};
+use certificate::{Sink, Source, read, write_bytes};
 use checker::check;
 use std::alloc::Global;
 
@@ -21,14 +21,12 @@ pub fn audit<I: Source, O: Sink>(
         (Leaves (I.remaining source.old) (O.contents sink.old) (O.contents sink.new)) }
     ensures unreadable { IfErr result (IsReadRightly (I.remaining source.old) (I.remaining source.new)) }
 
-    // The source's and the sink's faults are told exactly where they occur: that it broke,
-    // and the 10,001st answer that asks for another turn.
-    ensures source_breaks { I.breaks source.new ≡ breaks_told (read_cause_of result) (I.breaks source.old) }
-    ensures source_turns { (turns : ℕ)
-        × TakesTurns (read_cause_of result) 0 turns (I.agains source.old) (I.agains source.new) }
-    ensures sink_breaks { O.breaks sink.new ≡ breaks_written (written_of result) (O.breaks sink.old) }
-    ensures sink_turns { AsksForTurns result (O.stalls sink.old) (O.stalls sink.new) }
-    ensures sink_memory { result ≢ Err (AuditFault.Write WriteFault.Memory) }
+    // A fault of the source or of the sink is told exactly where it occurs.
+    ensures devices { TellsDevices result
+        (record { turns = I.agains source.old; breaks = I.breaks source.old })
+        (record { turns = I.agains source.new; breaks = I.breaks source.new })
+        (record { turns = O.stalls sink.old; breaks = O.breaks sink.old })
+        (record { turns = O.stalls sink.new; breaks = O.breaks sink.new }) }
 {
     let trace = read(alloc, source).map_err(AuditFault::Read)?;
     let verdict = check(alloc, &trace).map_err(AuditFault::Check)?;

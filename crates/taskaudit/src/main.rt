@@ -1,33 +1,28 @@
 //! Judges recorded runs of OpenMP tasks: whether each wait ended, and each dependent task started, only when
-//! it was allowed to. Read `audit` first (`auditing.rt`): its clause `reports` is the headline. Then `serve`
-//! and `exit_status` (`program.rt`), and the texts (`report.rt`).
+//! it was allowed to. Read `audit` first (`auditing.rt`): its clause `reports` is the headline. Then `run`
+//! (`program.rt`), from the words of the command line to the exit status, `tell` (`telling.rt`) and the texts
+//! (`report.rt`).
 #![tactic(auto)]
 
 mod auditing;
 mod program;
 mod report;
+mod telling;
 mod words;
 mod work;
 
 use certificate::{FromRead, ToWrite};
-use program::{exit_status, serve, tell};
+use program::run;
 use std::io::{ErrorKind, writer};
 use std::process::ExitCode;
 use std::rt::Env;
 use std::{env, io};
-use work::{AuditFault, Outcome, Refusal};
+use work::{AuditFault, Refusal};
 
 fn main(rt: HostRuntime) -> ExitCode {
-    let ending = tell(&rt, run(&rt));
-    ExitCode::from(exit_status(&ending))
-}
-
-/// Does what the command line asks for, on standard input and output.
-fn run<R: Env + Input + Print + AllocGlobal>(rt: &R) -> Result<Outcome, Refusal> {
-    let words = command_words(rt)?;
     let mut source = FromRead::new(rt.reader());
-    let mut sink = ToWrite::new(writer(rt));
-    serve(rt.alloc(), words.as_slice(), &mut source, &mut sink)
+    let mut sink = ToWrite::new(writer(&rt));
+    ExitCode::from(run(command_words(&rt), rt.alloc(), &rt, &mut source, &mut sink))
 }
 
 /// The words of the command line, the program's name first.

@@ -1,18 +1,45 @@
 //! The program from the words of its command line to its exit status.
-ghost use Rattle.std.specs.Prelude.{◌≡◌, ◌⊎◌, map, Err, IfOk, IfErr, OnOk};
+ghost use Rattle.std.specs.Prelude.{◌≡◌, map, IfOk, IfErr, OnOk};
+ghost use Rattle.std.specs.Result.{result_map_both};
 ghost use Rattle.taskaudit.specs.Audits.{Reports};
 ghost use Rattle.taskaudit.specs.Commands.{AsksFor};
-ghost use Rattle.taskaudit.specs.Programs.{IsRefused, IsTold};
+ghost use Rattle.taskaudit.specs.Programs.{IsRefused, Ends, Runs};
 ghost use Rattle.taskaudit.specs.Statuses.{exit_status_of};
 
 use crate::auditing::audit;
-use crate::report::{WRONG_WORDS, fault_status, fault_text, usage_status};
+use crate::report::{WRONG_WORDS, fault_status, usage_status};
+use crate::telling::{Console, tell};
 use crate::words::job;
-use crate::work::{AuditFault, Job, Outcome, Refusal};
-use certificate::{Sink, Source, WriteFault};
-use clap::error::ErrorKind;
+use crate::work::{Job, Outcome, Refusal};
+use certificate::{Sink, Source};
 use std::alloc::Global;
 use std::convert::AsStr;
+
+/// Runs the program on the words of its command line, or why there are none, on this input and output. Tells
+/// on the console why there is no verdict, and returns the exit status.
+pub fn run<S: AsStr + Drop, C: Console, I: Source, O: Sink>(
+    words: Result<Vec<S>, Refusal>,
+    alloc: Global,
+    console: &C,
+    source: &mut I,
+    sink: &mut O,
+) -> u8
+    ensures { Runs (C.made console.now)
+        (result_map_both (λ list. map S.text list.items) (λ refusal. refusal) words)
+        (I.remaining source.old) (O.contents sink.old) (O.contents sink.new) result }
+{
+    match words {
+        Ok(words) => end(console, serve(alloc, words.as_slice(), source, sink)),
+        Err(refusal) => end(console, Err(refusal)),
+    }
+}
+
+/// Tells why there is no verdict, and returns the exit status.
+fn end<C: Console>(console: &C, ending: Result<Outcome, Refusal>) -> u8
+    ensures { Ends (C.made console.now) ending result }
+{
+    exit_status(&tell(console, ending))
+}
 
 /// Does what the words of the command line ask for (the first of them is the program's name), on this input
 /// and output.
@@ -43,55 +70,5 @@ pub fn exit_status(ending: &Result<Outcome, Refusal>) -> u8
         Err(Refusal::NotText) => WRONG_WORDS,
         Err(Refusal::Words(error)) => usage_status(error),
         Err(Refusal::Audit(fault)) => fault_status(fault),
-    }
-}
-
-/// Tells on standard error why there is no verdict, or shows the help that was asked for on standard output.
-/// The ending is another one where there was no memory to tell it, or the help could not be written.
-pub fn tell<R: Print + Eprint + AllocGlobal>(
-    rt: &R,
-    ending: Result<Outcome, Refusal>,
-) -> Result<Outcome, Refusal>
-    ensures { IsTold ending result }
-{
-    match ending {
-        Ok(outcome) => Ok(outcome),
-        Err(Refusal::NotText) => {
-            let _ = rt.eprint("error: a command-line argument is not UTF-8\n");
-            Err(Refusal::NotText)
-        }
-        Err(Refusal::Words(error)) => Err(tell_words(rt, error)),
-        Err(Refusal::Audit(fault)) => Err(Refusal::Audit(tell_fault(rt, fault))),
-    }
-}
-
-/// Tells what is wrong with the words, or shows the help that they ask for.
-fn tell_words<R: Print + Eprint + AllocGlobal>(rt: &R, error: clap::Error) -> Refusal
-    ensures { IsTold (Err (Refusal.Words error)) (Err result) }
-{
-    if error.kind() == ErrorKind::OutOfMemory {
-        return Refusal::Audit(tell_fault(rt, AuditFault::Memory));
-    }
-    match error.print(rt) {
-        Err(_) if usage_status(&error) == 0 => {
-            Refusal::Audit(tell_fault(rt, AuditFault::Write(WriteFault::Device)))
-        }
-        _ => Refusal::Words(error),
-    }
-}
-
-/// Tells the fault, or that there is no memory to tell it.
-fn tell_fault<R: Eprint + AllocGlobal>(rt: &R, fault: AuditFault) -> AuditFault
-    ensures { (result ≡ fault) ⊎ (result ≡ AuditFault.Memory) }
-{
-    match fault_text(rt.alloc(), &fault) {
-        Ok(text) => {
-            let _ = rt.eprint(text.as_str());
-            fault
-        }
-        Err(_) => {
-            let _ = rt.eprint("out of memory\n");
-            AuditFault::Memory
-        }
     }
 }

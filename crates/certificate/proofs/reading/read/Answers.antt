@@ -1,8 +1,11 @@
 use Rattle.std.proofs.Common.{length, refl, arith, ap, ◌∙◌, Some, Ok}
 use Rattle.certificate.specs.declared.faults.ReadCause.TheVariants.{Memory}
 use Rattle.certificate.proofs.CountLemmas.{TakesTurns-none, TakesTurns-more, TakesTurns-other}
-use Rattle.certificate.proofs.ReadingLemmas.{IsBetween-start, Grows-counted}
+use Rattle.certificate.proofs.ReadingLemmas.{IsAnswer-no_window, IsBetween-start, Grows-counted}
 use Rattle.certificate.proofs.reading.read.Goals as goal
+
+pub returns-in_default-clause-file : goal.returns-in_default-clause-file
+returns-in_default-clause-file g c = IsAnswer-no_window (g.S.Source.remaining c.args.source.now)
 
 pub returns-in_default-clause-turns : goal.returns-in_default-clause-turns
 returns-in_default-clause-turns g c = (0, TakesTurns-other (Some Memory) _ _ _ _ (λ same. cc) (TakesTurns-none 0 _ (omega arith)))

@@ -16,15 +16,15 @@ pub returns-in_err-take_text-in-Some-clause-after : goal.returns-in_err-take_tex
 returns-in_err-take_text-in-Some-clause-after g c =
     let p = err_from_is_err_and c.from_residual-in_err-take_text-in-Some.result c.from_residual-in_err-take_text-in-Some.ensures.1 in
     let shows = rw c.in-Some.is at c.in_ok-len.ensures.found in
-    rw (p.1, p.2) (λ known now. IsAfter-text_fault known c.args.line c.args.kept.now c.next_line.new.window c.in-Some.len (g.S.Source.remaining c.next_line.new.source) _ c.requires.line shows.1 shows.0
-    (rw c.front.ensures at c.in_err-take_text-in-Some.ensures)
+    rw (p.1, p.2) (λ known now. IsAfter-text_fault known c.args.line c.args.kept.now c.next_line.new.window c.in-Some.len (g.S.Source.remaining c.next_line.new.source) _ c.front.ensures.size shows.1 shows.0
+    (rw c.front.ensures.bytes at c.in_err-take_text-in-Some.ensures)
     (IsBetween-keeps known c.args.line c.args.kept.now c.args.window.now c.next_line.new.window (g.S.Source.remaining c.args.source.now) (g.S.Source.remaining c.next_line.new.source) c.in_ok-len.ensures.bytes now))
 
 pub returns-in_ok-take_text-in-Some-clause-after : goal.returns-in_ok-take_text-in-Some-clause-after
 returns-in_ok-take_text-in-Some-clause-after g c =
     let shows = rw c.in-Some.is at c.in_ok-len.ensures.found in
     rw c.skip.ensures (λ known now. IsBetween-line known c.args.line c.args.kept.now c.take_text.new.kept c.next_line.new.window c.in-Some.len (g.S.Source.remaining c.next_line.new.source) shows.1 shows.0
-    (rw c.front.ensures at (c.in_ok-take_text-in-Some.ensures (ok_not_err _ Memory)))
+    (rw c.front.ensures.bytes at (c.in_ok-take_text-in-Some.ensures (ok_not_err _ Memory)))
     (IsBetween-keeps known c.args.line c.args.kept.now c.args.window.now c.next_line.new.window (g.S.Source.remaining c.args.source.now) (g.S.Source.remaining c.next_line.new.source) c.in_ok-len.ensures.bytes now))
 
 pub returns-in_ok-take_text-in-Some-clause-grows : goal.returns-in_ok-take_text-in-Some-clause-grows

@@ -1,9 +1,5 @@
 use Rattle.std.proofs.Common.{rules, ◌≡◌, ◌∙◌, ℕ, List, Ok, take, sym, subst}
-use Rattle.std.specs.Prelude.{IfSome}
-use Rattle.std.specs.String.{string_bytes}
 use Rattle.std.specs.Io.KnownBytes.{Appends}
-use Rattle.taskaudit.specs.Audits.{IsJudged}
-use Rattle.certificate.specs.Files.{file_says}
 use Rattle.taskaudit.proofs.HeadlineLemmas.{synchronised}
 use Rattle.taskaudit.proofs.auditing.audit.Goals as goal
 

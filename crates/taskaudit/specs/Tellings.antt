@@ -1,0 +1,52 @@
+-- What becomes of an ending when it is told why there is no verdict.
+use Rattle.std.specs.Prelude.{◌≡◌, ◌≢◌, ℕ, Bool, true, false, List, Result, Ok, Err, codes}
+use Rattle.clap.specs.Words.{kind_of}
+use Rattle.clap.specs.declared.error.Error.{Error}
+use Rattle.clap.specs.declared.error.kind.ErrorKind.TheVariants.{OutOfMemory}
+use Rattle.certificate.specs.declared.faults.WriteFault.TheVariants.{Device}
+use Rattle.taskaudit.specs.declared.work.AuditFault.{AuditFault}
+use Rattle.taskaudit.specs.declared.work.AuditFault.TheVariants.{Memory, Write}
+use Rattle.taskaudit.specs.declared.work.Outcome.{Outcome}
+use Rattle.taskaudit.specs.declared.work.Refusal.{Refusal}
+use Rattle.taskaudit.specs.declared.work.Refusal.TheVariants.{NotText, Words, Audit}
+use Rattle.taskaudit.specs.Reports.{fault_text_of}
+use Rattle.taskaudit.specs.Statuses.{usage_status_of}
+
+-- a call of the console, with its answer
+pub data Call : Type 0 where
+  -- for the text of the fault: whether there is memory for it
+  text_of : AuditFault → Bool → Call
+  -- to show what clap says of the words: whether it is written
+  show : Error → Bool → Call
+  -- to print these bytes on standard error
+  print : List ℕ → Call
+
+-- a fault stays what it is exactly where there is memory for its text, and else becomes `Memory`; the text of
+-- what it is then is printed
+pub data IsToldFault (made : Call → Type 0) : AuditFault → AuditFault → Type 0 where
+  with_text : {fault : AuditFault} → made (text_of fault true) → made (print (fault_text_of fault))
+      → IsToldFault made fault fault
+  without_text : {fault : AuditFault} → made (text_of fault false) → made (print (fault_text_of Memory))
+      → IsToldFault made fault Memory
+
+-- refused words stay what they are, but help that is not written is a fault of writing, and where clap ran out
+-- of memory that is told
+pub data IsToldWords (made : Call → Type 0) : Error → Refusal → Type 0 where
+  shown : {error : Error} → kind_of error ≢ OutOfMemory → made (show error true)
+      → IsToldWords made error (Words error)
+  wrong : {error : Error} → kind_of error ≢ OutOfMemory → usage_status_of (kind_of error) ≢ 0
+      → made (show error false) → IsToldWords made error (Words error)
+  unwritten : {error : Error} {fault : AuditFault} → usage_status_of (kind_of error) ≡ 0
+      → made (show error false) → IsToldFault made (Write Device) fault
+      → IsToldWords made error (Audit fault)
+  out_of_memory : {error : Error} {fault : AuditFault} → kind_of error ≡ OutOfMemory
+      → IsToldFault made Memory fault → IsToldWords made error (Audit fault)
+
+-- an ending, and what it is after it was told; made are the calls of the console
+abbrev pub IsTold : (Call → Type 0) → Result Outcome Refusal → Result Outcome Refusal → Type 0
+IsTold made (Ok outcome) told = told ≡ Ok outcome
+IsTold made (Err NotText) told =
+    (told ≡ Err NotText) × made (print (codes "error: a command-line argument is not UTF-8\n"))
+IsTold made (Err (Words error)) told = (refusal : Refusal) × (told ≡ Err refusal) × IsToldWords made error refusal
+IsTold made (Err (Audit fault)) told =
+    (after : AuditFault) × (told ≡ Err (Audit after)) × IsToldFault made fault after

@@ -1,0 +1,95 @@
+//! Telling why there is no verdict.
+ghost use Rattle.std.specs.Prelude.{◌≡◌, IfSome, is_some, string_bytes};
+ghost use Rattle.taskaudit.specs.Reports.{fault_text_of};
+ghost use Rattle.taskaudit.specs.Tellings.{IsTold, IsToldWords, IsToldFault};
+
+use crate::report::{fault_text, usage_status};
+use crate::work::{AuditFault, Outcome, Refusal};
+use certificate::WriteFault;
+use clap::error::ErrorKind;
+
+/// Where the program tells why there is no verdict.
+pub trait Console {
+    ghost use Rattle.taskaudit.specs.Tellings.{Call, text_of, show, print};
+
+    /// That such a call was made, and answered so. Only a call gives it, so `tell` can't claim an answer of
+    /// a call that it did not make.
+    ghost made: { Self → Call → Type 0 };
+
+    /// The text of the fault, if there is memory for it.
+    fn text_of(&self, fault: &AuditFault) -> Option<String>
+        ensures text { IfSome result (λ text. string_bytes text ≡ fault_text_of fault.now) }
+        ensures made { made self.now (text_of fault.now (is_some result)) };
+
+    /// Shows what clap says of the words, and says whether that was written.
+    fn show(&self, error: &clap::Error) -> bool
+        ensures made { made self.now (show error.now result) };
+
+    /// Prints the text on standard error.
+    fn print(&self, text: &str)
+        ensures made { made self.now (print text.now) };
+}
+
+impl<R: Print + Eprint + AllocGlobal> Console for R {
+    ghost made = { λ console call. Unit {0} };
+
+    fn text_of(&self, fault: &AuditFault) -> Option<String> {
+        fault_text(self.alloc(), fault).ok()
+    }
+
+    fn show(&self, error: &clap::Error) -> bool {
+        error.print(self).is_ok()
+    }
+
+    fn print(&self, text: &str) {
+        let _ = self.eprint(text);
+    }
+}
+
+/// Tells why there is no verdict, or shows the help that was asked for. The ending becomes another one only
+/// where there is no memory for the text of a fault, or the help is not written.
+pub fn tell<C: Console>(console: &C, ending: Result<Outcome, Refusal>) -> Result<Outcome, Refusal>
+    ensures { IsTold (C.made console.now) ending result }
+{
+    match ending {
+        Ok(outcome) => Ok(outcome),
+        Err(Refusal::NotText) => {
+            console.print("error: a command-line argument is not UTF-8\n");
+            Err(Refusal::NotText)
+        }
+        Err(Refusal::Words(error)) => Err(tell_words(console, error)),
+        Err(Refusal::Audit(fault)) => Err(Refusal::Audit(tell_fault(console, fault))),
+    }
+}
+
+/// Tells what is wrong with the words, or shows the help that they ask for.
+fn tell_words<C: Console>(console: &C, error: clap::Error) -> Refusal
+    ensures { IsToldWords (C.made console.now) error result }
+{
+    if error.kind() == ErrorKind::OutOfMemory {
+        return Refusal::Audit(tell_fault(console, AuditFault::Memory));
+    }
+    if console.show(&error) {
+        return Refusal::Words(error);
+    }
+    if usage_status(&error) == 0 {
+        return Refusal::Audit(tell_fault(console, AuditFault::Write(WriteFault::Device)));
+    }
+    Refusal::Words(error)
+}
+
+/// Tells the fault, or that there is no memory to tell it.
+fn tell_fault<C: Console>(console: &C, fault: AuditFault) -> AuditFault
+    ensures { IsToldFault (C.made console.now) fault result }
+{
+    match console.text_of(&fault) {
+        Some(text) => {
+            console.print(text.as_str());
+            fault
+        }
+        None => {
+            console.print("out of memory\n");
+            AuditFault::Memory
+        }
+    }
+}
