@@ -4,4 +4,7 @@ pub mod StandLemmas
 pub mod CompleteLemmas
 pub mod TreeLaw
 pub mod PoolLaw
+pub mod MeetLemmas
+pub mod MoveLemmas
 pub mod CreditLaw
+pub mod ApartLaw

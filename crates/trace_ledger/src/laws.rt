@@ -5,7 +5,8 @@ ghost use Rattle.ompt_events.specs.declared.records.Record.{Record};
 ghost use Rattle.ompt_events.specs.Traces.{IsTrace};
 ghost use Rattle.ompt_events.specs.Tree.{HasPath, IsChild};
 ghost use Rattle.credit_ledger.specs.declared.entry.Entry.{Entry};
-ghost use Rattle.trace_ledger.specs.Entries.{IsLedgerOf, IsDone, IsFreeUpTo};
+ghost use Rattle.credit_ledger.specs.Entries.{is_overlap};
+ghost use Rattle.trace_ledger.specs.Entries.{IsEntryAt, IsLedgerOf, IsDone, IsFreeUpTo};
 ghost use Rattle.trace_ledger.specs.Credits.{IsHeldInTree, IsHeldInPool, IsFamilyDone};
 
 /// Credit that is held means finished tasks. In a trace without causes 1 to 13 the first n entries finish a
@@ -21,4 +22,12 @@ pub fn held_is_done()
         → IsTrace rs → IsFreeUpTo rs 13 → IsLedgerOf rs entries
         → HasPath rs root task path
         → IsFamilyDone rs n task ↔ IsHeldInTree (take n entries) root path }
+{}
+
+/// Entries of two records don't overlap: in a trace without causes 1 to 13 no two records bring back one share,
+/// or a share and a part of it, neither of a root's tree nor of a pool.
+pub fn entries_are_apart()
+    ensures { (rs : List Record) (i j index other : ℕ) (e f : Entry)
+        → IsTrace rs → IsFreeUpTo rs 13 → i ≢ j → IsEntryAt rs i index e → IsEntryAt rs j other f
+        → is_overlap e f ≡ false }
 {}
