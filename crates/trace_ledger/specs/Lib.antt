@@ -1,0 +1,4 @@
+-- What the finished tasks of a trace put into a ledger, and which credit the ledger holds then.
+-- What a ledger holds is defined in `credit_ledger`.
+pub mod Entries
+pub mod Credits
