@@ -1,10 +1,9 @@
 -- Entries of two records don't overlap.
-use Rattle.std.proofs.Common.{◌≡◌, ◌≢◌, ◌∙◌, ℕ, ◌≤◌, Bool, true, false, List, ◌++◌, length, replicate, Some, refl, sym, ap, subst, arith, inl, inr, ◌⊎◌}
+use Rattle.std.proofs.Common.{◌≡◌, ◌≢◌, ◌∙◌, ℕ, Bool, true, false, List, ◌++◌, length, replicate, Some, sym, ap, subst, arith, inl, inr}
 use Rattle.std.specs.Prelude.{◌==◌, ◌||◌}
 use Rattle.std.proofs.lemmas.Bool.{cases_Bool, and_parts, or_cases, or_left, or_right, eqb-true, false≢true, false_from_ne_true}
 use Rattle.std.proofs.lemmas.List.{append_assoc}
 use Rattle.ompt_events.specs.declared.records.Record.{Record}
-use Rattle.ompt_events.specs.declared.records.Part.{Part}
 use Rattle.ompt_events.specs.declared.cause.Cause.TheVariants.{StatusOrder, ShareWrong}
 use Rattle.ompt_events.specs.Tree.{children, HasPath}
 use Rattle.credit.specs.declared.share.Half.{Half}
@@ -16,7 +15,7 @@ use Rattle.credit_ledger.proofs.CodeLemmas.{same_path-true}
 use Rattle.credit_ledger.proofs.OverlapLemmas.{overlaps_in_pool-root, overlaps_in_pool-other, overlaps_in_pool-same}
 use Rattle.trace_ledger.specs.Entries.{IsEntryAt, IsFreeUpTo}
 use Rattle.trace_ledger.proofs.HalfLemmas.{meet}
-use Rattle.trace_ledger.proofs.EntryLemmas.{IsRight, IsFrom, entry_says, entry_right}
+use Rattle.trace_ledger.proofs.EntryLemmas.{IsRight, entry_says, entry_right}
 use Rattle.trace_ledger.proofs.StandLemmas.{one_task}
 use Rattle.trace_ledger.proofs.MeetLemmas.{IsOneTask, one_of_meeting}
 use Rattle.trace_ledger.proofs.MoveLemmas.{parts_apart}

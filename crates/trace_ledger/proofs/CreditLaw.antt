@@ -1,5 +1,5 @@
 -- The first entries hold what a task starts with exactly where they finish it.
-use Rattle.std.proofs.Common.{ℕ, ◌≤◌, List, ◌++◌, ◌∷◌, [], take, arith}
+use Rattle.std.proofs.Common.{ℕ, List, take, arith}
 use Rattle.std.specs.Prelude.{◌↔◌}
 use Rattle.ompt_events.specs.declared.records.Record.{Record}
 use Rattle.ompt_events.specs.declared.cause.Cause.TheVariants.{CreatedTwice, ShareWrong}

@@ -1,10 +1,10 @@
 pub mod HalfLemmas
 pub mod EntryLemmas
 pub mod StandLemmas
+pub mod MeetLemmas
 pub mod CompleteLemmas
 pub mod TreeLaw
 pub mod PoolLaw
-pub mod MeetLemmas
 pub mod MoveLemmas
 pub mod CreditLaw
 pub mod ApartLaw

@@ -1,5 +1,5 @@
 -- A share of one task begins with a share of another task, of the same root's credit, only if they are one task.
-use Rattle.std.proofs.Common.{◌≡◌, ◌∙◌, ℕ, ◌≤◌, true, List, ◌++◌, length, replicate, refl, sym, ap, subst, arith}
+use Rattle.std.proofs.Common.{◌≡◌, ◌∙◌, ℕ, true, List, ◌++◌, length, replicate, sym, ap, subst, arith}
 use Rattle.ompt_events.specs.declared.records.Record.{Record}
 use Rattle.ompt_events.specs.Tree.{children, HasPath}
 use Rattle.credit.specs.declared.share.Half.{Half}

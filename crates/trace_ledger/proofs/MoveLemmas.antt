@@ -1,6 +1,6 @@
 -- After a task is finished it moves no more, but for the event of a detached task. So two records that finish
 -- one task finish different halves of it.
-use Rattle.std.proofs.Common.{◌≡◌, ◌≢◌, ◌∙◌, ℕ, zero, suc, ◌<◌, ◌≤◌, ◌+◌, Bool, true, false, cond, List, [], ◌∷◌, ◌++◌, length, get_or, take, Option, Some, None, refl, sym, ap, subst, arith, inl, inr, ◌⊎◌, add-one}
+use Rattle.std.proofs.Common.{◌≡◌, ◌≢◌, ◌∙◌, ℕ, zero, suc, ◌<◌, ◌+◌, Bool, true, false, cond, List, [], ◌∷◌, ◌++◌, length, get_or, take, Option, Some, None, refl, sym, ap, subst, arith, inl, inr, ◌⊎◌, add-one}
 use Rattle.std.specs.Prelude.{◌==◌, ◌&&◌, not, is_some, slice_get, filter, fold, map, Contains}
 use Rattle.std.specs.List.{flat_map}
 use Rattle.std.specs.Option.{option_map, option_map_or, option_and_then}
@@ -13,7 +13,6 @@ use Rattle.ompt_events.specs.declared.records.Body.{Body as RecordBody}
 use Rattle.ompt_events.specs.declared.records.Body.TheVariants.{TaskSchedule, Cancel}
 use Rattle.ompt_events.specs.declared.records.Part.{Part}
 use Rattle.ompt_events.specs.declared.records.Part.TheVariants.{Whole, Body, Event}
-use Rattle.ompt_events.specs.declared.names.Status.{Status}
 use Rattle.ompt_events.specs.declared.names.Status.TheVariants as status
 use Rattle.ompt_events.specs.declared.state.State.{State}
 use Rattle.ompt_events.specs.declared.state.State.TheVariants.{Created, Running, EarlyRunning, Detached, Done}
@@ -23,7 +22,7 @@ use Rattle.ompt_events.specs.Flags.{has_flag}
 use Rattle.ompt_events.specs.Names.{status_part}
 use Rattle.ompt_events.specs.Records.{finish}
 use Rattle.ompt_events.specs.Places.{at, places}
-use Rattle.ompt_events.specs.States.{Move, Stopped, Started, Discarded, Nature, is_task, stops, moves_by, moves_at, moves_of, home_of, is_on, is_early, places_of, nature_of, may, next_state_of, move_state, state_after, first_state, state_of}
+use Rattle.ompt_events.specs.States.{Move, Stopped, Started, Discarded, Nature, is_task, moves_by, moves_at, moves_of, home_of, is_on, is_early, places_of, nature_of, may, next_state_of, move_state, state_after, first_state, state_of}
 use Rattle.ompt_events.specs.Causes.{status_order, IsFreeOf}
 use Rattle.ompt_events.proofs.ListLemmas.{get_contains, contains_get}
 use Rattle.ompt_events.proofs.PlaceLemmas.{at_within, contains_place, Contains-filter}

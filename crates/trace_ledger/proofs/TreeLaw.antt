@@ -24,9 +24,10 @@ use Rattle.credit_ledger.specs.Entries.{part_halves, tree_share, tree_shares}
 use Rattle.credit_ledger.proofs.RegionLemmas.{IsIn, IsSplit, split, IsSplit-begun, Passes, passes, begins_with-shift}
 use Rattle.credit_ledger.proofs.OverLemmas.{from_tree, held_begins}
 use Rattle.trace_ledger.specs.Entries.{IsLedgerOf, IsDone}
-use Rattle.trace_ledger.proofs.HalfLemmas.{Meets, same, under, over, meet, Goes, through, aside, short, goes, start-cons, hold_from}
+use Rattle.trace_ledger.proofs.HalfLemmas.{Meets, meet, Goes, through, aside, short, goes, start-cons, hold_from}
 use Rattle.trace_ledger.proofs.EntryLemmas.{IsFrom, entry_says, IsRight, entry_right, IsEntered, entry_made, in_tree, below_from, from_below}
-use Rattle.trace_ledger.proofs.StandLemmas.{one_task, child_on_way, family_below, family_child}
+use Rattle.trace_ledger.proofs.StandLemmas.{family_below, family_child}
+use Rattle.trace_ledger.proofs.MeetLemmas.{one_of_meeting}
 use Rattle.trace_ledger.proofs.CompleteLemmas.{done_or_not, missing_half}
 
 -- what is known of a trace with its entries
@@ -154,29 +155,11 @@ missing_list path m h shares = start_share path ++ (replicate m Keep ++ h ∷ re
 
 -- an entry with whose share it begins is one of the task
 no_entry : (rs : List Record) (entries : List Entry) (n root task i : ℕ) (path : List ℕ) (h : Half) (z : List Half) (e : Entry) → IsKnown rs entries → HasPath rs root task path → ((part : Part) (y : List Half) → begins_with (h ∷ y) (part_halves part) ≡ true → IsPartFinished rs (λ k. seen_at rs k < n) task part → ⊥) → seen_at rs i < n → IsFrom rs i e → IsRight rs e → e.root ≡ root → Meets (length (children rs task)) e.kept (h ∷ z) (part_halves e.part) path e.path → ⊥
-no_entry rs entries n root task i path h z e known stands missing seen from right own (same is begun) =
+no_entry rs entries n root task i path h z e known stands missing seen from right own meeting =
     let P : ℕ → Type 0 = λ r. HasPath rs r e.task e.path in
-    let Q : List ℕ → Type 0 = λ p. HasPath rs root e.task p in
-    let one = one_task rs root task e.task path stands (subst Q (sym is) (subst P own right.stands)) in
-    let kept : e.kept ≡ length (children rs task) = right.kept ∙ ap (λ t. length (children rs t)) (sym one) in
-    let same_kept : begins_with (replicate (length (children rs task)) Keep ++ h ∷ z) (replicate (length (children rs task)) Keep ++ part_halves e.part) ≡ true =
-    subst (λ k. begins_with (replicate (length (children rs task)) Keep ++ h ∷ z) (replicate k Keep ++ part_halves e.part) ≡ true) kept begun in
-    missing e.part z (sym (begins_with-shift (replicate (length (children rs task)) Keep) (h ∷ z) (part_halves e.part)) ∙ same_kept)
-    (i, from.finishes ∙ ap (λ t. Some (t, e.part)) (sym one), seen)
-no_entry rs entries n root task i path h z e known stands missing seen from right own (under number more is few) =
-    let P : ℕ → Type 0 = λ r. HasPath rs r e.task e.path in
-    let way = child_on_way rs root e.task e.path path more number (subst P own right.stands) is in
-    let one = one_task rs root task way.parent path stands way.higher in
-    let enough = way.few in
-    let count : length (children rs task) ≡ length (children rs way.parent) = ap (λ t. length (children rs t)) one in
-    omega (arith, enough, count, few)
-no_entry rs entries n root task i path h z e known stands missing seen from right own (over number more is few) =
-    let P : ℕ → Type 0 = λ r. HasPath rs r e.task e.path in
-    let way = child_on_way rs root task path e.path more number stands is in
-    let one = one_task rs root e.task way.parent e.path (subst P own right.stands) way.higher in
-    let enough = way.few in
-    let kept : e.kept ≡ length (children rs way.parent) = right.kept ∙ ap (λ t. length (children rs t)) one in
-    omega (arith, enough, kept, few)
+    let Q : ℕ → Type 0 = λ k. Meets (length (children rs task)) k (h ∷ z) (part_halves e.part) path e.path in
+    let one = one_of_meeting rs root task e.task path e.path (h ∷ z) (part_halves e.part) stands (subst P own right.stands) (subst Q right.kept meeting) in
+    missing e.part z one.begun (i, from.finishes ∙ ap (λ t. Some (t, e.part)) (sym one.task_is), seen)
 
 not_missing : (rs : List Record) (entries : List Entry) (n root head task : ℕ) (path : List ℕ) → IsKnown rs entries → HasPath rs root head path → Hold (tree_shares root (take n entries)) (start_share path) → IsFamily rs head task → (IsDone rs n task → ⊥) → ⊥
 not_missing rs entries n root head task path known stands held of not_done =

@@ -24,10 +24,10 @@ pub fn held_is_done()
         → IsFamilyDone rs n task ↔ IsHeldInTree (take n entries) root path }
 {}
 
-/// Entries of two records don't overlap: in a trace without causes 1 to 13 no two records bring back one share,
+/// Entries of two records don't overlap: in records without causes 1 to 13 no two of them bring back one share,
 /// or a share and a part of it, neither of a root's tree nor of a pool.
 pub fn entries_are_apart()
     ensures { (rs : List Record) (i j index other : ℕ) (e f : Entry)
-        → IsTrace rs → IsFreeUpTo rs 13 → i ≢ j → IsEntryAt rs i index e → IsEntryAt rs j other f
+        → IsFreeUpTo rs 13 → i ≢ j → IsEntryAt rs i index e → IsEntryAt rs j other f
         → is_overlap e f ≡ false }
 {}

@@ -1,7 +1,7 @@
 //! The ledger of a trace: the entries that its finishing records make, and what the credit in it tells.
 //!
-//! `laws` says that the ledger holds a task's credit exactly where the task is finished. The definitions
-//! stand in `specs/Entries.antt` and `specs/Credits.antt`.
+//! `laws` says that the ledger holds a task's credit exactly where the task is finished, and that entries of
+//! two records don't overlap. The definitions stand in `specs/Entries.antt` and `specs/Credits.antt`.
 #![tactic(auto)]
 
 pub mod laws;
