@@ -25,7 +25,7 @@ use Rattle.task_tree.specs.Makers.{AreNoted}
 use Rattle.task_tree.proofs.OnceLemmas.{made_once, one_number}
 use Rattle.depend_edges.specs.Edges.{ArePredecessors, AreLatest}
 use Rattle.wait_coverage.specs.Done.{AreOwn}
-use Rattle.wait_coverage.specs.Entries.{IsDone}
+use Rattle.trace_ledger.specs.Entries.{IsDone}
 use Rattle.checker.specs.Starts.{IsPreceded, AreReady, IsFirstLateAt, IsBound, AreStarted, StartsAt, StartsNoneAt, AreDoneBefore, IsFirstBehind}
 use Rattle.ompt_events.specs.declared.fault.Fault.{Fault}
 use Rattle.checker.proofs.StartLemmas.{done_from, bound_still, complete_from_start}

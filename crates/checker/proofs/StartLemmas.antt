@@ -20,7 +20,7 @@ use Rattle.ompt_events.specs.HappensBefore.{IsFinishing}
 use Rattle.ompt_events.specs.Completion.{IsPartFinished, IsFinished, IsCompleteAt, CountsAt, StartsTask}
 use Rattle.task_tree.specs.Subjects.{object, Calls}
 use Rattle.task_tree.specs.Numbering.{AreApart}
-use Rattle.wait_coverage.specs.Entries.{IsDone}
+use Rattle.trace_ledger.specs.Entries.{IsDone}
 use Rattle.wait_coverage.specs.Done.{IsDoneFrom, AreOwn}
 use Rattle.checker.specs.Starts.{IsBound, AreStarted, StartsAt}
 

@@ -12,7 +12,7 @@ use Rattle.ompt_events.specs.Causes.{IsFreeOf}
 use Rattle.task_tree.specs.Runs.{RunView, IsRun}
 use Rattle.depend_edges.specs.Edges.{AreLatest}
 use Rattle.wait_coverage.specs.Done.{AreOwn}
-use Rattle.wait_coverage.specs.Entries.{IsDone}
+use Rattle.trace_ledger.specs.Entries.{IsDone}
 
 -- the task must be complete at i as a predecessor: of an explicit task that starts there (OpenMP 5.2,
 -- 15.9.5), or of a taskwait with dependences that is complete there (15.5)

@@ -5,7 +5,7 @@ ghost use Rattle.ompt_events.specs.declared.cause.Cause.TheVariants.{EntryTwice,
 ghost use Rattle.ompt_events.specs.Causes.{IsFreeOf};
 ghost use Rattle.depend_edges.specs.Edges.{ArePredecessors};
 ghost use Rattle.wait_coverage.specs.Done.{AreOwn};
-ghost use Rattle.wait_coverage.specs.Entries.{IsDone};
+ghost use Rattle.trace_ledger.specs.Entries.{IsDone};
 ghost use Rattle.checker.specs.Starts.{AreReady, IsFirstLateAt, IsFirstLateStart, IsBound, AreStarted, StartsAt, StartsNoneAt, AreDoneBefore, IsFirstBehind};
 
 use depend_edges::Edges;

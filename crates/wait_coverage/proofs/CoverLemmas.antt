@@ -14,7 +14,7 @@ use Rattle.ompt_events.specs.declared.records.Part.{Part}
 use Rattle.ompt_events.proofs.ListLemmas.{get_contains, contains_get}
 use Rattle.ompt_events.proofs.RegionLemmas.{region_starts_none}
 use Rattle.ompt_events.proofs.TreeLemmas.{children_stay}
-use Rattle.wait_coverage.specs.Entries.{IsDone}
+use Rattle.trace_ledger.specs.Entries.{IsDone}
 
 -- ---- children by their numbers
 

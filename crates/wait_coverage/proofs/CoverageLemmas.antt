@@ -28,9 +28,9 @@ use Rattle.credit_ledger.specs.declared.entry.Span.{Span}
 use Rattle.credit_ledger.specs.declared.entry.Cover.{Cover}
 use Rattle.credit_ledger.specs.declared.entry.Cover.TheVariants.{Children, Descendants}
 use Rattle.credit_ledger.specs.Entries.{IsSpanHeld}
-use Rattle.wait_coverage.specs.Entries.{IsLedgerOf}
+use Rattle.trace_ledger.specs.Entries.{IsLedgerOf, IsFreeUpTo}
 use Rattle.wait_coverage.specs.Spans as spans
-use Rattle.wait_coverage.specs.Spans.{AreSpans, AreMemberSpans, IsSpan, IsCoverComplete, IsFreeUpTo}
+use Rattle.wait_coverage.specs.Spans.{AreSpans, AreMemberSpans, IsSpan, IsCoverComplete}
 use Rattle.wait_coverage.specs.Teams.{IsTeamsOf}
 use Rattle.teams.specs.Teams.{TeamsView, AreTeams, IsMemberNumbered}
 use Rattle.wait_coverage.specs.Waits.{EndsNoWaitAt, IsWaitAt, waits, groups, meets, cover_of, IsFirstOpen, waiting}

@@ -21,15 +21,15 @@ use Rattle.credit_ledger.specs.declared.entry.Cover.{Cover}
 use Rattle.credit_ledger.specs.declared.entry.Cover.TheVariants.{Children, Descendants}
 use Rattle.credit_ledger.specs.Entries.{IsSpanHeld}
 use Rattle.ompt_events.proofs.ListLemmas.{get_contains, contains_get}
-use Rattle.wait_coverage.specs.Entries.{IsLedgerOf}
+use Rattle.trace_ledger.specs.Entries.{IsLedgerOf, IsFreeUpTo}
 use Rattle.teams.specs.Teams.{IsMemberNumbered}
-use Rattle.wait_coverage.specs.Spans.{IsSpan, AreSpans, waited, grouped, synchronised, AreMemberSpans, AreHeldAt, IsCoverComplete, IsFreeUpTo}
+use Rattle.wait_coverage.specs.Spans.{IsSpan, AreSpans, waited, grouped, synchronised, AreMemberSpans, AreHeldAt, IsCoverComplete}
 use Rattle.teams.proofs.RegionEndLemmas.{ends_at, one_region}
 use Rattle.wait_coverage.proofs.CoverLemmas.{child_with, dropped, number_between, done_there, complete_there}
 use Rattle.teams.proofs.BarrierLemmas.{one_number}
 use Rattle.wait_coverage.proofs.MateLemmas.{one_member, number_of_mate, mate_of_number, begin_within}
-use Rattle.wait_coverage.proofs.TreeLaw.{IsKnown, tree_held, tree_done}
-use Rattle.wait_coverage.proofs.PoolLaw.{pool_held, pool_done}
+use Rattle.trace_ledger.proofs.TreeLaw.{IsKnown, tree_held, tree_done}
+use Rattle.trace_ledger.proofs.PoolLaw.{pool_held, pool_done}
 
 -- ---- a span is held where its children are finished
 

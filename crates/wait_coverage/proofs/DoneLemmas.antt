@@ -17,7 +17,7 @@ use Rattle.task_tree.specs.Lineage.{parent_index}
 use Rattle.task_tree.proofs.OnceLemmas.{creation_made}
 use Rattle.task_tree.proofs.FamilyLemmas.{parent_noted}
 use Rattle.task_tree.proofs.LineageLemmas.{parent_at_is, child_within}
-use Rattle.wait_coverage.specs.Entries.{IsDone}
+use Rattle.trace_ledger.specs.Entries.{IsDone}
 use Rattle.wait_coverage.specs.Lengths.{done_length, AreLengths}
 use Rattle.wait_coverage.specs.Done.{IsDoneFrom, AreOwn, AreFamilies, IsParentsFirst, raised, AreRaised}
 use Rattle.wait_coverage.specs.declared.lengths.Lengths.{Lengths}

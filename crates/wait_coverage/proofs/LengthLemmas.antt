@@ -21,7 +21,7 @@ use Rattle.task_tree.specs.Subjects.{subject, object, Calls}
 use Rattle.task_tree.proofs.LinkLemmas.{get_set_same, get_set_other}
 use Rattle.task_tree.proofs.NamedLemmas.{region_subject, creation_subject, creation_object, subject_index, object_index}
 use Rattle.teams.proofs.CallLemmas.{call_same, call_never}
-use Rattle.wait_coverage.specs.Entries.{IsDone}
+use Rattle.trace_ledger.specs.Entries.{IsDone}
 use Rattle.wait_coverage.specs.declared.lengths.Lengths.{Lengths}
 use Rattle.wait_coverage.specs.Lengths.{never, no_lengths, length_of, with_length, done_length, AreLeast, AreLengths}
 

@@ -1,9 +1,3 @@
-pub mod HalfLemmas
-pub mod EntryLemmas
-pub mod StandLemmas
-pub mod CompleteLemmas
-pub mod TreeLaw
-pub mod PoolLaw
 pub mod CoverLemmas
 pub mod LengthLemmas
 pub mod OrderLemmas

@@ -26,7 +26,7 @@ use Rattle.task_tree.specs.Numbering.{AreApart}
 use Rattle.task_tree.specs.Subjects.{subject}
 use Rattle.task_tree.proofs.NamedLemmas.{region_subject}
 use Rattle.task_tree.proofs.LinkLemmas.{get_set_same, get_set_other}
-use Rattle.wait_coverage.specs.Entries.{IsDone}
+use Rattle.trace_ledger.specs.Entries.{IsDone}
 use Rattle.wait_coverage.specs.Done.{IsFamilyLimit}
 use Rattle.wait_coverage.specs.Limits.{IsChildLimit, IsFamiliesLimit, IsLimitOfBegin, IsOnChain, Gathers, HasNode, AreLatest, AreLatestFamilies, AreChains, IsMark, AreNoted}
 use Rattle.wait_coverage.specs.declared.limits.Node.{Node}
@@ -34,7 +34,7 @@ use Rattle.wait_coverage.specs.declared.limits.Progress.{Progress}
 use Rattle.teams.proofs.BarrierLemmas.{begun_region, begun_other}
 use Rattle.teams.proofs.RegionEndLemmas.{ends_at, one_region}
 use Rattle.wait_coverage.proofs.CoverLemmas.{child_with, number_between}
-use Rattle.wait_coverage.proofs.StandLemmas.{created_child}
+use Rattle.trace_ledger.proofs.StandLemmas.{created_child}
 use Rattle.wait_coverage.proofs.ChainLemmas.{chains_other, chains_more}
 
 -- ---- what an end covers, by the places of the creations

@@ -16,7 +16,7 @@ use Rattle.ompt_events.proofs.RecordLemmas.{creation_at_created}
 use Rattle.ompt_events.proofs.TreeLemmas.{child_before}
 use Rattle.credit_ledger.specs.declared.entry.Cover.{Cover}
 use Rattle.credit_ledger.specs.declared.entry.Cover.TheVariants.{Children, Descendants}
-use Rattle.wait_coverage.specs.Entries.{IsDone}
+use Rattle.trace_ledger.specs.Entries.{IsDone}
 use Rattle.wait_coverage.specs.Spans.{IsCoverComplete}
 use Rattle.wait_coverage.specs.Limits.{AreEndLimits}
 use Rattle.wait_coverage.specs.Waits.{EndsNoWaitAt, IsWaitAt, waits, groups, meets, IsWithin, before_begin, in_group, by_member, cover_of, IsAwaitedBy, IsAwaited, IsFirstOpen, IsFirstOpenEnd, IsLateAt, IsFirstLate}
@@ -26,8 +26,8 @@ use Rattle.teams.proofs.BarrierLemmas.{one_number, barrier_is_other}
 use Rattle.wait_coverage.specs.declared.limits.Node.{Node}
 use Rattle.teams.proofs.RegionEndLemmas.{EndsAt, ends_at, one_region}
 use Rattle.wait_coverage.proofs.CoverLemmas.{child_with, child_stays, dropped, done_there, complete_there}
-use Rattle.wait_coverage.proofs.CompleteLemmas.{done_or_not}
-use Rattle.wait_coverage.proofs.StandLemmas.{created_child}
+use Rattle.trace_ledger.proofs.CompleteLemmas.{done_or_not}
+use Rattle.trace_ledger.proofs.StandLemmas.{created_child}
 use Rattle.wait_coverage.proofs.LimitLemmas.{covers_cases}
 
 -- ---- what is waited for is what is covered

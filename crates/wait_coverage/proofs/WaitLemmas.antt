@@ -21,7 +21,7 @@ use Rattle.task_tree.proofs.OnceLemmas.{made_once, creation_made}
 use Rattle.task_tree.proofs.LineageLemmas.{parent_is_at, parent_at_is}
 use Rattle.credit_ledger.specs.declared.entry.Cover.TheVariants.{Descendants}
 use Rattle.ompt_events.proofs.PlaceLemmas.{at_index, at_within}
-use Rattle.wait_coverage.specs.Entries.{IsDone}
+use Rattle.trace_ledger.specs.Entries.{IsDone}
 use Rattle.wait_coverage.specs.Done.{IsDoneFrom, AreOwn, IsParentsFirst}
 use Rattle.wait_coverage.specs.Waits.{IsWaitAt, waits, groups, IsOwnChild, IsAwaitedBy, IsAwaited, AreAwaited, AreMarked, IsMarkedAbove, EndsNoWait, EndsNoWaitAt, IsLateAt, cover_of, IsWithin, before_begin, in_group, by_member, meets}
 use Rattle.teams.specs.Teams.{AreBeginNumbers, begins_before}

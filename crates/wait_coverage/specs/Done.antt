@@ -5,7 +5,7 @@ use Rattle.ompt_events.specs.declared.records.Record.{Record}
 use Rattle.ompt_events.specs.Coverage.{IsFamily}
 use Rattle.task_tree.specs.Family.{FamilyView}
 use Rattle.task_tree.specs.Lineage.{parent_index, depth_in}
-use Rattle.wait_coverage.specs.Entries.{IsDone}
+use Rattle.trace_ledger.specs.Entries.{IsDone}
 use Rattle.wait_coverage.specs.declared.done.Done.{Done}
 
 -- from this ledger length on the task is finished, and at no lesser one

@@ -1,6 +1,5 @@
 -- What the finished tasks of a trace put into a ledger, and which credit the end of a region waits for.
 -- Which tasks it waits for is defined in `ompt_events`, and what a ledger holds in `credit_ledger`.
-pub mod Entries
 pub mod Teams
 pub mod Spans
 pub mod Lengths

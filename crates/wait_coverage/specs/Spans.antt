@@ -1,6 +1,6 @@
 -- The credit that the end of a region waits for: that of some children of one task, or of some of each
 -- member of a team.
-use Rattle.std.specs.Prelude.{◌≡◌, ◌<◌, ◌≤◌, ℕ, List, [], ◌∷◌, true, Some, Contains, length, slice_get, take}
+use Rattle.std.specs.Prelude.{◌≡◌, ◌<◌, ℕ, List, [], ◌∷◌, true, Some, Contains, length, slice_get, take}
 use Rattle.ompt_events.specs.declared.records.Record.{Record}
 use Rattle.ompt_events.specs.declared.names.SyncKind.{SyncKind}
 use Rattle.ompt_events.specs.declared.names.SyncKind.TheVariants.{Taskwait, Taskgroup}
@@ -9,9 +9,6 @@ use Rattle.ompt_events.specs.Tree.{child_number, HasPath}
 use Rattle.ompt_events.specs.Regions.{IsRegion, is_barrier, IsBarrierBegin}
 use Rattle.ompt_events.specs.Coverage.{Covers}
 use Rattle.ompt_events.specs.Completion.{IsCompleteAt}
-use Rattle.ompt_events.specs.CauseNames.{cause_number}
-use Rattle.ompt_events.specs.Causes.{IsFreeOf}
-use Rattle.ompt_events.specs.declared.cause.Cause.{Cause}
 use Rattle.credit_ledger.specs.declared.entry.Entry.{Entry}
 use Rattle.credit_ledger.specs.declared.entry.Span.{Span}
 use Rattle.credit_ledger.specs.declared.entry.Cover.{Cover}
@@ -53,7 +50,3 @@ AreHeldAt rs entries i cover spans =
 -- each task that the end at i covers is complete there
 abbrev pub IsCoverComplete : List Record → ℕ → Type 0
 IsCoverComplete rs i = (task : ℕ) → Covers rs i task → IsCompleteAt rs task i
-
--- no cause with this number or a lower one occurs
-abbrev pub IsFreeUpTo : List Record → ℕ → Type 0
-IsFreeUpTo rs number = (cause : Cause) → cause_number cause ≤ number → IsFreeOf rs cause

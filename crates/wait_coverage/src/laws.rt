@@ -6,8 +6,8 @@ ghost use Rattle.ompt_events.specs.Traces.{IsTrace};
 ghost use Rattle.credit_ledger.specs.declared.entry.Entry.{Entry};
 ghost use Rattle.credit_ledger.specs.declared.entry.Span.{Span};
 ghost use Rattle.credit_ledger.specs.declared.entry.Cover.{Cover};
-ghost use Rattle.wait_coverage.specs.Entries.{IsLedgerOf};
-ghost use Rattle.wait_coverage.specs.Spans.{AreSpans, AreHeldAt, IsCoverComplete, IsFreeUpTo};
+ghost use Rattle.trace_ledger.specs.Entries.{IsLedgerOf, IsFreeUpTo};
+ghost use Rattle.wait_coverage.specs.Spans.{AreSpans, AreHeldAt, IsCoverComplete};
 
 /// The entries below the ledger length that an end names finish each task that it covers exactly where they
 /// hold the start share of each child of its spans: in its parent's pool for a taskwait, in the tree for the

@@ -1,5 +1,4 @@
-use Rattle.wait_coverage.specs.Entries.{IsLedgerOf}
-use Rattle.wait_coverage.specs.Spans.{IsFreeUpTo}
+use Rattle.trace_ledger.specs.Entries.{IsLedgerOf, IsFreeUpTo}
 use Rattle.wait_coverage.specs.Coverage.{AreFirstOpen}
 use Rattle.wait_coverage.proofs.coverage.Coverage.first_open_all.Given as goal
 
