@@ -107,6 +107,7 @@ pub enum Verdict {
 /// Why a check has no verdict.
 #[derive(Clone, Copy, Debug, PartialEq, Eq, Error)]
 pub enum CheckFault {
+    /// Memory ran out. Number 1.
     #[error("out of memory")]
     Memory,
 }
