@@ -7,4 +7,5 @@ use Rattle.trace_ledger.proofs.ledger.enter.Goals as goal
 pub returns-in-Err-clause-memory : goal.returns-in-Err-clause-memory
 returns-in-Err-clause-memory c = λ entry is possible.
     let same = same_Some c.in-Some.entry entry (sym c.in-Some.is ∙ c.in-Ok.ensures ∙ is) in
-    possible_fault c.args.ledger.now entry c.in-Err.fault possible (c.in-Err.ensures.fault ∙ ap (fault_of c.args.ledger.now) same)
+    possible_fault c.args.ledger.now entry c.in-Err.fault possible
+    (c.in-Err.ensures.fault ∙ ap (fault_of c.args.ledger.now) same)
