@@ -4,11 +4,11 @@ ghost use Rattle.task_tree.specs.Paths.{IsTreeOf};
 
 use crate::lines::traces_of_input;
 use anyhow::{Result, bail};
-use credit_ledger::{Entry, Ledger};
-use ompt_events::{Path, Record, Trace, finish};
-use std::alloc::Global;
+use credit_ledger::Ledger;
+use ompt_events::Trace;
 use task_states::{States, run};
 use task_tree::Tree;
+use trace_ledger::ledger_of;
 use wait_coverage::{CoverFault, Coverage};
 
 /// For each of the trace files that stand one after another on standard input: each end of a wait, whether
@@ -49,7 +49,7 @@ fn of_states(rt: &HostRuntime, trace: &Trace, tree: &Tree, states: &States) -> R
         }
         Err(CoverFault::Memory) => bail!("out of memory"),
     };
-    let ledger = ledger_of(rt.alloc(), trace.records())?;
+    let ledger = ledger_of(rt.alloc(), states.run())?;
     for number in 0..coverage.ends().len() {
         of_end(rt, &coverage, &ledger, number)?;
     }
@@ -66,40 +66,4 @@ fn of_end(rt: &HostRuntime, coverage: &Coverage, ledger: &Ledger, number: usize)
     let again = coverage.first_open_all(&[number, number], ledger)?;
     println!(rt; "{end:?}: {cover:?} {spans:?} open {open:?}, twice {again:?}")?;
     Ok(())
-}
-
-/// The ledger of the finishing records, each with the entry that it names.
-fn ledger_of(alloc: Global, records: &[Record]) -> Result<Ledger> {
-    let mut ledger = Ledger::new(alloc);
-    for index in 0..records.len() {
-        for event in records {
-            if event.seen as usize == index && finish(event).is_some() {
-                enter(alloc, &mut ledger, event)?;
-            }
-        }
-    }
-    Ok(ledger)
-}
-
-fn enter(alloc: Global, ledger: &mut Ledger, event: &Record) -> Result<()> {
-    let (Some((task, part)), Some(claim)) = (finish(event), event.body.claim()) else {
-        bail!("no claim");
-    };
-    let mut path = Vec::new(alloc);
-    path.extend_from_slice(claim.path.as_slice())?;
-    if path.len() > 1_024 {
-        bail!("the path has more than 1,024 numbers");
-    }
-    let entry = Entry {
-        thread: event.thread,
-        part,
-        kept: claim.kept,
-        task,
-        root: claim.root,
-        path: Path::from_vec(path),
-    };
-    match ledger.enter(entry) {
-        Ok(_) => Ok(()),
-        Err((_, fault)) => bail!("{fault}"),
-    }
 }

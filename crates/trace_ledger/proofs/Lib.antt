@@ -8,3 +8,5 @@ pub mod PoolLaw
 pub mod MoveLemmas
 pub mod CreditLaw
 pub mod ApartLaw
+pub mod MakerLemmas
+pub mod LedgerLemmas

@@ -2,3 +2,5 @@
 -- What a ledger holds is defined in `credit_ledger`.
 pub mod Entries
 pub mod Credits
+pub mod Makers
+pub mod Ledger

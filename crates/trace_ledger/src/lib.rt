@@ -1,7 +1,14 @@
 //! The ledger of a trace: the entries that its finishing records make, and what the credit in it tells.
 //!
 //! `laws` says that the ledger holds a task's credit exactly where the task is finished, and that entries of
-//! two records don't overlap. The definitions stand in `specs/Entries.antt` and `specs/Credits.antt`.
+//! two records don't overlap. The definitions stand in `specs/Entries.antt` and `specs/Credits.antt`. `ledger`
+//! makes the ledger of a run, after `entries` (what one record brings back) and `makers` (which record makes
+//! each entry).
 #![tactic(auto)]
 
+mod entries;
 pub mod laws;
+mod ledger;
+mod makers;
+
+pub use ledger::ledger_of;

@@ -1,0 +1,75 @@
+use Rattle.std.proofs.Common.{◌≡◌, ◌∙◌, ◌<◌, length, Some, ap, subst, arith}
+use Rattle.std.proofs.lemmas.Option.{slice_get_read}
+use Rattle.std.proofs.lemmas.Result.{err_from_is_err_and}
+use Rattle.ompt_events.specs.Causes.{entries_in}
+use Rattle.trace_ledger.specs.Ledger.{AreEntered}
+use Rattle.trace_ledger.proofs.MakerLemmas.{all_made}
+use Rattle.trace_ledger.proofs.LedgerLemmas.{maker_below, maker_makes, may_enter, one_entered, are_all}
+use Rattle.trace_ledger.proofs.ledger.ledger_of.Goals as goal
+use Rattle.trace_ledger.proofs.ledger.ledger_of.Goals.{in-Some+in_ok-enter, in_default-index}
+
+pub bounds-records-at : goal.bounds-records-at
+bounds-records-at c =
+    let long : c.len-index-end.result ≡ length c.in-Ok.makers.items =
+    omega (arith, c.len-index-end.ensures, c.in-Ok.makers.ok.0) in
+    maker_below _ _ _ _ _ _ _ c.records-records.ensures.value c.in-Ok.ensures long c.loop-index-test.true
+    c.index.ensures c.in-Some.is
+
+pub enter-requires : goal.enter-requires
+enter-requires c =
+    let long : c.len-index-end.result ≡ length c.in-Ok.makers.items =
+    omega (arith, c.len-index-end.ensures, c.in-Ok.makers.ok.0) in
+    let makes =
+    maker_makes _ _ _ _ _ _ _ _ c.records-records.ensures.is_run.trace c.records-records.ensures.value
+    c.in-Ok.ensures long c.loop-index-test.true c.index.ensures c.in-Some.is c.index-records-at.is in
+    makes.sound
+
+pub returns-in_err-enter-clause-memory : goal.returns-in_err-enter-clause-memory
+returns-in_err-enter-clause-memory c = λ free.
+    let long : c.len-index-end.result ≡ length c.in-Ok.makers.items =
+    omega (arith, c.len-index-end.ensures, c.in-Ok.makers.ok.0) in
+    let rs = c.args.run.now.records in
+    let trace = c.records-records.ensures.is_run.trace in
+    let makes =
+    maker_makes _ _ _ _ _ _ _ _ trace c.records-records.ensures.value
+    c.in-Ok.ensures long c.loop-index-test.true c.index.ensures c.in-Some.is c.index-records-at.is in
+    let within : c.loop-index.index < entries_in rs =
+    omega (arith, c.loop-index-test.true, c.len-index-end.ensures, c.in-Ok.ensures.entries) in
+    let possible = may_enter rs c.loop-index.ledger c.in-Some.at c.loop-index.index makes.entry trace free
+    within (c.loop-index.invariant free) makes.there in
+    let memory = c.in_err-enter.ensures.memory makes.entry makes.made possible in
+    let p = err_from_is_err_and c.from_residual.result c.from_residual.ensures.1 in
+    rw (p.1, p.2) memory
+
+pub loop-index-preserved : goal.loop-index-preserved
+loop-index-preserved c = λ free.
+    let long : c.len-index-end.result ≡ length c.in-Ok.makers.items =
+    omega (arith, c.len-index-end.ensures, c.in-Ok.makers.ok.0) in
+    let rs = c.args.run.now.records in
+    elim c.match-index.branch [
+      | in-Some+in_ok-enter w ↦
+          let makes =
+          maker_makes _ _ _ _ _ _ _ _ c.records-records.ensures.is_run.trace c.records-records.ensures.value
+          c.in-Ok.ensures long c.loop-index-test.true c.index.ensures w.in-Some.is w.index-records-at.is in
+          one_entered rs c.loop-index.ledger c.match-index.ledger w.in-Some.at c.loop-index.index
+          makes.entry (w.ledger-is ∙ w.in_ok-enter.ensures.entered makes.entry makes.made)
+          (c.loop-index.invariant free) makes.there
+      | in_default-index w ↦
+          absurd (all_made rs c.in-Ok.makers.items c.loop-index.index c.in-Ok.ensures free
+          (slice_get_read _ _ _ _ long c.loop-index-test.true c.index.ensures
+          ∙ ap Some w.in_default-index.is))
+    ]
+
+pub returns-clause-ledger : goal.returns-clause-ledger
+returns-clause-ledger c = λ free.
+    let rs = c.args.run.now.records in
+    let last : c.loop-index.index ≡ entries_in rs =
+    omega (
+      arith,
+      c.loop-index-test.false,
+      c.loop-index.auto.index-end,
+      c.len-index-end.ensures,
+      c.in-Ok.ensures.entries,
+    ) in
+    are_all rs c.loop-index.ledger free (subst (λ n. AreEntered rs n c.loop-index.ledger) last
+    (c.loop-index.invariant free))

@@ -1,0 +1,24 @@
+-- Which record makes each entry of the ledger, in a table by entry.
+use Rattle.std.specs.Prelude.{◌≡◌, ◌<◌, ◌+◌, ℕ, zero, suc, List, [], ◌∷◌, Option, Some, None, length, take, slice_get}
+use Rattle.ompt_events.specs.declared.records.Record.{Record}
+use Rattle.ompt_events.specs.Places.{seen_at}
+use Rattle.ompt_events.specs.HappensBefore.{IsFinishing}
+use Rattle.ompt_events.specs.Causes.{entries_in}
+use Rattle.trace_ledger.specs.Entries.{IsFreeUpTo}
+
+-- one of the first n records makes the entry
+abbrev pub IsMaker : List Record → ℕ → ℕ → ℕ → Type 0
+IsMaker rs n index place = (place < n) × IsFinishing rs place × (seen_at rs place ≡ index)
+
+-- how many entries have no record yet
+abbrev pub free_entries : List (Option ℕ) → ℕ
+free_entries [] = zero
+free_entries (None ∷ makers) = suc (free_entries makers)
+free_entries (Some place ∷ makers) = free_entries makers
+
+-- the table has a place for each entry, and of the first n records those that make one; each of them where
+-- none names the entry of another or one past the end
+pub record AreMakers (rs : List Record) (n : ℕ) (makers : List (Option ℕ)) : Type 0 where
+  pub entries : length makers ≡ entries_in rs
+  pub makes : (index place : ℕ) → slice_get makers index ≡ Some (Some place) → IsMaker rs n index place
+  pub all : IsFreeUpTo rs 13 → free_entries makers + entries_in (take n rs) ≡ length makers

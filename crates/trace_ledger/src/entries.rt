@@ -1,0 +1,36 @@
+//! What a finishing record brings back.
+ghost use Rattle.std.specs.Prelude.{◌≡◌, IfOk};
+ghost use Rattle.trace_ledger.specs.Entries.{entry_of};
+
+use credit_ledger::Entry;
+use ompt_events::{Path, Record, finish};
+use std::alloc::{AllocError, Global};
+
+/// The entry that the record makes, by what it claims; a record that finishes no task makes none.
+pub(crate) fn entry_of(alloc: Global, event: &Record) -> Result<Option<Entry>, AllocError>
+    ensures { IfOk result (λ entry. entry ≡ entry_of event.now) }
+{
+    let Some((task, part)) = finish(event) else {
+        return Ok(None);
+    };
+    let Some(claim) = event.body.claim() else {
+        return Ok(None);
+    };
+    Ok(Some(Entry {
+        thread: event.thread,
+        part,
+        kept: claim.kept,
+        task,
+        root: claim.root,
+        path: copy_of(alloc, &claim.path)?,
+    }))
+}
+
+/// The same path once more.
+fn copy_of(alloc: Global, path: &Path) -> Result<Path, AllocError>
+    ensures { IfOk result (λ copy. copy ≡ path.now) }
+{
+    let mut numbers = Vec::new(alloc);
+    numbers.extend_from_slice(path.as_slice())?;
+    Ok(Path::from_vec(numbers))
+}

@@ -1,0 +1,56 @@
+//! The ledger that a trace's finishing records make.
+ghost use Rattle.std.specs.Prelude.{◌≡◌, ◌++◌, ◌∷◌, [], Some, IfOk, OnOk, IsOkUnless};
+ghost use Rattle.ompt_events.specs.Traces.{IsSound};
+ghost use Rattle.credit_ledger.specs.declared.entry.Entry.{Entry};
+ghost use Rattle.credit_ledger.specs.declared.fault.LedgerFault.TheVariants.{Memory};
+ghost use Rattle.credit_ledger.specs.declared.view.Call.TheVariants.{Enter};
+ghost use Rattle.credit_ledger.specs.Histories.{IsPossible};
+ghost use Rattle.trace_ledger.specs.Entries.{entry_of, IsFreeUpTo, IsLedgerOf};
+
+use crate::entries::entry_of;
+use crate::makers::find_makers;
+use credit_ledger::{Ledger, LedgerFault};
+use ompt_events::Record;
+use std::alloc::Global;
+use task_tree::Run;
+
+/// The ledger of the run: each finishing record's entry stands at the index that the record names. Where none
+/// of the causes 1 to 13 occurs it has all of them and no other, and `Memory` is the only refusal; else
+/// nothing is promised.
+pub fn ledger_of(alloc: Global, run: &Run) -> Result<Ledger, LedgerFault>
+    ensures ledger { IsFreeUpTo run.now.records 13
+        → IfOk result (λ ledger. IsLedgerOf run.now.records ledger) }
+    ensures memory { IsFreeUpTo run.now.records 13 → IsOkUnless result Memory }
+{
+    let Ok(makers) = find_makers(alloc, run) else {
+        return Err(LedgerFault::Memory);
+    };
+    let records = run.records();
+    let mut ledger = Ledger::new(alloc);
+    for index in 0..makers.len() {
+        if let Some(at) = makers[index] {
+            enter(alloc, &records[at as usize], &mut ledger)?;
+        }
+    }
+    Ok(ledger)
+}
+
+/// Enters what the record brings back.
+fn enter(alloc: Global, event: &Record, ledger: &mut Ledger) -> Result<(), LedgerFault>
+    requires { IsSound event.now.body }
+    ensures entered { (entry : Entry) → entry_of event.now ≡ Some entry
+        → OnOk result (ledger.new ≡ ledger.old ++ entry ∷ []) }
+    ensures memory { (entry : Entry) → entry_of event.now ≡ Some entry → IsPossible ledger.old (Enter entry)
+        → IsOkUnless result Memory }
+{
+    let Ok(made) = entry_of(alloc, event) else {
+        return Err(LedgerFault::Memory);
+    };
+    let Some(entry) = made else {
+        return Ok(());
+    };
+    if let Err((_, fault)) = ledger.enter(entry) {
+        return Err(fault);
+    }
+    Ok(())
+}

@@ -1,0 +1,40 @@
+//! Which record makes each entry of the ledger.
+ghost use Rattle.std.specs.Prelude.{◌≡◌, ◌<◌, IfOk, Some, length, slice_set};
+ghost use Rattle.ompt_events.specs.Causes.{entries_in};
+ghost use Rattle.trace_ledger.specs.Makers.{AreMakers};
+
+use ompt_events::finish;
+use std::alloc::{AllocError, Global};
+use task_tree::Run;
+
+/// By entry the place of the record that makes it, if one does. Takes as many steps as there are records.
+pub(crate) fn find_makers(alloc: Global, run: &Run) -> Result<Vec<Option<u32>>, AllocError>
+    ensures { IfOk result (λ makers. AreMakers run.now.records (length run.now.records) makers.items) }
+{
+    let mut makers = vec![in alloc; None; entry_count(run)]?;
+    for at in 0..run.len() {
+        if run.is_finishing(at) {
+            name_maker(&mut makers, run.seen(at) as usize, at as u32);
+        }
+    }
+    Ok(makers)
+}
+
+/// How many entries the records make.
+fn entry_count(run: &Run) -> usize
+    ensures { result ≡ entries_in run.now.records }
+{
+    run.records()
+        .iter()
+        .filter(|event| finish(event).is_some())
+        .count()
+}
+
+/// The record at a place makes the entry, if the table has it.
+fn name_maker(makers: &mut Vec<Option<u32>>, entry: usize, at: u32)
+    ensures { makers.new.items ≡ slice_set makers.old.items entry (Some at) }
+{
+    if entry < makers.len() {
+        makers[entry] = Some(at);
+    }
+}
