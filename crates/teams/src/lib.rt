@@ -19,5 +19,6 @@ mod tables;
 mod teams;
 
 pub use begins::barrier_begun;
+pub use missed::BarrierEnd;
 pub use rows::reach;
 pub use teams::Teams;

@@ -7,12 +7,12 @@ use ompt_events::WaitKind;
 use task_states::States;
 
 /// The end of a barrier.
-#[derive(Clone, Copy)]
-struct BarrierEnd {
+#[derive(Clone, Copy, Debug)]
+pub struct BarrierEnd {
     /// The index of the task that ends it.
-    task: usize,
+    pub task: usize,
     /// The place at which the task began it.
-    begin: usize,
+    pub begin: usize,
 }
 
 /// Whether the record at a place ends a barrier that a member of the team doesn't begin. A member that
@@ -35,7 +35,7 @@ pub(crate) fn is_missed(tables: &Tables, at: usize) -> bool
 }
 
 /// The barrier that ends at the place.
-fn barrier_end(states: &States, at: usize) -> Option<BarrierEnd>
+pub(crate) fn barrier_end(states: &States, at: usize) -> Option<BarrierEnd>
     requires { at < length states.now.run.records }
     ensures { MatchOption result (EndsNoBarrier states.now.run.records at)
         (λ end. IsBarrierEnd states.now.run at end.task end.begin) }

@@ -6,9 +6,11 @@ ghost use Rattle.ompt_events.specs.declared.cause.Cause.TheVariants.{TeamShort};
 ghost use Rattle.ompt_events.specs.Faults.{IsFault};
 ghost use Rattle.ompt_events.specs.Regions.{IsRegion};
 ghost use Rattle.task_states.specs.States.{IsBeginOf};
+ghost use Rattle.teams.specs.Missed.{IsBarrierEnd, EndsNoBarrier};
 ghost use Rattle.teams.specs.Rows.{row_at};
 ghost use Rattle.teams.specs.Teams.{IsTeams};
 
+use crate::missed::{BarrierEnd, barrier_end};
 use crate::rows::row;
 use crate::seats::empty_rosters;
 use crate::short::find_short;
@@ -93,6 +95,15 @@ impl<'a> Teams<'a> {
             (IsBeginOf self.now.run.records at) }
     {
         self.states.begin_of(at)
+    }
+
+    /// The barrier that ends at the place, if one does.
+    pub fn barrier_end(&self, at: usize) -> Option<BarrierEnd>
+        requires { at < length self.now.run.records }
+        ensures { MatchOption result (EndsNoBarrier self.now.run.records at)
+            (λ end. IsBarrierEnd self.now.run at end.task end.begin) }
+    {
+        barrier_end(self.states, at)
     }
 
     /// The number of the team of the task at this index.

@@ -12,8 +12,8 @@ use Rattle.ompt_events.specs.Places.{at}
 use Rattle.ompt_events.proofs.ListLemmas.{get_pushed, get_last, pushed_cases}
 use Rattle.task_tree.specs.Numbering.{AreApart}
 use Rattle.task_tree.proofs.LinkLemmas.{get_set_same, get_set_other}
-use Rattle.wait_coverage.specs.Done.{IsFamilyLimit}
-use Rattle.wait_coverage.specs.Limits.{IsOnChain, here, later, AreFalling, Gathers, HasNode, AreChains}
+use Rattle.wait_coverage.specs.Done.{DoneView, records_of, tasks_of, IsEarly}
+use Rattle.wait_coverage.specs.Limits.{IsFamilyLimit, IsOnChain, here, later, AreFalling, Gathers, HasNode, AreChains}
 use Rattle.wait_coverage.specs.declared.limits.Node.{Node}
 
 -- ---- one chain
@@ -38,8 +38,8 @@ pub chain_stays : (nodes : List Node) (new : Node) (head : Option ℕ) (place : 
 chain_stays nodes new head place here = here
 chain_stays nodes new head place (later {head = from} {node = node} there rest) = later (get_pushed nodes new node from there) (chain_stays nodes new node.previous place rest)
 
-pub node_stays : (rs : List Record) (nodes : List Node) (new : Node) (head : Option ℕ) (c child : ℕ) → HasNode rs nodes head c child → HasNode rs (nodes ++ new ∷ []) head c child
-node_stays rs nodes new head c child has = record {
+pub node_stays : (done : DoneView) (nodes : List Node) (new : Node) (head : Option ℕ) (c child : ℕ) → HasNode done nodes head c child → HasNode done (nodes ++ new ∷ []) head c child
+node_stays done nodes new head c child has = record {
   place = has.place;
   node = has.node;
   on = chain_stays nodes new head has.place has.on;
@@ -102,9 +102,9 @@ gathers nodes head rest begin limit falls are inside stopped = record {
 
 -- ---- the chains of all tasks
 
-pub chains_start : (rs : List Record) (tasks : List ℕ) (nodes : List Node) (heads : List (Option ℕ)) → nodes ≡ [] → heads ≡ replicate (length tasks) None → AreChains rs tasks nodes heads
-chains_start rs tasks nodes heads empty is = record {
-  all = ap length is ∙ length-replicate (length tasks) None;
+pub chains_start : (done : DoneView) (nodes : List Node) (heads : List (Option ℕ)) → nodes ≡ [] → heads ≡ replicate (length (tasks_of done)) None → AreChains done nodes heads
+chains_start done nodes heads empty is = record {
+  all = ap length is ∙ length-replicate (length (tasks_of done)) None;
   known = λ index head stands. absurd (nothing index head stands);
   falling = λ place next node there falls. absurd (let inside = slice_get_within nodes place node there in let none = ap length empty in omega (arith, inside, none));
   each = λ index task c child head is_task stands less creates. absurd (let none = ap length empty in omega (arith, less, none));
@@ -116,8 +116,8 @@ chains_start rs tasks nodes heads empty is = record {
     nothing : (index head : ℕ) → slice_get heads index ≡ Some (Some head) → ⊥
     nothing index head stands =
         let inside = slice_get_within heads index (Some head) stands in
-        let count = ap length is ∙ length-replicate (length tasks) None in
-        let there : slice_get heads index ≡ Some None = ap (λ h. slice_get h index) is ∙ slice_get-get_or (replicate (length tasks) None) index None (rw (length-replicate (length tasks) empty_slot) (omega (arith, inside, count))) ∙ ap Some (get_or-replicate (length tasks) index None None (omega (arith, inside, count))) in
+        let count = ap length is ∙ length-replicate (length (tasks_of done)) None in
+        let there : slice_get heads index ≡ Some None = ap (λ h. slice_get h index) is ∙ slice_get-get_or (replicate (length (tasks_of done)) None) index None (rw (length-replicate (length (tasks_of done)) empty_slot) (omega (arith, inside, count))) ∙ ap Some (get_or-replicate (length (tasks_of done)) index None None (omega (arith, inside, count))) in
         none-some head (same_Some None (Some head) (sym there ∙ stands))
 
 -- each link of the pushed list is to an earlier node
@@ -128,21 +128,21 @@ falls_on nodes new falls known place next node there is = elim (pushed_cases nod
 ]
 
 -- a node that no chain begins with
-pub chains_other : (rs : List Record) (tasks : List ℕ) (nodes : List Node) (new : Node) (heads : List (Option ℕ)) → AreChains rs tasks nodes heads → new.previous ≡ None → at creation rs (length nodes) ≡ None → AreChains rs tasks (nodes ++ new ∷ []) heads
-chains_other rs tasks nodes new heads are alone none = record {
+pub chains_other : (done : DoneView) (nodes : List Node) (new : Node) (heads : List (Option ℕ)) → AreChains done nodes heads → new.previous ≡ None → at creation (records_of done) (length nodes) ≡ None → AreChains done (nodes ++ new ∷ []) heads
+chains_other done nodes new heads are alone none = record {
   all = are.all;
   known = λ index head stands. let less = are.known index head stands in let count = length_push nodes new in omega (arith, less, count);
   falling = falls_on nodes new are.falling (λ next is. absurd (none-some next (sym alone ∙ is)));
   each = λ index task c child head is_task stands less creates. elim (cases_eq c (length nodes)) [
-    | inl last ↦ absurd (none-some (task, child) (sym none ∙ ap (at creation rs) (sym last) ∙ creates))
-    | inr apart ↦ let count = length_push nodes new in node_stays rs nodes new head c child (are.each index task c child head is_task stands (omega (arith, less, count, apart)) creates)
+    | inl last ↦ absurd (none-some (task, child) (sym none ∙ ap (at creation (records_of done)) (sym last) ∙ creates))
+    | inr apart ↦ let count = length_push nodes new in node_stays done nodes new head c child (are.each index task c child head is_task stands (omega (arith, less, count, apart)) creates)
   ];
 }
 
 -- a node that the chain of one task begins with now: each of its children keeps its node, or the new one
 -- stands for it
-pub chains_more : (rs : List Record) (tasks : List ℕ) (nodes : List Node) (new : Node) (heads : List (Option ℕ)) (own task : ℕ) → AreApart tasks → AreChains rs tasks nodes heads → slice_get tasks own ≡ Some task → ((next : ℕ) → new.previous ≡ Some next → next < length nodes) → ((other child : ℕ) → at creation rs (length nodes) ≡ Some (other, child) → (other ≡ task) × IsFamilyLimit rs child new.limit) → ((c child : ℕ) (head : Option ℕ) → slice_get heads own ≡ Some head → c < length nodes → HasNode rs nodes head c child → HasNode rs nodes new.previous c child ⊎ IsFamilyLimit rs child new.limit) → AreChains rs tasks (nodes ++ new ∷ []) (set heads own (Some (length nodes)))
-chains_more rs tasks nodes new heads own task apart are is_own known makes kept = record {
+pub chains_more : (done : DoneView) (nodes : List Node) (new : Node) (heads : List (Option ℕ)) (own task : ℕ) → AreApart (tasks_of done) → AreChains done nodes heads → slice_get (tasks_of done) own ≡ Some task → ((next : ℕ) → new.previous ≡ Some next → next < length nodes) → ((other child : ℕ) → at creation (records_of done) (length nodes) ≡ Some (other, child) → (other ≡ task) × IsFamilyLimit done child new.limit) → ((c child : ℕ) (head : Option ℕ) → slice_get heads own ≡ Some head → c < length nodes → HasNode done nodes head c child → HasNode done nodes new.previous c child ⊎ IsFamilyLimit done child new.limit) → AreChains done (nodes ++ new ∷ []) (set heads own (Some (length nodes)))
+chains_more done nodes new heads own task apart are is_own known makes kept = record {
   all = length-set heads own top ∙ are.all;
   known = λ index head stands. elim (cases_eq index own) [
     | inl same ↦ let last = same_Some (length nodes) head (same_Some top (Some head) (sym (get_set_same heads own top within) ∙ ap (slice_get (set heads own top)) (sym same) ∙ stands)) in let count = length_push nodes new in omega (arith, last, count)
@@ -152,13 +152,13 @@ chains_more rs tasks nodes new heads own task apart are is_own known makes kept 
   each = λ index other c child head is_task stands less creates. elim (cases_eq index own) [
     | inl same ↦
         let is_head : top ≡ head = same_Some top head (sym (get_set_same heads own top within) ∙ ap (slice_get (set heads own top)) (sym same) ∙ stands) in
-        let P : Option ℕ → Type 0 = λ h. HasNode rs (nodes ++ new ∷ []) h c child in
+        let P : Option ℕ → Type 0 = λ h. HasNode done (nodes ++ new ∷ []) h c child in
         subst P is_head (mine c child (task_is index other same is_task) less creates)
     | inr different ↦ elim (cases_eq c (length nodes)) [
       | inl last ↦
-          let makes_it = makes other child (ap (at creation rs) (sym last) ∙ creates) in
+          let makes_it = makes other child (ap (at creation (records_of done)) (sym last) ∙ creates) in
           absurd (different (apart index own task (is_task ∙ ap Some makes_it.0) is_own))
-      | inr earlier ↦ let count = length_push nodes new in node_stays rs nodes new head c child (are.each index other c child head is_task (sym (get_set_other heads own index top different) ∙ stands) (omega (arith, less, count, earlier)) creates)
+      | inr earlier ↦ let count = length_push nodes new in node_stays done nodes new head c child (are.each index other c child head is_task (sym (get_set_other heads own index top different) ∙ stands) (omega (arith, less, count, earlier)) creates)
     ]
   ];
 }
@@ -167,18 +167,18 @@ chains_more rs tasks nodes new heads own task apart are is_own known makes kept 
     top = Some (length nodes)
 
     within : own < length heads
-    within = let inside = slice_get_within tasks own task is_own in let count = are.all in omega (arith, inside, count)
+    within = let inside = slice_get_within (tasks_of done) own task is_own in let count = are.all in omega (arith, inside, count)
 
-    task_is : (index other : ℕ) → index ≡ own → slice_get tasks index ≡ Some other → other ≡ task
-    task_is index other same is_task = same_Some other task (sym is_task ∙ ap (slice_get tasks) same ∙ is_own)
+    task_is : (index other : ℕ) → index ≡ own → slice_get (tasks_of done) index ≡ Some other → other ≡ task
+    task_is index other same is_task = same_Some other task (sym is_task ∙ ap (slice_get (tasks_of done)) same ∙ is_own)
 
     new_there : slice_get (nodes ++ new ∷ []) (length nodes) ≡ Some new
     new_there = get_last nodes new (length nodes) refl
 
-    by_new : (c child : ℕ) → c ≤ length nodes → IsFamilyLimit rs child new.limit → HasNode rs (nodes ++ new ∷ []) (Some (length nodes)) c child
+    by_new : (c child : ℕ) → c ≤ length nodes → IsFamilyLimit done child new.limit → HasNode done (nodes ++ new ∷ []) (Some (length nodes)) c child
     by_new c child low limit = record { place = length nodes; node = new; on = here; there = new_there; after = low; limit = limit }
 
-    linked : (c child : ℕ) → HasNode rs nodes new.previous c child → HasNode rs (nodes ++ new ∷ []) (Some (length nodes)) c child
+    linked : (c child : ℕ) → HasNode done nodes new.previous c child → HasNode done (nodes ++ new ∷ []) (Some (length nodes)) c child
     linked c child has = record {
       place = has.place;
       node = has.node;
@@ -188,9 +188,9 @@ chains_more rs tasks nodes new heads own task apart are is_own known makes kept 
       limit = has.limit;
     }
 
-    mine : {other : ℕ} (c child : ℕ) → other ≡ task → c < length (nodes ++ new ∷ []) → at creation rs c ≡ Some (other, child) → HasNode rs (nodes ++ new ∷ []) (Some (length nodes)) c child
+    mine : {other : ℕ} (c child : ℕ) → other ≡ task → c < length (nodes ++ new ∷ []) → at creation (records_of done) c ≡ Some (other, child) → HasNode done (nodes ++ new ∷ []) (Some (length nodes)) c child
     mine {other} c child is_it less creates = elim (cases_eq c (length nodes)) [
-      | inl last ↦ by_new c child (omega (arith, last)) (makes other child (ap (at creation rs) (sym last) ∙ creates)).1
+      | inl last ↦ by_new c child (omega (arith, last)) (makes other child (ap (at creation (records_of done)) (sym last) ∙ creates)).1
       | inr earlier ↦
           let count = length_push nodes new in
           let below : c < length nodes = omega (arith, less, count, earlier) in

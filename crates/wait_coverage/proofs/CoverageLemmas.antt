@@ -134,17 +134,17 @@ end_subject : (rs : List Record) (i task begin : ℕ) (kind : SyncKind) → IsRe
 end_subject rs i task begin kind there = let ends = ends_at rs i task begin kind there in at_through region subject (task, kind, ends.endpoint) task rs i (region_subject task kind ends.endpoint) ends.says
 
 -- the records at which a wait begins and ends have numbers
-pub wait_begin : (coverage : CoverageView) (index begin end : ℕ) → IsCoverage coverage → IsWaitAt coverage.records coverage.tree.family.tasks end (ForTaskwait index begin) → begin < length coverage.numbers
+pub wait_begin : (coverage : CoverageView) (index begin end : ℕ) → IsCoverage coverage → IsWaitAt coverage.teams.run.records coverage.teams.run.family.tasks end (ForTaskwait index begin) → begin < length coverage.numbers
 wait_begin coverage index begin end is (waits {parent = parent} is_parent there) =
-    let ends = ends_at coverage.records end parent begin Taskwait there in
+    let ends = ends_at coverage.teams.run.records end parent begin Taskwait there in
     let low = ends.below in
     let inside = ends.inside in
     let all = is.numbers.all in
     omega (arith, low, inside, all)
 
-pub group_numbers : (coverage : CoverageView) (index begin last end : ℕ) → IsCoverage coverage → IsWaitAt coverage.records coverage.tree.family.tasks end (ForTaskgroup index begin last) → (begin < length coverage.numbers) × (last < length coverage.numbers)
+pub group_numbers : (coverage : CoverageView) (index begin last end : ℕ) → IsCoverage coverage → IsWaitAt coverage.teams.run.records coverage.teams.run.family.tasks end (ForTaskgroup index begin last) → (begin < length coverage.numbers) × (last < length coverage.numbers)
 group_numbers coverage index begin last end is (groups {parent = parent} is_parent there) =
-    let ends = ends_at coverage.records end parent begin Taskgroup there in
+    let ends = ends_at coverage.teams.run.records end parent begin Taskgroup there in
     let low = ends.below in
     let inside = ends.inside in
     let all = is.numbers.all in
@@ -156,24 +156,24 @@ span_is rs family index id span is here stands =
     let known = root_known rs family id index is here in
     record { stands = stands known.0 known.1 known.2; from_there = refl; to_there = refl }
 
-pub wait_spans : (coverage : CoverageView) (index begin to end : ℕ) (list : List Span) → IsCoverage coverage → slice_get coverage.numbers begin ≡ Some to → ((id : ℕ) → slice_get coverage.tree.family.tasks index ≡ Some id → IsOnly coverage.records id 0 to list) → IsWaitAt coverage.records coverage.tree.family.tasks end (ForTaskwait index begin) → AreSpans coverage.records end Children list
+pub wait_spans : (coverage : CoverageView) (index begin to end : ℕ) (list : List Span) → IsCoverage coverage → slice_get coverage.numbers begin ≡ Some to → ((id : ℕ) → slice_get coverage.teams.run.family.tasks index ≡ Some id → IsOnly coverage.teams.run.records id 0 to list) → IsWaitAt coverage.teams.run.records coverage.teams.run.family.tasks end (ForTaskwait index begin) → AreSpans coverage.teams.run.records end Children list
 wait_spans coverage index begin to end list is is_to each (waits {parent = parent} is_parent there) =
     let one = each parent is_parent in
-    let P : List Span → Type 0 = AreSpans coverage.records end Children in
+    let P : List Span → Type 0 = AreSpans coverage.teams.run.records end Children in
     subst P (sym one.only) (spans.waited there (record {
       stands = one.is_span.stands;
       from_there = one.is_span.from_there;
-      to_there = one.is_span.to_there ∙ is.numbers.each begin to is_to parent (begin_subject coverage.records end parent begin Taskwait there);
+      to_there = one.is_span.to_there ∙ is.numbers.each begin to is_to parent (begin_subject coverage.teams.run.records end parent begin Taskwait there);
     }))
 
-pub group_spans : (coverage : CoverageView) (index begin last from to end : ℕ) (list : List Span) → IsCoverage coverage → slice_get coverage.numbers begin ≡ Some from → slice_get coverage.numbers last ≡ Some to → ((id : ℕ) → slice_get coverage.tree.family.tasks index ≡ Some id → IsOnly coverage.records id from to list) → IsWaitAt coverage.records coverage.tree.family.tasks end (ForTaskgroup index begin last) → AreSpans coverage.records end Descendants list
+pub group_spans : (coverage : CoverageView) (index begin last from to end : ℕ) (list : List Span) → IsCoverage coverage → slice_get coverage.numbers begin ≡ Some from → slice_get coverage.numbers last ≡ Some to → ((id : ℕ) → slice_get coverage.teams.run.family.tasks index ≡ Some id → IsOnly coverage.teams.run.records id from to list) → IsWaitAt coverage.teams.run.records coverage.teams.run.family.tasks end (ForTaskgroup index begin last) → AreSpans coverage.teams.run.records end Descendants list
 group_spans coverage index begin last from to end list is is_from is_to each (groups {parent = parent} is_parent there) =
     let one = each parent is_parent in
-    let P : List Span → Type 0 = AreSpans coverage.records end Descendants in
+    let P : List Span → Type 0 = AreSpans coverage.teams.run.records end Descendants in
     subst P (sym one.only) (spans.grouped there (record {
       stands = one.is_span.stands;
-      from_there = one.is_span.from_there ∙ is.numbers.each begin from is_from parent (begin_subject coverage.records end parent begin Taskgroup there);
-      to_there = one.is_span.to_there ∙ is.numbers.each end to is_to parent (end_subject coverage.records end parent begin Taskgroup there);
+      from_there = one.is_span.from_there ∙ is.numbers.each begin from is_from parent (begin_subject coverage.teams.run.records end parent begin Taskgroup there);
+      to_there = one.is_span.to_there ∙ is.numbers.each end to is_to parent (end_subject coverage.teams.run.records end parent begin Taskgroup there);
     }))
 
 pub barrier_spans : (rs : List Record) (tasks : List ℕ) (index number end : ℕ) (list : List Span) → ((id : ℕ) → slice_get tasks index ≡ Some id → AreMemberSpans rs id number list) → IsWaitAt rs tasks end (ForBarrier index number) → AreSpans rs end Descendants list
@@ -194,10 +194,10 @@ pub record IsStart (rs : List Record) (tasks : List ℕ) (numbers : List ℕ) (i
   pub inside : start < length numbers
   pub begins : (id : ℕ) → slice_get tasks index ≡ Some id → IsBarrierBegin rs id number start
 
-has_start : (coverage : CoverageView) (index number start : ℕ) → IsCoverage coverage → slice_get (row_at coverage.teams.begins index) number ≡ Some start → IsStart coverage.records coverage.tree.family.tasks coverage.numbers index number start
+has_start : (coverage : CoverageView) (index number start : ℕ) → IsCoverage coverage → slice_get (row_at coverage.teams.begins index) number ≡ Some start → IsStart coverage.teams.run.records coverage.teams.run.family.tasks coverage.numbers index number start
 has_start coverage index number start is there =
-    let rs = coverage.records in
-    let tasks = coverage.tree.family.tasks in
+    let rs = coverage.teams.run.records in
+    let tasks = coverage.teams.run.family.tasks in
     let row = row_there coverage.teams.begins index number start there in
     let below = slice_get_within coverage.teams.begins index row.0 row.1 in
     let few = is.teams.begins.within in
@@ -207,18 +207,18 @@ has_start coverage index number start is there =
     let numbers = is.numbers.all in
     record { within = within; inside = omega (arith, inside, numbers); begins = starts }
   where
-    starts : (id : ℕ) → slice_get coverage.tree.family.tasks index ≡ Some id → IsBarrierBegin coverage.records id number start
+    starts : (id : ℕ) → slice_get coverage.teams.run.family.tasks index ≡ Some id → IsBarrierBegin coverage.teams.run.records id number start
     starts id is_id = ap (λ l. slice_get l number) (sym (is.teams.begins.each index id is_id)) ∙ there
 
 -- the same of what is read in the table
-pub read_start : (coverage : CoverageView) (index number : ℕ) (list : List ℕ) → IsCoverage coverage → HasBegun coverage.teams.begins number index → list ≡ row_at coverage.teams.begins index → IsStart coverage.records coverage.tree.family.tasks coverage.numbers index number (get_or list number 0)
+pub read_start : (coverage : CoverageView) (index number : ℕ) (list : List ℕ) → IsCoverage coverage → HasBegun coverage.teams.begins number index → list ≡ row_at coverage.teams.begins index → IsStart coverage.teams.run.records coverage.teams.run.family.tasks coverage.numbers index number (get_or list number 0)
 read_start coverage index number list is begun read =
     let long = ap length read in
     has_start coverage index number (get_or list number 0) is (ap (λ l. slice_get l number) (sym read) ∙ slice_get-get_or list number 0 (omega (arith, begun, long)))
 
-pub member_span_is : (coverage : CoverageView) (index number start to id : ℕ) (span : Span) → IsCoverage coverage → IsStart coverage.records coverage.tree.family.tasks coverage.numbers index number start → slice_get coverage.numbers start ≡ Some to → slice_get coverage.tree.family.tasks index ≡ Some id → IsSpan coverage.records id 0 to span → IsMemberSpan coverage.records id number span
+pub member_span_is : (coverage : CoverageView) (index number start to id : ℕ) (span : Span) → IsCoverage coverage → IsStart coverage.teams.run.records coverage.teams.run.family.tasks coverage.numbers index number start → slice_get coverage.numbers start ≡ Some to → slice_get coverage.teams.run.family.tasks index ≡ Some id → IsSpan coverage.teams.run.records id 0 to span → IsMemberSpan coverage.teams.run.records id number span
 member_span_is coverage index number start to id span is starts is_to is_id is_span =
-    let rs = coverage.records in
+    let rs = coverage.teams.run.records in
     let begins = starts.begins id is_id in (
       start,
       begins,
@@ -313,10 +313,10 @@ held_more entries cover list n last before here held k span below there = elim (
   | inr apart ↦ before k span (omega (arith, below, apart)) there
 ]
 
-pub held_complete : (coverage : CoverageView) (entries : List Entry) (end seen : ℕ) (cover : Cover) (list : List Span) → IsCoverage coverage → IsFreeUpTo coverage.records 13 → IsLedgerOf coverage.records entries → AreSpans coverage.records end cover list → seen_at coverage.records end ≡ seen → ((span : Span) → Contains list span → IsSpanHeld (take seen entries) span cover) → IsCoverComplete coverage.records end
+pub held_complete : (coverage : CoverageView) (entries : List Entry) (end seen : ℕ) (cover : Cover) (list : List Span) → IsCoverage coverage → IsFreeUpTo coverage.teams.run.records 13 → IsLedgerOf coverage.teams.run.records entries → AreSpans coverage.teams.run.records end cover list → seen_at coverage.teams.run.records end ≡ seen → ((span : Span) → Contains list span → IsSpanHeld (take seen entries) span cover) → IsCoverComplete coverage.teams.run.records end
 held_complete coverage entries end seen cover list is free ledger are names held =
     let P : ℕ → Type 0 = λ n. AreHeldBelow n in
-    (held_is_complete coverage.records entries end cover list is.trace free ledger are).1 (subst P (sym names) held)
+    (held_is_complete coverage.teams.run.records entries end cover list is.trace free ledger are).1 (subst P (sym names) held)
   where
     AreHeldBelow : ℕ → Type 0
     AreHeldBelow n = (span : Span) → Contains list span → IsSpanHeld (take n entries) span cover
@@ -325,8 +325,8 @@ held_complete coverage entries end seen cover list is free ledger are names held
 pub record HasWait (coverage : CoverageView) (number : ℕ) (wait : Wait) : Type 0 where
   pub end : ℕ
   pub here : slice_get coverage.ends number ≡ Some end
-  pub is_wait : IsWaitAt coverage.records coverage.tree.family.tasks end wait
-  pub inside : end < length coverage.records
+  pub is_wait : IsWaitAt coverage.teams.run.records coverage.teams.run.family.tasks end wait
+  pub inside : end < length coverage.teams.run.records
 
 pub has_wait : (coverage : CoverageView) (number : ℕ) (wait : Wait) → IsCoverage coverage → number < length coverage.ends → wait ≡ get_or coverage.waits number wait → HasWait coverage number wait
 has_wait coverage number wait is below read =
@@ -337,14 +337,14 @@ has_wait coverage number wait is below read =
     record { end = end; here = here; is_wait = is_wait; inside = (is.ends.only number end here).0 }
 
 -- the end is a record
-pub end_within : (coverage : CoverageView) (number end : ℕ) → IsCoverage coverage → number < length coverage.ends → end ≡ get_or coverage.ends number end → end < length coverage.records
+pub end_within : (coverage : CoverageView) (number end : ℕ) → IsCoverage coverage → number < length coverage.ends → end ≡ get_or coverage.ends number end → end < length coverage.teams.run.records
 end_within coverage number end is below read = (is.ends.only number end (slice_get-get_or coverage.ends number end below ∙ ap Some (sym read))).0
 
 -- the same of a given end
-pub wait_at_end : (coverage : CoverageView) (number end : ℕ) (wait : Wait) → IsCoverage coverage → wait ≡ get_or coverage.waits number wait → slice_get coverage.ends number ≡ Some end → IsWaitAt coverage.records coverage.tree.family.tasks end wait
+pub wait_at_end : (coverage : CoverageView) (number end : ℕ) (wait : Wait) → IsCoverage coverage → wait ≡ get_or coverage.waits number wait → slice_get coverage.ends number ≡ Some end → IsWaitAt coverage.teams.run.records coverage.teams.run.family.tasks end wait
 wait_at_end coverage number end wait is read here =
     let has = has_wait coverage number wait is (slice_get_within coverage.ends number end here) read in
-    let P : ℕ → Type 0 = λ e. IsWaitAt coverage.records coverage.tree.family.tasks e wait in
+    let P : ℕ → Type 0 = λ e. IsWaitAt coverage.teams.run.records coverage.teams.run.family.tasks e wait in
     subst P (same_Some has.end end (sym has.here ∙ here)) has.is_wait
 
 pub coverage_of : (inside coverage : CoverageView) → inside ≡ coverage → IsCoverage inside → IsCoverage coverage

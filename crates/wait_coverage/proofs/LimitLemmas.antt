@@ -26,9 +26,8 @@ use Rattle.task_tree.specs.Numbering.{AreApart}
 use Rattle.task_tree.specs.Subjects.{subject}
 use Rattle.task_tree.proofs.NamedLemmas.{region_subject}
 use Rattle.task_tree.proofs.LinkLemmas.{get_set_same, get_set_other}
-use Rattle.trace_ledger.specs.Entries.{IsDone}
-use Rattle.wait_coverage.specs.Done.{IsFamilyLimit}
-use Rattle.wait_coverage.specs.Limits.{IsChildLimit, IsFamiliesLimit, IsLimitOfBegin, IsOnChain, Gathers, HasNode, AreLatest, AreLatestFamilies, AreChains, IsMark, AreNoted}
+use Rattle.wait_coverage.specs.Done.{DoneView, records_of, tasks_of, IsEarly}
+use Rattle.wait_coverage.specs.Limits.{IsFamilyLimit, IsChildLimit, IsFamiliesLimit, IsLimitOfBegin, IsOnChain, Gathers, HasNode, AreLatest, AreLatestFamilies, AreChains, IsMark, AreNoted}
 use Rattle.wait_coverage.specs.declared.limits.Node.{Node}
 use Rattle.wait_coverage.specs.declared.limits.Progress.{Progress}
 use Rattle.teams.proofs.BarrierLemmas.{begun_region, begun_other}
@@ -111,38 +110,38 @@ covers_cases rs i task (synchronised {own = own} {begin = begin} {member = membe
 
 -- ---- one record more
 
-pub latest_start : (rs : List Record) (tasks latest : List ℕ) → latest ≡ replicate (length tasks) 0 → AreLatest rs 0 tasks latest
-latest_start rs tasks latest is = record {
-  all = ap length is ∙ length-replicate (length tasks) 0;
+pub latest_start : (done : DoneView) (latest : List ℕ) → latest ≡ replicate (length (tasks_of done)) 0 → AreLatest done 0 latest
+latest_start done latest is = record {
+  all = ap length is ∙ length-replicate (length (tasks_of done)) 0;
   each = λ index task limit is_task stands m c child small low below. absurd (omega arith);
 }
 
-latest_other : (rs : List Record) (n : ℕ) (tasks latest : List ℕ) → AreLatest rs n tasks latest → at creation rs n ≡ None → AreLatest rs (n + 1) tasks latest
-latest_other rs n tasks latest are none = record {
+latest_other : (done : DoneView) (n : ℕ) (latest : List ℕ) → AreLatest done n latest → at creation (records_of done) n ≡ None → AreLatest done (n + 1) latest
+latest_other done n latest are none = record {
   all = are.all;
   each = λ index task limit is_task stands m c child small low below creates. elim (cases_eq c n) [
-    | inl same ↦ absurd (none-some (task, child) (sym none ∙ ap (at creation rs) (sym same) ∙ creates))
+    | inl same ↦ absurd (none-some (task, child) (sym none ∙ ap (at creation (records_of done)) (sym same) ∙ creates))
     | inr apart ↦ are.each index task limit is_task stands m c child small low (omega arith) creates
   ];
 }
 
-latest_more : (rs : List Record) (n own parent child value done d : ℕ) (tasks latest : List ℕ) → AreApart tasks → AreLatest rs n tasks latest → slice_get tasks own ≡ Some parent → at creation rs n ≡ Some (parent, child) → value ≡ max (get_or latest own d) done → ((m : ℕ) → m < 2 ^ 32 → done ≤ m → IsDone rs m child) → AreLatest rs (n + 1) tasks (set latest own value)
-latest_more rs n own parent child value done d tasks latest apart are is_own creates is_value finished = record {
+latest_more : (done : DoneView) (n own parent child value done d : ℕ) (latest : List ℕ) → AreApart (tasks_of done) → AreLatest done n latest → slice_get (tasks_of done) own ≡ Some parent → at creation (records_of done) n ≡ Some (parent, child) → value ≡ max (get_or latest own d) done → ((m : ℕ) → m < 2 ^ 32 → done ≤ m → IsEarly done m child) → AreLatest done (n + 1) (set latest own value)
+latest_more done n own parent child value done d latest apart are is_own creates is_value finished = record {
   all = length-set latest own value ∙ are.all;
   each = λ index other limit is_other stands m c born small low below creates_there. elim (cases_eq index own) [
     | inl same ↦
-        let is_parent : parent ≡ other = same_Some parent other (sym is_own ∙ ap (slice_get tasks) (sym same) ∙ is_other) in
+        let is_parent : parent ≡ other = same_Some parent other (sym is_own ∙ ap (slice_get (tasks_of done)) (sym same) ∙ is_other) in
         let is_limit : value ≡ limit = same_Some value limit (sym (get_set_same latest own value within) ∙ ap (slice_get (set latest own value)) (sym same) ∙ stands) in
         elim (cases_eq c n) [
           | inl here ↦
-              let pair = same_Some (parent, child) (other, born) (sym creates ∙ ap (at creation rs) (sym here) ∙ creates_there) in
-              let P : ℕ → Type 0 = IsDone rs m in
+              let pair = same_Some (parent, child) (other, born) (sym creates ∙ ap (at creation (records_of done)) (sym here) ∙ creates_there) in
+              let P : ℕ → Type 0 = IsEarly done m in
               subst P (ap (λ (p : ℕ × ℕ). p.1) pair) (finished m small (omega arith))
           | inr earlier ↦ are.each own parent (get_or latest own d) is_own (slice_get-get_or latest own d within) m c born small (omega arith) (omega arith) (creates_there ∙ ap (λ t. Some (t, born)) (sym is_parent))
         ]
     | inr different ↦ elim (cases_eq c n) [
       | inl here ↦
-          let pair = same_Some (parent, child) (other, born) (sym creates ∙ ap (at creation rs) (sym here) ∙ creates_there) in
+          let pair = same_Some (parent, child) (other, born) (sym creates ∙ ap (at creation (records_of done)) (sym here) ∙ creates_there) in
           absurd (different (apart index own parent (is_other ∙ ap Some (sym (ap (λ (p : ℕ × ℕ). p.0) pair))) is_own))
       | inr earlier ↦ are.each index other limit is_other (sym (get_set_other latest own index value different) ∙ stands) m c born small low (omega arith) creates_there
     ]
@@ -150,28 +149,28 @@ latest_more rs n own parent child value done d tasks latest apart are is_own cre
 }
   where
     within : own < length latest
-    within = let inside = slice_get_within tasks own parent is_own in omega (arith, inside, are.all)
+    within = let inside = slice_get_within (tasks_of done) own parent is_own in omega (arith, inside, are.all)
 
-families_other : (rs : List Record) (n : ℕ) (tasks families : List ℕ) → AreLatestFamilies rs n tasks families → at creation rs n ≡ None → AreLatestFamilies rs (n + 1) tasks families
-families_other rs n tasks families are none = record {
+families_other : (done : DoneView) (n : ℕ) (families : List ℕ) → AreLatestFamilies done n families → at creation (records_of done) n ≡ None → AreLatestFamilies done (n + 1) families
+families_other done n families are none = record {
   all = are.all;
   each = λ index task limit is_task stands c child below creates. elim (cases_eq c n) [
-    | inl same ↦ absurd (none-some (task, child) (sym none ∙ ap (at creation rs) (sym same) ∙ creates))
+    | inl same ↦ absurd (none-some (task, child) (sym none ∙ ap (at creation (records_of done)) (sym same) ∙ creates))
     | inr apart ↦ are.each index task limit is_task stands c child (omega arith) creates
   ];
 }
 
-families_more : (rs : List Record) (n own parent child value done d : ℕ) (tasks families : List ℕ) → AreApart tasks → AreLatestFamilies rs n tasks families → slice_get tasks own ≡ Some parent → at creation rs n ≡ Some (parent, child) → value ≡ max (get_or families own d) done → IsFamilyLimit rs child done → AreLatestFamilies rs (n + 1) tasks (set families own value)
-families_more rs n own parent child value done d tasks families apart are is_own creates is_value finished = record {
+families_more : (done : DoneView) (n own parent child value done d : ℕ) (families : List ℕ) → AreApart (tasks_of done) → AreLatestFamilies done n families → slice_get (tasks_of done) own ≡ Some parent → at creation (records_of done) n ≡ Some (parent, child) → value ≡ max (get_or families own d) done → IsFamilyLimit done child done → AreLatestFamilies done (n + 1) (set families own value)
+families_more done n own parent child value done d families apart are is_own creates is_value finished = record {
   all = length-set families own value ∙ are.all;
   each = λ index other limit is_other stands c born below creates_there. elim (cases_eq index own) [
     | inl same ↦
-        let is_parent : parent ≡ other = same_Some parent other (sym is_own ∙ ap (slice_get tasks) (sym same) ∙ is_other) in
+        let is_parent : parent ≡ other = same_Some parent other (sym is_own ∙ ap (slice_get (tasks_of done)) (sym same) ∙ is_other) in
         let is_limit : value ≡ limit = same_Some value limit (sym (get_set_same families own value within) ∙ ap (slice_get (set families own value)) (sym same) ∙ stands) in
         elim (cases_eq c n) [
           | inl here ↦
-              let pair = same_Some (parent, child) (other, born) (sym creates ∙ ap (at creation rs) (sym here) ∙ creates_there) in
-              let P : ℕ → Type 0 = λ t. IsFamilyLimit rs t limit in
+              let pair = same_Some (parent, child) (other, born) (sym creates ∙ ap (at creation (records_of done)) (sym here) ∙ creates_there) in
+              let P : ℕ → Type 0 = λ t. IsFamilyLimit done t limit in
               subst P (ap (λ (p : ℕ × ℕ). p.1) pair) (weaker child done limit finished (omega (arith, is_value, is_limit)))
           | inr earlier ↦
               weaker born (get_or families own d) limit
@@ -180,7 +179,7 @@ families_more rs n own parent child value done d tasks families apart are is_own
         ]
     | inr different ↦ elim (cases_eq c n) [
       | inl here ↦
-          let pair = same_Some (parent, child) (other, born) (sym creates ∙ ap (at creation rs) (sym here) ∙ creates_there) in
+          let pair = same_Some (parent, child) (other, born) (sym creates ∙ ap (at creation (records_of done)) (sym here) ∙ creates_there) in
           absurd (different (apart index own parent (is_other ∙ ap Some (sym (ap (λ (p : ℕ × ℕ). p.0) pair))) is_own))
       | inr earlier ↦ are.each index other limit is_other (sym (get_set_other families own index value different) ∙ stands) c born (omega arith) creates_there
     ]
@@ -188,13 +187,13 @@ families_more rs n own parent child value done d tasks families apart are is_own
 }
   where
     within : own < length families
-    within = let inside = slice_get_within tasks own parent is_own in omega (arith, inside, are.all)
+    within = let inside = slice_get_within (tasks_of done) own parent is_own in omega (arith, inside, are.all)
 
-    weaker : (born low high : ℕ) → IsFamilyLimit rs born low → low ≤ high → IsFamilyLimit rs born high
+    weaker : (born low high : ℕ) → IsFamilyLimit done born low → low ≤ high → IsFamilyLimit done born high
     weaker born low high limit less m t small at_most of = limit m t small (omega (arith, less, at_most)) of
 
-pub noted_push : (rs : List Record) (n : ℕ) (tasks : List ℕ) (nodes : List Node) (new : Node) (before after : Progress) → AreNoted rs n tasks nodes before → AreLatest rs (n + 1) tasks after.latest.items → AreLatestFamilies rs (n + 1) tasks after.families.items → AreChains rs tasks (nodes ++ new ∷ []) after.heads.items → IsMark rs n new.limit → AreNoted rs (n + 1) tasks (nodes ++ new ∷ []) after
-noted_push rs n tasks nodes new before after are latest families chains mark = record {
+pub noted_push : (done : DoneView) (n : ℕ) (nodes : List Node) (new : Node) (before after : Progress) → AreNoted done n nodes before → AreLatest done (n + 1) after.latest.items → AreLatestFamilies done (n + 1) after.families.items → AreChains done (nodes ++ new ∷ []) after.heads.items → IsMark done n new.limit → AreNoted done (n + 1) (nodes ++ new ∷ []) after
+noted_push done n nodes new before after are latest families chains mark = record {
   count = length_push nodes new ∙ ap (λ k. k + 1) are.count;
   latest = latest;
   families = families;
@@ -203,17 +202,17 @@ noted_push rs n tasks nodes new before after are latest families chains mark = r
     | inl old ↦ are.marks i node old
     | inr last ↦
         let is_n : i ≡ n = last.0 ∙ are.count in
-        let P : ℕ → Type 0 = λ k. IsMark rs k node.limit in
-        let Q : Node → Type 0 = λ x. IsMark rs n x.limit in
+        let P : ℕ → Type 0 = λ k. IsMark done k node.limit in
+        let Q : Node → Type 0 = λ x. IsMark done n x.limit in
         subst P (sym is_n) (subst Q last.1 mark)
   ];
 }
 
-pub noted_alone : (rs : List Record) (n : ℕ) (tasks : List ℕ) (nodes : List Node) (new : Node) (progress : Progress) → AreNoted rs n tasks nodes progress → at creation rs n ≡ None → new.previous ≡ None → IsMark rs n new.limit → AreNoted rs (n + 1) tasks (nodes ++ new ∷ []) progress
-noted_alone rs n tasks nodes new progress are none alone mark =
-    noted_push rs n tasks nodes new progress progress are (latest_other rs n tasks progress.latest.items are.latest none)
-    (families_other rs n tasks progress.families.items are.families none)
-    (chains_other rs tasks nodes new progress.heads.items are.chains alone (ap (at creation rs) are.count ∙ none)) mark
+pub noted_alone : (done : DoneView) (n : ℕ) (nodes : List Node) (new : Node) (progress : Progress) → AreNoted done n nodes progress → at creation (records_of done) n ≡ None → new.previous ≡ None → IsMark done n new.limit → AreNoted done (n + 1) (nodes ++ new ∷ []) progress
+noted_alone done n nodes new progress are none alone mark =
+    noted_push done n nodes new progress progress are (latest_other done n progress.latest.items are.latest none)
+    (families_other done n progress.families.items are.families none)
+    (chains_other (records_of done) (tasks_of done) nodes new progress.heads.items are.chains alone (ap (at creation (records_of done)) are.count ∙ none)) mark
 
 -- ---- the kinds of record
 
@@ -229,82 +228,82 @@ creates_no_region rs i parent child own kind endpoint creates says = there (slic
     there None is is' = none-some (parent, child) is
     there (Some r) is is' = of r.body is is'
 
-pub created_noted : (rs : List Record) (n own parent child done : ℕ) (tasks : List ℕ) (nodes : List Node) (new : Node) (before after : Progress) → AreApart tasks → AreNoted rs n tasks nodes before → at creation rs n ≡ Some (parent, child) → slice_get tasks own ≡ Some parent → slice_get before.heads.items own ≡ Some new.previous → IsFamilyLimit rs child new.limit → ((m : ℕ) → m < 2 ^ 32 → done ≤ m → IsDone rs m child) → after.heads.items ≡ set before.heads.items own (Some n) → ((old : ℕ) → slice_get before.latest.items own ≡ Some old → after.latest.items ≡ set before.latest.items own (max old done)) → ((old : ℕ) → slice_get before.families.items own ≡ Some old → after.families.items ≡ set before.families.items own (max old new.limit)) → AreNoted rs (n + 1) tasks (nodes ++ new ∷ []) after
-created_noted rs n own parent child done tasks nodes new before after apart are creates is_own head_there limit finished heads latest families =
-    noted_push rs n tasks nodes new before after are
-    (subst (AreLatest rs (n + 1) tasks) (sym latest_are) (latest_more rs n own parent child (max (get_or before.latest.items own 0) done) done 0 tasks before.latest.items apart are.latest is_own creates refl finished))
-    (subst (AreLatestFamilies rs (n + 1) tasks) (sym families_are) (families_more rs n own parent child (max (get_or before.families.items own 0) new.limit) new.limit 0 tasks before.families.items apart are.families is_own creates refl limit))
-    (subst (AreChains rs tasks (nodes ++ new ∷ [])) (sym heads_are) (chains_more rs tasks nodes new before.heads.items own parent apart are.chains is_own known makes kept))
+pub created_noted : (done : DoneView) (n own parent child done : ℕ) (nodes : List Node) (new : Node) (before after : Progress) → AreApart (tasks_of done) → AreNoted done n nodes before → at creation (records_of done) n ≡ Some (parent, child) → slice_get (tasks_of done) own ≡ Some parent → slice_get before.heads.items own ≡ Some new.previous → IsFamilyLimit done child new.limit → ((m : ℕ) → m < 2 ^ 32 → done ≤ m → IsEarly done m child) → after.heads.items ≡ set before.heads.items own (Some n) → ((old : ℕ) → slice_get before.latest.items own ≡ Some old → after.latest.items ≡ set before.latest.items own (max old done)) → ((old : ℕ) → slice_get before.families.items own ≡ Some old → after.families.items ≡ set before.families.items own (max old new.limit)) → AreNoted done (n + 1) (nodes ++ new ∷ []) after
+created_noted done n own parent child done nodes new before after apart are creates is_own head_there limit finished heads latest families =
+    noted_push done n nodes new before after are
+    (subst (AreLatest done (n + 1)) (sym latest_are) (latest_more done n own parent child (max (get_or before.latest.items own 0) done) done 0 before.latest.items apart are.latest is_own creates refl finished))
+    (subst (AreLatestFamilies done (n + 1)) (sym families_are) (families_more done n own parent child (max (get_or before.families.items own 0) new.limit) new.limit 0 before.families.items apart are.families is_own creates refl limit))
+    (subst (AreChains done (nodes ++ new ∷ [])) (sym heads_are) (chains_more (records_of done) (tasks_of done) nodes new before.heads.items own parent apart are.chains is_own known makes kept))
     (record {
-      begins = λ task says. absurd (creates_no_region rs n parent child task Taskwait Begin creates says);
-      meets = λ task begun. absurd (let known = begun_region rs n task begun in creates_no_region rs n parent child task known.0 known.1 creates known.2);
+      begins = λ task says. absurd (creates_no_region (records_of done) n parent child task Taskwait Begin creates says);
+      meets = λ task begun. absurd (let known = begun_region (records_of done) n task begun in creates_no_region (records_of done) n parent child task known.0 known.1 creates known.2);
       ends = record {
         waits = λ p b there. absurd (no_region p b Taskwait there);
         groups = λ p b c t there from below made_it. absurd (no_region p b Taskgroup there);
       };
     })
   where
-    no_region : (p b : ℕ) (kind : SyncKind) → IsRegion rs n p kind b → ⊥
-    no_region p b kind there = let ends = ends_at rs n p b kind there in creates_no_region rs n parent child p kind ends.endpoint creates ends.says
+    no_region : (p b : ℕ) (kind : SyncKind) → IsRegion (records_of done) n p kind b → ⊥
+    no_region p b kind there = let ends = ends_at (records_of done) n p b kind there in creates_no_region (records_of done) n parent child p kind ends.endpoint creates ends.says
 
     heads_are : after.heads.items ≡ set before.heads.items own (Some (length nodes))
     heads_are = heads ∙ ap (λ k. set before.heads.items own (Some k)) (sym are.count)
 
     latest_are : after.latest.items ≡ set before.latest.items own (max (get_or before.latest.items own 0) done)
-    latest_are = latest (get_or before.latest.items own 0) (slice_get-get_or before.latest.items own 0 (let inside = slice_get_within tasks own parent is_own in let count = are.latest.all in omega (arith, inside, count)))
+    latest_are = latest (get_or before.latest.items own 0) (slice_get-get_or before.latest.items own 0 (let inside = slice_get_within (tasks_of done) own parent is_own in let count = are.latest.all in omega (arith, inside, count)))
 
     families_are : after.families.items ≡ set before.families.items own (max (get_or before.families.items own 0) new.limit)
-    families_are = families (get_or before.families.items own 0) (slice_get-get_or before.families.items own 0 (let inside = slice_get_within tasks own parent is_own in let count = are.families.all in omega (arith, inside, count)))
+    families_are = families (get_or before.families.items own 0) (slice_get-get_or before.families.items own 0 (let inside = slice_get_within (tasks_of done) own parent is_own in let count = are.families.all in omega (arith, inside, count)))
 
     known : (next : ℕ) → new.previous ≡ Some next → next < length nodes
     known next is = are.chains.known own next (head_there ∙ ap Some is)
 
-    makes : (other born : ℕ) → at creation rs (length nodes) ≡ Some (other, born) → (other ≡ parent) × IsFamilyLimit rs born new.limit
+    makes : (other born : ℕ) → at creation (records_of done) (length nodes) ≡ Some (other, born) → (other ≡ parent) × IsFamilyLimit done born new.limit
     makes other born made_it =
-        let pair = same_Some (parent, child) (other, born) (sym creates ∙ ap (at creation rs) (sym are.count) ∙ made_it) in
-        let P : ℕ → Type 0 = λ t. IsFamilyLimit rs t new.limit in
+        let pair = same_Some (parent, child) (other, born) (sym creates ∙ ap (at creation (records_of done)) (sym are.count) ∙ made_it) in
+        let P : ℕ → Type 0 = λ t. IsFamilyLimit done t new.limit in
         (sym (ap (λ (x : ℕ × ℕ). x.0) pair), subst P (ap (λ (x : ℕ × ℕ). x.1) pair) limit)
 
-    kept : (c born : ℕ) (head : Option ℕ) → slice_get before.heads.items own ≡ Some head → c < length nodes → HasNode rs nodes head c born → HasNode rs nodes new.previous c born ⊎ IsFamilyLimit rs born new.limit
+    kept : (c born : ℕ) (head : Option ℕ) → slice_get before.heads.items own ≡ Some head → c < length nodes → HasNode done nodes head c born → HasNode done nodes new.previous c born ⊎ IsFamilyLimit done born new.limit
     kept c born head stands less has =
-        let P : Option ℕ → Type 0 = λ h. HasNode rs nodes h c born in
+        let P : Option ℕ → Type 0 = λ h. HasNode done nodes h c born in
         inl (subst P (same_Some head new.previous (sym stands ∙ head_there)) has)
 
-pub closed_noted : (rs : List Record) (n own parent begin : ℕ) (tasks : List ℕ) (nodes : List Node) (new : Node) (before after : Progress) → AreApart tasks → AreNoted rs n tasks nodes before → EndsRegion rs n parent Taskgroup begin → slice_get tasks own ≡ Some parent → (head : Option ℕ) → slice_get before.heads.items own ≡ Some head → Gathers nodes head begin new → after.heads.items ≡ set before.heads.items own (Some n) → after.latest.items ≡ before.latest.items → after.families.items ≡ before.families.items → AreNoted rs (n + 1) tasks (nodes ++ new ∷ []) after
-closed_noted rs n own parent begin tasks nodes new before after apart are ends is_own head head_there gathered heads latest families =
-    noted_push rs n tasks nodes new before after are
-    (subst (AreLatest rs (n + 1) tasks) (sym latest) (latest_other rs n tasks before.latest.items are.latest no_creation))
-    (subst (AreLatestFamilies rs (n + 1) tasks) (sym families) (families_other rs n tasks before.families.items are.families no_creation))
-    (subst (AreChains rs tasks (nodes ++ new ∷ [])) (sym heads_are) (chains_more rs tasks nodes new before.heads.items own parent apart are.chains is_own gathered.known makes kept))
+pub closed_noted : (done : DoneView) (n own parent begin : ℕ) (nodes : List Node) (new : Node) (before after : Progress) → AreApart (tasks_of done) → AreNoted done n nodes before → EndsRegion (records_of done) n parent Taskgroup begin → slice_get (tasks_of done) own ≡ Some parent → (head : Option ℕ) → slice_get before.heads.items own ≡ Some head → Gathers nodes head begin new → after.heads.items ≡ set before.heads.items own (Some n) → after.latest.items ≡ before.latest.items → after.families.items ≡ before.families.items → AreNoted done (n + 1) (nodes ++ new ∷ []) after
+closed_noted done n own parent begin nodes new before after apart are ends is_own head head_there gathered heads latest families =
+    noted_push done n nodes new before after are
+    (subst (AreLatest done (n + 1)) (sym latest) (latest_other done n before.latest.items are.latest no_creation))
+    (subst (AreLatestFamilies done (n + 1)) (sym families) (families_other done n before.families.items are.families no_creation))
+    (subst (AreChains done (nodes ++ new ∷ [])) (sym heads_are) (chains_more (records_of done) (tasks_of done) nodes new before.heads.items own parent apart are.chains is_own gathered.known makes kept))
     (record {
       begins = λ task says. absurd (let same = same_Some (parent, Taskgroup, End) (task, Taskwait, Begin) (sym ends.ends ∙ says) in let kinds : End ≡ Begin = ap (λ (x : ℕ × SyncKind × Endpoint). x.2) same in cc);
-      meets = λ task begun. absurd (begun_other rs n task parent Taskgroup End ends.ends refl begun);
+      meets = λ task begun. absurd (begun_other (records_of done) n task parent Taskgroup End ends.ends refl begun);
       ends = record {
-        waits = λ p b there. let same = one_region rs n parent p begin b Taskgroup Taskwait (ended ends) there in absurd (let kinds = same.kind_is in cc);
+        waits = λ p b there. let same = one_region (records_of done) n parent p begin b Taskgroup Taskwait (ended ends) there in absurd (let kinds = same.kind_is in cc);
         groups = λ p b c t there from less creates.
-            let same = one_region rs n parent p begin b Taskgroup Taskgroup (ended ends) there in
+            let same = one_region (records_of done) n parent p begin b Taskgroup Taskgroup (ended ends) there in
             let begins = same.begin_is in
             grouped_limit c t (omega (arith, begins, from)) less (creates ∙ ap (λ x. Some (x, t)) (sym same.task_is));
       };
     })
   where
-    no_creation : at creation rs n ≡ None
-    no_creation = of (at creation rs n) refl
+    no_creation : at creation (records_of done) n ≡ None
+    no_creation = of (at creation (records_of done) n) refl
       where
-        of : (o : Option (ℕ × ℕ)) → at creation rs n ≡ o → o ≡ None
+        of : (o : Option (ℕ × ℕ)) → at creation (records_of done) n ≡ o → o ≡ None
         of None e = refl
-        of (Some (p, t)) e = absurd (creates_no_region rs n p t parent Taskgroup End e ends.ends)
+        of (Some (p, t)) e = absurd (creates_no_region (records_of done) n p t parent Taskgroup End e ends.ends)
 
     heads_are : after.heads.items ≡ set before.heads.items own (Some (length nodes))
     heads_are = heads ∙ ap (λ k. set before.heads.items own (Some k)) (sym are.count)
 
-    makes : (other born : ℕ) → at creation rs (length nodes) ≡ Some (other, born) → (other ≡ parent) × IsFamilyLimit rs born new.limit
-    makes other born made_it = absurd (none-some (other, born) (sym no_creation ∙ ap (at creation rs) (sym are.count) ∙ made_it))
+    makes : (other born : ℕ) → at creation (records_of done) (length nodes) ≡ Some (other, born) → (other ≡ parent) × IsFamilyLimit done born new.limit
+    makes other born made_it = absurd (none-some (other, born) (sym no_creation ∙ ap (at creation (records_of done)) (sym are.count) ∙ made_it))
 
-    weaker : (born : ℕ) (node : Node) → IsFamilyLimit rs born node.limit → node.limit ≤ new.limit → IsFamilyLimit rs born new.limit
+    weaker : (born : ℕ) (node : Node) → IsFamilyLimit done born node.limit → node.limit ≤ new.limit → IsFamilyLimit done born new.limit
     weaker born node limit low m t small at_most of = limit m t small (omega (arith, low, at_most)) of
 
-    kept : (c born : ℕ) (first : Option ℕ) → slice_get before.heads.items own ≡ Some first → c < length nodes → HasNode rs nodes first c born → HasNode rs nodes new.previous c born ⊎ IsFamilyLimit rs born new.limit
+    kept : (c born : ℕ) (first : Option ℕ) → slice_get before.heads.items own ≡ Some first → c < length nodes → HasNode done nodes first c born → HasNode done nodes new.previous c born ⊎ IsFamilyLimit done born new.limit
     kept c born first stands less has =
         let P : Option ℕ → Type 0 = λ h. IsOnChain nodes h has.place in
         let on : IsOnChain nodes head has.place = subst P (same_Some first head (sym stands ∙ head_there)) has.on in
@@ -313,12 +312,12 @@ closed_noted rs n own parent begin tasks nodes new before after apart are ends i
           | inr earlier ↦ inl record { place = has.place; node = has.node; on = gathered.rest has.place on earlier; there = has.there; after = has.after; limit = has.limit }
         ]
 
-    grouped_limit : (c born : ℕ) → begin ≤ c → c < n → at creation rs c ≡ Some (parent, born) → IsFamilyLimit rs born new.limit
+    grouped_limit : (c born : ℕ) → begin ≤ c → c < n → at creation (records_of done) c ≡ Some (parent, born) → IsFamilyLimit done born new.limit
     grouped_limit c born from less creates =
         let count = are.count in
         let has = are.chains.each own parent c born head is_own head_there (omega (arith, less, count)) creates in
-        let begins = own_begin rs n parent begin Taskgroup ends in
-        let apart_from : c ≢ begin = λ same. creates_no_region rs c parent born parent begins.kind Begin creates (ap (at region rs) same ∙ begins.begins) in
+        let begins = own_begin (records_of done) n parent begin Taskgroup ends in
+        let apart_from : c ≢ begin = λ same. creates_no_region (records_of done) c parent born parent begins.kind Begin creates (ap (at region (records_of done)) same ∙ begins.begins) in
         let after = has.after in
         let later : begin < has.place = elim (cases_eq c begin) [ inl same ↦ absurd (apart_from same) | inr other ↦ omega (arith, from, after, other) ] in
         weaker born has.node has.limit (gathered.within has.place has.node has.on later has.there)
@@ -355,54 +354,54 @@ same_says rs i task other kind another e f here there =
     (ap (λ (p : ℕ × SyncKind × Endpoint). p.0) same, ap (λ (p : ℕ × SyncKind × Endpoint). p.1) same, ap (λ (p : ℕ × SyncKind × Endpoint). p.2) same)
 
 -- the end of a taskwait
-pub ended_noted : (rs : List Record) (n task : ℕ) (tasks : List ℕ) (nodes : List Node) (new : Node) (progress : Progress) → AreNoted rs n tasks nodes progress → at region rs n ≡ Some (task, Taskwait, End) → new.previous ≡ None → IsLimitOfBegin rs nodes n new.limit → AreNoted rs (n + 1) tasks (nodes ++ new ∷ []) progress
-ended_noted rs n task tasks nodes new progress are says alone limit =
-    noted_alone rs n tasks nodes new progress are (no_creation rs n task Taskwait End says) alone
+pub ended_noted : (done : DoneView) (n task : ℕ) (nodes : List Node) (new : Node) (progress : Progress) → AreNoted done n nodes progress → at region (records_of done) n ≡ Some (task, Taskwait, End) → new.previous ≡ None → IsLimitOfBegin (records_of done) nodes n new.limit → AreNoted done (n + 1) (nodes ++ new ∷ []) progress
+ended_noted done n task nodes new progress are says alone limit =
+    noted_alone done n nodes new progress are (no_creation (records_of done) n task Taskwait End says) alone
     (record {
-      begins = λ t begins. absurd (let same = (same_says rs n task t Taskwait Taskwait End Begin says begins).2 in cc);
-      meets = λ t begun. absurd (begun_other rs n t task Taskwait End says refl begun);
+      begins = λ t begins. absurd (let same = (same_says (records_of done) n task t Taskwait Taskwait End Begin says begins).2 in cc);
+      meets = λ t begun. absurd (begun_other (records_of done) n t task Taskwait End says refl begun);
       ends = record {
         waits = waits;
-        groups = λ p b c t there from less creates. absurd (let ends = ends_at rs n p b Taskgroup there in let same = (same_says rs n task p Taskwait Taskgroup End ends.endpoint says ends.says).1 in cc);
+        groups = λ p b c t there from less creates. absurd (let ends = ends_at (records_of done) n p b Taskgroup there in let same = (same_says (records_of done) n task p Taskwait Taskgroup End ends.endpoint says ends.says).1 in cc);
       };
     })
   where
-    waits : (p b : ℕ) → IsRegion rs n p Taskwait b → IsChildLimit rs b p new.limit
+    waits : (p b : ℕ) → IsRegion (records_of done) n p Taskwait b → IsChildLimit done b p new.limit
     waits p b (ended ends) =
         let there = limit p b ends in
-        let begins = own_begin rs n p b Taskwait ends in
+        let begins = own_begin (records_of done) n p b Taskwait ends in
         let kinds : begins.kind ≡ Taskwait = same_Some begins.kind Taskwait (sym (ap (option_map (λ (r : ℕ × SyncKind × Endpoint). r.1)) begins.begins) ∙ ends.same_kind) in
-        let P : ℕ → Type 0 = λ l. IsChildLimit rs b p l in
+        let P : ℕ → Type 0 = λ l. IsChildLimit done b p l in
         subst P there.2 ((are.marks b there.0 there.1).begins p (begins.begins ∙ ap (λ k. Some (p, k, Begin)) kinds))
-    waits p b (at_once once) = absurd (let same = (same_says rs n task p Taskwait Taskwait End BeginEnd says once).2 in cc)
+    waits p b (at_once once) = absurd (let same = (same_says (records_of done) n task p Taskwait Taskwait End BeginEnd says once).2 in cc)
 
 -- the begin of one, or one that begins and ends at once
-pub begun_noted : (rs : List Record) (n task : ℕ) (endpoint : Endpoint) (tasks : List ℕ) (nodes : List Node) (new : Node) (progress : Progress) → AreNoted rs n tasks nodes progress → at region rs n ≡ Some (task, Taskwait, endpoint) → endpoint ≢ End → new.previous ≡ None → ((t : ℕ) → at subject rs n ≡ Some t → IsChildLimit rs n t new.limit) → AreNoted rs (n + 1) tasks (nodes ++ new ∷ []) progress
-begun_noted rs n task endpoint tasks nodes new progress are says not_end alone limit =
-    noted_alone rs n tasks nodes new progress are (no_creation rs n task Taskwait endpoint says) alone
+pub begun_noted : (done : DoneView) (n task : ℕ) (endpoint : Endpoint) (nodes : List Node) (new : Node) (progress : Progress) → AreNoted done n nodes progress → at region (records_of done) n ≡ Some (task, Taskwait, endpoint) → endpoint ≢ End → new.previous ≡ None → ((t : ℕ) → at subject (records_of done) n ≡ Some t → IsChildLimit done n t new.limit) → AreNoted done (n + 1) (nodes ++ new ∷ []) progress
+begun_noted done n task endpoint nodes new progress are says not_end alone limit =
+    noted_alone done n nodes new progress are (no_creation (records_of done) n task Taskwait endpoint says) alone
     (record {
       begins = λ t begins. mine t Begin begins;
-      meets = λ t begun. absurd (begun_other rs n t task Taskwait endpoint says refl begun);
+      meets = λ t begun. absurd (begun_other (records_of done) n t task Taskwait endpoint says refl begun);
       ends = record {
         waits = waits;
-        groups = λ p b c t there from less creates. absurd (let ends = ends_at rs n p b Taskgroup there in let same = (same_says rs n task p Taskwait Taskgroup endpoint ends.endpoint says ends.says).1 in cc);
+        groups = λ p b c t there from less creates. absurd (let ends = ends_at (records_of done) n p b Taskgroup there in let same = (same_says (records_of done) n task p Taskwait Taskgroup endpoint ends.endpoint says ends.says).1 in cc);
       };
     })
   where
-    mine : (t : ℕ) (e : Endpoint) → at region rs n ≡ Some (t, Taskwait, e) → IsChildLimit rs n t new.limit
-    mine t e there = limit t (at_through region subject (t, Taskwait, e) t rs n (region_subject t Taskwait e) there)
+    mine : (t : ℕ) (e : Endpoint) → at region (records_of done) n ≡ Some (t, Taskwait, e) → IsChildLimit done n t new.limit
+    mine t e there = limit t (at_through region subject (t, Taskwait, e) t (records_of done) n (region_subject t Taskwait e) there)
 
-    waits : (p b : ℕ) → IsRegion rs n p Taskwait b → IsChildLimit rs b p new.limit
-    waits p b (ended ends) = absurd (not_end (same_says rs n task p Taskwait Taskwait endpoint End says ends.ends).2)
+    waits : (p b : ℕ) → IsRegion (records_of done) n p Taskwait b → IsChildLimit done b p new.limit
+    waits p b (ended ends) = absurd (not_end (same_says (records_of done) n task p Taskwait Taskwait endpoint End says ends.ends).2)
     waits p b (at_once once) = mine p BeginEnd once
 
 -- the end of a taskgroup that belongs to no begin
-pub unended_noted : (rs : List Record) (n own : ℕ) (tasks : List ℕ) (nodes : List Node) (new : Node) (progress : Progress) → AreNoted rs n tasks nodes progress → at region rs n ≡ Some (own, Taskgroup, End) → ((task begin : ℕ) (kind : SyncKind) → IsRegion rs n task kind begin → ⊥) → new.previous ≡ None → AreNoted rs (n + 1) tasks (nodes ++ new ∷ []) progress
-unended_noted rs n own tasks nodes new progress are says never alone =
-    noted_alone rs n tasks nodes new progress are (no_creation rs n own Taskgroup End says) alone
+pub unended_noted : (done : DoneView) (n own : ℕ) (nodes : List Node) (new : Node) (progress : Progress) → AreNoted done n nodes progress → at region (records_of done) n ≡ Some (own, Taskgroup, End) → ((task begin : ℕ) (kind : SyncKind) → IsRegion (records_of done) n task kind begin → ⊥) → new.previous ≡ None → AreNoted done (n + 1) (nodes ++ new ∷ []) progress
+unended_noted done n own nodes new progress are says never alone =
+    noted_alone done n nodes new progress are (no_creation (records_of done) n own Taskgroup End says) alone
     (record {
-      begins = λ t begins. absurd (let same = (same_says rs n own t Taskgroup Taskwait End Begin says begins).2 in cc);
-      meets = λ t begun. absurd (begun_other rs n t own Taskgroup End says refl begun);
+      begins = λ t begins. absurd (let same = (same_says (records_of done) n own t Taskgroup Taskwait End Begin says begins).2 in cc);
+      meets = λ t begun. absurd (begun_other (records_of done) n t own Taskgroup End says refl begun);
       ends = record {
         waits = λ p b there. absurd (never p b Taskwait there);
         groups = λ p b c t there from less creates. absurd (never p b Taskgroup there);
@@ -410,19 +409,19 @@ unended_noted rs n own tasks nodes new progress are says never alone =
     })
 
 -- a record that is no creation, no part of a taskwait and no end of a taskgroup that began before it
-pub other_noted : (rs : List Record) (n : ℕ) (tasks : List ℕ) (nodes : List Node) (new : Node) (progress : Progress) → AreNoted rs n tasks nodes progress → at creation rs n ≡ None → ((task : ℕ) (endpoint : Endpoint) → at region rs n ≡ Some (task, Taskwait, endpoint) → ⊥) → ((task : ℕ) → at region rs n ≡ Some (task, Taskgroup, End) → ⊥) → ((task : ℕ) → barrier_begun (at region rs n) ≡ Some task → IsFamiliesLimit rs n task new.limit) → new.previous ≡ None → AreNoted rs (n + 1) tasks (nodes ++ new ∷ []) progress
-other_noted rs n tasks nodes new progress are quiet no_wait no_group meets alone =
-    noted_alone rs n tasks nodes new progress are quiet alone
+pub other_noted : (done : DoneView) (n : ℕ) (nodes : List Node) (new : Node) (progress : Progress) → AreNoted done n nodes progress → at creation (records_of done) n ≡ None → ((task : ℕ) (endpoint : Endpoint) → at region (records_of done) n ≡ Some (task, Taskwait, endpoint) → ⊥) → ((task : ℕ) → at region (records_of done) n ≡ Some (task, Taskgroup, End) → ⊥) → ((task : ℕ) → barrier_begun (at region (records_of done) n) ≡ Some task → IsFamiliesLimit done n task new.limit) → new.previous ≡ None → AreNoted done (n + 1) (nodes ++ new ∷ []) progress
+other_noted done n nodes new progress are quiet no_wait no_group meets alone =
+    noted_alone done n nodes new progress are quiet alone
     (record {
       begins = λ t begins. absurd (no_wait t Begin begins);
       meets = meets;
       ends = record {
-        waits = λ p b there. absurd (let ends = ends_at rs n p b Taskwait there in no_wait p ends.endpoint ends.says);
+        waits = λ p b there. absurd (let ends = ends_at (records_of done) n p b Taskwait there in no_wait p ends.endpoint ends.says);
         groups = groups;
       };
     })
   where
-    groups : (p b c t : ℕ) → IsRegion rs n p Taskgroup b → b ≤ c → c < n → at creation rs c ≡ Some (p, t) → IsFamilyLimit rs t new.limit
+    groups : (p b c t : ℕ) → IsRegion (records_of done) n p Taskgroup b → b ≤ c → c < n → at creation (records_of done) c ≡ Some (p, t) → IsFamilyLimit done t new.limit
     groups p b c t (ended ends) from less creates = absurd (no_group p ends.ends)
     groups p b c t (at_once once) from less creates = absurd (omega (arith, from, less))
 

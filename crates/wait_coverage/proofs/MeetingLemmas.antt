@@ -21,6 +21,7 @@ use Rattle.task_tree.specs.Family.{FamilyView, IsFamilyOf}
 use Rattle.task_tree.proofs.LinkLemmas.{get_set_same, get_set_other}
 use Rattle.task_tree.proofs.LookupLemmas.{subject_calls}
 use Rattle.task_tree.proofs.SubjectLemmas.{call_index}
+use Rattle.wait_coverage.specs.Done.{DoneView, records_of, tasks_of, IsEarly}
 use Rattle.wait_coverage.specs.Limits.{IsFamiliesLimit, IsWaitLimit, IsEndLimit, AreEndLimits}
 use Rattle.wait_coverage.specs.declared.limits.Node.{Node}
 use Rattle.wait_coverage.specs.Meetings.{IsBarrierEnd, IsMeeting, AreMet, IsRaised, AreMeetingsAdded}
@@ -35,64 +36,64 @@ use Rattle.wait_coverage.proofs.WaitLemmas.{not_begin}
 -- ---- the members' begins, one record more
 
 -- where no member begins a barrier
-pub met_other : (rs : List Record) (n : ℕ) (tasks : List ℕ) (teams : List (Option ℕ)) (meetings : List (Vec ℕ)) → AreMet rs n tasks teams meetings → ((index task team : ℕ) → barrier_begun (at region rs n) ≡ Some task → slice_get tasks index ≡ Some task → slice_get teams index ≡ Some (Some team) → ⊥) → AreMet rs (n + 1) tasks teams meetings
-met_other rs n tasks teams meetings are none = record {
+pub met_other : (done : DoneView) (n : ℕ) (meetings : List (Vec ℕ)) → AreMet done n meetings → ((index task team : ℕ) → barrier_begun (at region (records_of done) n) ≡ Some task → slice_get (tasks_of done) index ≡ Some task → slice_get done.teams.teams index ≡ Some (Some team) → ⊥) → AreMet done (n + 1) meetings
+met_other done n meetings are none = record {
   each = λ index task team number i is_task in_team starts below. elim (cases_eq i n) [
-    | inl same ↦ absurd (none index task team (ap (λ k. barrier_begun (at region rs k)) (sym same) ∙ begin_says rs task number i starts) is_task in_team)
+    | inl same ↦ absurd (none index task team (ap (λ k. barrier_begun (at region (records_of done) k)) (sym same) ∙ begin_says (records_of done) task number i starts) is_task in_team)
     | inr apart ↦ are.each index task team number i is_task in_team starts (omega (arith, below, apart))
   ];
 }
 
-in_row : (rs : List Record) (task number i : ℕ) (before after : List ℕ) → after ≡ before → IsMeeting rs task number i before → IsMeeting rs task number i after
-in_row rs task number i before after same meeting = let P : List ℕ → Type 0 = IsMeeting rs task number i in subst P (sym same) meeting
+in_row : (done : DoneView) (task number i : ℕ) (before after : List ℕ) → after ≡ before → IsMeeting done task number i before → IsMeeting done task number i after
+in_row done task number i before after same meeting = let P : List ℕ → Type 0 = IsMeeting done task number i in subst P (sym same) meeting
 
 -- more rows, and nothing in them
-met_reached : (rs : List Record) (n : ℕ) (tasks : List ℕ) (teams : List (Option ℕ)) (before after : List (Vec ℕ)) → AreSameRows before after → AreMet rs n tasks teams before → AreMet rs n tasks teams after
-met_reached rs n tasks teams before after same are = record {
+met_reached : (done : DoneView) (n : ℕ) (before after : List (Vec ℕ)) → AreSameRows before after → AreMet done n before → AreMet done n after
+met_reached done n before after same are = record {
   each = λ index task team number i is_task in_team starts below.
-      in_row rs task number i (row_at before team) (row_at after team) (same team) (are.each index task team number i is_task in_team starts below);
+      in_row done task number i (row_at before team) (row_at after team) (same team) (are.each index task team number i is_task in_team starts below);
 }
 
 -- a greater limit is one too
-weaker : (rs : List Record) (i task low high : ℕ) → IsFamiliesLimit rs i task low → low ≤ high → IsFamiliesLimit rs i task high
-weaker rs i task low high limit less c child before creates m t small at_most of = limit c child before creates m t small (omega (arith, less, at_most)) of
+weaker : (done : DoneView) (i task low high : ℕ) → IsFamiliesLimit done i task low → low ≤ high → IsFamiliesLimit done i task high
+weaker done i task low high limit less c child before creates m t small at_most of = limit c child before creates m t small (omega (arith, less, at_most)) of
 
 -- where one does
-pub met_more : (rs : List Record) (n own task team number limit : ℕ) (tasks : List ℕ) (teams : List (Option ℕ)) (meetings reached : List (Vec ℕ)) (old new : Vec ℕ) → AreApart tasks → AreMet rs n tasks teams meetings → AreSameRows meetings reached → slice_get tasks own ≡ Some task → slice_get teams own ≡ Some (Some team) → slice_get reached team ≡ Some old → IsBarrierBegin rs task number n → IsFamiliesLimit rs n task limit → IsRaised number limit old.items new.items → AreMet rs (n + 1) tasks teams (set reached team new)
-met_more rs n own task team number limit tasks teams meetings reached old new apart met same_rows is_own in_team row_there begins families raised = record {
+pub met_more : (done : DoneView) (n own task team number limit : ℕ) (meetings reached : List (Vec ℕ)) (old new : Vec ℕ) → AreApart (tasks_of done) → AreMet done n meetings → AreSameRows meetings reached → slice_get (tasks_of done) own ≡ Some task → slice_get done.teams.teams own ≡ Some (Some team) → slice_get reached team ≡ Some old → IsBarrierBegin (records_of done) task number n → IsFamiliesLimit done n task limit → IsRaised number limit old.items new.items → AreMet done (n + 1) (set reached team new)
+met_more done n own task team number limit meetings reached old new apart met same_rows is_own in_team row_there begins families raised = record {
   each = λ index other t k i is_other other_team starts below. elim (cases_eq i n) [
     | inl last ↦
-        let P : ℕ → Type 0 = IsBarrierBegin rs other k in
-        let Q : ℕ → Type 0 = λ x. IsBarrierBegin rs x k n in
-        let starts_here : IsBarrierBegin rs other k n = subst P last starts in
-        let is_task : other ≡ task = same_Some other task (sym (begin_says rs other k n starts_here) ∙ begin_says rs task number n begins) in
-        let is_number : k ≡ number = one_number rs task k number n (subst Q is_task starts_here) begins in
+        let P : ℕ → Type 0 = IsBarrierBegin (records_of done) other k in
+        let Q : ℕ → Type 0 = λ x. IsBarrierBegin (records_of done) x k n in
+        let starts_here : IsBarrierBegin (records_of done) other k n = subst P last starts in
+        let is_task : other ≡ task = same_Some other task (sym (begin_says (records_of done) other k n starts_here) ∙ begin_says (records_of done) task number n begins) in
+        let is_number : k ≡ number = one_number (records_of done) task k number n (subst Q is_task starts_here) begins in
         let is_index : index ≡ own = apart index own other is_other (is_own ∙ ap Some (sym is_task)) in
-        let is_team : t ≡ team = same_Some t team (same_Some (Some t) (Some team) (sym other_team ∙ ap (slice_get teams) is_index ∙ in_team)) in
-        let R : ℕ → Type 0 = λ x. IsFamiliesLimit rs x other raised.raised.0 in
-        let S : ℕ → Type 0 = λ x. IsFamiliesLimit rs n x raised.raised.0 in
-        in_row rs other k i new.items (row_at (set reached team new) t) (row_new t is_team) (record {
+        let is_team : t ≡ team = same_Some t team (same_Some (Some t) (Some team) (sym other_team ∙ ap (slice_get done.teams.teams) is_index ∙ in_team)) in
+        let R : ℕ → Type 0 = λ x. IsFamiliesLimit done x other raised.raised.0 in
+        let S : ℕ → Type 0 = λ x. IsFamiliesLimit done n x raised.raised.0 in
+        in_row done other k i new.items (row_at (set reached team new) t) (row_new t is_team) (record {
           limit = raised.raised.0;
           there = ap (slice_get new.items) is_number ∙ raised.raised.1;
-          families = subst R (sym last) (subst S (sym is_task) (weaker rs n task limit raised.raised.0 families raised.raised.2));
+          families = subst R (sym last) (subst S (sym is_task) (weaker done n task limit raised.raised.0 families raised.raised.2));
         })
     | inr earlier ↦
         let known = are.each index other t k i is_other other_team starts (omega (arith, below, earlier)) in
         elim (cases_eq t team) [
           | inl is_team ↦
               let kept = raised.kept k known.limit (sym (ap (λ l. slice_get l k) (row_old t is_team)) ∙ known.there) in
-              in_row rs other k i new.items (row_at (set reached team new) t) (row_new t is_team) (record {
+              in_row done other k i new.items (row_at (set reached team new) t) (row_new t is_team) (record {
                 limit = kept.0;
                 there = kept.1;
-                families = weaker rs i other known.limit kept.0 known.families kept.2;
+                families = weaker done i other known.limit kept.0 known.families kept.2;
               })
-          | inr different ↦ in_row rs other k i (row_at reached t) (row_at (set reached team new) t) (row_set_other reached team t new different) known
+          | inr different ↦ in_row done other k i (row_at reached t) (row_at (set reached team new) t) (row_set_other reached team t new different) known
         ]
   ];
 }
   where
-    are : AreMet rs n tasks teams reached
-    are = met_reached rs n tasks teams meetings reached same_rows met
+    are : AreMet done n reached
+    are = met_reached done n meetings reached same_rows met
 
     row_new : (t : ℕ) → t ≡ team → row_at (set reached team new) t ≡ new.items
     row_new t is_team = ap (row_at (set reached team new)) is_team ∙ row_set_same reached team new (slice_get_within reached team old row_there)
@@ -103,67 +104,67 @@ met_more rs n own task team number limit tasks teams meetings reached old new ap
 -- ---- the end of a barrier
 
 -- no barrier ends there
-pub plain_limit : (rs : List Record) (i limit : ℕ) → IsWaitLimit rs i limit → (IsBarrierEnd rs i → ⊥) → IsEndLimit rs i limit
-plain_limit rs i limit noted none m t small low covers = elim (covers_cases rs i t covers) [
+pub plain_limit : (done : DoneView) (i limit : ℕ) → IsWaitLimit done i limit → (IsBarrierEnd (records_of done) i → ⊥) → IsEndLimit done i limit
+plain_limit done i limit noted none m t small low covers = elim (covers_cases (records_of done) i t covers) [
   | inl one ↦ noted.waits one.parent one.begin one.is_region m one.place t small low one.before one.creates
   | inr other ↦ elim other [
     | inl one ↦ noted.groups one.parent one.begin one.place one.child one.is_region one.from one.before one.creates m t small low one.of
     | inr one ↦
-        let ends = ends_at rs i one.own one.begin one.kind one.is_region in
-        absurd (none (one.own, one.kind, ends.endpoint, ends.says, not_begin rs i one.own one.begin one.own one.kind one.kind ends.endpoint one.is_region ends.says, one.barrier))
+        let ends = ends_at (records_of done) i one.own one.begin one.kind one.is_region in
+        absurd (none (one.own, one.kind, ends.endpoint, ends.says, not_begin (records_of done) i one.own one.begin one.own one.kind one.kind ends.endpoint one.is_region ends.says, one.barrier))
   ]
 ]
 
-own_limit : (rs : List Record) (i index own team begin number : ℕ) (kind : SyncKind) (tasks : List ℕ) (teams : List (Option ℕ)) (meetings : List (Vec ℕ)) → AreMet rs (length rs) tasks teams meetings → slice_get tasks index ≡ Some own → slice_get teams index ≡ Some (Some team) → IsRegion rs i own kind begin → IsBarrierBegin rs own number begin → IsMeeting rs own number begin (row_at meetings team)
-own_limit rs i index own team begin number kind tasks teams meetings are is_own in_team there begins =
-    let ends = ends_at rs i own begin kind there in
+own_limit : (done : DoneView) (i index own team begin number : ℕ) (kind : SyncKind) (meetings : List (Vec ℕ)) → AreMet done (length (records_of done)) meetings → slice_get (tasks_of done) index ≡ Some own → slice_get done.teams.teams index ≡ Some (Some team) → IsRegion (records_of done) i own kind begin → IsBarrierBegin (records_of done) own number begin → IsMeeting done own number begin (row_at meetings team)
+own_limit done i index own team begin number kind meetings are is_own in_team there begins =
+    let ends = ends_at (records_of done) i own begin kind there in
     let below = ends.below in
     let inside = ends.inside in
     are.each index own team number begin is_own in_team begins (omega (arith, below, inside))
 
 -- the team has a row, and the barrier's number a limit in it
-pub own_row : (rs : List Record) (i index own team begin number : ℕ) (kind : SyncKind) (tasks : List ℕ) (teams : List (Option ℕ)) (meetings : List (Vec ℕ)) → AreMet rs (length rs) tasks teams meetings → slice_get tasks index ≡ Some own → slice_get teams index ≡ Some (Some team) → IsRegion rs i own kind begin → IsBarrierBegin rs own number begin → team < length meetings
-own_row rs i index own team begin number kind tasks teams meetings are is_own in_team there begins =
-    let known = own_limit rs i index own team begin number kind tasks teams meetings are is_own in_team there begins in
+pub own_row : (done : DoneView) (i index own team begin number : ℕ) (kind : SyncKind) (meetings : List (Vec ℕ)) → AreMet done (length (records_of done)) meetings → slice_get (tasks_of done) index ≡ Some own → slice_get done.teams.teams index ≡ Some (Some team) → IsRegion (records_of done) i own kind begin → IsBarrierBegin (records_of done) own number begin → team < length meetings
+own_row done i index own team begin number kind meetings are is_own in_team there begins =
+    let known = own_limit done i index own team begin number kind meetings are is_own in_team there begins in
     let row = row_there meetings team number known.limit known.there in
     slice_get_within meetings team row.0 row.1
 
-pub own_meeting : (rs : List Record) (i index own team begin number : ℕ) (kind : SyncKind) (tasks : List ℕ) (teams : List (Option ℕ)) (meetings : List (Vec ℕ)) (row : Vec ℕ) → AreMet rs (length rs) tasks teams meetings → slice_get tasks index ≡ Some own → slice_get teams index ≡ Some (Some team) → slice_get meetings team ≡ Some row → IsRegion rs i own kind begin → IsBarrierBegin rs own number begin → number < length row.items
-own_meeting rs i index own team begin number kind tasks teams meetings row are is_own in_team stands there begins =
-    let known = own_limit rs i index own team begin number kind tasks teams meetings are is_own in_team there begins in
+pub own_meeting : (done : DoneView) (i index own team begin number : ℕ) (kind : SyncKind) (meetings : List (Vec ℕ)) (row : Vec ℕ) → AreMet done (length (records_of done)) meetings → slice_get (tasks_of done) index ≡ Some own → slice_get done.teams.teams index ≡ Some (Some team) → slice_get meetings team ≡ Some row → IsRegion (records_of done) i own kind begin → IsBarrierBegin (records_of done) own number begin → number < length row.items
+own_meeting done i index own team begin number kind meetings row are is_own in_team stands there begins =
+    let known = own_limit done i index own team begin number kind meetings are is_own in_team there begins in
     slice_get_within row.items number known.limit (sym (ap (λ l. slice_get l number) (row_here meetings team row stands)) ∙ known.there)
 
-pub met_limit : (rs : List Record) (family : FamilyView) (i index own team begin number limit : ℕ) (kind : SyncKind) (teams : List (Option ℕ)) (meetings : List (Vec ℕ)) (row : Vec ℕ) → IsFamilyOf rs family → AreTeams rs family.tasks teams → AreMet rs (length rs) family.tasks teams meetings → slice_get family.tasks index ≡ Some own → slice_get teams index ≡ Some (Some team) → slice_get meetings team ≡ Some row → IsRegion rs i own kind begin → is_barrier kind ≡ true → IsBarrierBegin rs own number begin → slice_get row.items number ≡ Some limit → IsEndLimit rs i limit
-met_limit rs family i index own team begin number limit kind teams meetings row are known met is_own in_team stands there barrier begins is_limit m t small low covers = elim (covers_cases rs i t covers) [
-  | inl one ↦ absurd (barrier_is_other kind Taskwait barrier refl (one_region rs i own one.parent begin one.begin kind Taskwait there one.is_region).kind_is)
+pub met_limit : (done : DoneView) (family : FamilyView) (i index own team begin number limit : ℕ) (kind : SyncKind) (meetings : List (Vec ℕ)) (row : Vec ℕ) → IsFamilyOf (records_of done) family → AreTeams (records_of done) family.tasks done.teams.teams → AreMet done (length (records_of done)) meetings → slice_get family.tasks index ≡ Some own → slice_get done.teams.teams index ≡ Some (Some team) → slice_get meetings team ≡ Some row → IsRegion (records_of done) i own kind begin → is_barrier kind ≡ true → IsBarrierBegin (records_of done) own number begin → slice_get row.items number ≡ Some limit → IsEndLimit done i limit
+met_limit done family i index own team begin number limit kind meetings row are known met is_own in_team stands there barrier begins is_limit m t small low covers = elim (covers_cases (records_of done) i t covers) [
+  | inl one ↦ absurd (barrier_is_other kind Taskwait barrier refl (one_region (records_of done) i own one.parent begin one.begin kind Taskwait there one.is_region).kind_is)
   | inr other ↦ elim other [
-    | inl one ↦ absurd (barrier_is_other kind Taskgroup barrier refl (one_region rs i own one.parent begin one.begin kind Taskgroup there one.is_region).kind_is)
+    | inl one ↦ absurd (barrier_is_other kind Taskgroup barrier refl (one_region (records_of done) i own one.parent begin one.begin kind Taskgroup there one.is_region).kind_is)
     | inr one ↦
-        let same = one_region rs i one.own own one.begin begin one.kind kind one.is_region there in
-        let P : ℕ → Type 0 = λ x. IsBarrierBegin rs x one.number one.begin in
-        let Q : ℕ → Type 0 = λ b. IsBarrierBegin rs own one.number b in
-        let R : ℕ → Type 0 = λ x. IsTeammate rs x one.member in
-        let is_number = one_number rs own one.number number begin (subst Q same.begin_is (subst P same.task_is one.begins)) begins in
-        let says = begin_says rs one.member one.number one.start one.starts in
-        let says_region = begun_region rs one.start one.member says in
-        let called = call_index family.tasks (at subject rs one.start) _ one.member (subject_calls rs family one.start are) (begun_subject rs one.start one.member says) in
+        let same = one_region (records_of done) i one.own own one.begin begin one.kind kind one.is_region there in
+        let P : ℕ → Type 0 = λ x. IsBarrierBegin (records_of done) x one.number one.begin in
+        let Q : ℕ → Type 0 = λ b. IsBarrierBegin (records_of done) own one.number b in
+        let R : ℕ → Type 0 = λ x. IsTeammate (records_of done) x one.member in
+        let is_number = one_number (records_of done) own one.number number begin (subst Q same.begin_is (subst P same.task_is one.begins)) begins in
+        let says = begin_says (records_of done) one.member one.number one.start one.starts in
+        let says_region = begun_region (records_of done) one.start one.member says in
+        let called = call_index family.tasks (at subject (records_of done) one.start) _ one.member (subject_calls (records_of done) family one.start are) (begun_subject (records_of done) one.start one.member says) in
         let mates = (known.mates index called.0 own one.member team is_own called.2 in_team).1 (subst R same.task_is one.mate) in
-        let meeting = met.each called.0 one.member team one.number one.start called.2 mates one.starts (at_within region rs one.start (one.member, says_region.0, says_region.1) says_region.2) in
+        let meeting = met.each called.0 one.member team one.number one.start called.2 mates one.starts (at_within region (records_of done) one.start (one.member, says_region.0, says_region.1) says_region.2) in
         let is_same : meeting.limit ≡ limit = same_Some meeting.limit limit (sym meeting.there ∙ ap (λ l. slice_get l one.number) (row_here meetings team row stands) ∙ ap (slice_get row.items) is_number ∙ is_limit) in
         meeting.families one.place one.child one.before one.creates m t small (omega (arith, is_same, low)) one.of
   ]
 ]
 
 -- a task in no team has no teammate
-pub teamless_limit : (rs : List Record) (i index own limit : ℕ) (kind : SyncKind) (endpoint : Endpoint) (tasks : List ℕ) (teams : List (Option ℕ)) → AreTeams rs tasks teams → slice_get tasks index ≡ Some own → slice_get teams index ≡ Some None → at region rs i ≡ Some (own, kind, endpoint) → is_barrier kind ≡ true → IsEndLimit rs i limit
-teamless_limit rs i index own limit kind endpoint tasks teams known is_own alone says barrier m t small low covers = elim (covers_cases rs i t covers) [
-  | inl one ↦ absurd (let ends = ends_at rs i one.parent one.begin Taskwait one.is_region in barrier_is_other kind Taskwait barrier refl (says_same rs i own one.parent kind Taskwait endpoint ends.endpoint says ends.says).1)
+pub teamless_limit : (done : DoneView) (i index own limit : ℕ) (kind : SyncKind) (endpoint : Endpoint) → AreTeams (records_of done) (tasks_of done) done.teams.teams → slice_get (tasks_of done) index ≡ Some own → slice_get done.teams.teams index ≡ Some None → at region (records_of done) i ≡ Some (own, kind, endpoint) → is_barrier kind ≡ true → IsEndLimit done i limit
+teamless_limit done i index own limit kind endpoint known is_own alone says barrier m t small low covers = elim (covers_cases (records_of done) i t covers) [
+  | inl one ↦ absurd (let ends = ends_at (records_of done) i one.parent one.begin Taskwait one.is_region in barrier_is_other kind Taskwait barrier refl (says_same (records_of done) i own one.parent kind Taskwait endpoint ends.endpoint says ends.says).1)
   | inr other ↦ elim other [
-    | inl one ↦ absurd (let ends = ends_at rs i one.parent one.begin Taskgroup one.is_region in barrier_is_other kind Taskgroup barrier refl (says_same rs i own one.parent kind Taskgroup endpoint ends.endpoint says ends.says).1)
+    | inl one ↦ absurd (let ends = ends_at (records_of done) i one.parent one.begin Taskgroup one.is_region in barrier_is_other kind Taskgroup barrier refl (says_same (records_of done) i own one.parent kind Taskgroup endpoint ends.endpoint says ends.says).1)
     | inr one ↦
-        let ends = ends_at rs i one.own one.begin one.kind one.is_region in
-        let same = (says_same rs i own one.own kind one.kind endpoint ends.endpoint says ends.says).0 in
-        let R : ℕ → Type 0 = λ x. IsTeammate rs x one.member in
+        let ends = ends_at (records_of done) i one.own one.begin one.kind one.is_region in
+        let same = (says_same (records_of done) i own one.own kind one.kind endpoint ends.endpoint says ends.says).0 in
+        let R : ℕ → Type 0 = λ x. IsTeammate (records_of done) x one.member in
         absurd (known.none index own one.member is_own alone (subst R (sym same) one.mate))
   ]
 ]
@@ -171,27 +172,27 @@ teamless_limit rs i index own limit kind endpoint tasks teams known is_own alone
 -- ---- one record more
 
 -- where no barrier ends
-pub added_other : (rs : List Record) (n : ℕ) (nodes : List Node) → AreMeetingsAdded rs n nodes → (IsBarrierEnd rs n → ⊥) → AreMeetingsAdded rs (n + 1) nodes
-added_other rs n nodes are none = record {
+pub added_other : (done : DoneView) (n : ℕ) (nodes : List Node) → AreMeetingsAdded done n nodes → (IsBarrierEnd (records_of done) n → ⊥) → AreMeetingsAdded done (n + 1) nodes
+added_other done n nodes are none = record {
   count = are.count;
   known = λ i node below there. elim (cases_eq i n) [
     | inl same ↦
-        let P : ℕ → Type 0 = λ k. IsEndLimit rs k node.limit in
-        let Q : ℕ → Type 0 = λ k. IsWaitLimit rs k node.limit in
-        subst P (sym same) (plain_limit rs n node.limit (subst Q same (are.noted i node (omega (arith, same)) there)) none)
+        let P : ℕ → Type 0 = λ k. IsEndLimit done k node.limit in
+        let Q : ℕ → Type 0 = λ k. IsWaitLimit done k node.limit in
+        subst P (sym same) (plain_limit done n node.limit (subst Q same (are.noted i node (omega (arith, same)) there)) none)
     | inr apart ↦ are.known i node (omega (arith, below, apart)) there
   ];
   noted = λ i node past there. are.noted i node (omega (arith, past)) there;
 }
 
 -- where one does
-pub added_more : (rs : List Record) (n : ℕ) (nodes : List Node) (new : Node) → AreMeetingsAdded rs n nodes → n < length rs → IsEndLimit rs n new.limit → AreMeetingsAdded rs (n + 1) (set nodes n new)
-added_more rs n nodes new are below limit = record {
+pub added_more : (done : DoneView) (n : ℕ) (nodes : List Node) (new : Node) → AreMeetingsAdded done n nodes → n < length (records_of done) → IsEndLimit done n new.limit → AreMeetingsAdded done (n + 1) (set nodes n new)
+added_more done n nodes new are below limit = record {
   count = length-set nodes n new ∙ are.count;
   known = λ i node low there. elim (cases_eq i n) [
     | inl same ↦
-        let P : ℕ → Type 0 = λ k. IsEndLimit rs k node.limit in
-        let Q : Node → Type 0 = λ x. IsEndLimit rs n x.limit in
+        let P : ℕ → Type 0 = λ k. IsEndLimit done k node.limit in
+        let Q : Node → Type 0 = λ x. IsEndLimit done n x.limit in
         let is : new ≡ node = same_Some new node (sym (get_set_same nodes n new within) ∙ ap (slice_get (set nodes n new)) (sym same) ∙ there) in
         subst P (sym same) (subst Q is limit)
     | inr apart ↦ are.known i node (omega (arith, low, apart)) (sym (get_set_other nodes n i new apart) ∙ there)
@@ -203,8 +204,8 @@ added_more rs n nodes new are below limit = record {
     within = rw are.count below
 
 -- at all records
-pub added_all : (rs : List Record) (n : ℕ) (nodes : List Node) → AreMeetingsAdded rs n nodes → length rs ≤ n → AreEndLimits rs nodes
-added_all rs n nodes are whole = record {
+pub added_all : (done : DoneView) (n : ℕ) (nodes : List Node) → AreMeetingsAdded done n nodes → length (records_of done) ≤ n → AreEndLimits done nodes
+added_all done n nodes are whole = record {
   count = are.count;
   known = λ i node there.
       let within = slice_get_within nodes i node there in

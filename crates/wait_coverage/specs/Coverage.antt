@@ -1,24 +1,22 @@
 -- What the coverage of the waits of a trace knows.
-use Rattle.std.specs.Prelude.{ℕ, ◌≡◌, ◌<◌, ◌↔◌, true, List, [], ◌∷◌, length, Option, Some, MatchOption, Contains, slice_get}
+use Rattle.std.specs.Prelude.{ℕ, ◌≡◌, ◌<◌, ◌≤◌, ◌↔◌, true, List, [], ◌∷◌, length, Option, Some, MatchOption, Contains, slice_get, take}
 use Rattle.std.specs.Global.{Vec}
 use Rattle.ompt_events.specs.declared.records.Record.{Record}
 use Rattle.ompt_events.specs.declared.names.SyncKind.{SyncKind}
 use Rattle.ompt_events.specs.declared.names.SyncKind.TheVariants.{Taskwait}
-use Rattle.ompt_events.specs.Traces.{IsTrace}
 use Rattle.ompt_events.specs.Tree.{child_number}
 use Rattle.ompt_events.specs.Regions.{IsRegion, IsBarrierBegin, waits_for_tasks}
 use Rattle.teams.specs.Rows.{row_at}
+use Rattle.credit_ledger.specs.declared.entry.Entry.{Entry}
 use Rattle.credit_ledger.specs.declared.entry.Span.{Span}
+use Rattle.credit_ledger.specs.Entries.{IsSpanHeld}
 use Rattle.credit_ledger.specs.declared.entry.Cover.{Cover}
 use Rattle.credit_ledger.specs.declared.entry.Cover.TheVariants.{Children}
 use Rattle.task_tree.specs.Paths.{TreeView, IsTreeOf}
-use Rattle.wait_coverage.specs.Teams.{IsTeamsOf}
-use Rattle.teams.specs.Teams.{TeamsView}
-use Rattle.wait_coverage.specs.Known.{IsKnown}
+use Rattle.teams.specs.Teams.{TeamsView, IsTeams}
 use Rattle.wait_coverage.specs.Numbers.{AreNumbers}
 use Rattle.wait_coverage.specs.Spans.{IsSpan, IsCoverComplete}
 use Rattle.wait_coverage.specs.Waits.{IsWaitAt, IsFirstOpen}
-use Rattle.wait_coverage.specs.declared.unfinished.Known.{Known}
 use Rattle.wait_coverage.specs.declared.waits.Wait.{Wait}
 
 -- a region ends there that waits for tasks (OpenMP 5.2, 15.3 to 15.5)
@@ -75,26 +73,31 @@ pub record AreRosterSpans (rs : List Record) (tasks : List ℕ) (number : ℕ) (
       → slice_get tasks index ≡ Some member → slice_get spans place ≡ Some span
       → IsMemberSpan rs member number span
 
+-- the first entries hold each of the spans
+abbrev pub AreAllHeld : List Entry → ℕ → Cover → List Span → Type 0
+AreAllHeld entries n cover spans =
+    (span : Span) → Contains spans span → IsSpanHeld (take n entries) span cover
+
+-- no span is of children deeper than a ledger can enter
+abbrev pub AreShallow : List Span → Type 0
+AreShallow spans = (span : Span) → Contains spans span → length span.path ≤ 1024
+
 -- ---- the whole
 
 pub record CoverageView : Type 0 where
-  pub records : List Record
   pub tree : TreeView
   pub teams : TeamsView
-  pub known : Known
   pub numbers : List ℕ
   pub ends : List ℕ
   pub waits : List Wait
 
--- it is that of its records
+-- all is that of the run of the teams
 pub record IsCoverage (coverage : CoverageView) : Type 0 where
-  pub trace : IsTrace coverage.records
-  pub tree : IsTreeOf coverage.records coverage.tree
-  pub teams : IsTeamsOf coverage.records coverage.tree.family.tasks coverage.teams
-  pub known : IsKnown coverage.records coverage.tree.family coverage.known
-  pub numbers : AreNumbers coverage.records (length coverage.records) coverage.numbers
-  pub ends : AreEnds coverage.records (length coverage.records) coverage.ends
-  pub waits : AreWaits coverage.records coverage.tree.family.tasks coverage.ends coverage.waits
+  pub teams : IsTeams coverage.teams
+  pub tree : IsTreeOf coverage.teams.run.records coverage.tree
+  pub numbers : AreNumbers coverage.teams.run.records (length coverage.teams.run.records) coverage.numbers
+  pub ends : AreEnds coverage.teams.run.records (length coverage.teams.run.records) coverage.ends
+  pub waits : AreWaits coverage.teams.run.records coverage.teams.run.family.tasks coverage.ends coverage.waits
 
 -- of the first n ends that are asked for, by their numbers, the first open task of each
 pub record AreFirstOpen (rs : List Record) (ends of : List ℕ) (n : ℕ)

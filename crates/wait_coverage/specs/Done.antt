@@ -2,19 +2,52 @@
 use Rattle.std.specs.Prelude.{ℕ, ◌≡◌, ◌<◌, ◌≤◌, ◌^◌, ◌↔◌, List, length, Some, Contains, max, slice_get, slice_set, slice_index}
 use Rattle.std.specs.Option.{option_map_or}
 use Rattle.ompt_events.specs.declared.records.Record.{Record}
+use Rattle.ompt_events.specs.Tree.{IsExplicit}
 use Rattle.ompt_events.specs.Coverage.{IsFamily}
 use Rattle.task_tree.specs.Family.{FamilyView}
 use Rattle.task_tree.specs.Lineage.{parent_index, depth_in}
+use Rattle.teams.specs.Teams.{TeamsView, IsTeams}
 use Rattle.trace_ledger.specs.Entries.{IsDone}
-use Rattle.wait_coverage.specs.declared.done.Done.{Done}
+
+-- what clauses see of the lengths of tasks: by index of the task a ledger length of its own, and one of the task
+-- and all its descendants
+pub record DoneView : Type 0 where
+  pub teams : TeamsView
+  pub own : List ℕ
+  pub families : List ℕ
+
+abbrev pub records_of : DoneView → List Record
+records_of done = done.teams.run.records
+
+abbrev pub tasks_of : DoneView → List ℕ
+tasks_of done = done.teams.run.family.tasks
+
+-- the length of the task is at most m
+abbrev pub IsEarly : DoneView → ℕ → ℕ → Type 0
+IsEarly done m task = (index limit : ℕ) → slice_get (tasks_of done) index ≡ Some task
+    → slice_get done.own index ≡ Some limit → limit ≤ m
+
+-- that of each of its descendants is too
+abbrev pub IsFamilyEarly : DoneView → ℕ → ℕ → Type 0
+IsFamilyEarly done m task = (t : ℕ) → IsFamily (records_of done) task t → IsEarly done m t
+
+-- at the index of each task stands the greatest length of the task and its descendants
+pub record AreGreatest (done : DoneView) : Type 0 where
+  pub all : length done.families ≡ length (tasks_of done)
+  pub each : (index task limit m : ℕ) → slice_get (tasks_of done) index ≡ Some task
+      → slice_get done.families index ≡ Some limit → (limit ≤ m) ↔ IsFamilyEarly done m task
+
+-- each task has its two lengths
+pub record IsDoneView (done : DoneView) : Type 0 where
+  pub teams : IsTeams done.teams
+  pub own : length done.own ≡ length (tasks_of done)
+  pub families : AreGreatest done
+
+-- ---- the lengths that the records name
 
 -- from this ledger length on the task is finished, and at no lesser one
 abbrev pub IsDoneFrom : List Record → ℕ → ℕ → Type 0
 IsDoneFrom rs task limit = (m : ℕ) → m < 2 ^ 32 → (limit ≤ m) ↔ IsDone rs m task
-
--- from this ledger length on the task and all its descendants are finished
-abbrev pub IsFamilyLimit : List Record → ℕ → ℕ → Type 0
-IsFamilyLimit rs task limit = (m t : ℕ) → m < 2 ^ 32 → limit ≤ m → IsFamily rs task t → IsDone rs m t
 
 -- at the index of each task stands the length from which on it is finished
 pub record AreOwn (rs : List Record) (tasks own : List ℕ) : Type 0 where
@@ -22,16 +55,14 @@ pub record AreOwn (rs : List Record) (tasks own : List ℕ) : Type 0 where
   pub each : (index task limit : ℕ) → slice_get tasks index ≡ Some task → slice_get own index ≡ Some limit
       → IsDoneFrom rs task limit
 
--- at the index of each task stands a length from which on it and its descendants are finished
-pub record AreFamilies (rs : List Record) (tasks families : List ℕ) : Type 0 where
-  pub all : length families ≡ length tasks
-  pub each : (index task limit : ℕ) → slice_get tasks index ≡ Some task → slice_get families index ≡ Some limit
-      → IsFamilyLimit rs task limit
+-- the tasks' own lengths are those
+abbrev pub AreDone : DoneView → Type 0
+AreDone done = AreOwn (records_of done) (tasks_of done) done.own
 
--- both
-pub record AreDone (rs : List Record) (tasks : List ℕ) (done : Done) : Type 0 where
-  pub own : AreOwn rs tasks done.own.items
-  pub families : AreFamilies rs tasks done.families.items
+-- the same of the tasks that another task created
+abbrev pub AreChildrenDone : DoneView → Type 0
+AreChildrenDone done = (task m : ℕ) → IsExplicit (records_of done) task → m < 2 ^ 32
+    → IsEarly done m task ↔ IsDone (records_of done) m task
 
 -- ---- from the children to their parents
 
@@ -52,9 +83,18 @@ abbrev pub raised : FamilyView → ℕ → List ℕ → List ℕ
 raised family index limits = option_map_or
     (λ up. slice_set limits up (max (slice_index limits up) (slice_index limits index))) (parent_index family index) limits
 
--- each has at least its floor, and the parents of the tasks from the place n on have at least what these have
+-- the first index is that of the second's parent, of the parent's parent, and so on, or the second itself
+pub data IsAbove (family : FamilyView) (top : ℕ) : ℕ → Type 0 where
+  itself : IsAbove family top top
+  further : {index up : ℕ} → parent_index family index ≡ Some up → IsAbove family top up
+      → IsAbove family top index
+
+-- each has at least its floor, and the parents of the tasks from the place n on have at least what these have;
+-- none has more than the greatest floor of the tasks that it is above
 pub record AreRaised (family : FamilyView) (order floor : List ℕ) (n : ℕ) (limits : List ℕ) : Type 0 where
   pub all : length limits ≡ length floor
   pub own : (index : ℕ) → slice_index floor index ≤ slice_index limits index
   pub passed : (place child up : ℕ) → n ≤ place → slice_get order place ≡ Some child
       → parent_index family child ≡ Some up → slice_index limits child ≤ slice_index limits up
+  pub least : (top m : ℕ) → ((index : ℕ) → IsAbove family top index → slice_index floor index ≤ m)
+      → slice_index limits top ≤ m

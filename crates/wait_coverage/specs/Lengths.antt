@@ -31,15 +31,24 @@ with_length l Event n = record { whole = l.whole; body = l.body; event = min l.e
 abbrev pub done_length : Lengths → ℕ
 done_length l = min l.whole (max l.body l.event)
 
--- of each part of the task the least length that has an entry for it, by the first n records
-pub record AreLeast (rs : List Record) (n task : ℕ) (lengths : Lengths) : Type 0 where
-  pub each : (part : Part) (k : ℕ) → k < n → at finish rs k ≡ Some (task, part)
+-- of each part of the task the least length that has an entry for it, by the records for which `counts` holds
+pub record AreLeast (rs : List Record) (counts : ℕ → Type 0) (task : ℕ) (lengths : Lengths) : Type 0 where
+  pub each : (part : Part) (k : ℕ) → counts k → at finish rs k ≡ Some (task, part)
       → length_of lengths part ≤ seen_at rs k + 1
   pub only : (part : Part) → (length_of lengths part ≡ never) ⊎ ((k : ℕ) ×
       (at finish rs k ≡ Some (task, part)) × (length_of lengths part ≡ seen_at rs k + 1))
 
 -- at the index of each task stand its lengths
-pub record AreLengths (rs : List Record) (n : ℕ) (tasks : List ℕ) (table : List Lengths) : Type 0 where
+pub record AreLengthsBy (rs : List Record) (counts : ℕ → Type 0) (tasks : List ℕ)
+    (table : List Lengths) : Type 0 where
   pub all : length table ≡ length tasks
   pub each : (index task : ℕ) (lengths : Lengths) → slice_get tasks index ≡ Some task
-      → slice_get table index ≡ Some lengths → AreLeast rs n task lengths
+      → slice_get table index ≡ Some lengths → AreLeast rs counts task lengths
+
+-- by the first n records
+abbrev pub AreLengths : List Record → ℕ → List ℕ → List Lengths → Type 0
+AreLengths rs n tasks table = AreLengthsBy rs (λ k. k < n) tasks table
+
+-- by the records of the first n entries
+abbrev pub AreLengthsBelow : List Record → ℕ → List ℕ → List Lengths → Type 0
+AreLengthsBelow rs n tasks table = AreLengthsBy rs (λ k. seen_at rs k < n) tasks table

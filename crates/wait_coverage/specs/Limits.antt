@@ -6,33 +6,40 @@ use Rattle.ompt_events.specs.declared.names.SyncKind.TheVariants.{Taskwait, Task
 use Rattle.ompt_events.specs.Records.{creation, region}
 use Rattle.ompt_events.specs.Places.{at}
 use Rattle.ompt_events.specs.Regions.{IsRegion, EndsRegion, barrier_begun}
-use Rattle.ompt_events.specs.Coverage.{Covers}
-use Rattle.trace_ledger.specs.Entries.{IsDone}
-use Rattle.wait_coverage.specs.Done.{IsFamilyLimit}
+use Rattle.ompt_events.specs.Coverage.{Covers, IsFamily}
+use Rattle.wait_coverage.specs.Done.{DoneView, records_of, tasks_of, IsEarly}
 use Rattle.wait_coverage.specs.declared.limits.Node.{Node}
 use Rattle.wait_coverage.specs.declared.limits.Progress.{Progress}
 
+-- from this ledger length on the task and all its descendants are finished
+abbrev pub IsFamilyLimit : DoneView → ℕ → ℕ → Type 0
+IsFamilyLimit done task limit = (m t : ℕ) → m < 2 ^ 32 → limit ≤ m → IsFamily (records_of done) task t
+    → IsEarly done m t
+
 -- from this ledger length on the children that the task created before the place i are finished
-abbrev pub IsChildLimit : List Record → ℕ → ℕ → ℕ → Type 0
-IsChildLimit rs i task limit =
-    (m c child : ℕ) → m < 2 ^ 32 → limit ≤ m → c < i → at creation rs c ≡ Some (task, child)
-    → IsDone rs m child
+abbrev pub IsChildLimit : DoneView → ℕ → ℕ → ℕ → Type 0
+IsChildLimit done i task limit =
+    (m c child : ℕ) → m < 2 ^ 32 → limit ≤ m → c < i → at creation (records_of done) c ≡ Some (task, child)
+    → IsEarly done m child
 
 -- from this ledger length on the children that the task created before the place i are finished, and so are
 -- their descendants
-abbrev pub IsFamiliesLimit : List Record → ℕ → ℕ → ℕ → Type 0
-IsFamiliesLimit rs i task limit =
-    (c child : ℕ) → c < i → at creation rs c ≡ Some (task, child) → IsFamilyLimit rs child limit
+abbrev pub IsFamiliesLimit : DoneView → ℕ → ℕ → ℕ → Type 0
+IsFamiliesLimit done i task limit =
+    (c child : ℕ) → c < i → at creation (records_of done) c ≡ Some (task, child)
+        → IsFamilyLimit done child limit
 
 -- from this ledger length on each task is finished that a taskwait or a taskgroup that ends at i covers
-pub record IsWaitLimit (rs : List Record) (i limit : ℕ) : Type 0 where
-  pub waits : (parent begin : ℕ) → IsRegion rs i parent Taskwait begin → IsChildLimit rs begin parent limit
-  pub groups : (parent begin c child : ℕ) → IsRegion rs i parent Taskgroup begin → begin ≤ c → c < i
-      → at creation rs c ≡ Some (parent, child) → IsFamilyLimit rs child limit
+pub record IsWaitLimit (done : DoneView) (i limit : ℕ) : Type 0 where
+  pub waits : (parent begin : ℕ) → IsRegion (records_of done) i parent Taskwait begin
+      → IsChildLimit done begin parent limit
+  pub groups : (parent begin c child : ℕ) → IsRegion (records_of done) i parent Taskgroup begin
+      → begin ≤ c → c < i
+      → at creation (records_of done) c ≡ Some (parent, child) → IsFamilyLimit done child limit
 
 -- from this ledger length on each task that the end at i covers is finished
-abbrev pub IsEndLimit : List Record → ℕ → ℕ → Type 0
-IsEndLimit rs i limit = (m t : ℕ) → m < 2 ^ 32 → limit ≤ m → Covers rs i t → IsDone rs m t
+abbrev pub IsEndLimit : DoneView → ℕ → ℕ → Type 0
+IsEndLimit done i limit = (m t : ℕ) → m < 2 ^ 32 → limit ≤ m → Covers (records_of done) i t → IsEarly done m t
 
 -- ---- what is noted at the records
 
@@ -61,67 +68,71 @@ IsLimitOfBegin rs nodes i limit = (task begin : ℕ) → EndsRegion rs i task Ta
     → (node : Node) × (slice_get nodes begin ≡ Some node) × (node.limit ≡ limit)
 
 -- a node on the chain stands for the child that is created at c
-pub record HasNode (rs : List Record) (nodes : List Node) (head : Option ℕ) (c child : ℕ) : Type 0 where
+pub record HasNode (done : DoneView) (nodes : List Node) (head : Option ℕ) (c child : ℕ) : Type 0 where
   pub place : ℕ
   pub node : Node
   pub on : IsOnChain nodes head place
   pub there : slice_get nodes place ≡ Some node
   pub after : c ≤ place
-  pub limit : IsFamilyLimit rs child node.limit
+  pub limit : IsFamilyLimit done child node.limit
 
 -- at the index of each task stands the limit of its children, of those that the first n records create
-pub record AreLatest (rs : List Record) (n : ℕ) (tasks latest : List ℕ) : Type 0 where
-  pub all : length latest ≡ length tasks
-  pub each : (index task limit : ℕ) → slice_get tasks index ≡ Some task → slice_get latest index ≡ Some limit
-      → IsChildLimit rs n task limit
+pub record AreLatest (done : DoneView) (n : ℕ) (latest : List ℕ) : Type 0 where
+  pub all : length latest ≡ length (tasks_of done)
+  pub each : (index task limit : ℕ) → slice_get (tasks_of done) index ≡ Some task
+      → slice_get latest index ≡ Some limit
+      → IsChildLimit done n task limit
 
 -- the same of the children and their descendants
-pub record AreLatestFamilies (rs : List Record) (n : ℕ) (tasks families : List ℕ) : Type 0 where
-  pub all : length families ≡ length tasks
-  pub each : (index task limit : ℕ) → slice_get tasks index ≡ Some task
+pub record AreLatestFamilies (done : DoneView) (n : ℕ) (families : List ℕ) : Type 0 where
+  pub all : length families ≡ length (tasks_of done)
+  pub each : (index task limit : ℕ) → slice_get (tasks_of done) index ≡ Some task
       → slice_get families index ≡ Some limit
-      → IsFamiliesLimit rs n task limit
+      → IsFamiliesLimit done n task limit
 
 -- at the index of each task stands the head of a chain, where each child that one of the first n records
 -- creates has a node
-pub record AreChains (rs : List Record) (tasks : List ℕ) (nodes : List Node)
+pub record AreChains (done : DoneView) (nodes : List Node)
     (heads : List (Option ℕ)) : Type 0 where
-  pub all : length heads ≡ length tasks
+  pub all : length heads ≡ length (tasks_of done)
   pub known : (index head : ℕ) → slice_get heads index ≡ Some (Some head) → head < length nodes
   pub falling : AreFalling nodes
-  pub each : (index task c child : ℕ) (head : Option ℕ) → slice_get tasks index ≡ Some task
-      → slice_get heads index ≡ Some head → c < length nodes → at creation rs c ≡ Some (task, child)
-      → HasNode rs nodes head c child
+  pub each : (index task c child : ℕ) (head : Option ℕ) → slice_get (tasks_of done) index ≡ Some task
+      → slice_get heads index ≡ Some head → c < length nodes
+          → at creation (records_of done) c ≡ Some (task, child)
+      → HasNode done nodes head c child
 
 -- at each end stands the limit of what it covers
-abbrev pub AreKnown : List Record → List Node → Type 0
-AreKnown rs nodes = (i : ℕ) (node : Node) → slice_get nodes i ≡ Some node → IsEndLimit rs i node.limit
+abbrev pub AreKnown : DoneView → List Node → Type 0
+AreKnown done nodes = (i : ℕ) (node : Node) → slice_get nodes i ≡ Some node → IsEndLimit done i node.limit
 
 -- at each record, where it is the end of a region, stands the limit of what this covers
-pub record AreEndLimits (rs : List Record) (nodes : List Node) : Type 0 where
-  pub count : length nodes ≡ length rs
-  pub known : AreKnown rs nodes
+pub record AreEndLimits (done : DoneView) (nodes : List Node) : Type 0 where
+  pub count : length nodes ≡ length (records_of done)
+  pub known : AreKnown done nodes
 
 -- the limit is right for what begins or ends there: for the begin of a taskwait or of a barrier, and for the
 -- end of a taskwait or of a taskgroup
-pub record IsMark (rs : List Record) (i limit : ℕ) : Type 0 where
-  pub begins : (task : ℕ) → at region rs i ≡ Some (task, Taskwait, Begin) → IsChildLimit rs i task limit
-  pub meets : (task : ℕ) → barrier_begun (at region rs i) ≡ Some task → IsFamiliesLimit rs i task limit
-  pub ends : IsWaitLimit rs i limit
+pub record IsMark (done : DoneView) (i limit : ℕ) : Type 0 where
+  pub begins : (task : ℕ) → at region (records_of done) i ≡ Some (task, Taskwait, Begin)
+      → IsChildLimit done i task limit
+  pub meets : (task : ℕ) → barrier_begun (at region (records_of done) i) ≡ Some task
+      → IsFamiliesLimit done i task limit
+  pub ends : IsWaitLimit done i limit
 
-abbrev pub AreMarks : List Record → List Node → Type 0
-AreMarks rs nodes = (i : ℕ) (node : Node) → slice_get nodes i ≡ Some node → IsMark rs i node.limit
+abbrev pub AreMarks : DoneView → List Node → Type 0
+AreMarks done nodes = (i : ℕ) (node : Node) → slice_get nodes i ≡ Some node → IsMark done i node.limit
 
 -- at each record
-pub record AreNodes (rs : List Record) (nodes : List Node) : Type 0 where
-  pub count : length nodes ≡ length rs
-  pub marks : AreMarks rs nodes
+pub record AreNodes (done : DoneView) (nodes : List Node) : Type 0 where
+  pub count : length nodes ≡ length (records_of done)
+  pub marks : AreMarks done nodes
 
 -- what is known behind the first n records
-pub record AreNoted (rs : List Record) (n : ℕ) (tasks : List ℕ) (nodes : List Node)
+pub record AreNoted (done : DoneView) (n : ℕ) (nodes : List Node)
     (progress : Progress) : Type 0 where
   pub count : length nodes ≡ n
-  pub latest : AreLatest rs n tasks progress.latest.items
-  pub families : AreLatestFamilies rs n tasks progress.families.items
-  pub chains : AreChains rs tasks nodes progress.heads.items
-  pub marks : AreMarks rs nodes
+  pub latest : AreLatest done n progress.latest.items
+  pub families : AreLatestFamilies done n progress.families.items
+  pub chains : AreChains done nodes progress.heads.items
+  pub marks : AreMarks done nodes

@@ -10,33 +10,23 @@ use Rattle.ompt_events.specs.Records.{region}
 use Rattle.ompt_events.specs.Places.{at}
 use Rattle.ompt_events.specs.Regions.{is_barrier, IsBarrierBegin}
 use Rattle.teams.specs.Rows.{row_at}
+use Rattle.wait_coverage.specs.Done.{DoneView, records_of, tasks_of}
 use Rattle.wait_coverage.specs.Limits.{IsFamiliesLimit, IsWaitLimit, IsEndLimit}
 use Rattle.wait_coverage.specs.declared.limits.Node.{Node}
 
--- a barrier ends that waits for tasks
-abbrev pub IsBarrierEndOf : Option (ℕ × SyncKind × Endpoint) → Type 0
-IsBarrierEndOf says = (task : ℕ) × (kind : SyncKind) × (endpoint : Endpoint)
-    × (says ≡ Some (task, kind, endpoint)) × (endpoint ≡ Begin → ⊥) × (is_barrier kind ≡ true)
-
-abbrev pub EndsBarrier : Body → Type 0
-EndsBarrier body = IsBarrierEndOf (region body)
-
-abbrev pub IsBarrierEnd : List Record → ℕ → Type 0
-IsBarrierEnd rs i = IsBarrierEndOf (at region rs i)
-
 -- the row has a limit for what the task created before its barrier with this number began at i
-pub record IsMeeting (rs : List Record) (task number i : ℕ) (row : List ℕ) : Type 0 where
+pub record IsMeeting (done : DoneView) (task number i : ℕ) (row : List ℕ) : Type 0 where
   pub limit : ℕ
   pub there : slice_get row number ≡ Some limit
-  pub families : IsFamiliesLimit rs i task limit
+  pub families : IsFamiliesLimit done i task limit
 
 -- at the number of each team stands a row by the numbers of its barriers, for the begins among the first n
 -- records
-pub record AreMet (rs : List Record) (n : ℕ) (tasks : List ℕ) (teams : List (Option ℕ))
-    (meetings : List (Vec ℕ)) : Type 0 where
-  pub each : (index task team number i : ℕ) → slice_get tasks index ≡ Some task
-      → slice_get teams index ≡ Some (Some team) → IsBarrierBegin rs task number i → i < n
-      → IsMeeting rs task number i (row_at meetings team)
+pub record AreMet (done : DoneView) (n : ℕ) (meetings : List (Vec ℕ)) : Type 0 where
+  pub each : (index task team number i : ℕ) → slice_get (tasks_of done) index ≡ Some task
+      → slice_get done.teams.teams index ≡ Some (Some team)
+          → IsBarrierBegin (records_of done) task number i → i < n
+      → IsMeeting done task number i (row_at meetings team)
 
 -- each has at least what it had, and the one with this number at least the limit
 pub record IsRaised (number limit : ℕ) (before after : List ℕ) : Type 0 where
@@ -46,7 +36,7 @@ pub record IsRaised (number limit : ℕ) (before after : List ℕ) : Type 0 wher
 
 -- at each end among the first n records stands the limit of what it covers, at each other end that of what
 -- it covers as a taskwait or a taskgroup
-pub record AreMeetingsAdded (rs : List Record) (n : ℕ) (nodes : List Node) : Type 0 where
-  pub count : length nodes ≡ length rs
-  pub known : (i : ℕ) (node : Node) → i < n → slice_get nodes i ≡ Some node → IsEndLimit rs i node.limit
-  pub noted : (i : ℕ) (node : Node) → n ≤ i → slice_get nodes i ≡ Some node → IsWaitLimit rs i node.limit
+pub record AreMeetingsAdded (done : DoneView) (n : ℕ) (nodes : List Node) : Type 0 where
+  pub count : length nodes ≡ length (records_of done)
+  pub known : (i : ℕ) (node : Node) → i < n → slice_get nodes i ≡ Some node → IsEndLimit done i node.limit
+  pub noted : (i : ℕ) (node : Node) → n ≤ i → slice_get nodes i ≡ Some node → IsWaitLimit done i node.limit

@@ -16,7 +16,7 @@ use Rattle.task_tree.specs.Family.{FamilyView}
 use Rattle.task_tree.specs.Lineage.{parent_index}
 use Rattle.credit_ledger.specs.declared.entry.Cover.{Cover}
 use Rattle.credit_ledger.specs.declared.entry.Cover.TheVariants.{Children, Descendants}
-use Rattle.trace_ledger.specs.Entries.{IsDone}
+use Rattle.wait_coverage.specs.Done.{DoneView, records_of, tasks_of, IsEarly}
 use Rattle.wait_coverage.specs.Spans.{IsCoverComplete}
 use Rattle.wait_coverage.specs.declared.waits.Wait.{Wait}
 use Rattle.wait_coverage.specs.declared.waits.Wait.TheVariants.{Taskwait as ForTaskwait, Taskgroup as ForTaskgroup, Barrier as ForBarrier}
@@ -95,25 +95,6 @@ pub record AreMarked (rs : List Record) (tasks : List ℕ) (wait : Wait) (order 
       → slice_get tasks index ≡ Some task
       → IsTrue (slice_index_or marks index false) ↔ IsAwaited rs tasks wait task
 
--- of the parent of the task at the index it is known whether it is waited for
-abbrev pub IsMarkedAbove : List Record → FamilyView → Wait → List Bool → ℕ → Type 0
-IsMarkedAbove rs family wait marks index = (up parent : ℕ) → parent_index family index ≡ Some up
-    → slice_get family.tasks up ≡ Some parent
-    → IsTrue (slice_index_or marks up false) ↔ IsAwaited rs family.tasks wait parent
-
--- the record ends no wait for tasks
-abbrev pub EndsNoWait : Body → Type 0
-EndsNoWait body = (task : ℕ) (kind : SyncKind) (endpoint : Endpoint)
-    → region body ≡ Some (task, kind, endpoint) → (endpoint ≡ Begin) ⊎ (waits_for_tasks kind ≡ false)
-
--- the record ends a region of this kind, which waits for tasks
-pub record EndsWaitOf (body : Body) (kind : SyncKind) : Type 0 where
-  pub task : ℕ
-  pub endpoint : Endpoint
-  pub says : region body ≡ Some (task, kind, endpoint)
-  pub ends : endpoint ≡ Begin → ⊥
-  pub waits : waits_for_tasks kind ≡ true
-
 -- ---- what is unfinished
 
 -- the end at i covers the task, which is unfinished there
@@ -134,13 +115,13 @@ pub record IsFirstOpenEnd (rs : List Record) (i task : ℕ) : Type 0 where
   pub first_open : IsFirstOpen rs i task
   pub before : (k : ℕ) → k < i → IsCoverComplete rs k
 
--- the task that is created there is waited for, and not finished by entries below the length seen
-abbrev pub IsLateAt : List Record → List ℕ → Wait → ℕ → ℕ → ℕ → Type 0
-IsLateAt rs tasks wait seen place task =
-    (at created rs place ≡ Some task) × IsAwaited rs tasks wait task × (IsDone rs seen task → ⊥)
+-- the task that is created there is waited for, and its length is above the one seen
+abbrev pub IsLateAt : DoneView → Wait → ℕ → ℕ → ℕ → Type 0
+IsLateAt done wait seen place task = (at created (records_of done) place ≡ Some task)
+    × IsAwaited (records_of done) (tasks_of done) wait task × (IsEarly done seen task → ⊥)
 
 -- the first such task
-pub record IsFirstLate (rs : List Record) (tasks : List ℕ) (wait : Wait) (seen task : ℕ) : Type 0 where
+pub record IsFirstLate (done : DoneView) (wait : Wait) (seen task : ℕ) : Type 0 where
   pub place : ℕ
-  pub late : IsLateAt rs tasks wait seen place task
-  pub first : (k other : ℕ) → k < place → IsLateAt rs tasks wait seen k other → ⊥
+  pub late : IsLateAt done wait seen place task
+  pub first : (k other : ℕ) → k < place → IsLateAt done wait seen k other → ⊥

@@ -5,7 +5,6 @@ ghost use Rattle.ompt_events.specs.declared.cause.Cause.TheVariants.{TeamShort};
 ghost use Rattle.ompt_events.specs.declared.fault.Fault.TheVariants.{Memory};
 ghost use Rattle.ompt_events.specs.Faults.{IsFault};
 ghost use Rattle.ompt_events.specs.Tree.{HasPath};
-ghost use Rattle.task_tree.specs.Family.{IsFamilyOf};
 ghost use Rattle.task_tree.specs.Paths.{IsTreeOf};
 ghost use Rattle.credit_ledger.specs.declared.entry.Span.{Span};
 ghost use Rattle.credit_ledger.specs.declared.entry.Cover.{Cover};
@@ -13,19 +12,18 @@ ghost use Rattle.credit_ledger.specs.Entries.{IsSpanHeld};
 ghost use Rattle.trace_ledger.specs.Entries.{IsLedgerOf, IsFreeUpTo};
 ghost use Rattle.wait_coverage.specs.declared.waits.Wait.TheVariants.{Barrier};
 ghost use Rattle.wait_coverage.specs.Spans.{AreSpans, AreMemberSpans, IsSpan, IsCoverComplete};
-ghost use Rattle.wait_coverage.specs.Teams.{IsTeamsOf};
 ghost use Rattle.wait_coverage.specs.Waits.{IsWaitAt, IsFirstOpen, cover_of};
-ghost use Rattle.wait_coverage.specs.Coverage.{AreEnds, AreWaits, AreFirstOpen, IsCoverAt, IsOnly, HasBegun, HaveBegun, IsMemberSpan, AreRosterSpans};
+ghost use Rattle.wait_coverage.specs.Coverage.{AreAllHeld, AreShallow, AreEnds, AreWaits, AreFirstOpen, IsCoverAt, IsOnly, HasBegun, HaveBegun, IsMemberSpan, AreRosterSpans};
 
 use crate::numbers::find_numbers;
-use crate::unfinished::{Known, find_known, open_of};
+use crate::unfinished::{Known, open_at};
 use crate::waits::{Wait, wait_at};
 use credit_ledger::{Cover, Ledger, Span};
-use ompt_events::{Fault, Path, Record, Trace};
+use ompt_events::{Fault, Path, Trace};
 use std::alloc::{AllocError, Global};
 use std::marker::Model;
 use task_states::States;
-use task_tree::{Family, Slot, Tree};
+use task_tree::{Slot, Tree};
 use teams::Teams;
 
 /// Why a call on the coverage of waits has no answer.
@@ -34,10 +32,8 @@ pub type CoverFault = Fault;
 /// What each wait of a trace waits for.
 #[derive(Debug, Drop)]
 pub struct Coverage<'a> {
-    records: &'a [Record],
     tree: &'a Tree,
     teams: Teams<'a>,
-    known: Known,
     /// For each record how many children its task had created before it.
     numbers: Vec<u32>,
     ends: Vec<usize>,
@@ -50,20 +46,16 @@ impl<'a> Model for Coverage<'a> {
     ghost Value = { CoverageView };
 
     ghost view = { λ coverage. record {
-      records = coverage.records.now;
       tree = coverage.tree.now;
       teams = coverage.teams;
-      known = coverage.known;
       numbers = coverage.numbers.items;
       ends = coverage.ends.items;
       waits = coverage.waits.items;
     } };
 
     ghost invariant = { λ coverage. IsCoverage (record {
-      records = coverage.records.now;
       tree = coverage.tree.now;
       teams = coverage.teams;
-      known = coverage.known;
       numbers = coverage.numbers.items;
       ends = coverage.ends.items;
       waits = coverage.waits.items;
@@ -82,20 +74,15 @@ impl<'a> Coverage<'a> {
         requires tree { IsTreeOf trace.now.records tree.now }
         requires records { states.now.run.records ≡ trace.now.records }
         requires family { states.now.run.family ≡ tree.now.family }
-        ensures coverage { IfOk result (λ coverage. coverage.records ≡ trace.now.records) }
+        ensures coverage { IfOk result (λ coverage. coverage.teams.run.records ≡ trace.now.records) }
         ensures fault { IfErr result (IsFault trace.now.records (TeamShort ∷ [])) }
     {
-        let records = trace.records();
-        let family = tree.family();
         let teams = Teams::in_run(alloc, states)?;
-        let known = find_known(alloc, &teams)?;
-        let numbers = find_numbers(alloc, records, family)?;
-        let (ends, waits) = find_ends(alloc, records, family, &teams)?;
+        let numbers = find_numbers(alloc, teams.run())?;
+        let (ends, waits) = find_ends(alloc, &teams)?;
         Ok(Coverage {
-            records,
             tree,
             teams,
-            known,
             numbers,
             ends,
             waits,
@@ -105,7 +92,7 @@ impl<'a> Coverage<'a> {
     /// The places of the records that end a wait, in file order.
     pub fn ends(&self) -> &[usize]
         ensures value { result.now ≡ self.now.ends }
-        ensures ends { AreEnds self.now.records (length self.now.records) result.now }
+        ensures ends { AreEnds self.now.teams.run.records (length self.now.teams.run.records) result.now }
     {
         self.ends.as_slice()
     }
@@ -114,7 +101,7 @@ impl<'a> Coverage<'a> {
     pub fn cover(&self, number: usize) -> Cover
         requires { number < length self.now.ends }
         ensures { (end : ℕ) → slice_get self.now.ends number ≡ Some end
-            → IsCoverAt self.now.records end result }
+            → IsCoverAt self.now.teams.run.records end result }
     {
         self.waits[number].cover()
     }
@@ -125,8 +112,8 @@ impl<'a> Coverage<'a> {
         requires { number < length self.now.ends }
         ensures fault { IfErr result (λ fault. fault ≡ Memory) }
         ensures spans { IfOk result (λ spans. (end : ℕ) → slice_get self.now.ends number ≡ Some end
-            → (cover : Cover) × IsCoverAt self.now.records end cover
-            × AreSpans self.now.records end cover spans.items) }
+            → (cover : Cover) × IsCoverAt self.now.teams.run.records end cover
+            × AreSpans self.now.teams.run.records end cover spans.items) }
     {
         Ok(self.spans_of(&self.waits[number])?)
     }
@@ -138,30 +125,36 @@ impl<'a> Coverage<'a> {
     pub fn first_open(&self, number: usize, ledger: &Ledger) -> Result<Option<u64>, CoverFault>
         requires { number < length self.now.ends }
         ensures fault { IfErr result (λ fault. fault ≡ Memory) }
-        ensures first { IsLedgerOf self.now.records ledger.now → IsFreeUpTo self.now.records 13
+        ensures first { IsLedgerOf self.now.teams.run.records ledger.now → IsFreeUpTo self.now.teams.run.records 13
             → IfOk result (λ found. (end : ℕ) → slice_get self.now.ends number ≡ Some end
-            → MatchOption found (IsCoverComplete self.now.records end) (IsFirstOpen self.now.records end)) }
+            → MatchOption found (IsCoverComplete self.now.teams.run.records end) (IsFirstOpen self.now.teams.run.records end)) }
     {
-        let at = self.ends[number];
-        let wait = &self.waits[number];
-        let spans = self.spans_of(wait)?;
-        let seen = self.records[at].seen;
-        if are_held(ledger, seen, spans.as_slice(), wait.cover())? {
+        if self.is_end_held(number, ledger)? {
             return Ok(None);
         }
         let alloc = *self.ends.allocator();
-        Ok(open_of(
-            alloc,
-            self.records,
-            self.tree.family(),
-            &self.teams,
-            &self.known,
-            wait,
-            at,
-        )?)
+        let known = Known::of_ledger(alloc, &self.teams, ledger)?;
+        Ok(open_at(alloc, &known, self.ends[number])?)
     }
 
-    /// The same for several ends. Each costs what it costs by itself.
+    /// Whether the entries of the ledger below the length that the end with this number names hold the credit
+    /// that it waits for.
+    fn is_end_held(&self, number: usize, ledger: &Ledger) -> Result<bool, CoverFault>
+        requires { number < length self.now.ends }
+        ensures fault { IfErr result (λ fault. fault ≡ Memory) }
+        ensures held { IsLedgerOf self.now.teams.run.records ledger.now
+            → IsFreeUpTo self.now.teams.run.records 13
+            → IfOk result (λ held. IsTrue held → (end : ℕ) → slice_get self.now.ends number ≡ Some end
+            → IsCoverComplete self.now.teams.run.records end) }
+    {
+        let wait = &self.waits[number];
+        let spans = self.spans_of(wait)?;
+        let seen = self.teams.run().seen(self.ends[number]);
+        are_held(ledger, seen, spans.as_slice(), wait.cover())
+    }
+
+    /// The same for several ends. It goes over the ledger's entries once, for all of them, and takes a few
+    /// steps for each end in time; one that is open costs a few steps for each record.
     pub fn first_open_all(
         &self,
         of: &[usize],
@@ -169,23 +162,25 @@ impl<'a> Coverage<'a> {
     ) -> Result<Vec<Option<u64>>, CoverFault>
         requires { All (λ number. number < length self.now.ends) of.now }
         ensures fault { IfErr result (λ fault. fault ≡ Memory) }
-        ensures first { IsLedgerOf self.now.records ledger.now → IsFreeUpTo self.now.records 13
+        ensures first { IsLedgerOf self.now.teams.run.records ledger.now → IsFreeUpTo self.now.teams.run.records 13
             → IfOk result (λ found.
-            AreFirstOpen self.now.records self.now.ends of.now (length of.now) found.items) }
+            AreFirstOpen self.now.teams.run.records self.now.ends of.now (length of.now) found.items) }
     {
-        let mut found = Vec::with_capacity(*self.ends.allocator(), of.len())?;
+        let alloc = *self.ends.allocator();
+        let known = Known::of_ledger(alloc, &self.teams, ledger)?;
+        let mut found = Vec::with_capacity(alloc, of.len())?;
         for index in 0..of.len() {
-            found.push(self.first_open(of[index], ledger)?)?;
+            found.push(open_at(alloc, &known, self.ends[of[index]])?)?;
         }
         Ok(found)
     }
 
     /// The credit that is waited for: one span, or for a barrier one of each member of the team.
     fn spans_of(&self, wait: &Wait) -> Result<Vec<Span>, AllocError>
-        requires { (end : ℕ) × IsWaitAt self.now.records self.now.tree.family.tasks end wait.now }
+        requires { (end : ℕ) × IsWaitAt self.now.teams.run.records self.now.teams.run.family.tasks end wait.now }
         ensures { IfOk result (λ spans. (end : ℕ)
-            → IsWaitAt self.now.records self.now.tree.family.tasks end wait.now
-            → AreSpans self.now.records end (cover_of wait.now) spans.items) }
+            → IsWaitAt self.now.teams.run.records self.now.teams.run.family.tasks end wait.now
+            → AreSpans self.now.teams.run.records end (cover_of wait.now) spans.items) }
     {
         match *wait {
             Wait::Taskwait { task, begin } => self.only_span(task, 0, self.numbers[begin]),
@@ -199,9 +194,9 @@ impl<'a> Coverage<'a> {
 
     /// The span of the children of the task at the index with these numbers, alone.
     fn only_span(&self, task: usize, from: u32, to: u32) -> Result<Vec<Span>, AllocError>
-        requires { task < length self.now.tree.family.tasks }
-        ensures { IfOk result (λ spans. (id : ℕ) → slice_get self.now.tree.family.tasks task ≡ Some id
-            → IsOnly self.now.records id from to spans.items) }
+        requires { task < length self.now.teams.run.family.tasks }
+        ensures { IfOk result (λ spans. (id : ℕ) → slice_get self.now.teams.run.family.tasks task ≡ Some id
+            → IsOnly self.now.teams.run.records id from to spans.items) }
     {
         let mut spans = Vec::new(*self.ends.allocator());
         spans.push(self.span(task, from, to)?)?;
@@ -210,11 +205,11 @@ impl<'a> Coverage<'a> {
 
     /// The span of the children of the task at the index with these numbers.
     fn span(&self, task: usize, from: u32, to: u32) -> Result<Span, AllocError>
-        requires { task < length self.now.tree.family.tasks }
-        ensures { IfOk result (λ span. (id : ℕ) → slice_get self.now.tree.family.tasks task ≡ Some id
-            → IsSpan self.now.records id from to span) }
+        requires { task < length self.now.teams.run.family.tasks }
+        ensures { IfOk result (λ span. (id : ℕ) → slice_get self.now.teams.run.family.tasks task ≡ Some id
+            → IsSpan self.now.teams.run.records id from to span) }
     {
-        let id = self.tree.family().tasks().as_slice()[task];
+        let id = self.teams.run().task(task);
         let (root, path) = stands_at(*self.ends.allocator(), self.tree, id)?;
         Ok(Span {
             from,
@@ -228,9 +223,9 @@ impl<'a> Coverage<'a> {
     /// children that it created before its barrier with this number began.
     fn member_spans(&self, task: usize, number: usize) -> Result<Vec<Span>, AllocError>
         requires { (end : ℕ)
-            × IsWaitAt self.now.records self.now.tree.family.tasks end (Barrier task number) }
-        ensures { IfOk result (λ spans. (id : ℕ) → slice_get self.now.tree.family.tasks task ≡ Some id
-            → AreMemberSpans self.now.records id number spans.items) }
+            × IsWaitAt self.now.teams.run.records self.now.teams.run.family.tasks end (Barrier task number) }
+        ensures { IfOk result (λ spans. (id : ℕ) → slice_get self.now.teams.run.family.tasks task ≡ Some id
+            → AreMemberSpans self.now.teams.run.records id number spans.items) }
     {
         match self.teams.team(task) {
             Some(team) => self.roster_spans(self.teams.roster(team), number),
@@ -241,7 +236,7 @@ impl<'a> Coverage<'a> {
     /// The same for the tasks at the indices of a roster.
     fn roster_spans(&self, roster: &[Slot], number: usize) -> Result<Vec<Span>, AllocError>
         requires { HaveBegun self.now.teams.begins number roster.now }
-        ensures { IfOk result (λ spans. AreRosterSpans self.now.records self.now.tree.family.tasks number
+        ensures { IfOk result (λ spans. AreRosterSpans self.now.teams.run.records self.now.teams.run.family.tasks number
             roster.now (length roster.now) spans.items) }
     {
         let mut spans = Vec::with_capacity(*self.ends.allocator(), roster.len())?;
@@ -256,8 +251,8 @@ impl<'a> Coverage<'a> {
     /// began.
     fn member_span(&self, member: usize, number: usize) -> Result<Span, AllocError>
         requires { HasBegun self.now.teams.begins number member }
-        ensures { IfOk result (λ span. (id : ℕ) → slice_get self.now.tree.family.tasks member ≡ Some id
-            → IsMemberSpan self.now.records id number span) }
+        ensures { IfOk result (λ span. (id : ℕ) → slice_get self.now.teams.run.family.tasks member ≡ Some id
+            → IsMemberSpan self.now.teams.run.records id number span) }
     {
         let start = self.teams.begins(member)[number] as usize;
         self.span(member, 0, self.numbers[start])
@@ -278,11 +273,13 @@ fn stands_at(alloc: Global, tree: &Tree, task: u64) -> Result<(u64, Path), Alloc
     Ok((root, Path::from_vec(numbers)))
 }
 
-/// Whether the first entries of the ledger, so many as were seen, hold all the spans.
+/// Whether the first entries of the ledger, so many as were seen, hold all the spans. No credit comes back from
+/// deeper than 1,024 steps below a root.
 fn are_held(ledger: &Ledger, seen: u32, spans: &[Span], cover: Cover) -> Result<bool, CoverFault>
     ensures fault { IfErr result (λ fault. fault ≡ Memory) }
-    ensures held { IfOk result (λ held. IsTrue held → (span : Span) → Contains spans.now span
-        → IsSpanHeld (take seen ledger.now) span cover) }
+    ensures held { IfOk result (λ held. IsTrue held → AreAllHeld ledger.now seen cover spans.now) }
+    ensures all { AreShallow spans.now
+        → IfOk result (λ held. AreAllHeld ledger.now seen cover spans.now → IsTrue held) }
 {
     for index in 0..spans.len() {
         if !is_held(ledger, seen, &spans[index], cover)? {
@@ -297,6 +294,8 @@ fn are_held(ledger: &Ledger, seen: u32, spans: &[Span], cover: Cover) -> Result<
 fn is_held(ledger: &Ledger, seen: u32, span: &Span, cover: Cover) -> Result<bool, CoverFault>
     ensures fault { IfErr result (λ fault. fault ≡ Memory) }
     ensures held { IfOk result (λ held. IsTrue held → IsSpanHeld (take seen ledger.now) span.now cover) }
+    ensures all { length span.now.path ≤ 1024
+        → IfOk result (λ held. IsSpanHeld (take seen ledger.now) span.now cover → IsTrue held) }
 {
     if span.path.as_slice().len() > 1024 {
         return Ok(false);
@@ -308,22 +307,16 @@ fn is_held(ledger: &Ledger, seen: u32, span: &Span, cover: Cover) -> Result<bool
 }
 
 /// The records that end a wait, and what each waits for.
-fn find_ends(
-    alloc: Global,
-    records: &[Record],
-    family: &Family,
-    teams: &Teams,
-) -> Result<(Vec<usize>, Vec<Wait>), AllocError>
-    requires family { IsFamilyOf records.now family.now }
-    requires teams { IsTeamsOf records.now family.now.tasks teams.now }
-    ensures ends { IfOk result (λ found. AreEnds records.now (length records.now) found.0.items) }
+fn find_ends(alloc: Global, teams: &Teams) -> Result<(Vec<usize>, Vec<Wait>), AllocError>
+    ensures ends { IfOk result (λ found.
+        AreEnds teams.now.run.records (length teams.now.run.records) found.0.items) }
     ensures waits { IfOk result (λ found.
-        AreWaits records.now family.now.tasks found.0.items found.1.items) }
+        AreWaits teams.now.run.records teams.now.run.family.tasks found.0.items found.1.items) }
 {
     let mut ends = Vec::new(alloc);
     let mut waits = Vec::new(alloc);
-    for at in 0..records.len() {
-        if let Some(wait) = wait_at(records, family, teams, at) {
+    for at in 0..teams.run().len() {
+        if let Some(wait) = wait_at(teams, at) {
             ends.push(at)?;
             waits.push(wait)?;
         }

@@ -1,46 +1,169 @@
 //! From which ledger length on each task is finished, and from which one on its descendants are too.
-ghost use Rattle.std.specs.Prelude.{ℕ, ◌≡◌, ◌<◌, List, Some, IfOk, length};
-ghost use Rattle.ompt_events.specs.declared.records.Record.{Record};
-ghost use Rattle.task_tree.specs.Family.{IsFamilyOf};
+ghost use Rattle.std.specs.Prelude.{ℕ, ◌≡◌, ◌<◌, List, Option, Some, IfOk, MatchOption, length, map, slice_get};
+ghost use Rattle.ompt_events.specs.declared.names.SyncKind.{SyncKind};
+ghost use Rattle.ompt_events.specs.Regions.{IsRegion};
+ghost use Rattle.task_states.specs.States.{IsBeginOf};
 ghost use Rattle.task_tree.specs.Lineage.{parent_index};
-ghost use Rattle.wait_coverage.specs.Done.{AreOwn, AreFamilies, AreDone, IsParentsFirst, raised, AreRaised};
+ghost use Rattle.teams.specs.Missed.{IsBarrierEnd, EndsNoBarrier};
+ghost use Rattle.trace_ledger.specs.Entries.{IsLedgerOf};
+ghost use Rattle.wait_coverage.specs.Done.{IsDoneView, AreDone, AreRaised, IsParentsFirst, raised};
+ghost use Rattle.wait_coverage.specs.Lengths.{done_length};
 
-use crate::lengths::find_lengths;
+use crate::lengths::{Lengths, find_entered, find_lengths};
 use crate::order::parents_first;
-use ompt_events::Record;
+use credit_ledger::Ledger;
 use std::alloc::{AllocError, Global};
-use task_tree::Family;
+use std::marker::Model;
+use task_tree::{Family, Run};
+use teams::{BarrierEnd, Teams};
 
-/// Ledger lengths by index of the task.
+/// Ledger lengths by index of the task, for the tasks of a run.
 #[derive(Debug, Drop)]
-pub(crate) struct Done {
+pub(crate) struct Done<'a> {
+    teams: &'a Teams<'a>,
     /// From this one on the task is finished.
-    pub(crate) own: Vec<u64>,
+    own: Vec<u64>,
     /// From this one on the task and all its descendants are.
-    pub(crate) families: Vec<u64>,
+    families: Vec<u64>,
 }
 
-/// From which ledger lengths on the tasks are finished.
-pub(crate) fn find_done(
-    alloc: Global,
-    records: &[Record],
-    family: &Family,
-) -> Result<Done, AllocError>
-    requires { IsFamilyOf records.now family.now }
-    ensures { IfOk result (AreDone records.now family.now.tasks) }
-{
-    let own = find_own(alloc, records, family)?;
-    let order = parents_first(alloc, family)?;
-    let families = find_families(alloc, records, family, own.as_slice(), order.as_slice())?;
-    Ok(Done { own, families })
+impl<'a> Model for Done<'a> {
+    ghost use Rattle.wait_coverage.specs.Done.{DoneView, IsDoneView};
+
+    ghost Value = { DoneView };
+
+    ghost view = { λ done. record {
+      teams = done.teams.now;
+      own = done.own.items;
+      families = done.families.items;
+    } };
+
+    ghost invariant = { λ done. IsDoneView (record {
+      teams = done.teams.now;
+      own = done.own.items;
+      families = done.families.items;
+    }) };
+}
+
+impl<'a> Done<'a> {
+    /// From which ledger lengths on the tasks are finished, by what the records say.
+    pub(crate) fn of_run(alloc: Global, teams: &'a Teams<'a>) -> Result<Done<'a>, AllocError>
+        ensures teams { IfOk result (λ done. done.teams ≡ teams.now) }
+        ensures done { IfOk result AreDone }
+    {
+        let lengths = find_lengths(alloc, teams.run())?;
+        Done::by_lengths(alloc, teams, lengths.as_slice())
+    }
+
+    /// From which lengths of the ledger on the tasks are finished, by its entries.
+    pub(crate) fn of_ledger(
+        alloc: Global,
+        teams: &'a Teams<'a>,
+        ledger: &Ledger,
+    ) -> Result<Done<'a>, AllocError>
+        ensures teams { IfOk result (λ done. done.teams ≡ teams.now) }
+        ensures done { IsLedgerOf teams.now.run.records ledger.now → IfOk result AreDone }
+    {
+        let lengths = find_entered(alloc, teams.run(), ledger)?;
+        Done::by_lengths(alloc, teams, lengths.as_slice())
+    }
+
+    /// From which lengths on the tasks are finished, where it is known of their parts.
+    fn by_lengths(
+        alloc: Global,
+        teams: &'a Teams<'a>,
+        lengths: &[Lengths],
+    ) -> Result<Done<'a>, AllocError>
+        requires { length lengths.now ≡ length teams.now.run.family.tasks }
+        ensures teams { IfOk result (λ done. done.teams ≡ teams.now) }
+        ensures own { IfOk result (λ done. done.own ≡ map done_length lengths.now) }
+    {
+        let own = find_own(alloc, lengths)?;
+        let family = teams.run().family();
+        let order = parents_first(alloc, family)?;
+        let families = find_families(alloc, family, own.as_slice(), order.as_slice())?;
+        Ok(Done {
+            teams,
+            own,
+            families,
+        })
+    }
+
+    /// By index of the task the ledger length from which on it is finished.
+    pub(crate) fn own(&self) -> &[u64]
+        ensures value { result.now ≡ self.now.own }
+        ensures is_done { IsDoneView self.now }
+    {
+        self.own.as_slice()
+    }
+
+    /// By index of the task the ledger length from which on it and all its descendants are finished.
+    pub(crate) fn families(&self) -> &[u64]
+        ensures value { result.now ≡ self.now.families }
+        ensures is_done { IsDoneView self.now }
+    {
+        self.families.as_slice()
+    }
+}
+
+// What is known of the run.
+impl<'a> Done<'a> {
+    /// The teams.
+    pub(crate) fn teams(&self) -> &'a Teams<'a>
+        ensures value { result.now ≡ self.now.teams }
+        ensures is_done { IsDoneView self.now }
+    {
+        self.teams
+    }
+
+    /// The run.
+    pub(crate) fn run(&self) -> &'a Run<'a>
+        ensures value { result.now ≡ self.now.teams.run }
+        ensures is_done { IsDoneView self.now }
+    {
+        self.teams.run()
+    }
+
+    /// Where the region began that ends at the place.
+    pub(crate) fn begin_of(&self, at: usize) -> Option<usize>
+        requires { at < length self.now.teams.run.records }
+        ensures { MatchOption result ((task begin : ℕ) (kind : SyncKind)
+            → IsRegion self.now.teams.run.records at task kind begin → ⊥)
+            (IsBeginOf self.now.teams.run.records at) }
+    {
+        self.teams.begin_of(at)
+    }
+
+    /// The barrier that ends at the place, if one does.
+    pub(crate) fn barrier_end(&self, at: usize) -> Option<BarrierEnd>
+        requires { at < length self.now.teams.run.records }
+        ensures { MatchOption result (EndsNoBarrier self.now.teams.run.records at)
+            (λ end. IsBarrierEnd self.now.teams.run at end.task end.begin) }
+    {
+        self.teams.barrier_end(at)
+    }
+
+    /// The number of the team of the task at this index.
+    pub(crate) fn team(&self, index: usize) -> Option<usize>
+        requires { index < length self.now.teams.teams }
+        ensures { slice_get self.now.teams.teams index ≡ Some result }
+    {
+        self.teams.team(index)
+    }
+
+    /// How many barriers the task that begins one at this place began before.
+    pub(crate) fn number(&self, at: usize) -> u32
+        requires { at < length self.now.teams.numbers }
+        ensures { slice_get self.now.teams.numbers at ≡ Some result }
+    {
+        self.teams.number(at)
+    }
 }
 
 /// By index of the task the ledger length from which on it is finished.
-fn find_own(alloc: Global, records: &[Record], family: &Family) -> Result<Vec<u64>, AllocError>
-    requires { IsFamilyOf records.now family.now }
-    ensures { IfOk result (λ own. AreOwn records.now family.now.tasks own.items) }
+fn find_own(alloc: Global, lengths: &[Lengths]) -> Result<Vec<u64>, AllocError>
+    ensures { IfOk result (λ own. own.items ≡ map done_length lengths.now) }
 {
-    let lengths = find_lengths(alloc, records, family)?;
     let mut own = Vec::with_capacity(alloc, lengths.len())?;
     for index in 0..lengths.len() {
         own.push(lengths[index].done())?;
@@ -48,19 +171,17 @@ fn find_own(alloc: Global, records: &[Record], family: &Family) -> Result<Vec<u6
     Ok(own)
 }
 
-/// By index of the task the ledger length from which on it and all its descendants are finished: each task
-/// hands its own up when its children have handed up theirs.
+/// By index of the task the greatest of its length and those of its descendants: each task hands its own up
+/// when its children have handed up theirs.
 fn find_families(
     alloc: Global,
-    records: &[Record],
     family: &Family,
     own: &[u64],
     order: &[usize],
 ) -> Result<Vec<u64>, AllocError>
-    requires family { IsFamilyOf records.now family.now }
-    requires own { AreOwn records.now family.now.tasks own.now }
+    requires own { length own.now ≡ length family.now.tasks }
     requires order { IsParentsFirst family.now order.now }
-    ensures { IfOk result (λ families. AreFamilies records.now family.now.tasks families.items) }
+    ensures { IfOk result (λ families. AreRaised family.now order.now own.now 0 families.items) }
 {
     let mut families = copy_of(alloc, own)?;
     for passed in 0..order.len() {

@@ -1,11 +1,14 @@
-//! From which ledger length on each part of each task is finished.
-ghost use Rattle.std.specs.Prelude.{◌≡◌, ◌<◌, ◌+◌, IfOk, length, replicate};
-ghost use Rattle.task_tree.specs.Family.{IsFamilyOf};
-ghost use Rattle.wait_coverage.specs.Lengths.{no_lengths, with_length, done_length, AreLengths};
+//! From which ledger length on each part of each task is finished: by the records, or by the entries of a
+//! ledger.
+ghost use Rattle.std.specs.Prelude.{◌≡◌, ◌<◌, ◌+◌, List, Some, IfOk, length, replicate, slice_get};
+ghost use Rattle.credit_ledger.specs.declared.entry.Entry.{Entry};
+ghost use Rattle.trace_ledger.specs.Entries.{IsLedgerOf};
+ghost use Rattle.wait_coverage.specs.Lengths.{no_lengths, with_length, done_length, AreLengths, AreLengthsBelow};
 
-use ompt_events::{Part, Record, finish};
+use credit_ledger::{Entry, Ledger};
+use ompt_events::Part;
 use std::alloc::{AllocError, Global};
-use task_tree::Family;
+use task_tree::Run;
 
 /// Above all ledger lengths.
 const NEVER: u64 = u64::MAX;
@@ -62,19 +65,34 @@ impl Lengths {
     }
 }
 
-/// By index of the task from which ledger lengths on its parts are finished.
-pub(crate) fn find_lengths(
-    alloc: Global,
-    records: &[Record],
-    family: &Family,
-) -> Result<Vec<Lengths>, AllocError>
-    requires { IsFamilyOf records.now family.now }
-    ensures { IfOk result (λ table. AreLengths records.now
-        (length records.now) family.now.tasks table.items) }
+/// By index of the task from which ledger lengths on its parts are finished, by the records.
+pub(crate) fn find_lengths(alloc: Global, run: &Run) -> Result<Vec<Lengths>, AllocError>
+    ensures { IfOk result (λ table. AreLengths run.now.records
+        (length run.now.records) run.now.family.tasks table.items) }
 {
-    let mut table = new_lengths(alloc, family.tasks().as_slice().len())?;
-    for at in 0..records.len() {
-        note_finish(records, family, &mut table, at);
+    let mut table = new_lengths(alloc, run.task_count())?;
+    for at in 0..run.len() {
+        note_finish(run, &mut table, at);
+    }
+    Ok(table)
+}
+
+/// By index of the task from which ledger lengths on its parts are finished, by the entries of the ledger. It
+/// looks up each entry's task, in logarithmic time.
+pub(crate) fn find_entered(
+    alloc: Global,
+    run: &Run,
+    ledger: &Ledger,
+) -> Result<Vec<Lengths>, AllocError>
+    ensures all { IfOk result (λ table. length table.items ≡ length run.now.family.tasks) }
+    ensures lengths { IsLedgerOf run.now.records ledger.now → IfOk result (λ table.
+        AreLengthsBelow run.now.records (length ledger.now) run.now.family.tasks table.items) }
+{
+    let mut table = new_lengths(alloc, run.task_count())?;
+    for index in 0..ledger.len() {
+        if let Some(entry) = ledger.entry(index) {
+            note_entry(run, &mut table, entry, index);
+        }
     }
     Ok(table)
 }
@@ -87,16 +105,28 @@ fn new_lengths(alloc: Global, tasks: usize) -> Result<Vec<Lengths>, AllocError>
 }
 
 /// Notes what the record at a place finishes.
-fn note_finish(records: &[Record], family: &Family, table: &mut Vec<Lengths>, at: usize)
-    requires within { at < length records.now }
-    requires family { IsFamilyOf records.now family.now }
-    requires table { AreLengths records.now at family.now.tasks table.old.items }
-    ensures { AreLengths records.now (at + 1) family.now.tasks table.new.items }
+fn note_finish(run: &Run, table: &mut Vec<Lengths>, at: usize)
+    requires within { at < length run.now.records }
+    requires table { AreLengths run.now.records at run.now.family.tasks table.old.items }
+    ensures { AreLengths run.now.records (at + 1) run.now.family.tasks table.new.items }
 {
-    let event = &records[at];
-    if let Some((_, part)) = finish(event) {
-        if let Some(index) = family.subject(at) {
-            table[index] = table[index].with(part, u64::from(event.seen) + 1);
-        }
+    if let Some(finished) = run.finishing(at) {
+        let length = u64::from(run.seen(at)) + 1;
+        table[finished.task] = table[finished.task].with(finished.part, length);
+    }
+}
+
+/// Notes what the entry with the index finishes.
+fn note_entry(run: &Run, table: &mut Vec<Lengths>, entry: &Entry, index: u32)
+    requires all { length table.old.items ≡ length run.now.family.tasks }
+    ensures all { length table.new.items ≡ length run.now.family.tasks }
+    ensures lengths { (entries : List Entry) → IsLedgerOf run.now.records entries
+        → slice_get entries index ≡ Some entry.now
+        → AreLengthsBelow run.now.records index run.now.family.tasks table.old.items
+        → AreLengthsBelow run.now.records (index + 1) run.now.family.tasks table.new.items }
+{
+    if let Some(task) = run.index_of(entry.task) {
+        let length = u64::from(index) + 1;
+        table[task] = table[task].with(entry.part, length);
     }
 }

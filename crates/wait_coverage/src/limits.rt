@@ -1,23 +1,18 @@
 //! From which ledger length on what the end of a region covers is finished.
-ghost use Rattle.std.specs.Prelude.{ℕ, ◌≡◌, ◌<◌, ◌≤◌, ◌+◌, ◌^◌, ◌↔◌, ◌++◌, ◌∷◌, [], Some, None, IfOk, IsTrue, length, replicate};
-ghost use Rattle.ompt_events.specs.Records.{creation, region};
+ghost use Rattle.std.specs.Prelude.{ℕ, ◌≡◌, ◌<◌, ◌+◌, ◌↔◌, ◌++◌, ◌∷◌, [], Some, None, IfOk, IsTrue, length, replicate};
+ghost use Rattle.ompt_events.specs.declared.names.SyncKind.{SyncKind};
+ghost use Rattle.ompt_events.specs.Records.{region};
 ghost use Rattle.ompt_events.specs.Places.{at as says_at};
-ghost use Rattle.task_tree.specs.Family.{IsFamilyOf};
-ghost use Rattle.wait_coverage.specs.Done.{AreDone};
-ghost use Rattle.task_tree.specs.Subjects.{subject};
-ghost use Rattle.wait_coverage.specs.Limits.{IsChildLimit, IsFamiliesLimit, IsLimitOfBegin, AreFalling, Gathers, AreLatest, AreLatestFamilies, AreNoted, AreNodes};
-ghost use Rattle.ompt_events.specs.Regions.{barrier_begun};
+ghost use Rattle.task_tree.specs.Runs.{IsCreation, IsWaitEvent};
+ghost use Rattle.wait_coverage.specs.Limits.{IsLimitOfBegin, IsMark, AreFalling, Gathers, AreNoted, AreNodes};
 ghost use Rattle.wait_coverage.specs.Meetings.{AreMet};
-ghost use Rattle.wait_coverage.specs.Teams.{IsTeamsOf};
 
 use crate::done::Done;
 use crate::limit::Limit;
 use crate::meetings::meet;
-use crate::waits::begin_of;
-use ompt_events::{Body, Endpoint, Record, SyncKind};
+use ompt_events::{Endpoint, WaitKind};
 use std::alloc::{AllocError, Global};
-use task_tree::{Family, Slot};
-use teams::Teams;
+use task_tree::{Creation, Slot, WaitEvent};
 
 /// What is noted at one record.
 #[derive(Clone, Copy, Debug, PartialEq, Eq)]
@@ -64,35 +59,18 @@ pub(crate) struct Noted {
 }
 
 /// What is noted at the records.
-pub(crate) fn find_limits(
-    alloc: Global,
-    records: &[Record],
-    family: &Family,
-    teams: &Teams,
-    done: &Done,
-) -> Result<Noted, AllocError>
-    requires few { length records.now ≤ 2 ^ 22 }
-    requires family { IsFamilyOf records.now family.now }
-    requires teams { IsTeamsOf records.now family.now.tasks teams.now }
-    requires done { AreDone records.now family.now.tasks done.now }
-    ensures nodes { IfOk result (λ noted. AreNodes records.now noted.nodes.items) }
-    ensures met { IfOk result (λ noted. AreMet records.now (length records.now)
-        family.now.tasks teams.now.teams noted.meetings.items) }
+pub(crate) fn find_limits(alloc: Global, done: &Done) -> Result<Noted, AllocError>
+    ensures nodes { IfOk result (λ noted. AreNodes done.now noted.nodes.items) }
+    ensures met { IfOk result (λ noted.
+        AreMet done.now (length done.now.teams.run.records) noted.meetings.items) }
 {
+    let run = done.run();
     let mut meetings: Vec<Vec<Limit>> = Vec::new(alloc);
-    let mut progress = no_progress(alloc, family.tasks().as_slice().len())?;
-    let mut nodes: Vec<Node> = Vec::with_capacity(alloc, records.len())?;
-    for at in 0..records.len() {
-        let node = node_at(
-            records,
-            family,
-            teams,
-            done,
-            nodes.as_slice(),
-            &mut progress,
-            at,
-        );
-        meet(alloc, records, family, teams, node.limit, &mut meetings, at)?;
+    let mut progress = no_progress(alloc, run.task_count())?;
+    let mut nodes: Vec<Node> = Vec::with_capacity(alloc, run.len())?;
+    for at in 0..run.len() {
+        let node = node_at(done, nodes.as_slice(), &mut progress, at);
+        meet(alloc, done, node.limit, &mut meetings, at)?;
         nodes.push(node)?;
     }
     Ok(Noted { nodes, meetings })
@@ -112,140 +90,78 @@ fn no_progress(alloc: Global, tasks: usize) -> Result<Progress, AllocError>
 }
 
 /// The node of the record at a place.
-fn node_at(
-    records: &[Record],
-    family: &Family,
-    teams: &Teams,
-    done: &Done,
-    nodes: &[Node],
-    progress: &mut Progress,
-    at: usize,
-) -> Node
-    requires within { at < length records.now }
-    requires few { length records.now ≤ 2 ^ 22 }
-    requires family { IsFamilyOf records.now family.now }
-    requires teams { teams.now.run.records ≡ records.now }
-    requires done { AreDone records.now family.now.tasks done.now }
-    requires noted { AreNoted records.now at family.now.tasks nodes.now progress.old }
-    ensures { AreNoted records.now (at + 1) family.now.tasks (nodes.now ++ result ∷ []) progress.new }
+fn node_at(done: &Done, nodes: &[Node], progress: &mut Progress, at: usize) -> Node
+    requires within { at < length done.now.teams.run.records }
+    requires noted { AreNoted done.now at nodes.now progress.old }
+    ensures { AreNoted done.now (at + 1) (nodes.now ++ result ∷ []) progress.new }
 {
-    let body = &records[at].body;
-    if body.creation().is_some() {
-        return create(records, family, done, nodes, progress, at);
+    let run = done.run();
+    if let Some(made) = run.creation(at) {
+        return create(done, nodes, progress, made, at);
     }
-    if ends_taskgroup(body) {
-        return close(records, family, teams, nodes, progress, at);
+    let Some(event) = run.wait_event(at) else {
+        return Node::alone(Limit::zero());
+    };
+    if ends_taskgroup(event) {
+        return close(done, nodes, progress, event, at);
     }
-    match taskwait_endpoint(body) {
-        Some(endpoint) => match endpoint {
-            Endpoint::End => Node::alone(limit_of_begin(records, teams, nodes, at)),
-            Endpoint::Begin | Endpoint::BeginEnd => {
-                Node::alone(latest_limit(records, family, progress.latest.as_slice(), at))
+    Node::alone(limit_at(done, nodes, progress, event, at))
+}
+
+/// Whether it is the end of a taskgroup that began at an earlier record.
+fn ends_taskgroup(event: WaitEvent) -> bool
+    ensures { IsTrue result ↔ ((event.kind ≡ WaitKind.Taskgroup) × (event.endpoint ≡ Endpoint.End)) }
+{
+    event.kind == WaitKind::Taskgroup && event.endpoint == Endpoint::End
+}
+
+/// The limit of the begin or end of a region, but for the end of a taskgroup.
+fn limit_at(done: &Done, nodes: &[Node], progress: &Progress, event: WaitEvent, at: usize) -> Limit
+    requires within { at < length done.now.teams.run.records }
+    requires event { IsWaitEvent done.now.teams.run at event.task event.kind event.endpoint }
+    requires noted { AreNoted done.now at nodes.now progress.now }
+    ensures { (event.kind ≡ WaitKind.Taskgroup → event.endpoint ≡ Endpoint.End → ⊥) → IsMark done.now at result }
+{
+    match event.kind {
+        WaitKind::Taskwait => {
+            if event.endpoint == Endpoint::End {
+                limit_of_begin(done, nodes, at)
+            } else {
+                progress.latest[event.task]
             }
-        },
-        None => Node::alone(begin_limit(records, family, progress.families.as_slice(), at)),
+        }
+        WaitKind::Taskgroup => Limit::zero(),
+        WaitKind::Barrier => progress.families[event.task],
     }
-}
-
-/// Whether the record ends a taskgroup that it did not begin itself.
-fn ends_taskgroup(body: &Body) -> bool
-    ensures { IsTrue result ↔ ((task : ℕ)
-        × (region body.now ≡ Some (task, SyncKind.Taskgroup, Endpoint.End))) }
-{
-    match body.region() {
-        Some((_, SyncKind::Taskgroup, Endpoint::End)) => true,
-        _ => false,
-    }
-}
-
-/// Whether the record begins or ends a taskwait, or both.
-fn taskwait_endpoint(body: &Body) -> Option<Endpoint>
-    ensures { (endpoint : Endpoint) → (result ≡ Some endpoint)
-        ↔ ((task : ℕ) × (region body.now ≡ Some (task, SyncKind.Taskwait, endpoint))) }
-{
-    match body.region() {
-        Some((_, SyncKind::Taskwait, endpoint)) => Some(endpoint),
-        _ => None,
-    }
-}
-
-/// Whether the record begins a barrier that waits for tasks.
-pub(crate) fn begins_barrier(body: &Body) -> bool
-    ensures { IsTrue result ↔ ((task : ℕ) × (barrier_begun (region body.now) ≡ Some task)) }
-{
-    barrier_begun(body).is_some()
-}
-
-/// The task that begins a barrier of the kinds that wait for the tasks of the team, whether or not it ends
-/// there too.
-fn barrier_begun(body: &Body) -> Option<u64>
-    ensures { result ≡ barrier_begun (region body.now) }
-{
-    let (task, kind, endpoint) = body.region()?;
-    if endpoint == Endpoint::End {
-        return None;
-    }
-    if kind.is_barrier() { Some(task) } else { None }
 }
 
 /// The node of a creation, which is the child's.
-fn create(
-    records: &[Record],
-    family: &Family,
-    done: &Done,
-    nodes: &[Node],
-    progress: &mut Progress,
-    at: usize,
-) -> Node
-    requires within { at < length records.now }
-    requires few { length records.now ≤ 2 ^ 22 }
-    requires family { IsFamilyOf records.now family.now }
-    requires creates { says_at creation records.now at ≡ None → ⊥ }
-    requires done { AreDone records.now family.now.tasks done.now }
-    requires noted { AreNoted records.now at family.now.tasks nodes.now progress.old }
-    ensures { AreNoted records.now (at + 1) family.now.tasks (nodes.now ++ result ∷ []) progress.new }
+fn create(done: &Done, nodes: &[Node], progress: &mut Progress, made: Creation, at: usize) -> Node
+    requires made { IsCreation done.now.teams.run at made.parent made.child }
+    requires noted { AreNoted done.now at nodes.now progress.old }
+    ensures { AreNoted done.now (at + 1) (nodes.now ++ result ∷ []) progress.new }
 {
-    let Some(parent) = family.subject(at) else {
-        return Node::alone(Limit::zero());
-    };
-    let Some(child) = family.object(at) else {
-        return Node::alone(Limit::zero());
-    };
-    let previous = progress.heads[parent];
-    progress.heads[parent] = Slot::some(at);
-    let own = Limit::of(done.own[child]);
-    let limit = Limit::of(done.families[child]);
-    progress.latest[parent] = progress.latest[parent].max(own);
-    progress.families[parent] = progress.families[parent].max(limit);
+    let previous = progress.heads[made.parent];
+    progress.heads[made.parent] = Slot::some(at);
+    let own = Limit::of(done.own()[made.child]);
+    let limit = Limit::of(done.families()[made.child]);
+    progress.latest[made.parent] = progress.latest[made.parent].max(own);
+    progress.families[made.parent] = progress.families[made.parent].max(limit);
     Node { limit, previous }
 }
 
 /// The node of the end of a taskgroup, which stands for all that were created in it.
-fn close(
-    records: &[Record],
-    family: &Family,
-    teams: &Teams,
-    nodes: &[Node],
-    progress: &mut Progress,
-    at: usize,
-) -> Node
-    requires within { at < length records.now }
-    requires few { length records.now ≤ 2 ^ 22 }
-    requires family { IsFamilyOf records.now family.now }
-    requires teams { teams.now.run.records ≡ records.now }
-    requires ends { (task : ℕ)
-        × (says_at region records.now at ≡ Some (task, SyncKind.Taskgroup, Endpoint.End)) }
-    requires noted { AreNoted records.now at family.now.tasks nodes.now progress.old }
-    ensures { AreNoted records.now (at + 1) family.now.tasks (nodes.now ++ result ∷ []) progress.new }
+fn close(done: &Done, nodes: &[Node], progress: &mut Progress, event: WaitEvent, at: usize) -> Node
+    requires within { at < length done.now.teams.run.records }
+    requires event { IsWaitEvent done.now.teams.run at event.task WaitKind.Taskgroup Endpoint.End }
+    requires noted { AreNoted done.now at nodes.now progress.old }
+    ensures { AreNoted done.now (at + 1) (nodes.now ++ result ∷ []) progress.new }
 {
-    let Some(parent) = family.subject(at) else {
+    let Some(begin) = done.begin_of(at) else {
         return Node::alone(Limit::zero());
     };
-    let Some(begin) = begin_of(records, teams, at) else {
-        return Node::alone(Limit::zero());
-    };
-    let node = gather(nodes, progress.heads[parent], begin);
-    progress.heads[parent] = Slot::some(at);
+    let node = gather(nodes, progress.heads[event.task], begin);
+    progress.heads[event.task] = Slot::some(at);
     node
 }
 
@@ -278,46 +194,15 @@ fn later(slot: Slot, begin: usize) -> Option<usize>
 }
 
 /// The limit at the begin of the taskwait that ends at the place.
-fn limit_of_begin(records: &[Record], teams: &Teams, nodes: &[Node], at: usize) -> Limit
-    requires teams { teams.now.run.records ≡ records.now }
+fn limit_of_begin(done: &Done, nodes: &[Node], at: usize) -> Limit
+    requires within { at < length done.now.teams.run.records }
     requires count { length nodes.now ≡ at }
-    requires ends { (task : ℕ)
-        × (says_at region records.now at ≡ Some (task, SyncKind.Taskwait, Endpoint.End)) }
-    ensures { IsLimitOfBegin records.now nodes.now at result }
+    requires ends { (task : ℕ) × (says_at region done.now.teams.run.records at
+        ≡ Some (task, SyncKind.Taskwait, Endpoint.End)) }
+    ensures { IsLimitOfBegin done.now.teams.run.records nodes.now at result }
 {
-    match begin_of(records, teams, at) {
+    match done.begin_of(at) {
         Some(begin) => nodes[begin].limit,
-        None => Limit::zero(),
-    }
-}
-
-/// The limit so far of the task that the record at a place is of; 0 where it is of none.
-fn latest_limit(records: &[Record], family: &Family, latest: &[Limit], at: usize) -> Limit
-    requires family { IsFamilyOf records.now family.now }
-    requires latest { AreLatest records.now at family.now.tasks latest.now }
-    ensures { (task : ℕ) → says_at subject records.now at ≡ Some task
-        → IsChildLimit records.now at task result }
-{
-    match family.subject(at) {
-        Some(index) => latest[index],
-        None => Limit::zero(),
-    }
-}
-
-/// The limit so far of the children of the task that begins a barrier at the place, and of their
-/// descendants; 0 where none does.
-fn begin_limit(records: &[Record], family: &Family, families: &[Limit], at: usize) -> Limit
-    requires within { at < length records.now }
-    requires family { IsFamilyOf records.now family.now }
-    requires families { AreLatestFamilies records.now at family.now.tasks families.now }
-    ensures { (task : ℕ) → barrier_begun (says_at region records.now at) ≡ Some task
-        → IsFamiliesLimit records.now at task result }
-{
-    if !begins_barrier(&records[at].body) {
-        return Limit::zero();
-    }
-    match family.subject(at) {
-        Some(index) => families[index],
         None => Limit::zero(),
     }
 }

@@ -1,105 +1,128 @@
 //! The first end of a region that covers an unfinished task.
-ghost use Rattle.std.specs.Prelude.{ℕ, ◌≡◌, ◌<◌, ◌≤◌, ◌^◌, List, IfOk, IfErr, MatchOption, length};
-ghost use Rattle.ompt_events.specs.declared.records.Record.{Record};
+ghost use Rattle.std.specs.Prelude.{ℕ, ◌≡◌, ◌<◌, List, IfOk, IfErr, MatchOption, length};
 ghost use Rattle.ompt_events.specs.declared.fault.Fault.TheVariants.{Memory};
-ghost use Rattle.task_tree.specs.Family.{IsFamilyOf, FamilyView};
-ghost use Rattle.wait_coverage.specs.Teams.{IsTeamsOf};
-ghost use Rattle.wait_coverage.specs.Done.{AreOwn};
+ghost use Rattle.credit_ledger.specs.declared.entry.Entry.{Entry};
+ghost use Rattle.trace_ledger.specs.Entries.{IsFreeUpTo, IsLedgerOf};
+ghost use Rattle.wait_coverage.specs.Done.{AreDone, AreChildrenDone};
+ghost use Rattle.wait_coverage.specs.Known.{IsKnown, AreHeldFrom};
 ghost use Rattle.wait_coverage.specs.Spans.{IsCoverComplete};
 ghost use Rattle.wait_coverage.specs.Waits.{IsWaitAt, IsFirstOpen, IsFirstOpenEnd};
-ghost use Rattle.wait_coverage.specs.Known.{IsKnown};
 
-use crate::done::{Done, find_done};
+use crate::done::Done;
 use crate::limits::{Node, Noted, find_limits};
 use crate::meetings::add_meetings;
 use crate::order::parents_first;
-use crate::waits::{Wait, find_awaited, first_late, wait_at};
-use ompt_events::{Fault, Record};
+use crate::waits::{Search, Wait, first_late, wait_at};
+use credit_ledger::Ledger;
+use ompt_events::Fault;
 use std::alloc::{AllocError, Global};
-use task_tree::Family;
+use std::marker::Model;
 use teams::Teams;
 
-/// What is known of all tasks and records before an end is looked at.
+/// What is known of all tasks and records of a run before an end is looked at: from which ledger lengths on
+/// tasks are finished.
 #[derive(Debug, Drop)]
-pub struct Known {
-    pub(crate) done: Done,
+pub struct Known<'a> {
+    done: Done<'a>,
     /// For each record that ends a region from which ledger length on what it covers is finished.
-    pub(crate) nodes: Vec<Node>,
+    nodes: Vec<Node>,
 }
 
-impl Known {
+impl<'a> Model for Known<'a> {
+    ghost use Rattle.wait_coverage.specs.Known.{KnownView, IsKnown};
+
+    ghost Value = { KnownView };
+
+    ghost view = { λ known. record { done = known.done; nodes = known.nodes.items } };
+
+    ghost invariant = { λ known. IsKnown (record { done = known.done; nodes = known.nodes.items }) };
+}
+
+impl<'a> Known<'a> {
+    /// What is known by the lengths that the entries of a ledger give. They are those of `find_known` where
+    /// the ledger is that of the trace. It takes a few steps for each record, a look-up of logarithmic time
+    /// for each entry, and memory linear in the records. `Memory` is the only refusal.
+    pub fn of_ledger(
+        alloc: Global,
+        teams: &'a Teams<'a>,
+        ledger: &Ledger,
+    ) -> Result<Known<'a>, Fault>
+        ensures teams { IfOk result (λ known. known.done.teams ≡ teams.now) }
+        ensures done { IsLedgerOf teams.now.run.records ledger.now → IfOk result (λ known. AreDone known.done) }
+        ensures fault { IfErr result (λ fault. fault ≡ Memory) }
+    {
+        let done = Done::of_ledger(alloc, teams, ledger)?;
+        Ok(Known::of(alloc, done)?)
+    }
+
+    /// What is known by these lengths.
+    fn of(alloc: Global, done: Done<'a>) -> Result<Known<'a>, AllocError>
+        ensures { IfOk result (λ known. known.done ≡ done) }
+    {
+        let Noted {
+            mut nodes,
+            meetings,
+        } = find_limits(alloc, &done)?;
+        add_meetings(&done, &meetings, &mut nodes);
+        Ok(Known { done, nodes })
+    }
+
     /// By index of the task the ledger length from which on it is finished.
     pub fn own(&self) -> &[u64]
-        ensures { (rs : List Record) (family : FamilyView) → IsKnown rs family self.now
-            → AreOwn rs family.tasks result.now }
+        ensures { result.now ≡ self.now.done.own }
     {
-        self.done.own.as_slice()
+        self.done.own()
+    }
+
+    /// By index of the task the ledger length from which on it and all its descendants are finished.
+    pub fn families(&self) -> &[u64]
+        ensures { result.now ≡ self.now.done.families }
+    {
+        self.done.families()
     }
 }
 
-/// What is known of all tasks and records. It takes a few steps for each record, and memory linear in the
-/// records. `Memory` is the only refusal.
-pub fn find_known(alloc: Global, teams: &Teams) -> Result<Known, Fault>
-    ensures known { IfOk result (IsKnown teams.now.run.records teams.now.run.family) }
+/// What is known of all tasks and records, by what the records say. Where none of the causes 1 to 13 occurs
+/// the lengths are exactly those from which on the trace's ledger holds the tasks' credit. It takes a few
+/// steps for each record, and memory linear in the records. `Memory` is the only refusal.
+pub fn find_known<'a>(alloc: Global, teams: &'a Teams<'a>) -> Result<Known<'a>, Fault>
+    ensures teams { IfOk result (λ known. known.done.teams ≡ teams.now) }
+    ensures done { IfOk result (λ known. AreDone known.done) }
+    ensures held { (entries : List Entry) → IsFreeUpTo teams.now.run.records 13
+        → IsLedgerOf teams.now.run.records entries → IfOk result (λ known. AreHeldFrom known.done entries) }
     ensures fault { IfErr result (λ fault. fault ≡ Memory) }
 {
-    let run = teams.run();
-    Ok(known_of(alloc, run.records(), run.family(), teams)?)
-}
-
-/// The same of the records and their family.
-fn known_of(
-    alloc: Global,
-    records: &[Record],
-    family: &Family,
-    teams: &Teams,
-) -> Result<Known, AllocError>
-    requires few { length records.now ≤ 2 ^ 22 }
-    requires family { IsFamilyOf records.now family.now }
-    requires teams { IsTeamsOf records.now family.now.tasks teams.now }
-    ensures { IfOk result (IsKnown records.now family.now) }
-{
-    let done = find_done(alloc, records, family)?;
-    let noted = find_limits(alloc, records, family, teams, &done)?;
-    let Noted {
-        mut nodes,
-        meetings,
-    } = noted;
-    add_meetings(records, family, teams, &meetings, &mut nodes);
-    Ok(Known { done, nodes })
+    let done = Done::of_run(alloc, teams)?;
+    Ok(Known::of(alloc, done)?)
 }
 
 /// The first record that ends a region that waits for tasks, and that covers an unfinished one; and of the
-/// tasks that it covers the first created one that is unfinished (OpenMP 5.2, 15.3 to 15.5). It takes a few
-/// steps for each record, and memory linear in the records. What is known must be what is known of the run.
-/// `Memory` is the only refusal.
-pub fn find_open(alloc: Global, teams: &Teams, known: &Known) -> Result<Option<(usize, u64)>, Fault>
-    requires { IsKnown teams.now.run.records teams.now.run.family known.now }
-    ensures first { IfOk result (λ found.
-        MatchOption found ((i : ℕ) → IsCoverComplete teams.now.run.records i)
-        (λ f. IsFirstOpenEnd teams.now.run.records f.0 f.1)) }
+/// tasks that it covers the first created one that is unfinished (OpenMP 5.2, 15.3 to 15.5). The lengths that
+/// are known must be those from which on the tasks are finished, or those from which on their credit is held
+/// (F. Mattern, 1989). It takes a few steps for each record, and memory linear in the records. `Memory` is the
+/// only refusal.
+pub fn find_open(alloc: Global, known: &Known) -> Result<Option<(usize, u64)>, Fault>
+    ensures first { AreChildrenDone known.now.done → IfOk result (λ found.
+        MatchOption found ((i : ℕ) → IsCoverComplete known.now.done.teams.run.records i)
+        (λ f. IsFirstOpenEnd known.now.done.teams.run.records f.0 f.1)) }
+    ensures first_held { (entries : List Entry) → IsFreeUpTo known.now.done.teams.run.records 13
+        → IsLedgerOf known.now.done.teams.run.records entries → AreHeldFrom known.now.done entries
+        → IfOk result (λ found.
+        MatchOption found ((i : ℕ) → IsCoverComplete known.now.done.teams.run.records i)
+        (λ f. IsFirstOpenEnd known.now.done.teams.run.records f.0 f.1)) }
     ensures fault { IfErr result (λ fault. fault ≡ Memory) }
 {
-    let run = teams.run();
-    Ok(first_open_end(alloc, run.records(), run.family(), teams, known)?)
+    Ok(first_open_end(alloc, known)?)
 }
 
-/// The same of the records and their family.
-fn first_open_end(
-    alloc: Global,
-    records: &[Record],
-    family: &Family,
-    teams: &Teams,
-    known: &Known,
-) -> Result<Option<(usize, u64)>, AllocError>
-    requires family { IsFamilyOf records.now family.now }
-    requires teams { IsTeamsOf records.now family.now.tasks teams.now }
-    requires known { IsKnown records.now family.now known.now }
-    ensures { IfOk result (λ found. MatchOption found ((i : ℕ) → IsCoverComplete records.now i)
-        (λ f. IsFirstOpenEnd records.now f.0 f.1)) }
+/// The same, where the lengths are those from which on the tasks are finished.
+fn first_open_end(alloc: Global, known: &Known) -> Result<Option<(usize, u64)>, AllocError>
+    ensures { AreChildrenDone known.now.done → IfOk result (λ found.
+        MatchOption found ((i : ℕ) → IsCoverComplete known.now.done.teams.run.records i)
+        (λ f. IsFirstOpenEnd known.now.done.teams.run.records f.0 f.1)) }
 {
-    for at in 0..records.len() {
-        if let Some(task) = open_at(alloc, records, family, teams, known, at)? {
+    for at in 0..known.done.run().len() {
+        if let Some(task) = open_at(alloc, known, at)? {
             return Ok(Some((at, task)));
         }
     }
@@ -107,51 +130,33 @@ fn first_open_end(
 }
 
 /// Of the tasks that the end at a place covers the first created one that is unfinished there.
-fn open_at(
-    alloc: Global,
-    records: &[Record],
-    family: &Family,
-    teams: &Teams,
-    known: &Known,
-    at: usize,
-) -> Result<Option<u64>, AllocError>
-    requires within { at < length records.now }
-    requires family { IsFamilyOf records.now family.now }
-    requires teams { IsTeamsOf records.now family.now.tasks teams.now }
-    requires known { IsKnown records.now family.now known.now }
-    ensures { IfOk result (λ found. MatchOption found (IsCoverComplete records.now at)
-        (IsFirstOpen records.now at)) }
+pub(crate) fn open_at(alloc: Global, known: &Known, at: usize) -> Result<Option<u64>, AllocError>
+    requires { at < length known.now.done.teams.run.records }
+    ensures { AreChildrenDone known.now.done → IfOk result (λ found.
+        MatchOption found (IsCoverComplete known.now.done.teams.run.records at)
+        (IsFirstOpen known.now.done.teams.run.records at)) }
 {
     // Most waits end in time: only where this one did not is a late task looked for.
-    if known.nodes[at].limit.is_reached(records[at].seen) {
+    let seen = known.done.run().seen(at);
+    if known.nodes[at].limit.is_reached(seen) {
         return Ok(None);
     }
-    match wait_at(records, family, teams, at) {
-        Some(wait) => open_of(alloc, records, family, teams, known, &wait, at),
+    match wait_at(known.done.teams(), at) {
+        Some(wait) => open_of(alloc, &known.done, wait, at),
         None => Ok(None),
     }
 }
 
 /// The same where it is known what the end waits for.
-pub(crate) fn open_of(
-    alloc: Global,
-    records: &[Record],
-    family: &Family,
-    teams: &Teams,
-    known: &Known,
-    wait: &Wait,
-    at: usize,
-) -> Result<Option<u64>, AllocError>
-    requires within { at < length records.now }
-    requires family { IsFamilyOf records.now family.now }
-    requires teams { IsTeamsOf records.now family.now.tasks teams.now }
-    requires known { IsKnown records.now family.now known.now }
-    requires wait { IsWaitAt records.now family.now.tasks at wait.now }
-    ensures { IfOk result (λ found. MatchOption found (IsCoverComplete records.now at)
-        (IsFirstOpen records.now at)) }
+fn open_of(alloc: Global, done: &Done, wait: Wait, at: usize) -> Result<Option<u64>, AllocError>
+    requires within { at < length done.now.teams.run.records }
+    requires wait { IsWaitAt done.now.teams.run.records done.now.teams.run.family.tasks at wait }
+    ensures { AreChildrenDone done.now → IfOk result (λ found.
+        MatchOption found (IsCoverComplete done.now.teams.run.records at)
+        (IsFirstOpen done.now.teams.run.records at)) }
 {
-    let order = parents_first(alloc, family)?;
-    let marks = find_awaited(alloc, records, family, teams, order.as_slice(), wait)?;
-    let own = known.done.own.as_slice();
-    Ok(first_late(records, family, own, marks.as_slice(), records[at].seen))
+    let order = parents_first(alloc, done.run().family())?;
+    let search = Search::of(done.teams(), wait);
+    let marks = search.find_awaited(alloc, order.as_slice())?;
+    Ok(first_late(done, marks.as_slice(), done.run().seen(at)))
 }
