@@ -56,7 +56,7 @@ pub record Makes (rs : List Record) (i index : ℕ) (r : Record) : Type 0 where
   pub made : entry_of r ≡ Some entry
   pub there : IsEntryAt rs i index entry
 
-made_by : (rs : List Record) (makers : List (Option ℕ)) (index i : ℕ) (r : Record) → IsTrace rs
+pub made_by : (rs : List Record) (makers : List (Option ℕ)) (index i : ℕ) (r : Record) → IsTrace rs
     → AreMakers rs (length rs) makers → slice_get makers index ≡ Some (Some i) → slice_get rs i ≡ Some r
     → Makes rs i index r
 made_by rs makers index i r trace are is here =

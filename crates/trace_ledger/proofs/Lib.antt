@@ -1,6 +1,7 @@
 pub mod HalfLemmas
 pub mod EntryLemmas
 pub mod StandLemmas
+pub mod ThereLemmas
 pub mod MeetLemmas
 pub mod CompleteLemmas
 pub mod TreeLaw

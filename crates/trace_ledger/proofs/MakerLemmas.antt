@@ -45,7 +45,7 @@ none_placed (suc n) (suc k) place is = none_placed n k place is
 
 -- ---- entries of the first records
 
-record_at : (rs : List Record) (i : ℕ) → i < length rs → (r : Record) × (slice_get rs i ≡ Some r)
+pub record_at : (rs : List Record) (i : ℕ) → i < length rs → (r : Record) × (slice_get rs i ≡ Some r)
 record_at [] i within = absurd (omega arith)
 record_at (r ∷ rs) zero within = (r, refl)
 record_at (r ∷ rs) (suc i) within = record_at rs i (omega (arith, within))

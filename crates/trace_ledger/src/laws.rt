@@ -31,3 +31,9 @@ pub fn entries_are_apart()
         → IsFreeUpTo rs 13 → i ≢ j → IsEntryAt rs i index e → IsEntryAt rs j other f
         → is_overlap e f ≡ false }
 {}
+
+/// Each trace without causes 1 to 13 has a ledger: its finishing records make the entries, one an index.
+pub fn ledger_is_there()
+    ensures { (rs : List Record) → IsTrace rs → IsFreeUpTo rs 13
+        → (entries : List Entry) × IsLedgerOf rs entries }
+{}

@@ -31,8 +31,7 @@ use Rattle.credit_ledger.specs.Entries.{IsSpanHeld}
 use Rattle.trace_ledger.specs.Entries.{IsLedgerOf, IsFreeUpTo}
 use Rattle.wait_coverage.specs.Spans as spans
 use Rattle.wait_coverage.specs.Spans.{AreSpans, AreMemberSpans, IsSpan, IsCoverComplete}
-use Rattle.wait_coverage.specs.Teams.{IsTeamsOf}
-use Rattle.teams.specs.Teams.{TeamsView, AreTeams, IsMemberNumbered}
+use Rattle.teams.specs.Teams.{TeamsView, IsTeams, AreTeams, IsMemberNumbered}
 use Rattle.wait_coverage.specs.Waits.{EndsNoWaitAt, IsWaitAt, waits, groups, meets, cover_of, IsFirstOpen, waiting}
 use Rattle.wait_coverage.specs.Coverage.{IsEnd, AreEnds, AreWaits, IsCoverAt, IsOnly, HasBegun, HaveBegun, IsMemberSpan, AreRosterSpans, CoverageView, IsCoverage, AreFirstOpen}
 use Rattle.wait_coverage.specs.declared.waits.Wait.{Wait}
@@ -237,42 +236,42 @@ pub record IsSeated (rs : List Record) (tasks : List ℕ) (own place : ℕ) (ros
   pub is_member : slice_get tasks index ≡ Some member
   pub numbered : IsMemberNumbered rs own place member
 
-seated : (rs : List Record) (tasks : List ℕ) (known : TeamsView) (task team own place : ℕ) (roster : Vec (Option ℕ)) → IsTeamsOf rs tasks known → slice_get tasks task ≡ Some own → slice_get known.teams task ≡ Some (Some team) → slice_get known.rosters team ≡ Some roster → place < length roster.items → IsSeated rs tasks own place roster.items
-seated rs tasks known task team own place roster is is_own is_team is_roster below =
+seated : (known : TeamsView) (task team own place : ℕ) (roster : Vec (Option ℕ)) → IsTeams known → slice_get known.run.family.tasks task ≡ Some own → slice_get known.teams task ≡ Some (Some team) → slice_get known.rosters team ≡ Some roster → place < length roster.items → IsSeated known.run.records known.run.family.tasks own place roster.items
+seated known task team own place roster is is_own is_team is_roster below =
     let full = is.rosters.full team place roster is_roster below in
-    let is_member = slice_get-get_or tasks full.0 0 full.2 in
+    let is_member = slice_get-get_or known.run.family.tasks full.0 0 full.2 in
     record {
       index = full.0;
-      member = get_or tasks full.0 0;
+      member = get_or known.run.family.tasks full.0 0;
       here = full.1;
       is_member = is_member;
-      numbered = (is.rosters.each task own team place full.0 (get_or tasks full.0 0) roster is_own is_team is_roster is_member).0 full.1;
+      numbered = (is.rosters.each task own team place full.0 (get_or known.run.family.tasks full.0 0) roster is_own is_team is_roster is_member).0 full.1;
     }
 
 -- no member misses a barrier that ends
-pub have_begun : (rs : List Record) (tasks : List ℕ) (known : TeamsView) (task team number end : ℕ) (roster : Vec (Option ℕ)) → IsTeamsOf rs tasks known → slice_get known.teams task ≡ Some (Some team) → slice_get known.rosters team ≡ Some roster → IsWaitAt rs tasks end (ForBarrier task number) → HaveBegun known.begins number roster.items
-have_begun rs tasks known task team number end roster is is_team is_roster (meets {own = own} {begin = begin} {kind = kind} is_own there barrier begins) place below =
-    let seat = seated rs tasks known task team own place roster is is_own is_team is_roster below in
+pub have_begun : (known : TeamsView) (task team number end : ℕ) (roster : Vec (Option ℕ)) → IsTeams known → slice_get known.teams task ≡ Some (Some team) → slice_get known.rosters team ≡ Some roster → IsWaitAt known.run.records known.run.family.tasks end (ForBarrier task number) → HaveBegun known.begins number roster.items
+have_begun known task team number end roster is is_team is_roster (meets {own = own} {begin = begin} {kind = kind} is_own there barrier begins) place below =
+    let seat = seated known task team own place roster is is_own is_team is_roster below in
     let same = is.begins.each seat.index seat.member seat.is_member in (
       seat.index,
       seat.here,
       elim (cases_lt number (length (row_at known.begins seat.index))) [
         | inl less ↦ less
-        | inr more ↦ absurd (is.whole end (team_short (missed own seat.member begin number kind there barrier begins (mate_of_number rs own place seat.member seat.numbered)
+        | inr more ↦ absurd (is.whole end (team_short (missed own seat.member begin number kind there barrier begins (mate_of_number known.run.records own place seat.member seat.numbered)
             (λ start begun. let found = slice_get_within (row_at known.begins seat.index) number start (ap (λ l. slice_get l number) same ∙ begun) in omega (arith, found, more)))))
       ],
     )
 
-pub member_spans_are : (rs : List Record) (tasks : List ℕ) (known : TeamsView) (task team own number : ℕ) (roster : Vec (Option ℕ)) (list : List Span) → AreNoted made rs (length rs) tasks → IsTeamsOf rs tasks known → slice_get tasks task ≡ Some own → slice_get known.teams task ≡ Some (Some team) → slice_get known.rosters team ≡ Some roster → AreRosterSpans rs tasks number roster.items (length roster.items) list → AreMemberSpans rs own number list
-member_spans_are rs tasks known task team own number roster list noted is is_own is_team is_roster are = record {
+pub member_spans_are : (known : TeamsView) (task team own number : ℕ) (roster : Vec (Option ℕ)) (list : List Span) → IsTeams known → slice_get known.run.family.tasks task ≡ Some own → slice_get known.teams task ≡ Some (Some team) → slice_get known.rosters team ≡ Some roster → AreRosterSpans known.run.records known.run.family.tasks number roster.items (length roster.items) list → AreMemberSpans known.run.records own number list
+member_spans_are known task team own number roster list is is_own is_team is_roster are = record {
   each = λ place span there.
       let inside = slice_get_within list place span there in
       let count = are.count in
-      let seat = seated rs tasks known task team own place roster is is_own is_team is_roster (omega (arith, inside, count)) in
+      let seat = seated known task team own place roster is is_own is_team is_roster (omega (arith, inside, count)) in
       let found = are.each place seat.index seat.member span seat.here seat.is_member there in
       (seat.member, found.0, seat.numbered, found.1, found.2);
   all = λ place member numbered.
-      let other = mate_index rs tasks task own member noted is_own (mate_of_number rs own place member numbered) in
+      let other = mate_index known.run.records known.run.family.tasks task own member is.run.family.noted is_own (mate_of_number known.run.records own place member numbered) in
       let there = (is.rosters.each task own team place other.0 member roster is_own is_team is_roster other.1).1 numbered in
       let inside = slice_get_within roster.items place (Some other.0) there in
       let count = are.count in
@@ -316,7 +315,7 @@ held_more entries cover list n last before here held k span below there = elim (
 pub held_complete : (coverage : CoverageView) (entries : List Entry) (end seen : ℕ) (cover : Cover) (list : List Span) → IsCoverage coverage → IsFreeUpTo coverage.teams.run.records 13 → IsLedgerOf coverage.teams.run.records entries → AreSpans coverage.teams.run.records end cover list → seen_at coverage.teams.run.records end ≡ seen → ((span : Span) → Contains list span → IsSpanHeld (take seen entries) span cover) → IsCoverComplete coverage.teams.run.records end
 held_complete coverage entries end seen cover list is free ledger are names held =
     let P : ℕ → Type 0 = λ n. AreHeldBelow n in
-    (held_is_complete coverage.teams.run.records entries end cover list is.trace free ledger are).1 (subst P (sym names) held)
+    (held_is_complete coverage.teams.run.records entries end cover list is.teams.run.trace free ledger are).1 (subst P (sym names) held)
   where
     AreHeldBelow : ℕ → Type 0
     AreHeldBelow n = (span : Span) → Contains list span → IsSpanHeld (take n entries) span cover

@@ -8,8 +8,8 @@ use Rattle.ompt_events.specs.declared.names.SyncKind.{SyncKind}
 use Rattle.ompt_events.specs.declared.names.SyncKind.TheVariants.{Taskwait, Taskgroup}
 use Rattle.ompt_events.specs.Records.{created, creation}
 use Rattle.ompt_events.specs.Places.{at, seen_at}
-use Rattle.ompt_events.specs.Tree.{children_before, children_between, child_number, child, deeper}
-use Rattle.ompt_events.specs.Coverage.{Covers, waited, grouped, synchronised}
+use Rattle.ompt_events.specs.Tree.{IsExplicit, children_before, children_between, child_number, child, deeper}
+use Rattle.ompt_events.specs.Coverage.{Covers, IsFamily, waited, grouped, synchronised}
 use Rattle.ompt_events.specs.Regions.{IsRegion, IsBarrierBegin, is_barrier, waits_for_tasks}
 use Rattle.ompt_events.specs.Teams.{IsTeammate}
 use Rattle.ompt_events.proofs.RecordLemmas.{creation_at_created}
@@ -18,6 +18,7 @@ use Rattle.credit_ledger.specs.declared.entry.Cover.{Cover}
 use Rattle.credit_ledger.specs.declared.entry.Cover.TheVariants.{Children, Descendants}
 use Rattle.trace_ledger.specs.Entries.{IsDone}
 use Rattle.wait_coverage.specs.Spans.{IsCoverComplete}
+use Rattle.wait_coverage.specs.Done.{DoneView, records_of, tasks_of, IsEarly, AreChildrenDone}
 use Rattle.wait_coverage.specs.Limits.{AreEndLimits}
 use Rattle.wait_coverage.specs.Waits.{EndsNoWaitAt, IsWaitAt, waits, groups, meets, IsWithin, before_begin, in_group, by_member, cover_of, IsAwaitedBy, IsAwaited, IsFirstOpen, IsFirstOpenEnd, IsLateAt, IsFirstLate}
 use Rattle.wait_coverage.specs.declared.waits.Wait.{Wait}
@@ -122,10 +123,29 @@ awaited_created rs tasks task wait is = of (cover_of wait) is
     of Descendants (first, own, inr (child i creates)) = (i, creation_at_created first task rs i creates)
     of Descendants (first, own, inr (deeper i {parent = parent} above creates)) = (i, creation_at_created parent task rs i creates)
 
-pub limit_complete : (rs : List Record) (i : ℕ) (nodes : List Node) (node : Node) (seen : ℕ) → AreEndLimits rs nodes → slice_get nodes i ≡ Some node → seen_at rs i ≡ seen → seen < 2 ^ 32 → node.limit ≤ seen → IsCoverComplete rs i
-limit_complete rs i nodes node seen are there names small low task covers =
-    let P : ℕ → Type 0 = λ n. IsDone rs n task in
-    complete_there rs i task (subst P (sym names) (are.known i node there seen task small low covers))
+-- a covered task was created
+covered_explicit : (rs : List Record) (i task : ℕ) → Covers rs i task → IsExplicit rs task
+covered_explicit rs i task covers = elim (covers_cases rs i task covers) [
+  | inl one ↦ (one.place, creation_at_created one.parent task rs one.place one.creates)
+  | inr other ↦ elim other [
+    | inl one ↦ family_explicit rs one.parent one.child task one.place one.creates one.of
+    | inr one ↦ family_explicit rs one.member one.child task one.place one.creates one.of
+  ]
+]
+  where
+    family_explicit : (rs : List Record) (parent first task place : ℕ) → at creation rs place ≡ Some (parent, first) → IsFamily rs first task → IsExplicit rs task
+    family_explicit rs parent first task place creates (inl same) = (place, creation_at_created parent first rs place creates ∙ ap Some (sym same))
+    family_explicit rs parent first task place creates (inr (child i born)) = (i, creation_at_created first task rs i born)
+    family_explicit rs parent first task place creates (inr (deeper i {parent = above} below born)) = (i, creation_at_created above task rs i born)
+
+abbrev done_below : DoneView → ℕ → ℕ → Type 0
+done_below done t n = IsDone (records_of done) n t
+
+pub limit_complete : (done : DoneView) (i : ℕ) (nodes : List Node) (node : Node) (seen : ℕ) → AreChildrenDone done → AreEndLimits done nodes → slice_get nodes i ≡ Some node → seen_at (records_of done) i ≡ seen → seen < 2 ^ 32 → node.limit ≤ seen → IsCoverComplete (records_of done) i
+limit_complete done i nodes node seen exact are there names small low task covers =
+    let early = are.known i node there seen task small low covers in
+    let P : ℕ → Type 0 = λ n. IsDone (records_of done) n task in
+    complete_there (records_of done) i task (subst P (sym names) ((exact task seen (covered_explicit (records_of done) i task covers) small).0 early))
 
 -- each kind of barrier waits
 pub barrier_waits : (kind : SyncKind) → is_barrier kind ≡ true → waits_for_tasks kind ≡ true
@@ -153,32 +173,26 @@ covers_at rs i task covers = elim (covers_cases rs i task covers) [
 pub none_complete : (rs : List Record) (i : ℕ) → EndsNoWaitAt rs i → IsCoverComplete rs i
 none_complete rs i ends_none task covers = let one = covers_at rs i task covers in absurd (ends_none one.task one.begin one.kind one.demands one.is_region)
 
-pub late_open : (rs : List Record) (tasks : List ℕ) (i seen : ℕ) (wait : Wait) (found : Option ℕ) → IsWaitAt rs tasks i wait → seen_at rs i ≡ seen → MatchOption found ((place task : ℕ) → IsLateAt rs tasks wait seen place task → ⊥) (IsFirstLate rs tasks wait seen) → MatchOption found (IsCoverComplete rs i) (IsFirstOpen rs i)
-late_open rs tasks i seen wait None is names in_time = λ task covers. elim (done_or_not rs seen task) [
-  | inl done ↦ complete_there rs i task (subst (done_below task) (sym names) done)
+pub late_open : (done : DoneView) (i seen : ℕ) (wait : Wait) (found : Option ℕ) → AreChildrenDone done → seen < 2 ^ 32 → IsWaitAt (records_of done) (tasks_of done) i wait → seen_at (records_of done) i ≡ seen → MatchOption found ((place task : ℕ) → IsLateAt done wait seen place task → ⊥) (IsFirstLate done wait seen) → MatchOption found (IsCoverComplete (records_of done) i) (IsFirstOpen (records_of done) i)
+late_open done i seen wait None exact small is names in_time = λ task covers. elim (done_or_not (records_of done) seen task) [
+  | inl finished ↦ complete_there (records_of done) i task (subst (done_below done task) (sym names) finished)
   | inr not_done ↦
-      let awaited = covered_awaited rs tasks i task wait is covers in
-      let place = awaited_created rs tasks task wait awaited in
-      absurd (in_time place.0 task (place.1, awaited, not_done))
+      let awaited = covered_awaited (records_of done) (tasks_of done) i task wait is covers in
+      let place = awaited_created (records_of done) (tasks_of done) task wait awaited in
+      absurd (in_time place.0 task (place.1, awaited, λ early. not_done ((exact task seen place small).0 early)))
 ]
-  where
-    done_below : ℕ → ℕ → Type 0
-    done_below t n = IsDone rs n t
-late_open rs tasks i seen wait (Some task) is names late = record {
+late_open done i seen wait (Some task) exact small is names late = record {
   is_open = record {
-    covered = awaited_covered rs tasks i task wait is late.late.1;
-    incomplete = λ complete. late.late.2 (subst (done_below task) names (done_there rs i ends.0 task ends.2 ends.3.endpoint ends.3.says complete));
+    covered = awaited_covered (records_of done) (tasks_of done) i task wait is late.late.1;
+    incomplete = λ complete. late.late.2 ((exact task seen (late.place, late.late.0) small).1 (subst (done_below done task) names (done_there (records_of done) i ends.0 task ends.2 ends.3.endpoint ends.3.says complete)));
   };
   creation = late.place;
   is_created = late.late.0;
-  created_first = λ k other below creates is_open. late.first k other below (creates, covered_awaited rs tasks i other wait is is_open.covered, λ done. is_open.incomplete (complete_there rs i other (subst (done_below other) (sym names) done)));
+  created_first = λ k other below creates is_open. late.first k other below (creates, covered_awaited (records_of done) (tasks_of done) i other wait is is_open.covered, λ early. is_open.incomplete (complete_there (records_of done) i other (subst (done_below done other) (sym names) ((exact other seen (k, creates) small).0 early))));
 }
   where
-    done_below : ℕ → ℕ → Type 0
-    done_below t n = IsDone rs n t
-
-    ends : (own begin : ℕ) × (kind : SyncKind) × EndsAt rs i own begin kind
-    ends = wait_ends rs tasks i wait is
+    ends : (own begin : ℕ) × (kind : SyncKind) × EndsAt (records_of done) i own begin kind
+    ends = wait_ends (records_of done) (tasks_of done) i wait is
 
 -- ---- all ends
 

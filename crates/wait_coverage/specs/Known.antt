@@ -3,6 +3,7 @@ use Rattle.std.specs.Prelude.{ℕ, ◌≡◌, ◌<◌, ◌≤◌, ◌^◌, ◌�
 use Rattle.ompt_events.specs.declared.records.Record.{Record}
 use Rattle.ompt_events.specs.Tree.{HasPath, IsChild}
 use Rattle.credit_ledger.specs.declared.entry.Entry.{Entry}
+use Rattle.trace_ledger.specs.Entries.{IsLedgerOf}
 use Rattle.trace_ledger.specs.Credits.{IsHeldInTree, IsHeldInPool}
 use Rattle.wait_coverage.specs.Done.{DoneView, records_of, tasks_of}
 use Rattle.wait_coverage.specs.Limits.{AreEndLimits}
@@ -27,3 +28,7 @@ pub record AreHeldFrom (done : DoneView) (entries : List Entry) : Type 0 where
       → slice_get (tasks_of done) index ≡ Some task → slice_get done.families index ≡ Some limit
       → HasPath (records_of done) root task path → n < 2 ^ 32
       → (limit ≤ n) ↔ IsHeldInTree (take n entries) root path
+
+-- every ledger of the trace holds it so
+abbrev pub AreCreditLengths : DoneView → Type 0
+AreCreditLengths done = (entries : List Entry) → IsLedgerOf (records_of done) entries → AreHeldFrom done entries

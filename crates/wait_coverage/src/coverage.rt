@@ -13,7 +13,7 @@ ghost use Rattle.trace_ledger.specs.Entries.{IsLedgerOf, IsFreeUpTo};
 ghost use Rattle.wait_coverage.specs.declared.waits.Wait.TheVariants.{Barrier};
 ghost use Rattle.wait_coverage.specs.Spans.{AreSpans, AreMemberSpans, IsSpan, IsCoverComplete};
 ghost use Rattle.wait_coverage.specs.Waits.{IsWaitAt, IsFirstOpen, cover_of};
-ghost use Rattle.wait_coverage.specs.Coverage.{AreAllHeld, AreShallow, AreEnds, AreWaits, AreFirstOpen, IsCoverAt, IsOnly, HasBegun, HaveBegun, IsMemberSpan, AreRosterSpans};
+ghost use Rattle.wait_coverage.specs.Coverage.{IsCoverage, AreAllHeld, AreShallow, AreEnds, AreWaits, AreFirstOpen, IsCoverAt, IsOnly, HasBegun, HaveBegun, IsMemberSpan, AreRosterSpans};
 
 use crate::numbers::find_numbers;
 use crate::unfinished::{Known, open_at};
@@ -103,7 +103,7 @@ impl<'a> Coverage<'a> {
         ensures { (end : ℕ) → slice_get self.now.ends number ≡ Some end
             → IsCoverAt self.now.teams.run.records end result }
     {
-        self.waits[number].cover()
+        self.wait(number).cover()
     }
 
     /// The credit that the end with this number among the ends waits for: the spans of children whose start
@@ -115,7 +115,8 @@ impl<'a> Coverage<'a> {
             → (cover : Cover) × IsCoverAt self.now.teams.run.records end cover
             × AreSpans self.now.teams.run.records end cover spans.items) }
     {
-        Ok(self.spans_of(&self.waits[number])?)
+        let _end = self.end(number);
+        Ok(self.spans_of(self.wait(number))?)
     }
 
     /// Of the tasks that the end with this number among the ends covers the first created one that is not
@@ -133,8 +134,34 @@ impl<'a> Coverage<'a> {
             return Ok(None);
         }
         let alloc = *self.ends.allocator();
-        let known = Known::of_ledger(alloc, &self.teams, ledger)?;
-        Ok(open_at(alloc, &known, self.ends[number])?)
+        let known = Known::of_ledger(alloc, self.teams(), ledger)?;
+        Ok(open_at(alloc, &known, self.end(number))?)
+    }
+
+    /// The place of the end with this number among the ends.
+    fn end(&self, number: usize) -> usize
+        requires { number < length self.now.ends }
+        ensures value { slice_get self.now.ends number ≡ Some result }
+        ensures within { result < length self.now.teams.run.records }
+    {
+        self.ends[number]
+    }
+
+    /// What it waits for.
+    fn wait(&self, number: usize) -> &Wait
+        requires { number < length self.now.ends }
+        ensures { (end : ℕ) → slice_get self.now.ends number ≡ Some end → IsWaitAt
+            self.now.teams.run.records self.now.teams.run.family.tasks end result.now }
+    {
+        &self.waits[number]
+    }
+
+    /// The teams of the run.
+    fn teams(&self) -> &Teams<'a>
+        ensures value { result.now ≡ self.now.teams }
+        ensures is_coverage { IsCoverage self.now }
+    {
+        &self.teams
     }
 
     /// Whether the entries of the ledger below the length that the end with this number names hold the credit
@@ -147,9 +174,9 @@ impl<'a> Coverage<'a> {
             → IfOk result (λ held. IsTrue held → (end : ℕ) → slice_get self.now.ends number ≡ Some end
             → IsCoverComplete self.now.teams.run.records end) }
     {
-        let wait = &self.waits[number];
+        let seen = self.teams().run().seen(self.end(number));
+        let wait = self.wait(number);
         let spans = self.spans_of(wait)?;
-        let seen = self.teams.run().seen(self.ends[number]);
         are_held(ledger, seen, spans.as_slice(), wait.cover())
     }
 
@@ -167,10 +194,10 @@ impl<'a> Coverage<'a> {
             AreFirstOpen self.now.teams.run.records self.now.ends of.now (length of.now) found.items) }
     {
         let alloc = *self.ends.allocator();
-        let known = Known::of_ledger(alloc, &self.teams, ledger)?;
+        let known = Known::of_ledger(alloc, self.teams(), ledger)?;
         let mut found = Vec::with_capacity(alloc, of.len())?;
         for index in 0..of.len() {
-            found.push(open_at(alloc, &known, self.ends[of[index]])?)?;
+            found.push(open_at(alloc, &known, self.end(of[index]))?)?;
         }
         Ok(found)
     }

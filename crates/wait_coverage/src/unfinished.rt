@@ -1,10 +1,9 @@
 //! The first end of a region that covers an unfinished task.
 ghost use Rattle.std.specs.Prelude.{ℕ, ◌≡◌, ◌<◌, List, IfOk, IfErr, MatchOption, length};
 ghost use Rattle.ompt_events.specs.declared.fault.Fault.TheVariants.{Memory};
-ghost use Rattle.credit_ledger.specs.declared.entry.Entry.{Entry};
 ghost use Rattle.trace_ledger.specs.Entries.{IsFreeUpTo, IsLedgerOf};
 ghost use Rattle.wait_coverage.specs.Done.{AreDone, AreChildrenDone};
-ghost use Rattle.wait_coverage.specs.Known.{IsKnown, AreHeldFrom};
+ghost use Rattle.wait_coverage.specs.Known.{AreCreditLengths};
 ghost use Rattle.wait_coverage.specs.Spans.{IsCoverComplete};
 ghost use Rattle.wait_coverage.specs.Waits.{IsWaitAt, IsFirstOpen, IsFirstOpenEnd};
 
@@ -88,8 +87,8 @@ impl<'a> Known<'a> {
 pub fn find_known<'a>(alloc: Global, teams: &'a Teams<'a>) -> Result<Known<'a>, Fault>
     ensures teams { IfOk result (λ known. known.done.teams ≡ teams.now) }
     ensures done { IfOk result (λ known. AreDone known.done) }
-    ensures held { (entries : List Entry) → IsFreeUpTo teams.now.run.records 13
-        → IsLedgerOf teams.now.run.records entries → IfOk result (λ known. AreHeldFrom known.done entries) }
+    ensures credit { IsFreeUpTo teams.now.run.records 13
+        → IfOk result (λ known. AreCreditLengths known.done) }
     ensures fault { IfErr result (λ fault. fault ≡ Memory) }
 {
     let done = Done::of_run(alloc, teams)?;
@@ -105,9 +104,8 @@ pub fn find_open(alloc: Global, known: &Known) -> Result<Option<(usize, u64)>, F
     ensures first { AreChildrenDone known.now.done → IfOk result (λ found.
         MatchOption found ((i : ℕ) → IsCoverComplete known.now.done.teams.run.records i)
         (λ f. IsFirstOpenEnd known.now.done.teams.run.records f.0 f.1)) }
-    ensures first_held { (entries : List Entry) → IsFreeUpTo known.now.done.teams.run.records 13
-        → IsLedgerOf known.now.done.teams.run.records entries → AreHeldFrom known.now.done entries
-        → IfOk result (λ found.
+    ensures first_by_credit { IsFreeUpTo known.now.done.teams.run.records 13
+        → AreCreditLengths known.now.done → IfOk result (λ found.
         MatchOption found ((i : ℕ) → IsCoverComplete known.now.done.teams.run.records i)
         (λ f. IsFirstOpenEnd known.now.done.teams.run.records f.0 f.1)) }
     ensures fault { IfErr result (λ fault. fault ≡ Memory) }
