@@ -19,7 +19,7 @@ use Rattle.credit_ledger.specs.declared.entry.Cover.TheVariants.{Children, Desce
 use Rattle.trace_ledger.specs.Entries.{IsDone}
 use Rattle.wait_coverage.specs.Spans.{IsCoverComplete}
 use Rattle.wait_coverage.specs.Done.{DoneView, records_of, tasks_of, IsEarly, AreChildrenDone}
-use Rattle.wait_coverage.specs.Limits.{AreEndLimits}
+use Rattle.wait_coverage.specs.Limits.{IsEndLimit}
 use Rattle.wait_coverage.specs.Waits.{EndsNoWaitAt, IsWaitAt, waits, groups, meets, IsWithin, before_begin, in_group, by_member, cover_of, IsAwaitedBy, IsAwaited, IsFirstOpen, IsFirstOpenEnd, IsLateAt, IsFirstLate}
 use Rattle.wait_coverage.specs.declared.waits.Wait.{Wait}
 use Rattle.wait_coverage.specs.declared.waits.Wait.TheVariants.{Taskwait as ForTaskwait, Taskgroup as ForTaskgroup, Barrier as ForBarrier}
@@ -141,9 +141,9 @@ covered_explicit rs i task covers = elim (covers_cases rs i task covers) [
 abbrev done_below : DoneView → ℕ → ℕ → Type 0
 done_below done t n = IsDone (records_of done) n t
 
-pub limit_complete : (done : DoneView) (i : ℕ) (nodes : List Node) (node : Node) (seen : ℕ) → AreChildrenDone done → AreEndLimits done nodes → slice_get nodes i ≡ Some node → seen_at (records_of done) i ≡ seen → seen < 2 ^ 32 → node.limit ≤ seen → IsCoverComplete (records_of done) i
-limit_complete done i nodes node seen exact are there names small low task covers =
-    let early = are.known i node there seen task small low covers in
+pub limit_complete : (done : DoneView) (i limit seen : ℕ) → AreChildrenDone done → IsEndLimit done i limit → seen_at (records_of done) i ≡ seen → seen < 2 ^ 32 → limit ≤ seen → IsCoverComplete (records_of done) i
+limit_complete done i limit seen exact is_limit names small low task covers =
+    let early = is_limit seen task small low covers in
     let P : ℕ → Type 0 = λ n. IsDone (records_of done) n task in
     complete_there (records_of done) i task (subst P (sym names) ((exact task seen (covered_explicit (records_of done) i task covers) small).0 early))
 

@@ -4,10 +4,12 @@ ghost use Rattle.ompt_events.specs.declared.fault.Fault.TheVariants.{Memory};
 ghost use Rattle.trace_ledger.specs.Entries.{IsFreeUpTo, IsLedgerOf};
 ghost use Rattle.wait_coverage.specs.Done.{AreDone, AreChildrenDone};
 ghost use Rattle.wait_coverage.specs.Known.{AreCreditLengths};
+ghost use Rattle.wait_coverage.specs.Limits.{IsEndLimit};
 ghost use Rattle.wait_coverage.specs.Spans.{IsCoverComplete};
 ghost use Rattle.wait_coverage.specs.Waits.{IsWaitAt, IsFirstOpen, IsFirstOpenEnd};
 
 use crate::done::Done;
+use crate::limit::Limit;
 use crate::limits::{Node, Noted, find_limits};
 use crate::meetings::add_meetings;
 use crate::order::parents_first;
@@ -66,6 +68,21 @@ impl<'a> Known<'a> {
         Ok(Known { done, nodes })
     }
 
+    /// The lengths of the tasks.
+    fn done(&self) -> &Done<'a>
+        ensures { result.now ≡ self.now.done }
+    {
+        &self.done
+    }
+
+    /// The ledger length from which on all is finished that the end at the place covers.
+    fn limit(&self, at: usize) -> Limit
+        requires { at < length self.now.done.teams.run.records }
+        ensures { IsEndLimit self.now.done at result }
+    {
+        self.nodes[at].limit
+    }
+
     /// By index of the task the ledger length from which on it is finished.
     pub fn own(&self) -> &[u64]
         ensures { result.now ≡ self.now.done.own }
@@ -110,6 +127,7 @@ pub fn find_open(alloc: Global, known: &Known) -> Result<Option<(usize, u64)>, F
         (λ f. IsFirstOpenEnd known.now.done.teams.run.records f.0 f.1)) }
     ensures fault { IfErr result (λ fault. fault ≡ Memory) }
 {
+    let _run = known.done().run();
     Ok(first_open_end(alloc, known)?)
 }
 
@@ -119,7 +137,7 @@ fn first_open_end(alloc: Global, known: &Known) -> Result<Option<(usize, u64)>, 
         MatchOption found ((i : ℕ) → IsCoverComplete known.now.done.teams.run.records i)
         (λ f. IsFirstOpenEnd known.now.done.teams.run.records f.0 f.1)) }
 {
-    for at in 0..known.done.run().len() {
+    for at in 0..known.done().run().len() {
         if let Some(task) = open_at(alloc, known, at)? {
             return Ok(Some((at, task)));
         }
@@ -135,12 +153,12 @@ pub(crate) fn open_at(alloc: Global, known: &Known, at: usize) -> Result<Option<
         (IsFirstOpen known.now.done.teams.run.records at)) }
 {
     // Most waits end in time: only where this one did not is a late task looked for.
-    let seen = known.done.run().seen(at);
-    if known.nodes[at].limit.is_reached(seen) {
+    let done = known.done();
+    if known.limit(at).is_reached(done.run().seen(at)) {
         return Ok(None);
     }
-    match wait_at(known.done.teams(), at) {
-        Some(wait) => open_of(alloc, &known.done, wait, at),
+    match wait_at(done.teams(), at) {
+        Some(wait) => open_of(alloc, done, wait, at),
         None => Ok(None),
     }
 }

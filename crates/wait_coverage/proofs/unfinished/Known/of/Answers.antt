@@ -1,0 +1,1 @@
+use Rattle.wait_coverage.proofs.unfinished.Known.of.Goals as goal

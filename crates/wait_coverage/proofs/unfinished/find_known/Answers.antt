@@ -1,0 +1,1 @@
+use Rattle.wait_coverage.proofs.unfinished.find_known.Goals as goal
