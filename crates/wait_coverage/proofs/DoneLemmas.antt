@@ -1,10 +1,10 @@
 -- From which ledger length on tasks are finished, with their descendants.
-use Rattle.std.proofs.Common.{◌≡◌, ◌∙◌, ℕ, ◌<◌, ◌≤◌, ◌+◌, ◌-◌, ◌^◌, List, length, get_or, Option, Some, None, refl, sym, ap, subst, arith, inl, inr}
+use Rattle.std.proofs.Common.{◌≡◌, ◌∙◌, ℕ, ◌<◌, ◌≤◌, ◌+◌, ◌-◌, List, length, get_or, Option, Some, None, Result, Ok, Err, refl, sym, ap, subst, arith, inl, inr}
 use Rattle.std.proofs.lemmas.Bool.{cases_eq}
 use Rattle.std.proofs.lemmas.Option.{none-some, same_Some, slice_get_within, slice_get-get_or}
 use Rattle.wait_coverage.proofs.OrderLemmas.{map_get}
-use Rattle.std.proofs.lemmas.List.{take_all, length-map, length-set, get_or-set_same, get_or-set_other}
-use Rattle.std.specs.Prelude.{max, slice_get, slice_set, slice_index, map, take}
+use Rattle.std.proofs.lemmas.List.{length-map, length-set, get_or-set_same, get_or-set_other}
+use Rattle.std.specs.Prelude.{IfOk, max, slice_get, slice_set, slice_index, map}
 use Rattle.std.specs.Option.{option_map_or}
 use Rattle.ompt_events.specs.declared.records.Record.{Record}
 use Rattle.ompt_events.specs.Records.{creation}
@@ -20,7 +20,7 @@ use Rattle.task_tree.specs.Lineage.{parent_index}
 use Rattle.task_tree.proofs.OnceLemmas.{creation_made}
 use Rattle.task_tree.proofs.FamilyLemmas.{parent_noted}
 use Rattle.task_tree.proofs.LineageLemmas.{parent_at_is, parent_is_at, child_within}
-use Rattle.trace_ledger.specs.Entries.{IsDone, IsLedgerOf}
+use Rattle.trace_ledger.specs.Entries.{IsLedgerOf}
 use Rattle.wait_coverage.specs.Lengths.{done_length, AreLengthsBy, AreLengths, AreLengthsBelow}
 use Rattle.wait_coverage.specs.Done.{DoneView, records_of, tasks_of, AreGreatest, IsDoneFrom, AreOwn, IsParentsFirst, raised, AreRaised, IsAbove}
 use Rattle.wait_coverage.specs.Done.IsAbove.{itself, further}
@@ -51,9 +51,10 @@ own_of_records rs tasks table own are is = own_by rs (λ k. k < length rs) tasks
 pub own_of_entries : (rs : List Record) (entries : List Entry) (tasks : List ℕ) (table : List Lengths) (own : List ℕ) → IsTrace rs → IsLedgerOf rs entries → AreLengthsBelow rs (length entries) tasks table → own ≡ map done_length table → AreOwn rs tasks own
 own_of_entries rs entries tasks table own trace ledger are is = own_by rs (λ k. seen_at rs k < length entries) tasks table own (all_entered rs entries trace ledger) are is
 
--- the lengths so far
-pub own_more : (table : List Lengths) (own new : List ℕ) (index : ℕ) (l : Lengths) → index < length table → slice_get table index ≡ Some l → own ≡ map done_length (take index table) → new ≡ own ++ done_length l ∷ [] → new ≡ map done_length (take (index + 1) table)
-own_more table own new index l less here is pushed = ?
+-- what holds of a result that has both
+pub ok_both : {A E : Type 0} (r : Result A E) (P Q R : A → Type 0) → IfOk r P → IfOk r Q → ((v : A) → P v → Q v → R v) → IfOk r R
+ok_both (Ok v) P Q R p q both = both v p q
+ok_both (Err e) P Q R p q both = tt
 
 -- ---- handed up
 
@@ -185,52 +186,46 @@ above_family rs family top task are here (further {index = index} {up = up} step
     let same : made.0 ≡ parent.0 = same_Some made.0 parent.0 (sym made.1 ∙ parent.1) in
     let P : ℕ → Type 0 = λ p. IsCreatedAt rs made.2.0 p own in
     let creates = subst P same made.2.1 in
-    (own, there, inr (below (parent.2) creates))
+    (own, there, inr (below parent.0 own made.2.0 parent.2 creates))
   where
-    below : {t own i : ℕ} → IsFamily rs task t → IsCreatedAt rs i t own → IsDescendant rs task own
-    below {t = t} {own = own} {i = i} (inl same) creates = let P : ℕ → Type 0 = λ p. IsCreatedAt rs i p own in child i (subst P same creates)
-    below {i = i} (inr under) creates = deeper i under creates
+    below : (t own i : ℕ) → IsFamily rs task t → IsCreatedAt rs i t own → IsDescendant rs task own
+    below t own i (inl same) creates = let P : ℕ → Type 0 = λ p. IsCreatedAt rs i p own in child i (subst P same creates)
+    below t own i (inr under) creates = deeper i under creates
+
+-- the limits that were handed up, where all tasks have passed
+rising : (rs : List Record) (family : FamilyView) (order own limits : List ℕ) → IsFamilyOf rs family → IsParentsFirst family order → AreRaised family order own 0 limits → (index up : ℕ) → parent_index family index ≡ Some up → slice_index limits index ≤ slice_index limits up
+rising rs family order own limits are first raised_all index up is =
+    let place = first.all index (child_within rs family index up are is) in
+    raised_all.passed place.0 index up (omega arith) place.1 is
+
+-- a task of the family has an index, and no more than the task itself
+low_of : (rs : List Record) (family : FamilyView) (order own limits : List ℕ) (index task t : ℕ) → IsFamilyOf rs family → IsParentsFirst family order → AreRaised family order own 0 limits → slice_get family.tasks index ≡ Some task → IsFamily rs task t → (k : ℕ) × (slice_get family.tasks k ≡ Some t) × (slice_index limits k ≤ slice_index limits index)
+low_of rs family order own limits index task t are first raised_all here (inl same) = (index, here ∙ ap Some (sym same), omega arith)
+low_of rs family order own limits index task t are first raised_all here (inr below) = descends rs family limits task index t are (rising rs family order own limits are first raised_all) here below
+
+index_at : (xs : List ℕ) (i x : ℕ) → slice_get xs i ≡ Some x → slice_index xs i ≡ x
+index_at xs i x is = same_Some (slice_index xs i) x (sym (slice_get-get_or xs i 0 (slice_get_within xs i x is)) ∙ is)
 
 -- the greatest of the lengths of a task and its descendants
 pub greatest_by : (done : DoneView) (order : List ℕ) → IsFamilyOf (records_of done) done.teams.run.family → length done.own ≡ length (tasks_of done) → IsParentsFirst done.teams.run.family order → AreRaised done.teams.run.family order done.own 0 done.families → AreGreatest done
 greatest_by done order are own_all first raised_all = record {
   all = raised_all.all ∙ own_all;
-  each = λ index task limit m here stands.
-      let is : slice_index limits index ≡ limit = same_Some (slice_index limits index) limit (sym (slice_get-get_or limits index 0 (slice_get_within limits index limit stands)) ∙ stands) in (
-        λ low t of t_index t_limit t_here t_stands.
-            let is_own : slice_index own t_index ≡ t_limit = same_Some (slice_index own t_index) t_limit (sym (slice_get-get_or own t_index 0 (slice_get_within own t_index t_limit t_stands)) ∙ t_stands) in
-            let known = low_of index task t here of in
-            let same : known.0 ≡ t_index = are.makers.apart known.0 t_index t known.1 t_here in
-            let floor = raised_all.own t_index in
-            let less = known.2 in
-            let is_limit : slice_index limits known.0 ≡ slice_index limits t_index = ap (slice_index limits) same in
-            omega (arith, is, low, is_own, floor, less, is_limit),
-        λ early.
-            let low = raised_all.least index m (λ k under.
-            let member = above_family rs family index task are here under in
-            let inside = slice_get_within family.tasks k member.0 member.1 in
-            early member.0 member.2 k (slice_index own k) member.1 (slice_get-get_or own k 0 (omega (arith, inside, own_all)))) in
-            omega (arith, is, low),
-      );
+  each = λ index task limit m here stands. (
+    λ low t of t_index t_limit t_here t_stands.
+        let is = index_at done.families index limit stands in
+        let is_own = index_at done.own t_index t_limit t_stands in
+        let known = low_of (records_of done) done.teams.run.family order done.own done.families index task t are first raised_all here of in
+        let same : known.0 ≡ t_index = are.makers.apart known.0 t_index t known.1 t_here in
+        let is_limit : slice_index done.families known.0 ≡ slice_index done.families t_index = ap (slice_index done.families) same in
+        let floor = raised_all.own t_index in
+        let less = known.2 in
+        omega (arith, is, low, is_own, floor, less, is_limit),
+    λ early.
+        let is = index_at done.families index limit stands in
+        let low = raised_all.least index m (λ k under.
+        let member = above_family (records_of done) done.teams.run.family index task are here under in
+        let inside = slice_get_within (tasks_of done) k member.0 member.1 in
+        early member.0 member.2 k (slice_index done.own k) member.1 (slice_get-get_or done.own k 0 (omega (arith, inside, own_all)))) in
+        omega (arith, is, low),
+  );
 }
-  where
-    abbrev rs : List Record
-    rs = records_of done
-
-    abbrev family : FamilyView
-    family = done.teams.run.family
-
-    abbrev own : List ℕ
-    own = done.own
-
-    abbrev limits : List ℕ
-    limits = done.families
-
-    rising : (index up : ℕ) → parent_index family index ≡ Some up → slice_index limits index ≤ slice_index limits up
-    rising index up is =
-        let place = first.all index (child_within rs family index up are is) in
-        raised_all.passed place.0 index up (omega arith) place.1 is
-
-    low_of : (index task t : ℕ) → slice_get family.tasks index ≡ Some task → IsFamily rs task t → (k : ℕ) × (slice_get family.tasks k ≡ Some t) × (slice_index limits k ≤ slice_index limits index)
-    low_of index task t here (inl same) = (index, here ∙ ap Some (sym same), omega arith)
-    low_of index task t here (inr below) = descends rs family limits task index t are rising here below
