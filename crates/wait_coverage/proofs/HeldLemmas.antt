@@ -1,9 +1,9 @@
 -- The ledger that the records make holds each task's credit from the task's length on, and not before.
-use Rattle.std.proofs.Common.{◌≡◌, ℕ, ◌<◌, ◌≤◌, ◌^◌, List, length, take, Some, arith, inl, inr, sym, ap, ◌∙◌}
+use Rattle.std.proofs.Common.{◌≡◌, ℕ, ◌<◌, ◌^◌, List, length, Some, arith, inl, inr, sym, ap, ◌∙◌}
 use Rattle.std.proofs.lemmas.Option.{slice_get_within, slice_get-get_or}
 use Rattle.std.specs.Prelude.{◌↔◌, slice_get, slice_index}
 use Rattle.ompt_events.specs.declared.records.Record.{Record}
-use Rattle.ompt_events.specs.Tree.{IsExplicit, IsDescendant, HasPath, IsChild, children, child, deeper}
+use Rattle.ompt_events.specs.Tree.{IsExplicit, HasPath, IsChild, children, child, deeper}
 use Rattle.ompt_events.specs.Coverage.{IsFamily}
 use Rattle.ompt_events.proofs.ListLemmas.{contains_get}
 use Rattle.ompt_events.proofs.PlaceLemmas.{at_within}
@@ -14,7 +14,7 @@ use Rattle.task_tree.specs.Family.{FamilyView, IsFamilyOf}
 use Rattle.task_tree.proofs.PathLemmas.{root_known}
 use Rattle.credit_ledger.specs.declared.entry.Entry.{Entry}
 use Rattle.trace_ledger.specs.Entries.{IsDone, IsLedgerOf, IsFreeUpTo}
-use Rattle.trace_ledger.specs.Credits.{IsFamilyDone, IsHeldInPool, IsHeldInTree}
+use Rattle.trace_ledger.specs.Credits.{IsFamilyDone}
 use Rattle.trace_ledger.proofs.CreditLaw.{held_in_pool, held_in_tree}
 use Rattle.wait_coverage.specs.Done.{DoneView, records_of, tasks_of, IsEarly, IsFamilyEarly, IsDoneView, AreDone, AreChildrenDone}
 use Rattle.wait_coverage.specs.Known.{AreHeldFrom}
