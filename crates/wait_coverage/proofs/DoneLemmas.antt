@@ -1,49 +1,60 @@
 -- From which ledger length on tasks are finished, with their descendants.
-use Rattle.std.proofs.Common.{◌≡◌, ◌∙◌, ℕ, ◌<◌, ◌≤◌, ◌+◌, ◌-◌, ◌^◌, List, length, get_or, Option, Some, None, refl, sym, ap, subst, arith, inl, inr}
+use Rattle.std.proofs.Common.{◌≡◌, ◌∙◌, ℕ, ◌<◌, ◌≤◌, ◌+◌, ◌-◌, List, length, get_or, Option, Some, None, Result, Ok, Err, refl, sym, ap, subst, arith, inl, inr}
 use Rattle.std.proofs.lemmas.Bool.{cases_eq}
 use Rattle.std.proofs.lemmas.Option.{none-some, same_Some, slice_get_within, slice_get-get_or}
 use Rattle.wait_coverage.proofs.OrderLemmas.{map_get}
-use Rattle.std.proofs.lemmas.List.{take_all, length-map, length-set, get_or-set_same, get_or-set_other}
-use Rattle.std.specs.Prelude.{max, slice_get, slice_set, slice_index, map, take}
+use Rattle.std.proofs.lemmas.List.{length-map, length-set, get_or-set_same, get_or-set_other}
+use Rattle.std.specs.Prelude.{IfOk, max, slice_get, slice_set, slice_index, map}
 use Rattle.std.specs.Option.{option_map_or}
 use Rattle.ompt_events.specs.declared.records.Record.{Record}
 use Rattle.ompt_events.specs.Records.{creation}
-use Rattle.ompt_events.specs.Places.{at}
-use Rattle.ompt_events.specs.Tree.{IsDescendant, child, deeper}
+use Rattle.ompt_events.specs.Places.{at, seen_at}
+use Rattle.ompt_events.specs.Tree.{IsCreatedAt, IsDescendant, child, deeper}
+use Rattle.ompt_events.specs.Coverage.{IsFamily}
+use Rattle.ompt_events.specs.Traces.{IsTrace}
+use Rattle.credit_ledger.specs.declared.entry.Entry.{Entry}
 use Rattle.ompt_events.proofs.PlaceLemmas.{at_within}
 use Rattle.ompt_events.proofs.ListLemmas.{contains_get}
 use Rattle.task_tree.specs.Family.{FamilyView, IsFamilyOf}
 use Rattle.task_tree.specs.Lineage.{parent_index}
 use Rattle.task_tree.proofs.OnceLemmas.{creation_made}
 use Rattle.task_tree.proofs.FamilyLemmas.{parent_noted}
-use Rattle.task_tree.proofs.LineageLemmas.{parent_at_is, child_within}
-use Rattle.trace_ledger.specs.Entries.{IsDone}
-use Rattle.wait_coverage.specs.Lengths.{done_length, AreLengths}
-use Rattle.wait_coverage.specs.Done.{IsDoneFrom, AreOwn, AreFamilies, IsParentsFirst, raised, AreRaised}
+use Rattle.task_tree.proofs.LineageLemmas.{parent_at_is, parent_is_at, child_within}
+use Rattle.trace_ledger.specs.Entries.{IsLedgerOf}
+use Rattle.wait_coverage.specs.Lengths.{done_length, AreLengthsBy, AreLengths, AreLengthsBelow}
+use Rattle.wait_coverage.specs.Done.{DoneView, records_of, tasks_of, AreGreatest, IsDoneFrom, AreOwn, IsParentsFirst, raised, AreRaised, IsAbove}
+use Rattle.wait_coverage.specs.Done.IsAbove.{itself, further}
 use Rattle.wait_coverage.specs.declared.lengths.Lengths.{Lengths}
-use Rattle.wait_coverage.proofs.LengthLemmas.{done_below, below_done}
+use Rattle.wait_coverage.proofs.LengthLemmas.{AllCount, all_recorded, all_entered, done_below, below_done}
 
 -- ---- each task by itself
 
-pub own_by : (rs : List Record) (tasks : List ℕ) (table : List Lengths) (own : List ℕ) → AreLengths rs (length rs) tasks table → length own ≡ length table → ((index : ℕ) (l : Lengths) → slice_get table index ≡ Some l → slice_get own index ≡ Some (done_length l)) → AreOwn rs tasks own
-own_by rs tasks table own are all each = record {
-  all = all ∙ are.all;
+pub own_by : (rs : List Record) (counts : ℕ → Type 0) (tasks : List ℕ) (table : List Lengths) (own : List ℕ) → AllCount rs counts → AreLengthsBy rs counts tasks table → own ≡ map done_length table → AreOwn rs tasks own
+own_by rs counts tasks table own all are is = record {
+  all = ap length is ∙ length-map table done_length ∙ are.all;
   each = λ index task limit here stands.
       let inside = slice_get_within tasks index task here in
       let count = are.all in
       let zero : Lengths = record { whole = 0; body = 0; event = 0 } in
       let l : Lengths = get_or table index zero in
       let there = slice_get-get_or table index zero (omega (arith, inside, count)) in
+      let mapped : slice_get own index ≡ Some (done_length l) = ap (λ xs. slice_get xs index) is ∙ map_get done_length table index l there in
       let least = are.each index task l here there in
       let P : ℕ → Type 0 = IsDoneFrom rs task in
-      subst P (same_Some (done_length l) limit (sym (each index l there) ∙ stands))
-      (λ m small. (λ low. done_below rs (length rs) task m l least small low, λ done. below_done rs task m l least done));
+      subst P (same_Some (done_length l) limit (sym mapped ∙ stands))
+      (λ m small. (λ low. done_below rs counts task m l least small low, λ done. below_done rs counts task m l all least done));
 }
 
-pub own_mapped : (rs : List Record) (tasks : List ℕ) (table : List Lengths) (own : List ℕ) (n : ℕ) → AreLengths rs (length rs) tasks table → length table ≤ n → own ≡ map done_length (take n table) → AreOwn rs tasks own
-own_mapped rs tasks table own n are all is =
-    let whole : own ≡ map done_length table = is ∙ ap (map done_length) (take_all n table all) in
-    own_by rs tasks table own are (ap length whole ∙ length-map table done_length) (λ index l there. ap (λ l. slice_get l index) whole ∙ map_get done_length table index l there)
+pub own_of_records : (rs : List Record) (tasks : List ℕ) (table : List Lengths) (own : List ℕ) → AreLengths rs (length rs) tasks table → own ≡ map done_length table → AreOwn rs tasks own
+own_of_records rs tasks table own are is = own_by rs (λ k. k < length rs) tasks table own (all_recorded rs) are is
+
+pub own_of_entries : (rs : List Record) (entries : List Entry) (tasks : List ℕ) (table : List Lengths) (own : List ℕ) → IsTrace rs → IsLedgerOf rs entries → AreLengthsBelow rs (length entries) tasks table → own ≡ map done_length table → AreOwn rs tasks own
+own_of_entries rs entries tasks table own trace ledger are is = own_by rs (λ k. seen_at rs k < length entries) tasks table own (all_entered rs entries trace ledger) are is
+
+-- what holds of a result that has both
+pub ok_both : {A E : Type 0} (r : Result A E) (P Q R : A → Type 0) → IfOk r P → IfOk r Q → ((v : A) → P v → Q v → R v) → IfOk r R
+ok_both (Ok v) P Q R p q both = both v p q
+ok_both (Err e) P Q R p q both = tt
 
 -- ---- handed up
 
@@ -52,7 +63,16 @@ raised_start family order floor limits same = record {
   all = ap length same;
   own = λ index. let is : slice_index limits index ≡ slice_index floor index = ap (λ l. slice_index l index) same in omega (arith, is);
   passed = λ place child up past here. let inside = slice_get_within order place child here in absurd (omega (arith, inside, past));
+  least = λ top m low.
+      let is : slice_index limits top ≡ slice_index floor top = ap (λ l. slice_index l top) same in
+      let own = low top itself in
+      omega (arith, is, own);
 }
+
+-- what is above a task is above what the task is above
+above_child : (family : FamilyView) (index up : ℕ) → parent_index family index ≡ Some up → {below : ℕ} → IsAbove family index below → IsAbove family up below
+above_child family index up is itself = further is itself
+above_child family index up is (further step above) = further step (above_child family index up is above)
 
 -- a set changes one item
 index_set_same : (xs : List ℕ) (i x : ℕ) → i < length xs → slice_index (slice_set xs i x) i ≡ x
@@ -77,6 +97,7 @@ raised_more family order floor limits new place index first here within is are =
                 absurd (none-some up (sym none ∙ ap (parent_index family) (sym is_index) ∙ above))
             | inr apart ↦ are.passed k child up (omega (arith, past, apart)) there above
           ];
+          least = are.least;
         }
     of (Some up) above =
         let value = max (slice_index limits up) (slice_index limits index) in
@@ -103,6 +124,16 @@ raised_more family order floor limits new place index first here within is are =
                     let old = are.passed k child other (omega (arith, past, apart)) is_child parent in
                     let more = grown other in
                     omega (arith, kept, old, more)
+              ];
+          least = λ top m low.
+              let before = are.least top m low in
+              elim (cases_eq up top) [
+                | inl same_top ↦
+                    let is_value : slice_index (slice_set limits up value) top ≡ value = ap (slice_index (slice_set limits up value)) (sym same_top) ∙ there in
+                    let is_up : slice_index limits up ≡ slice_index limits top = ap (slice_index limits) same_top in
+                    let child_low = are.least index m (λ k under. low k (above_child family index top (above ∙ ap Some same_top) under)) in
+                    omega (arith, before, is_value, is_up, child_low)
+                | inr apart ↦ let kept = index_set_other limits up top value apart in omega (arith, before, kept)
               ];
         }
 
@@ -144,28 +175,57 @@ descends rs family limits ancestor top task are rising is_top (deeper i {parent 
     let rest = before.2 in
     (known.index, known.is_task, omega (arith, step, rest))
 
-pub families_by : (rs : List Record) (family : FamilyView) (order own limits : List ℕ) → IsFamilyOf rs family → AreOwn rs family.tasks own → IsParentsFirst family order → AreRaised family order own 0 limits → AreFamilies rs family.tasks limits
-families_by rs family order own limits are done first raised_all = record {
-  all = raised_all.all ∙ done.all;
-  each = λ index task limit here stands m t small low of.
-      let is : slice_index limits index ≡ limit = same_Some (slice_index limits index) limit (sym (slice_get-get_or limits index 0 (slice_get_within limits index limit stands)) ∙ stands) in
-      elim of [
-        | inl same ↦ done_at index t m small (let P : ℕ → Type 0 = λ x. slice_get family.tasks index ≡ Some x in subst P (sym same) here) (omega (arith, is, low))
-        | inr below ↦
-            let found = descends rs family limits task index t are rising here below in
-            let less = found.2 in
-            done_at found.0 t m small found.1 (omega (arith, is, low, less))
-      ];
-}
+-- what a task is above is of its family
+above_family : (rs : List Record) (family : FamilyView) (top task : ℕ) → IsFamilyOf rs family → slice_get family.tasks top ≡ Some task → {index : ℕ} → IsAbove family top index → (t : ℕ) × (slice_get family.tasks index ≡ Some t) × IsFamily rs task t
+above_family rs family top task are here itself = (task, here, inl refl)
+above_family rs family top task are here (further {index = index} {up = up} step above) =
+    let parent = above_family rs family top task are here above in
+    let own = get_or family.tasks index 0 in
+    let there = slice_get-get_or family.tasks index 0 (child_within rs family index up are step) in
+    let made = parent_is_at rs family index own up are there step in
+    let same : made.0 ≡ parent.0 = same_Some made.0 parent.0 (sym made.1 ∙ parent.1) in
+    let P : ℕ → Type 0 = λ p. IsCreatedAt rs made.2.0 p own in
+    let creates = subst P same made.2.1 in
+    (own, there, inr (below parent.0 own made.2.0 parent.2 creates))
   where
-    rising : (index up : ℕ) → parent_index family index ≡ Some up → slice_index limits index ≤ slice_index limits up
-    rising index up is =
-        let place = first.all index (child_within rs family index up are is) in
-        raised_all.passed place.0 index up (omega arith) place.1 is
+    below : (t own i : ℕ) → IsFamily rs task t → IsCreatedAt rs i t own → IsDescendant rs task own
+    below t own i (inl same) creates = let P : ℕ → Type 0 = λ p. IsCreatedAt rs i p own in child i (subst P same creates)
+    below t own i (inr under) creates = deeper i under creates
 
-    done_at : (index t m : ℕ) → m < 2 ^ 32 → slice_get family.tasks index ≡ Some t → slice_index limits index ≤ m → IsDone rs m t
-    done_at index t m small here low =
-        let inside = slice_get_within family.tasks index t here in
-        let count = done.all in
-        let least = raised_all.own index in
-        (done.each index t (slice_index own index) here (slice_get-get_or own index 0 (omega (arith, inside, count))) m small).0 (omega (arith, least, low))
+-- the limits that were handed up, where all tasks have passed
+rising : (rs : List Record) (family : FamilyView) (order own limits : List ℕ) → IsFamilyOf rs family → IsParentsFirst family order → AreRaised family order own 0 limits → (index up : ℕ) → parent_index family index ≡ Some up → slice_index limits index ≤ slice_index limits up
+rising rs family order own limits are first raised_all index up is =
+    let place = first.all index (child_within rs family index up are is) in
+    raised_all.passed place.0 index up (omega arith) place.1 is
+
+-- a task of the family has an index, and no more than the task itself
+low_of : (rs : List Record) (family : FamilyView) (order own limits : List ℕ) (index task t : ℕ) → IsFamilyOf rs family → IsParentsFirst family order → AreRaised family order own 0 limits → slice_get family.tasks index ≡ Some task → IsFamily rs task t → (k : ℕ) × (slice_get family.tasks k ≡ Some t) × (slice_index limits k ≤ slice_index limits index)
+low_of rs family order own limits index task t are first raised_all here (inl same) = (index, here ∙ ap Some (sym same), omega arith)
+low_of rs family order own limits index task t are first raised_all here (inr below) = descends rs family limits task index t are (rising rs family order own limits are first raised_all) here below
+
+index_at : (xs : List ℕ) (i x : ℕ) → slice_get xs i ≡ Some x → slice_index xs i ≡ x
+index_at xs i x is = same_Some (slice_index xs i) x (sym (slice_get-get_or xs i 0 (slice_get_within xs i x is)) ∙ is)
+
+-- the greatest of the lengths of a task and its descendants
+pub greatest_by : (done : DoneView) (order : List ℕ) → IsFamilyOf (records_of done) done.teams.run.family → length done.own ≡ length (tasks_of done) → IsParentsFirst done.teams.run.family order → AreRaised done.teams.run.family order done.own 0 done.families → AreGreatest done
+greatest_by done order are own_all first raised_all = record {
+  all = raised_all.all ∙ own_all;
+  each = λ index task limit m here stands. (
+    λ low t of t_index t_limit t_here t_stands.
+        let is = index_at done.families index limit stands in
+        let is_own = index_at done.own t_index t_limit t_stands in
+        let known = low_of (records_of done) done.teams.run.family order done.own done.families index task t are first raised_all here of in
+        let same : known.0 ≡ t_index = are.makers.apart known.0 t_index t known.1 t_here in
+        let is_limit : slice_index done.families known.0 ≡ slice_index done.families t_index = ap (slice_index done.families) same in
+        let floor = raised_all.own t_index in
+        let less = known.2 in
+        omega (arith, is, low, is_own, floor, less, is_limit),
+    λ early.
+        let is = index_at done.families index limit stands in
+        let low = raised_all.least index m (λ k under.
+        let member = above_family (records_of done) done.teams.run.family index task are here under in
+        let inside = slice_get_within (tasks_of done) k member.0 member.1 in
+        early member.0 member.2 k (slice_index done.own k) member.1 (slice_get-get_or done.own k 0 (omega (arith, inside, own_all)))) in
+        omega (arith, is, low),
+  );
+}

@@ -1,11 +1,11 @@
 -- From which ledger length on a task is finished.
 use Rattle.std.proofs.Common.{◌≡◌, ◌∙◌, ℕ, ◌<◌, ◌≤◌, ◌+◌, ◌^◌, List, length, get_or, Option, Some, None, true, refl, sym, ap, subst, arith, inl, inr, ◌⊎◌}
 use Rattle.std.proofs.lemmas.Bool.{false≢true, cases_eq, cases_lt}
-use Rattle.std.proofs.lemmas.Option.{none-some, same_Some, slice_get-get_or, slice_get_within}
+use Rattle.std.proofs.lemmas.Option.{none-some, same_Some, slice_get-get_or, slice_get_within, slice_get_cases}
 use Rattle.std.proofs.lemmas.List.{length-set, length-replicate, get_or-replicate}
 use Rattle.std.proofs.Math.ListN.{set}
 use Rattle.std.specs.Option.{option_map_or}
-use Rattle.std.specs.Prelude.{is_some, min, slice_get, replicate}
+use Rattle.std.specs.Prelude.{is_some, min, slice_get, slice_index_or, replicate}
 use Rattle.ompt_events.specs.declared.records.Record.{Record}
 use Rattle.ompt_events.specs.declared.records.Part.{Part}
 use Rattle.ompt_events.specs.declared.records.Part.TheVariants.{Whole, Body as BodyPart, Event}
@@ -14,16 +14,21 @@ use Rattle.ompt_events.specs.declared.names.SyncKind.{SyncKind}
 use Rattle.ompt_events.specs.Records.{creation, finish, region}
 use Rattle.ompt_events.specs.Places.{at, seen_at}
 use Rattle.ompt_events.specs.Completion.{IsPartFinished}
+use Rattle.ompt_events.specs.Traces.{IsTrace}
+use Rattle.credit_ledger.specs.declared.entry.Entry.{Entry}
 use Rattle.ompt_events.proofs.PlaceLemmas.{at_within}
 use Rattle.ompt_events.proofs.RecordLemmas.{at_through}
+use Rattle.task_tree.specs.Family.{FamilyView, IsFamilyOf}
 use Rattle.task_tree.specs.Numbering.{AreApart}
 use Rattle.task_tree.specs.Subjects.{subject, object, Calls}
 use Rattle.task_tree.proofs.LinkLemmas.{get_set_same, get_set_other}
-use Rattle.task_tree.proofs.NamedLemmas.{region_subject, creation_subject, creation_object, subject_index, object_index}
+use Rattle.task_tree.proofs.LookupLemmas.{subject_calls}
+use Rattle.task_tree.proofs.NamedLemmas.{finish_subject, region_subject, creation_subject, creation_object, subject_index, object_index}
 use Rattle.teams.proofs.CallLemmas.{call_same, call_never}
-use Rattle.trace_ledger.specs.Entries.{IsDone}
+use Rattle.trace_ledger.specs.Entries.{IsDone, IsLedgerOf}
+use Rattle.trace_ledger.proofs.EntryLemmas.{entry_says, entry_made}
 use Rattle.wait_coverage.specs.declared.lengths.Lengths.{Lengths}
-use Rattle.wait_coverage.specs.Lengths.{never, no_lengths, length_of, with_length, done_length, AreLeast, AreLengths}
+use Rattle.wait_coverage.specs.Lengths.{never, no_lengths, length_of, with_length, done_length, AreLeast, AreLengthsBy, AreLengths, AreLengthsBelow}
 
 -- ---- the lengths of one task
 
@@ -61,9 +66,9 @@ with_below l Event m Whole = omega arith
 with_below l Event m BodyPart = omega arith
 with_below l Event m Event = omega arith
 
-least_none : (rs : List Record) (task : ℕ) → AreLeast rs 0 task no_lengths
-least_none rs task = record {
-  each = λ part k below. absurd (omega arith);
+least_none : (rs : List Record) (counts : ℕ → Type 0) (task : ℕ) → ((k : ℕ) → counts k → ⊥) → AreLeast rs counts task no_lengths
+least_none rs counts task empty = record {
+  each = λ part k counted. absurd (empty k counted);
   only = λ part. inl (of_none part);
 }
   where
@@ -72,104 +77,179 @@ least_none rs task = record {
     of_none BodyPart = refl
     of_none Event = refl
 
--- a record that doesn't finish the task
-least_other : (rs : List Record) (n task : ℕ) (l : Lengths) → AreLeast rs n task l → ((part : Part) → at finish rs n ≡ Some (task, part) → ⊥) → AreLeast rs (n + 1) task l
-least_other rs n task l are none = record {
-  each = λ part k below finishes. elim (cases_eq k n) [
-    | inl same ↦ absurd (none part (ap (at finish rs) (sym same) ∙ finishes))
-    | inr apart ↦ are.each part k (omega arith) finishes
-  ];
+-- where no further record that counts finishes the task
+least_other : (rs : List Record) (old new : ℕ → Type 0) (task : ℕ) (l : Lengths) → AreLeast rs old task l → ((part : Part) (k : ℕ) → new k → at finish rs k ≡ Some (task, part) → old k) → AreLeast rs new task l
+least_other rs old new task l are before = record {
+  each = λ part k counted finishes. are.each part k (before part k counted finishes) finishes;
   only = are.only;
 }
 
--- and one that does
-least_more : (rs : List Record) (n task seen : ℕ) (part : Part) (l : Lengths) → AreLeast rs n task l → at finish rs n ≡ Some (task, part) → seen_at rs n ≡ seen → AreLeast rs (n + 1) task (with_length l part (seen + 1))
-least_more rs n task seen part l are finishes names = record {
-  each = λ p k below finishes_there. elim (cases_eq k n) [
-    | inl same ↦
-        let is_part : p ≡ part = ap (λ (x : ℕ × Part). x.1) (same_Some (task, p) (task, part) (sym finishes_there ∙ ap (at finish rs) same ∙ finishes)) in
+-- where each further record that counts finishes the same part at the same length as the record at i
+abbrev IsMore : List Record → (ℕ → Type 0) → ℕ → ℕ → Part → Part → ℕ → Type 0
+IsMore rs old task seen part p k = old k ⊎ ((p ≡ part) × (seen_at rs k ≡ seen))
+
+least_more : (rs : List Record) (old new : ℕ → Type 0) (i task seen : ℕ) (part : Part) (l : Lengths) → AreLeast rs old task l → at finish rs i ≡ Some (task, part) → seen_at rs i ≡ seen → ((p : Part) (k : ℕ) → new k → at finish rs k ≡ Some (task, p) → IsMore rs old task seen part p k) → AreLeast rs new task (with_length l part (seen + 1))
+least_more rs old new i task seen part l are finishes names before = record {
+  each = λ p k counted finishes_there. elim (before p k counted finishes_there) [
+    | inl first ↦
+        let known = are.each p k first finishes_there in
+        let less = with_below l part (seen + 1) p in
+        omega (arith, known, less)
+    | inr (is_part, is_seen) ↦
         let here = with_here l part (seen + 1) in
         let is_length : length_of (with_length l part (seen + 1)) p ≡ length_of (with_length l part (seen + 1)) part = ap (length_of (with_length l part (seen + 1))) is_part in
-        let is_seen : seen_at rs k ≡ seen = ap (seen_at rs) same ∙ names in
         omega (arith, here, is_length, is_seen)
-    | inr apart ↦
-        let old = are.each p k (omega arith) finishes_there in
-        let less = with_below l part (seen + 1) p in
-        omega (arith, old, less)
   ];
   only = λ p. elim (with_cases l part (seen + 1) p) [
     | inl same ↦ elim (are.only p) [
       | inl none ↦ inl (same ∙ none)
       | inr (k, finishes_there, is) ↦ inr (k, finishes_there, same ∙ is)
     ]
-    | inr (is_part, is) ↦ inr (n, finishes ∙ ap (λ q. Some (task, q)) (sym is_part), is ∙ ap (λ m. m + 1) (sym names))
+    | inr (is_part, is) ↦ inr (i, finishes ∙ ap (λ q. Some (task, q)) (sym is_part), is ∙ ap (λ m. m + 1) (sym names))
   ];
 }
 
 -- by its lengths it is known whether a task is finished below a length
-part_below : (rs : List Record) (n task m : ℕ) (part : Part) (l : Lengths) → AreLeast rs n task l → m < 2 ^ 32 → length_of l part ≤ m → IsPartFinished rs (λ k. seen_at rs k < m) task part
-part_below rs n task m part l are small low = elim (are.only part) [
+part_below : (rs : List Record) (counts : ℕ → Type 0) (task m : ℕ) (part : Part) (l : Lengths) → AreLeast rs counts task l → m < 2 ^ 32 → length_of l part ≤ m → IsPartFinished rs (λ k. seen_at rs k < m) task part
+part_below rs counts task m part l are small low = elim (are.only part) [
   | inl none ↦ absurd (omega (arith, none))
   | inr (k, finishes, is) ↦ (k, finishes, omega (arith, is))
 ]
 
-below_part : (rs : List Record) (task m : ℕ) (part : Part) (l : Lengths) → AreLeast rs (length rs) task l → IsPartFinished rs (λ k. seen_at rs k < m) task part → length_of l part ≤ m
-below_part rs task m part l are (k, finishes, less) = let known = are.each part k (at_within finish rs k (task, part) finishes) finishes in omega (arith, known, less)
+-- all finishing records count
+abbrev pub AllCount : List Record → (ℕ → Type 0) → Type 0
+AllCount rs counts = (k task : ℕ) (part : Part) → at finish rs k ≡ Some (task, part) → counts k
 
-pub done_below : (rs : List Record) (n task m : ℕ) (l : Lengths) → AreLeast rs n task l → m < 2 ^ 32 → done_length l ≤ m → IsDone rs m task
-done_below rs n task m l are small low = elim (cases_lt m l.whole) [
-  | inl late ↦ inr (part_below rs n task m BodyPart l are small (omega arith), part_below rs n task m Event l are small (omega arith))
-  | inr early ↦ inl (part_below rs n task m Whole l are small early)
+below_part : (rs : List Record) (counts : ℕ → Type 0) (task m : ℕ) (part : Part) (l : Lengths) → AllCount rs counts → AreLeast rs counts task l → IsPartFinished rs (λ k. seen_at rs k < m) task part → length_of l part ≤ m
+below_part rs counts task m part l all are (k, finishes, less) = let known = are.each part k (all k task part finishes) finishes in omega (arith, known, less)
+
+pub done_below : (rs : List Record) (counts : ℕ → Type 0) (task m : ℕ) (l : Lengths) → AreLeast rs counts task l → m < 2 ^ 32 → done_length l ≤ m → IsDone rs m task
+done_below rs counts task m l are small low = elim (cases_lt m l.whole) [
+  | inl late ↦ inr (part_below rs counts task m BodyPart l are small (omega arith), part_below rs counts task m Event l are small (omega arith))
+  | inr early ↦ inl (part_below rs counts task m Whole l are small early)
 ]
 
-pub below_done : (rs : List Record) (task m : ℕ) (l : Lengths) → AreLeast rs (length rs) task l → IsDone rs m task → done_length l ≤ m
-below_done rs task m l are (inl whole) = let low = below_part rs task m Whole l are whole in omega (arith, low)
-below_done rs task m l are (inr (body, event)) =
-    let first = below_part rs task m BodyPart l are body in
-    let second = below_part rs task m Event l are event in
+pub below_done : (rs : List Record) (counts : ℕ → Type 0) (task m : ℕ) (l : Lengths) → AllCount rs counts → AreLeast rs counts task l → IsDone rs m task → done_length l ≤ m
+below_done rs counts task m l all are (inl whole) = let low = below_part rs counts task m Whole l all are whole in omega (arith, low)
+below_done rs counts task m l all are (inr (body, event)) =
+    let first = below_part rs counts task m BodyPart l all are body in
+    let second = below_part rs counts task m Event l all are event in
     omega (arith, first, second)
 
 -- ---- the lengths of all tasks
 
-pub lengths_start : (rs : List Record) (tasks : List ℕ) (table : List Lengths) → table ≡ replicate (length tasks) no_lengths → AreLengths rs 0 tasks table
-lengths_start rs tasks table is = record {
+pub lengths_start : (rs : List Record) (counts : ℕ → Type 0) (tasks : List ℕ) (table : List Lengths) → ((k : ℕ) → counts k → ⊥) → table ≡ replicate (length tasks) no_lengths → AreLengthsBy rs counts tasks table
+lengths_start rs counts tasks table empty is = record {
   all = ap length is ∙ length-replicate (length tasks) no_lengths;
   each = λ index task l is_task stands.
       let within = slice_get_within tasks index task is_task in
       let same : no_lengths ≡ l = same_Some no_lengths l (sym (ap Some (get_or-replicate (length tasks) index no_lengths no_lengths within)) ∙ sym (slice_get-get_or (replicate (length tasks) no_lengths) index no_lengths (rw (length-replicate (length tasks) no_lengths) within)) ∙ ap (λ t. slice_get t index) (sym is) ∙ stands) in
-      let P : Lengths → Type 0 = AreLeast rs 0 task in
-      subst P same (least_none rs task);
+      let P : Lengths → Type 0 = AreLeast rs counts task in
+      subst P same (least_none rs counts task empty);
 }
 
-pub lengths_other : (rs : List Record) (n : ℕ) (tasks : List ℕ) (table : List Lengths) → AreLengths rs n tasks table → at finish rs n ≡ None → AreLengths rs (n + 1) tasks table
-lengths_other rs n tasks table are none = record {
+pub lengths_other : (rs : List Record) (old new : ℕ → Type 0) (tasks : List ℕ) (table : List Lengths) → AreLengthsBy rs old tasks table → ((task : ℕ) (part : Part) (k : ℕ) → new k → at finish rs k ≡ Some (task, part) → old k) → AreLengthsBy rs new tasks table
+lengths_other rs old new tasks table are before = record {
   all = are.all;
-  each = λ index task l is stands. least_other rs n task l (are.each index task l is stands) (λ part finishes. none-some (task, part) (sym none ∙ finishes));
+  each = λ index task l is stands. least_other rs old new task l (are.each index task l is stands) (before task);
 }
 
-pub lengths_more : (rs : List Record) (n own task seen : ℕ) (part : Part) (tasks : List ℕ) (table : List Lengths) (d : Lengths) → AreApart tasks → AreLengths rs n tasks table → slice_get tasks own ≡ Some task → at finish rs n ≡ Some (task, part) → seen_at rs n ≡ seen → AreLengths rs (n + 1) tasks (set table own (with_length (get_or table own d) part (seen + 1)))
-lengths_more rs n own task seen part tasks table d apart are is_own finishes names = record {
+-- the record at k counted before, or it finishes the same part of the same task at the same length
+abbrev pub IsSameFinish : List Record → (ℕ → Type 0) → ℕ → ℕ → Part → ℕ → Part → ℕ → Type 0
+IsSameFinish rs old task seen part t p k = old k ⊎ ((t ≡ task) × (p ≡ part) × (seen_at rs k ≡ seen))
+
+pub lengths_more : (rs : List Record) (old new : ℕ → Type 0) (i own task seen : ℕ) (part : Part) (tasks : List ℕ) (table : List Lengths) (d : Lengths) → AreApart tasks → AreLengthsBy rs old tasks table → slice_get tasks own ≡ Some task → at finish rs i ≡ Some (task, part) → seen_at rs i ≡ seen → ((t : ℕ) (p : Part) (k : ℕ) → new k → at finish rs k ≡ Some (t, p) → IsSameFinish rs old task seen part t p k) → AreLengthsBy rs new tasks (set table own (with_length (get_or table own d) part (seen + 1)))
+lengths_more rs old new i own task seen part tasks table d apart are is_own finishes names before = record {
   all = length-set table own (with_length (get_or table own d) part (seen + 1)) ∙ are.all;
   each = λ index other l is_other stands. elim (cases_eq index own) [
     | inl same ↦
         let is_task : task ≡ other = same_Some task other (sym is_own ∙ ap (slice_get tasks) (sym same) ∙ is_other) in
         let is_l : with_length (get_or table own d) part (seen + 1) ≡ l = same_Some (with_length (get_or table own d) part (seen + 1)) l (sym (get_set_same table own (with_length (get_or table own d) part (seen + 1)) within) ∙ ap (slice_get (set table own (with_length (get_or table own d) part (seen + 1)))) (sym same) ∙ stands) in
-        let P : Lengths → Type 0 = AreLeast rs (n + 1) other in
-        let Q : ℕ → Type 0 = λ t. AreLeast rs (n + 1) t (with_length (get_or table own d) part (seen + 1)) in
-        subst P is_l (subst Q is_task (least_more rs n task seen part (get_or table own d) (are.each own task (get_or table own d) is_own (slice_get-get_or table own d within)) finishes names))
+        let P : Lengths → Type 0 = AreLeast rs new other in
+        let Q : ℕ → Type 0 = λ t. AreLeast rs new t (with_length (get_or table own d) part (seen + 1)) in
+        subst P is_l (subst Q is_task (least_more rs old new i task seen part (get_or table own d) (are.each own task (get_or table own d) is_own (slice_get-get_or table own d within)) finishes names (λ p k counted finishes_there. here p k (before task p k counted finishes_there))))
     | inr different ↦
-        let old = are.each index other l is_other (sym (get_set_other table own index (with_length (get_or table own d) part (seen + 1)) different) ∙ stands) in
-        least_other rs n other l old (λ p finishes_other.
-        let is_task : other ≡ task = ap (λ (x : ℕ × Part). x.0) (same_Some (other, p) (task, part) (sym finishes_other ∙ finishes)) in
-        different (apart index own task (is_other ∙ ap Some is_task) is_own)
-        )
+        let kept = are.each index other l is_other (sym (get_set_other table own index (with_length (get_or table own d) part (seen + 1)) different) ∙ stands) in
+        least_other rs old new other l kept (λ p k counted finishes_other. elim (before other p k counted finishes_other) [
+          | inl first ↦ first
+          | inr (is_task, is_part, is_seen) ↦ absurd (different (apart index own task (is_other ∙ ap Some is_task) is_own))
+        ])
   ];
 }
   where
     within : own < length table
     within = let inside = slice_get_within tasks own task is_own in omega (arith, inside, are.all)
 
--- by the lengths at its index it is known whether a child is late
+    here : (p : Part) (k : ℕ) → IsSameFinish rs old task seen part task p k → IsMore rs old task seen part p k
+    here p k (inl first) = inl first
+    here p k (inr (is_task, is_part, is_seen)) = inr (is_part, is_seen)
+
+-- ---- by the first records
+
+-- the record at n finishes nothing
+pub records_other : (rs : List Record) (n : ℕ) (tasks : List ℕ) (table : List Lengths) → AreLengths rs n tasks table → at finish rs n ≡ None → AreLengths rs (n + 1) tasks table
+records_other rs n tasks table are none = lengths_other rs (λ k. k < n) (λ k. k < n + 1) tasks table are (λ task part k below finishes. elim (cases_eq k n) [
+  | inl same ↦ absurd (none-some (task, part) (sym none ∙ ap (at finish rs) (sym same) ∙ finishes))
+  | inr apart ↦ omega arith
+])
+
+-- and where it does
+pub records_more : (rs : List Record) (n own task seen : ℕ) (part : Part) (tasks : List ℕ) (table : List Lengths) (d : Lengths) → AreApart tasks → AreLengths rs n tasks table → slice_get tasks own ≡ Some task → at finish rs n ≡ Some (task, part) → seen ≡ seen_at rs n → AreLengths rs (n + 1) tasks (set table own (with_length (get_or table own d) part (seen + 1)))
+records_more rs n own task seen part tasks table d apart are is_own finishes names = lengths_more rs (λ k. k < n) (λ k. k < n + 1) n own task seen part tasks table d apart are is_own finishes (sym names) (λ t p k below finishes_there. elim (cases_eq k n) [
+  | inl same ↦
+      let is : (t, p) ≡ (task, part) = same_Some (t, p) (task, part) (sym finishes_there ∙ ap (at finish rs) same ∙ finishes) in
+      inr (ap (λ (x : ℕ × Part). x.0) is, ap (λ (x : ℕ × Part). x.1) is, ap (seen_at rs) same ∙ sym names)
+  | inr different ↦ inl (omega arith)
+])
+
+-- ---- by the first entries
+
+-- a record that a ledger's entry with the index belongs to finishes what the entry says
+pub entry_finishes : (rs : List Record) (entries : List Entry) (index k task : ℕ) (part : Part) (e : Entry) → IsTrace rs → IsLedgerOf rs entries → slice_get entries index ≡ Some e → at finish rs k ≡ Some (task, part) → seen_at rs k ≡ index → (task ≡ e.task) × (part ≡ e.part)
+entry_finishes rs entries index k task part e trace are there finishes names =
+    let made = entry_made rs k task part trace finishes in
+    let stands = (are (seen_at rs k) made.0).1 (k, made.1.made) in
+    let same : made.0 ≡ e = same_Some made.0 e (sym stands ∙ ap (slice_get entries) names ∙ there) in
+    (sym made.1.task_is ∙ ap (λ (x : Entry). x.task) same, sym made.1.part_is ∙ ap (λ (x : Entry). x.part) same)
+
+pub entry_there : (entries : List Entry) (index : ℕ) → index < length entries → slice_get entries index ≡ None → ⊥
+entry_there entries index less none = elim (slice_get_cases entries index).1 [
+  | inl (x, within, is, same) ↦ none-some x (sym none ∙ is)
+  | inr (past, is) ↦ omega arith
+]
+
+-- the entry's task has an index
+pub entry_indexed : (rs : List Record) (entries : List Entry) (index : ℕ) (e : Entry) (family : FamilyView) → IsFamilyOf rs family → IsLedgerOf rs entries → slice_get entries index ≡ Some e → (own : ℕ) × (slice_get family.tasks own ≡ Some e.task)
+entry_indexed rs entries index e family family_of are there =
+    let made = (are index e).0 there in
+    let from = entry_says rs made.0 e made.1.made in
+    let called = subject_index finish (e.task, e.part) e.task rs made.0 family.tasks (slice_index_or family.subjects made.0 None) (finish_subject e.task e.part) (subject_calls rs family made.0 family_of) from.finishes in
+    (called.0, called.2)
+
+-- whose part is finished then
+pub entries_more : (rs : List Record) (entries : List Entry) (index own : ℕ) (e : Entry) (tasks : List ℕ) (table : List Lengths) (d : Lengths) → IsTrace rs → AreApart tasks → IsLedgerOf rs entries → slice_get entries index ≡ Some e → slice_get tasks own ≡ Some e.task → AreLengthsBelow rs index tasks table → AreLengthsBelow rs (index + 1) tasks (set table own (with_length (get_or table own d) e.part (index + 1)))
+entries_more rs entries index own e tasks table d trace apart are there is_own before =
+    let made = (are index e).0 there in
+    let from = entry_says rs made.0 e made.1.made in
+    lengths_more rs (λ k. seen_at rs k < index) (λ k. seen_at rs k < index + 1) made.0 own e.task index e.part tasks table d apart before is_own from.finishes made.1.seen (λ t p k below finishes_there. elim (cases_eq (seen_at rs k) index) [
+      | inl same ↦
+          let is = entry_finishes rs entries index k t p e trace are there finishes_there same in
+          inr (is.0, is.1, same)
+      | inr different ↦ inl (omega arith)
+    ])
+
+-- all finishing records count where all entries do
+pub all_entered : (rs : List Record) (entries : List Entry) → IsTrace rs → IsLedgerOf rs entries → AllCount rs (λ k. seen_at rs k < length entries)
+all_entered rs entries trace are k task part finishes =
+    let made = entry_made rs k task part trace finishes in
+    slice_get_within entries (seen_at rs k) made.0 ((are (seen_at rs k) made.0).1 (k, made.1.made))
+
+pub all_recorded : (rs : List Record) → AllCount rs (λ k. k < length rs)
+all_recorded rs k task part finishes = at_within finish rs k (task, part) finishes
+
+-- ---- what a record names
+
+-- the tasks of a record that creates one
 pub child_index : (rs : List Record) (tasks : List ℕ) (i index parent child : ℕ) (slot : Option ℕ) → Calls tasks (at object rs i) slot → slot ≡ Some index → at creation rs i ≡ Some (parent, child) → slice_get tasks index ≡ Some child
 child_index rs tasks i index parent child slot calls is creates =
     let called = object_index creation (parent, child) child rs i tasks slot (creation_object parent child) calls creates in
@@ -198,9 +278,3 @@ creates_object rs tasks i parent child slot calls none creates = call_never task
 -- the length that a record names that was read in place
 pub seen_index : (rs : List Record) (i : ℕ) (r : Record) → i < length rs → seen_at rs i ≡ (get_or rs i r).seen
 seen_index rs i r within = ap (λ (o : Option Record). option_map_or (λ (q : Record). q.seen) o 0) (slice_get-get_or rs i r within)
-
-pub late_there : (rs : List Record) (tasks : List ℕ) (table : List Lengths) (index child seen : ℕ) (l : Lengths) → AreLengths rs (length rs) tasks table → slice_get tasks index ≡ Some child → slice_get table index ≡ Some l → seen < done_length l → IsDone rs seen child → ⊥
-late_there rs tasks table index child seen l are is stands late finished = let done = below_done rs child seen l (are.each index child l is stands) finished in omega (arith, done, late)
-
-pub in_time_there : (rs : List Record) (tasks : List ℕ) (table : List Lengths) (index child seen : ℕ) (l : Lengths) → AreLengths rs (length rs) tasks table → slice_get tasks index ≡ Some child → slice_get table index ≡ Some l → seen < 2 ^ 32 → done_length l ≤ seen → IsDone rs seen child
-in_time_there rs tasks table index child seen l are is stands small low = done_below rs (length rs) child seen l (are.each index child l is stands) small low

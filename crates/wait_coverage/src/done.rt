@@ -79,9 +79,9 @@ impl<'a> Done<'a> {
         ensures own { IfOk result (λ done. done.own ≡ map done_length lengths.now) }
     {
         let own = find_own(alloc, lengths)?;
-        let family = teams.run().family();
-        let order = parents_first(alloc, family)?;
-        let families = find_families(alloc, family, own.as_slice(), order.as_slice())?;
+        let run = teams.run();
+        let order = parents_first(alloc, run.family())?;
+        let families = find_families(alloc, run, own.as_slice(), order.as_slice())?;
         Ok(Done {
             teams,
             own,
@@ -175,14 +175,15 @@ fn find_own(alloc: Global, lengths: &[Lengths]) -> Result<Vec<u64>, AllocError>
 /// when its children have handed up theirs.
 fn find_families(
     alloc: Global,
-    family: &Family,
+    run: &Run,
     own: &[u64],
     order: &[usize],
 ) -> Result<Vec<u64>, AllocError>
-    requires own { length own.now ≡ length family.now.tasks }
-    requires order { IsParentsFirst family.now order.now }
-    ensures { IfOk result (λ families. AreRaised family.now order.now own.now 0 families.items) }
+    requires own { length own.now ≡ length run.now.family.tasks }
+    requires order { IsParentsFirst run.now.family order.now }
+    ensures { IfOk result (λ families. AreRaised run.now.family order.now own.now 0 families.items) }
 {
+    let family = run.family();
     let mut families = copy_of(alloc, own)?;
     for passed in 0..order.len() {
         raise(family, &mut families, order[order.len() - 1 - passed]);

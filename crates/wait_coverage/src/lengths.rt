@@ -110,6 +110,7 @@ fn note_finish(run: &Run, table: &mut Vec<Lengths>, at: usize)
     requires table { AreLengths run.now.records at run.now.family.tasks table.old.items }
     ensures { AreLengths run.now.records (at + 1) run.now.family.tasks table.new.items }
 {
+    let _family = run.family();
     if let Some(finished) = run.finishing(at) {
         let length = u64::from(run.seen(at)) + 1;
         table[finished.task] = table[finished.task].with(finished.part, length);
@@ -125,6 +126,7 @@ fn note_entry(run: &Run, table: &mut Vec<Lengths>, entry: &Entry, index: u32)
         → AreLengthsBelow run.now.records index run.now.family.tasks table.old.items
         → AreLengthsBelow run.now.records (index + 1) run.now.family.tasks table.new.items }
 {
+    let _family = run.family();
     if let Some(task) = run.index_of(entry.task) {
         let length = u64::from(index) + 1;
         table[task] = table[task].with(entry.part, length);

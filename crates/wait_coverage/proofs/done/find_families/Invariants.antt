@@ -4,4 +4,4 @@ use Rattle.wait_coverage.proofs.done.find_families.Given as goal
 
 -- the tasks at the last places have handed theirs up
 abbrev pub invariant-loop-passed : goal.invariant-loop-passed
-invariant-loop-passed l = AreRaised l.family l.order l.own (length l.order - l.passed) l.families.items
+invariant-loop-passed l = AreRaised l.run.family l.order l.own (length l.order - l.passed) l.families.items

@@ -5,4 +5,4 @@ use Rattle.wait_coverage.proofs.done.find_own.Given as goal
 
 -- the lengths so far
 abbrev pub invariant-loop-index : goal.invariant-loop-index
-invariant-loop-index l = l.own.items ≡ map done_length (take l.index l.lengths.items)
+invariant-loop-index l = l.own.items ≡ map done_length (take l.index l.lengths)
