@@ -4,6 +4,7 @@ pub mod OrderLemmas
 pub mod DoneLemmas
 pub mod ChainLemmas
 pub mod LimitLemmas
+pub mod WaitKindLemmas
 pub mod WaitLemmas
 pub mod MeetingLemmas
 pub mod OpenLemmas
