@@ -5,6 +5,7 @@ pub mod DoneLemmas
 pub mod HeldLemmas
 pub mod ChainLemmas
 pub mod LimitLemmas
+pub mod WaitKindLemmas
 pub mod WaitLemmas
 pub mod MeetingLemmas
 pub mod OpenLemmas

@@ -1,37 +1,42 @@
 -- What the end of a region waits for, and which of it is unfinished.
-use Rattle.std.proofs.Common.{◌≡◌, ◌≢◌, ◌∙◌, ℕ, ◌<◌, ◌≤◌, ◌+◌, ◌^◌, Bool, false, true, List, [], ◌∷◌, length, get_or, Option, Some, None, refl, sym, ap, subst, arith, inl, inr, ◌⊎◌}
+use Rattle.std.proofs.Common.{◌≡◌, ◌≢◌, ◌∙◌, ℕ, ◌<◌, ◌≤◌, ◌+◌, Bool, false, List, [], ◌∷◌, length, get_or, Option, Some, None, refl, sym, ap, subst, arith, inl, inr, ◌⊎◌}
 use Rattle.std.proofs.lemmas.Bool.{cases_eq, false≢true}
 use Rattle.std.proofs.lemmas.Option.{none-some, same_Some, slice_get_within, slice_get-get_or}
 use Rattle.std.proofs.lemmas.List.{length-set, get_or-set_same, get_or-set_other}
 use Rattle.std.proofs.Math.ListN.{set}
-use Rattle.std.specs.Prelude.{◌↔◌, IsTrue, slice_get, slice_index, slice_index_or}
+use Rattle.std.specs.Prelude.{◌↔◌, IsTrue, slice_get, slice_index_or}
 use Rattle.ompt_events.specs.declared.records.Record.{Record}
 use Rattle.ompt_events.specs.declared.names.Endpoint.{Endpoint}
 use Rattle.ompt_events.specs.declared.names.Endpoint.TheVariants.{Begin, End, BeginEnd}
 use Rattle.ompt_events.specs.declared.names.SyncKind.{SyncKind}
-use Rattle.ompt_events.specs.declared.names.SyncKind.TheVariants.{Barrier, BarrierImplicit, BarrierExplicit, Taskwait, Taskgroup, BarrierImplicitWorkshare, BarrierImplicitParallel}
+use Rattle.ompt_events.specs.declared.names.WaitKind.{WaitKind}
+use Rattle.ompt_events.specs.declared.names.WaitKind.TheVariants.{Taskwait as TaskwaitKind, Taskgroup as TaskgroupKind, Barrier as BarrierKind}
 use Rattle.ompt_events.specs.Records.{made, created, creation, region}
 use Rattle.ompt_events.specs.Places.{at}
 use Rattle.ompt_events.specs.Tree.{child, deeper}
-use Rattle.ompt_events.specs.Regions.{IsRegion, ended, at_once, is_barrier, waits_for_tasks}
+use Rattle.ompt_events.specs.Regions.{IsRegion, ended, at_once}
 use Rattle.ompt_events.specs.Coverage.{IsFamily}
 use Rattle.task_tree.specs.Family.{FamilyView, IsFamilyOf}
 use Rattle.task_tree.specs.Lineage.{parent_index, IsParentAt}
+use Rattle.task_tree.specs.Runs.{RunView, IsNoWaitEvent, IsWaitEvent}
+use Rattle.task_states.specs.States.{IsBeginOf}
 use Rattle.task_tree.proofs.OnceLemmas.{made_once, creation_made}
 use Rattle.task_tree.proofs.LineageLemmas.{parent_is_at, parent_at_is}
 use Rattle.credit_ledger.specs.declared.entry.Cover.TheVariants.{Descendants}
-use Rattle.ompt_events.proofs.PlaceLemmas.{at_index, at_within}
-use Rattle.trace_ledger.specs.Entries.{IsDone}
-use Rattle.wait_coverage.specs.Done.{IsDoneFrom, AreOwn, IsParentsFirst}
-use Rattle.wait_coverage.specs.Waits.{IsWaitAt, waits, groups, IsOwnChild, IsAwaitedBy, IsAwaited, AreAwaited, AreMarked, IsMarkedAbove, EndsNoWait, EndsNoWaitAt, IsLateAt, cover_of, IsWithin, before_begin, in_group, by_member, meets}
+use Rattle.ompt_events.proofs.PlaceLemmas.{at_within}
+use Rattle.wait_coverage.specs.Done.{DoneView, records_of, IsParentsFirst}
+use Rattle.wait_coverage.specs.Waits.{IsWaitAt, waits, groups, IsOwnChild, IsAwaitedBy, IsAwaited, AreAwaited, AreMarked, EndsNoWaitAt, IsLateAt, cover_of, IsWithin, before_begin, in_group, by_member, meets}
+use Rattle.wait_coverage.specs.Search.{SearchView, IsMarkedAbove}
 use Rattle.teams.specs.Teams.{AreBeginNumbers, begins_before}
 use Rattle.wait_coverage.specs.declared.waits.Wait.{Wait}
 use Rattle.wait_coverage.specs.declared.waits.Wait.TheVariants.{Taskwait as ForTaskwait, Taskgroup as ForTaskgroup, Barrier as ForBarrier}
 use Rattle.teams.proofs.BarrierLemmas.{barrier_begins_at}
 use Rattle.task_tree.specs.Numbering.{AreApart}
 use Rattle.ompt_events.specs.Teams.{IsTeammate}
+use Rattle.teams.proofs.EventLemmas.{barrier_kind}
 use Rattle.teams.proofs.RegionEndLemmas.{ends_at, says_same}
 use Rattle.wait_coverage.proofs.DoneLemmas.{indices_of}
+use Rattle.wait_coverage.proofs.WaitKindLemmas.{taskwait_sync, taskgroup_sync, silent_sync}
 
 -- ---- the children
 
@@ -143,18 +148,16 @@ below_awaited rs family index task up parent wait are here deep above is_parent 
     of (other, own, inl is_other) = let P : ℕ → Type 0 = λ p. at creation rs known.2.0 ≡ Some (p, task) in (other, own, inr (child known.2.0 (subst P is_other creates)))
     of (other, own, inr descends) = (other, own, inr (deeper known.2.0 descends creates))
 
+-- what a run says that is the search's
+pub parent_in : (run : RunView) (search : SearchView) (index : ℕ) (found : Option ℕ) → run ≡ search.teams.run → found ≡ parent_index run.family index → parent_index search.teams.run.family index ≡ found
+parent_in run search index found same is = ap (λ (r : RunView). parent_index r.family index) (sym same) ∙ sym is
+
 -- ---- marks
 
-pub marked_start : (rs : List Record) (tasks : List ℕ) (wait : Wait) (order : List ℕ) (marks : List Bool) → length marks ≡ length tasks → AreMarked rs tasks wait order 0 marks
-marked_start rs tasks wait order marks all = record {
-  all = all;
-  each = λ place index task below here is. absurd (omega arith);
-}
-
 -- what is known of the parent of the task at the next place
-pub marked_above : (rs : List Record) (family : FamilyView) (wait : Wait) (order : List ℕ) (n index : ℕ) (marks : List Bool) → IsFamilyOf rs family → IsParentsFirst family order → slice_get order n ≡ Some index → AreMarked rs family.tasks wait order n marks → IsMarkedAbove rs family wait marks index
-marked_above rs family wait order n index marks are first here marked up parent above is_parent =
-    let place = first.all up (slice_get_within family.tasks up parent is_parent) in
+pub marked_above : (search : SearchView) (order : List ℕ) (n index : ℕ) (marks : List Bool) → IsParentsFirst search.teams.run.family order → slice_get order n ≡ Some index → AreMarked search.teams.run.records search.teams.run.family.tasks search.wait order n marks → IsMarkedAbove search marks index
+marked_above search order n index marks first here marked up parent above is_parent =
+    let place = first.all up (slice_get_within search.teams.run.family.tasks up parent is_parent) in
     marked.each place.0 up parent (first.first n place.0 index up here place.1 above) place.1 is_parent
 
 pub marked_more : (rs : List Record) (tasks : List ℕ) (wait : Wait) (order : List ℕ) (n index : ℕ) (marks : List Bool) (mark : Bool) → slice_get order n ≡ Some index → index < length tasks → AreMarked rs tasks wait order n marks → ((task : ℕ) → slice_get tasks index ≡ Some task → IsTrue mark ↔ IsAwaited rs tasks wait task) → AreMarked rs tasks wait order (n + 1) (set marks index mark)
@@ -190,58 +193,42 @@ pub not_begin : (rs : List Record) (i task begin own : ℕ) (kind other : SyncKi
 not_begin rs i task begin own kind other endpoint (ended ends) says same = let e = (says_same rs i task own kind other End endpoint ends.ends says).2 in let never : End ≡ Begin = e ∙ same in cc
 not_begin rs i task begin own kind other endpoint (at_once once) says same = let e = (says_same rs i task own kind other BeginEnd endpoint once says).2 in let never : BeginEnd ≡ Begin = e ∙ same in cc
 
-pub no_wait_there : (rs : List Record) (i : ℕ) (r : Record) → i < length rs → EndsNoWait (get_or rs i r).body → EndsNoWaitAt rs i
-no_wait_there rs i r within ends_none task begin kind demands there =
-    let ends = ends_at rs i task begin kind there in
-    elim (ends_none task kind ends.endpoint (sym (at_index region rs i r within) ∙ ends.says)) [
-      | inl begins ↦ not_begin rs i task begin task kind kind ends.endpoint there ends.says begins
-      | inr other ↦ false≢true (sym other ∙ demands)
-    ]
+pub no_wait_there : (run : RunView) (i : ℕ) → IsNoWaitEvent run i → EndsNoWaitAt run.records i
+no_wait_there run i silent = λ task begin kind demands there.
+    let ends = ends_at run.records i task begin kind there in
+    false≢true (sym (silent_sync kind (silent task kind ends.endpoint ends.says)) ∙ demands)
 
-pub taskwait_there : (rs : List Record) (tasks : List ℕ) (i index begin task : ℕ) (kind : SyncKind) → kind ≡ Taskwait → slice_get tasks index ≡ Some task → IsRegion rs i task kind begin → IsWaitAt rs tasks i (ForTaskwait index begin)
-taskwait_there rs tasks i index begin task kind is is_task there = let P : SyncKind → Type 0 = λ k. IsRegion rs i task k begin in waits is_task (subst P is there)
+pub taskwait_there : (run : RunView) (i index begin : ℕ) (kind : WaitKind) (endpoint : Endpoint) → kind ≡ TaskwaitKind → IsWaitEvent run i index kind endpoint → IsBeginOf run.records i begin → IsWaitAt run.records run.family.tasks i (ForTaskwait index begin)
+taskwait_there run i index begin kind endpoint is event begins =
+    let P : SyncKind → Type 0 = λ k. IsRegion run.records i event.task k begin in
+    waits event.indexed (subst P (taskwait_sync event.sync (event.waits ∙ ap Some is)) (begins event.task event.sync endpoint event.says))
 
-pub taskgroup_there : (rs : List Record) (tasks : List ℕ) (i index begin task : ℕ) (kind : SyncKind) → kind ≡ Taskgroup → slice_get tasks index ≡ Some task → IsRegion rs i task kind begin → IsWaitAt rs tasks i (ForTaskgroup index begin i)
-taskgroup_there rs tasks i index begin task kind is is_task there = let P : SyncKind → Type 0 = λ k. IsRegion rs i task k begin in groups is_task (subst P is there)
+pub taskgroup_there : (run : RunView) (i index begin : ℕ) (kind : WaitKind) (endpoint : Endpoint) → kind ≡ TaskgroupKind → IsWaitEvent run i index kind endpoint → IsBeginOf run.records i begin → IsWaitAt run.records run.family.tasks i (ForTaskgroup index begin i)
+taskgroup_there run i index begin kind endpoint is event begins =
+    let P : SyncKind → Type 0 = λ k. IsRegion run.records i event.task k begin in
+    groups event.indexed (subst P (taskgroup_sync event.sync (event.waits ∙ ap Some is)) (begins event.task event.sync endpoint event.says))
 
--- a region that waits for tasks, and is of neither kind, is a barrier
-barrier_else : (kind : SyncKind) → (kind ≡ Taskwait → ⊥) → (kind ≡ Taskgroup → ⊥) → waits_for_tasks kind ≡ true → is_barrier kind ≡ true
-barrier_else Taskwait not_wait not_group demands = absurd (not_wait refl)
-barrier_else Taskgroup not_wait not_group demands = absurd (not_group refl)
-barrier_else Barrier not_wait not_group demands = demands
-barrier_else BarrierImplicit not_wait not_group demands = demands
-barrier_else BarrierExplicit not_wait not_group demands = demands
-barrier_else BarrierImplicitWorkshare not_wait not_group demands = demands
-barrier_else BarrierImplicitParallel not_wait not_group demands = demands
-barrier_else _ not_wait not_group demands = demands
+pub barrier_there : (run : RunView) (numbers : List ℕ) (i index begin number : ℕ) (kind : WaitKind) (endpoint : Endpoint) → kind ≡ BarrierKind → IsWaitEvent run i index kind endpoint → IsBeginOf run.records i begin → AreBeginNumbers run.records (length run.records) numbers → slice_get numbers begin ≡ Some number → IsWaitAt run.records run.family.tasks i (ForBarrier index number)
+barrier_there run numbers i index begin number kind endpoint is event begins are stands =
+    let barrier = barrier_kind event.sync (event.waits ∙ ap Some is) in
+    let there = begins event.task event.sync endpoint event.says in
+    meets event.indexed there barrier (are.each begin number stands event.task (barrier_begins_at run.records i event.task begin event.sync there barrier))
 
-pub barrier_there : (rs : List Record) (tasks numbers : List ℕ) (i index begin number task : ℕ) (kind : SyncKind) → (kind ≡ Taskwait → ⊥) → (kind ≡ Taskgroup → ⊥) → waits_for_tasks kind ≡ true → AreBeginNumbers rs (length rs) numbers → slice_get numbers begin ≡ Some number → slice_get tasks index ≡ Some task → IsRegion rs i task kind begin → IsWaitAt rs tasks i (ForBarrier index number)
-barrier_there rs tasks numbers i index begin number task kind not_wait not_group demands are stands is_task there =
-    let barrier = barrier_else kind not_wait not_group demands in
-    meets is_task there barrier (are.each begin number stands task (barrier_begins_at rs i task begin kind there barrier))
+-- a region begins at one of the records
+pub begins_within : (run : RunView) (i index begin : ℕ) (kind : WaitKind) (endpoint : Endpoint) → IsWaitEvent run i index kind endpoint → IsBeginOf run.records i begin → begin < length run.records
+begins_within run i index begin kind endpoint event begins =
+    let ends = ends_at run.records i event.task begin event.sync (begins event.task event.sync endpoint event.says) in
+    let below = ends.below in
+    let inside = ends.inside in
+    omega (arith, below, inside)
 
 -- ---- late tasks
 
-done_from : (rs : List Record) (tasks own : List ℕ) (index task : ℕ) → AreOwn rs tasks own → slice_get tasks index ≡ Some task → IsDoneFrom rs task (slice_index own index)
-done_from rs tasks own index task are is =
-    let inside = slice_get_within tasks index task is in
-    let all = are.all in
-    are.each index task (slice_index own index) is (slice_get-get_or own index 0 (omega (arith, inside, all)))
-
-pub late_task : (rs : List Record) (tasks own : List ℕ) (seen index task : ℕ) → AreOwn rs tasks own → slice_get tasks index ≡ Some task → seen < 2 ^ 32 → seen < slice_index own index → IsDone rs seen task → ⊥
-late_task rs tasks own seen index task are is small late done = let low = (done_from rs tasks own index task are is seen small).1 done in omega (arith, low, late)
-
-pub not_late : (rs : List Record) (tasks : List ℕ) (wait : Wait) (own : List ℕ) (seen place index task other : ℕ) → AreOwn rs tasks own → slice_get tasks index ≡ Some task → at created rs place ≡ Some task → seen < 2 ^ 32 → slice_index own index ≤ seen → IsLateAt rs tasks wait seen place other → ⊥
-not_late rs tasks wait own seen place index task other are is says small low late =
-    let same = same_Some task other (sym says ∙ late.0) in
-    let P : ℕ → Type 0 = IsDone rs seen in
-    late.2 (subst P same ((done_from rs tasks own index task are is seen small).0 low))
-
-pub late_more : (rs : List Record) (tasks : List ℕ) (wait : Wait) (seen n : ℕ) → ((k task : ℕ) → k < n → IsLateAt rs tasks wait seen k task → ⊥) → ((task : ℕ) → IsLateAt rs tasks wait seen n task → ⊥) → (k task : ℕ) → k < n + 1 → IsLateAt rs tasks wait seen k task → ⊥
-late_more rs tasks wait seen n before here k task below late = elim (cases_eq k n) [
-  | inl same ↦ let P : ℕ → Type 0 = λ j. IsLateAt rs tasks wait seen j task in here task (subst P same late)
+pub late_more : (done : DoneView) (wait : Wait) (seen n : ℕ) → ((k task : ℕ) → k < n → IsLateAt done wait seen k task → ⊥) → ((task : ℕ) → IsLateAt done wait seen n task → ⊥) → (k task : ℕ) → k < n + 1 → IsLateAt done wait seen k task → ⊥
+late_more done wait seen n before here k task below late = elim (cases_eq k n) [
+  | inl same ↦ let P : ℕ → Type 0 = λ j. IsLateAt done wait seen j task in here task (subst P same late)
   | inr apart ↦ before k task (omega (arith, below, apart)) late
 ]
 
-pub late_within : (rs : List Record) (tasks : List ℕ) (wait : Wait) (seen place task : ℕ) → IsLateAt rs tasks wait seen place task → place < length rs
-late_within rs tasks wait seen place task late = at_within created rs place task late.0
+pub late_within : (done : DoneView) (wait : Wait) (seen place task : ℕ) → IsLateAt done wait seen place task → place < length (records_of done)
+late_within done wait seen place task late = at_within created (records_of done) place task late.0

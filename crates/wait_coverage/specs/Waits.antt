@@ -1,19 +1,14 @@
 -- What the end of a region waits for, by the places of the creations, and what of it is unfinished.
-use Rattle.std.specs.Prelude.{ℕ, ◌≡◌, ◌<◌, ◌≤◌, ◌⊎◌, ◌↔◌, Bool, false, true, IsTrue, List, length, Some, slice_get, slice_index_or}
+use Rattle.std.specs.Prelude.{ℕ, ◌≡◌, ◌<◌, ◌≤◌, ◌↔◌, Bool, false, true, IsTrue, List, length, Some, slice_get, slice_index_or}
 use Rattle.ompt_events.specs.declared.records.Record.{Record}
-use Rattle.ompt_events.specs.declared.records.Body.{Body}
-use Rattle.ompt_events.specs.declared.names.Endpoint.{Endpoint}
-use Rattle.ompt_events.specs.declared.names.Endpoint.TheVariants.{Begin}
 use Rattle.ompt_events.specs.declared.names.SyncKind.{SyncKind}
 use Rattle.ompt_events.specs.declared.names.SyncKind.TheVariants.{Taskwait, Taskgroup}
-use Rattle.ompt_events.specs.Records.{creation, created, region}
+use Rattle.ompt_events.specs.Records.{creation, created}
 use Rattle.ompt_events.specs.Places.{at}
 use Rattle.ompt_events.specs.Regions.{IsRegion, IsBarrierBegin, is_barrier, waits_for_tasks}
 use Rattle.ompt_events.specs.Teams.{IsTeammate}
 use Rattle.ompt_events.specs.Coverage.{Covers, IsFamily}
 use Rattle.ompt_events.specs.Completion.{IsCompleteAt}
-use Rattle.task_tree.specs.Family.{FamilyView}
-use Rattle.task_tree.specs.Lineage.{parent_index}
 use Rattle.credit_ledger.specs.declared.entry.Cover.{Cover}
 use Rattle.credit_ledger.specs.declared.entry.Cover.TheVariants.{Children, Descendants}
 use Rattle.wait_coverage.specs.Done.{DoneView, records_of, tasks_of, IsEarly}

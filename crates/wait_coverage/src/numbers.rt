@@ -42,6 +42,7 @@ fn count_child(run: &Run, counts: &mut Vec<u32>, at: usize)
     requires counts { AreCounts run.now.records at run.now.family.tasks counts.old.items }
     ensures { AreCounts run.now.records (at + 1) run.now.family.tasks counts.new.items }
 {
+    let _records = run.records();
     if let Some(made) = run.creation(at) {
         counts[made.parent] += 1;
     }

@@ -68,6 +68,7 @@ fn wait_of(teams: &Teams, event: WaitEvent, begin: usize, end: usize) -> Wait
     requires begin { IsBeginOf teams.now.run.records end begin }
     ensures { IsWaitAt teams.now.run.records teams.now.run.family.tasks end result }
 {
+    let _run = teams.run();
     let task = event.task;
     match event.kind {
         WaitKind::Taskwait => Wait::Taskwait { task, begin },
@@ -103,11 +104,16 @@ impl<'a> Search<'a> {
         ensures teams { result.teams ≡ teams.now }
         ensures wait { result.wait ≡ wait }
     {
+        let _run = teams.run();
         Search { teams, wait }
     }
 
     /// Whether each task is waited for, by its index. The order has each task behind its parent.
-    pub(crate) fn find_awaited(&self, alloc: Global, order: &[usize]) -> Result<Vec<bool>, AllocError>
+    pub(crate) fn find_awaited(
+        &self,
+        alloc: Global,
+        order: &[usize],
+    ) -> Result<Vec<bool>, AllocError>
         requires { IsParentsFirst self.now.teams.run.family order.now }
         ensures { IfOk result (λ marks. AreAwaited self.now.teams.run.records
             self.now.teams.run.family.tasks self.now.wait marks.items) }
