@@ -2,6 +2,7 @@ pub mod CoverLemmas
 pub mod LengthLemmas
 pub mod OrderLemmas
 pub mod DoneLemmas
+pub mod KindLemmas
 pub mod ChainLemmas
 pub mod LimitLemmas
 pub mod WaitLemmas
