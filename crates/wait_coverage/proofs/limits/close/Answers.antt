@@ -17,4 +17,14 @@ returns-in_default c =
     unended_noted c.args.done.now c.args.at c.requires.event.task c.args.nodes.now c.alone.result c.args.progress.now c.requires.noted says c.in_default.ensures c.alone.ensures.alone
 
 pub returns : goal.returns
-returns c = ?
+returns c =
+    let done = c.args.done.now in
+    let event = c.requires.event in
+    let own = c.args.event.task in
+    let heads = c.args.progress.now.heads.items in
+    let says = event.says ∙ ap (λ k. Some (event.task, k, End)) (taskgroup_kind event.sync event.waits) in
+    let ends = ended_region (records_of done) c.args.at event.task c.in-Some.begin Taskgroup says (c.in-Some.ensures event.task Taskgroup End says) in
+    let inside = slice_get_within (tasks_of done) own event.task event.indexed in
+    let all = c.requires.noted.chains.all in
+    let head = read_at heads own c.index.result.now (omega (arith, inside, all)) c.index.ensures in
+    closed_noted done c.args.at own event.task c.in-Some.begin c.args.nodes.now c.gather-node.result c.args.progress.now _ c.run-run.ensures.is_done.teams.run.family.makers.apart c.requires.noted ends event.indexed c.index.result.now head c.gather-node.ensures (ap (λ x. set heads own x) c.some.ensures) refl refl
