@@ -17,21 +17,20 @@ use Rattle.ompt_events.specs.Teams.{IsTeammate}
 use Rattle.ompt_events.proofs.PlaceLemmas.{at_within}
 use Rattle.task_tree.specs.Numbering.{AreApart}
 use Rattle.task_tree.specs.Subjects.{subject}
-use Rattle.task_tree.specs.Family.{FamilyView, IsFamilyOf}
 use Rattle.task_tree.proofs.LinkLemmas.{get_set_same, get_set_other}
 use Rattle.task_tree.proofs.LookupLemmas.{subject_calls}
 use Rattle.task_tree.proofs.SubjectLemmas.{call_index}
 use Rattle.wait_coverage.specs.Done.{DoneView, records_of, tasks_of, IsEarly}
 use Rattle.wait_coverage.specs.Limits.{IsFamiliesLimit, IsWaitLimit, IsEndLimit, AreEndLimits}
 use Rattle.wait_coverage.specs.declared.limits.Node.{Node}
-use Rattle.wait_coverage.specs.Meetings.{IsBarrierEnd, IsMeeting, AreMet, IsRaised, AreMeetingsAdded}
+use Rattle.wait_coverage.specs.Meetings.{IsMeeting, AreMet, IsRaised, AreMeetingsAdded}
 use Rattle.teams.specs.Rows.{row_at, AreSameRows}
-use Rattle.teams.specs.Teams.{AreTeams}
+use Rattle.teams.specs.Missed.{EndsNoBarrier}
+use Rattle.teams.specs.Teams.{AreTeams, IsTeams}
 use Rattle.teams.proofs.BarrierLemmas.{begin_says, begun_subject, begun_region, one_number, barrier_is_other}
-use Rattle.teams.proofs.RegionEndLemmas.{ends_at, one_region, says_same}
+use Rattle.teams.proofs.RegionEndLemmas.{ends_at, one_region}
 use Rattle.wait_coverage.proofs.LimitLemmas.{covers_cases}
 use Rattle.teams.proofs.RowLemmas.{row_here, row_there, row_set_same, row_set_other}
-use Rattle.wait_coverage.proofs.WaitLemmas.{not_begin}
 
 -- ---- the members' begins, one record more
 
@@ -104,14 +103,12 @@ met_more done n own task team number limit meetings reached old new apart met sa
 -- ---- the end of a barrier
 
 -- no barrier ends there
-pub plain_limit : (done : DoneView) (i limit : ℕ) → IsWaitLimit done i limit → (IsBarrierEnd (records_of done) i → ⊥) → IsEndLimit done i limit
+pub plain_limit : (done : DoneView) (i limit : ℕ) → IsWaitLimit done i limit → EndsNoBarrier (records_of done) i → IsEndLimit done i limit
 plain_limit done i limit noted none m t small low covers = elim (covers_cases (records_of done) i t covers) [
   | inl one ↦ noted.waits one.parent one.begin one.is_region m one.place t small low one.before one.creates
   | inr other ↦ elim other [
     | inl one ↦ noted.groups one.parent one.begin one.place one.child one.is_region one.from one.before one.creates m t small low one.of
-    | inr one ↦
-        let ends = ends_at (records_of done) i one.own one.begin one.kind one.is_region in
-        absurd (none (one.own, one.kind, ends.endpoint, ends.says, not_begin (records_of done) i one.own one.begin one.own one.kind one.kind ends.endpoint one.is_region ends.says, one.barrier))
+    | inr one ↦ absurd (none one.own one.begin one.kind one.is_region one.barrier)
   ]
 ]
 
@@ -134,8 +131,8 @@ own_meeting done i index own team begin number kind meetings row are is_own in_t
     let known = own_limit done i index own team begin number kind meetings are is_own in_team there begins in
     slice_get_within row.items number known.limit (sym (ap (λ l. slice_get l number) (row_here meetings team row stands)) ∙ known.there)
 
-pub met_limit : (done : DoneView) (family : FamilyView) (i index own team begin number limit : ℕ) (kind : SyncKind) (meetings : List (Vec ℕ)) (row : Vec ℕ) → IsFamilyOf (records_of done) family → AreTeams (records_of done) family.tasks done.teams.teams → AreMet done (length (records_of done)) meetings → slice_get family.tasks index ≡ Some own → slice_get done.teams.teams index ≡ Some (Some team) → slice_get meetings team ≡ Some row → IsRegion (records_of done) i own kind begin → is_barrier kind ≡ true → IsBarrierBegin (records_of done) own number begin → slice_get row.items number ≡ Some limit → IsEndLimit done i limit
-met_limit done family i index own team begin number limit kind meetings row are known met is_own in_team stands there barrier begins is_limit m t small low covers = elim (covers_cases (records_of done) i t covers) [
+pub met_limit : (done : DoneView) (i index own team begin number limit : ℕ) (kind : SyncKind) (meetings : List (Vec ℕ)) (row : Vec ℕ) → IsTeams done.teams → AreMet done (length (records_of done)) meetings → slice_get (tasks_of done) index ≡ Some own → slice_get done.teams.teams index ≡ Some (Some team) → slice_get meetings team ≡ Some row → IsRegion (records_of done) i own kind begin → is_barrier kind ≡ true → IsBarrierBegin (records_of done) own number begin → slice_get row.items number ≡ Some limit → IsEndLimit done i limit
+met_limit done i index own team begin number limit kind meetings row teams met is_own in_team stands there barrier begins is_limit m t small low covers = elim (covers_cases (records_of done) i t covers) [
   | inl one ↦ absurd (barrier_is_other kind Taskwait barrier refl (one_region (records_of done) i own one.parent begin one.begin kind Taskwait there one.is_region).kind_is)
   | inr other ↦ elim other [
     | inl one ↦ absurd (barrier_is_other kind Taskgroup barrier refl (one_region (records_of done) i own one.parent begin one.begin kind Taskgroup there one.is_region).kind_is)
@@ -147,8 +144,8 @@ met_limit done family i index own team begin number limit kind meetings row are 
         let is_number = one_number (records_of done) own one.number number begin (subst Q same.begin_is (subst P same.task_is one.begins)) begins in
         let says = begin_says (records_of done) one.member one.number one.start one.starts in
         let says_region = begun_region (records_of done) one.start one.member says in
-        let called = call_index family.tasks (at subject (records_of done) one.start) _ one.member (subject_calls (records_of done) family one.start are) (begun_subject (records_of done) one.start one.member says) in
-        let mates = (known.mates index called.0 own one.member team is_own called.2 in_team).1 (subst R same.task_is one.mate) in
+        let called = call_index (tasks_of done) (at subject (records_of done) one.start) _ one.member (subject_calls (records_of done) done.teams.run.family one.start teams.run.family) (begun_subject (records_of done) one.start one.member says) in
+        let mates = (teams.teams.mates index called.0 own one.member team is_own called.2 in_team).1 (subst R same.task_is one.mate) in
         let meeting = met.each called.0 one.member team one.number one.start called.2 mates one.starts (at_within region (records_of done) one.start (one.member, says_region.0, says_region.1) says_region.2) in
         let is_same : meeting.limit ≡ limit = same_Some meeting.limit limit (sym meeting.there ∙ ap (λ l. slice_get l one.number) (row_here meetings team row stands) ∙ ap (slice_get row.items) is_number ∙ is_limit) in
         meeting.families one.place one.child one.before one.creates m t small (omega (arith, is_same, low)) one.of
@@ -156,14 +153,13 @@ met_limit done family i index own team begin number limit kind meetings row are 
 ]
 
 -- a task in no team has no teammate
-pub teamless_limit : (done : DoneView) (i index own limit : ℕ) (kind : SyncKind) (endpoint : Endpoint) → AreTeams (records_of done) (tasks_of done) done.teams.teams → slice_get (tasks_of done) index ≡ Some own → slice_get done.teams.teams index ≡ Some None → at region (records_of done) i ≡ Some (own, kind, endpoint) → is_barrier kind ≡ true → IsEndLimit done i limit
-teamless_limit done i index own limit kind endpoint known is_own alone says barrier m t small low covers = elim (covers_cases (records_of done) i t covers) [
-  | inl one ↦ absurd (let ends = ends_at (records_of done) i one.parent one.begin Taskwait one.is_region in barrier_is_other kind Taskwait barrier refl (says_same (records_of done) i own one.parent kind Taskwait endpoint ends.endpoint says ends.says).1)
+pub teamless_limit : (done : DoneView) (i index own begin limit : ℕ) (kind : SyncKind) → AreTeams (records_of done) (tasks_of done) done.teams.teams → slice_get (tasks_of done) index ≡ Some own → slice_get done.teams.teams index ≡ Some None → IsRegion (records_of done) i own kind begin → is_barrier kind ≡ true → IsEndLimit done i limit
+teamless_limit done i index own begin limit kind known is_own alone there barrier m t small low covers = elim (covers_cases (records_of done) i t covers) [
+  | inl one ↦ absurd (barrier_is_other kind Taskwait barrier refl (one_region (records_of done) i own one.parent begin one.begin kind Taskwait there one.is_region).kind_is)
   | inr other ↦ elim other [
-    | inl one ↦ absurd (let ends = ends_at (records_of done) i one.parent one.begin Taskgroup one.is_region in barrier_is_other kind Taskgroup barrier refl (says_same (records_of done) i own one.parent kind Taskgroup endpoint ends.endpoint says ends.says).1)
+    | inl one ↦ absurd (barrier_is_other kind Taskgroup barrier refl (one_region (records_of done) i own one.parent begin one.begin kind Taskgroup there one.is_region).kind_is)
     | inr one ↦
-        let ends = ends_at (records_of done) i one.own one.begin one.kind one.is_region in
-        let same = (says_same (records_of done) i own one.own kind one.kind endpoint ends.endpoint says ends.says).0 in
+        let same = (one_region (records_of done) i own one.own begin one.begin kind one.kind there one.is_region).task_is in
         let R : ℕ → Type 0 = λ x. IsTeammate (records_of done) x one.member in
         absurd (known.none index own one.member is_own alone (subst R (sym same) one.mate))
   ]
@@ -172,7 +168,7 @@ teamless_limit done i index own limit kind endpoint known is_own alone says barr
 -- ---- one record more
 
 -- where no barrier ends
-pub added_other : (done : DoneView) (n : ℕ) (nodes : List Node) → AreMeetingsAdded done n nodes → (IsBarrierEnd (records_of done) n → ⊥) → AreMeetingsAdded done (n + 1) nodes
+pub added_other : (done : DoneView) (n : ℕ) (nodes : List Node) → AreMeetingsAdded done n nodes → EndsNoBarrier (records_of done) n → AreMeetingsAdded done (n + 1) nodes
 added_other done n nodes are none = record {
   count = are.count;
   known = λ i node below there. elim (cases_eq i n) [
