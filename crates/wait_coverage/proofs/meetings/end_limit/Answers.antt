@@ -1,50 +1,50 @@
-use Rattle.std.proofs.Common.{◌∙◌, ◌<◌, length, Some, ap, arith, rules}
-use Rattle.std.proofs.lemmas.Option.{slice_get_within}
-use Rattle.teams.proofs.BarrierLemmas.{barrier_begins_at}
+use Rattle.std.proofs.Common.{◌∙◌, ◌<◌, length, Some, ap, rules}
 use Rattle.teams.proofs.CallLemmas.{read_at}
-use Rattle.teams.proofs.RegionEndLemmas.{ends_at}
-use Rattle.wait_coverage.specs.Done.{records_of, tasks_of}
-use Rattle.wait_coverage.proofs.MeetingLemmas.{met_limit, own_row, own_meeting, teamless_limit}
+use Rattle.wait_coverage.proofs.MeetingLemmas.{begin_inside, met_limit, own_row, own_meeting, teamless_limit}
 use Rattle.wait_coverage.proofs.meetings.end_limit.Goals as goal
 
 pub returns-in-None : goal.returns-in-None
-returns-in-None c =
-    let ends = c.requires.ends in
-    let barrier = ends.barrier in
-    teamless_limit c.args.done.now c.args.at c.args.end.task barrier.task c.args.end.begin c.zero.result barrier.kind c.run.ensures.is_done.teams.teams ends.indexed (c.team.ensures ∙ ap Some c.in-None.is) barrier.ends barrier.barrier
+returns-in-None c = teamless_limit c.args.done.now c.args.at c.args.end.task c.args.end.begin c.zero.result c.run-run.ensures.is_done.teams c.requires.ends (c.team.ensures ∙ ap Some c.in-None.is)
 
 pub number-requires : goal.number-requires
-number-requires c =
-    let barrier = c.requires.ends.barrier in
-    let there = ends_at (records_of c.args.done.now) c.args.at barrier.task c.args.end.begin barrier.kind barrier.ends in
-    let below = there.below in
-    let inside = there.inside in
-    let all = c.run.ensures.is_done.teams.numbers.all in
-    omega (arith, below, inside, all)
+number-requires c = begin_inside c.args.done.now c.args.at c.args.end.task c.args.end.begin c.run-run.ensures.is_done.teams c.requires.ends
 
 pub bounds-meetings-team : goal.bounds-meetings-team
-bounds-meetings-team c = ?
+bounds-meetings-team c =
+    let in_team = c.team.ensures ∙ ap Some c.in-Some.is in
+    own_row c.args.done.now c.args.at c.args.end.task c.in-Some.team c.args.end.begin c.args.meetings.now c.run-run.ensures.is_done.teams c.requires.met c.requires.ends in_team
 
 pub offset_bounds-meetings-team : goal.offset_bounds-meetings-team
-offset_bounds-meetings-team c = ?
+offset_bounds-meetings-team c =
+    let in_team = c.team.ensures ∙ ap Some c.in-Some.is in
+    let inside : c.in-Some.team < length c.args.meetings.now = own_row c.args.done.now c.args.at c.args.end.task c.in-Some.team c.args.end.begin c.args.meetings.now c.run-run.ensures.is_done.teams c.requires.met c.requires.ends in_team in
+    search rules
 
 pub index-requires : goal.index-requires
-index-requires c = ?
+index-requires c =
+    let done = c.args.done.now in
+    let index = c.args.end.task in
+    let begin = c.args.end.begin in
+    let meetings = c.args.meetings.now in
+    let row = c.index-meetings-team.result in
+    let teams = c.run-run.ensures.is_done.teams in
+    let in_team = c.team.ensures ∙ ap Some c.in-Some.is in
+    let inside = own_row done c.args.at index c.in-Some.team begin meetings teams c.requires.met c.requires.ends in_team in
+    let stands = read_at meetings c.in-Some.team row inside c.index-meetings-team.is in
+    let within : c.number.result < length row.items = own_meeting done c.args.at index c.in-Some.team begin c.number.result meetings row teams c.requires.met c.requires.ends in_team c.number.ensures stands in
+    search rules
 
 pub returns-in-Some : goal.returns-in-Some
 returns-in-Some c =
     let done = c.args.done.now in
-    let i = c.args.at in
-    let ends = c.requires.ends in
-    let barrier = ends.barrier in
     let index = c.args.end.task in
     let begin = c.args.end.begin in
-    let team = c.in-Some.team in
-    let number = c.number.result in
-    let teams = c.run.ensures.is_done.teams in
+    let meetings = c.args.meetings.now in
+    let row = c.index-meetings-team.result in
+    let teams = c.run-run.ensures.is_done.teams in
     let in_team = c.team.ensures ∙ ap Some c.in-Some.is in
-    let begins = teams.numbers.each begin number c.number.ensures barrier.task (barrier_begins_at (records_of done) i barrier.task begin barrier.kind barrier.ends barrier.barrier) in
-    let inside = own_row done i index barrier.task team begin number barrier.kind c.args.meetings.now c.requires.met ends.indexed in_team barrier.ends begins in
-    let row = read_at c.args.meetings.now team c.index-meetings-team.result inside c.index-meetings-team.is in
-    let within = own_meeting done i index barrier.task team begin number barrier.kind c.args.meetings.now c.index-meetings-team.result c.requires.met ends.indexed in_team row barrier.ends begins in
-    met_limit done i index barrier.task team begin number c.index.result.now barrier.kind c.args.meetings.now c.index-meetings-team.result teams c.requires.met ends.indexed in_team row barrier.ends barrier.barrier begins (read_at c.index-meetings-team.result.items number c.index.result.now within c.index.ensures)
+    let inside = own_row done c.args.at index c.in-Some.team begin meetings teams c.requires.met c.requires.ends in_team in
+    let stands = read_at meetings c.in-Some.team row inside c.index-meetings-team.is in
+    let within = own_meeting done c.args.at index c.in-Some.team begin c.number.result meetings row teams c.requires.met c.requires.ends in_team c.number.ensures stands in
+    met_limit done c.args.at index c.in-Some.team begin c.number.result c.index.result.now meetings row teams c.requires.met c.requires.ends in_team c.number.ensures stands
+    (read_at row.items c.number.result c.index.result.now within c.index.ensures)
