@@ -1,5 +1,5 @@
 -- From which ledger length on what the end of a barrier covers is finished.
-use Rattle.std.proofs.Common.{◌≡◌, ◌∙◌, ℕ, ◌<◌, ◌≤◌, ◌+◌, List, length, get_or, Option, Some, None, refl, sym, ap, subst, arith, inl, inr}
+use Rattle.std.proofs.Common.{◌≡◌, ◌∙◌, ℕ, ◌<◌, ◌≤◌, ◌+◌, List, length, get_or, Some, None, refl, sym, ap, subst, arith, inl, inr}
 use Rattle.std.proofs.lemmas.Bool.{cases_eq}
 use Rattle.std.proofs.lemmas.Option.{same_Some, slice_get_within, slice_get-get_or}
 use Rattle.std.proofs.lemmas.List.{length-set}
@@ -7,12 +7,11 @@ use Rattle.std.proofs.Math.ListN.{set}
 use Rattle.std.specs.Global.{Vec}
 use Rattle.std.specs.Prelude.{slice_get}
 use Rattle.ompt_events.specs.declared.records.Record.{Record}
-use Rattle.ompt_events.specs.declared.names.Endpoint.{Endpoint}
 use Rattle.ompt_events.specs.declared.names.SyncKind.{SyncKind}
 use Rattle.ompt_events.specs.declared.names.SyncKind.TheVariants.{Taskwait, Taskgroup}
 use Rattle.ompt_events.specs.Records.{region}
 use Rattle.ompt_events.specs.Places.{at}
-use Rattle.ompt_events.specs.Regions.{IsRegion, is_barrier, barrier_begun, IsBarrierBegin}
+use Rattle.ompt_events.specs.Regions.{IsRegion, barrier_begun, IsBarrierBegin}
 use Rattle.ompt_events.specs.Teams.{IsTeammate}
 use Rattle.ompt_events.proofs.PlaceLemmas.{at_within}
 use Rattle.task_tree.specs.Numbering.{AreApart}
@@ -20,7 +19,7 @@ use Rattle.task_tree.specs.Subjects.{subject}
 use Rattle.task_tree.proofs.LinkLemmas.{get_set_same, get_set_other}
 use Rattle.task_tree.proofs.LookupLemmas.{subject_calls}
 use Rattle.task_tree.proofs.SubjectLemmas.{call_index}
-use Rattle.wait_coverage.specs.Done.{DoneView, records_of, tasks_of, IsEarly}
+use Rattle.wait_coverage.specs.Done.{DoneView, records_of, tasks_of}
 use Rattle.wait_coverage.specs.Limits.{IsFamiliesLimit, IsWaitLimit, IsEndLimit, AreEndLimits}
 use Rattle.wait_coverage.specs.declared.limits.Node.{Node}
 use Rattle.wait_coverage.specs.Meetings.{IsMeeting, AreMet, IsRaised, AreMeetingsAdded}

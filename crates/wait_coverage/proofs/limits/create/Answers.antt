@@ -1,12 +1,11 @@
-use Rattle.std.proofs.Common.{◌≡◌, ◌∙◌, ℕ, ◌<◌, ◌≤◌, ◌^◌, List, Some, length, get_or, subst, ap, sym, arith, rules}
+use Rattle.std.proofs.Common.{◌≡◌, ◌∙◌, ℕ, ◌<◌, ◌≤◌, List, Some, length, get_or, subst, ap, sym, arith, rules}
 use Rattle.std.proofs.lemmas.Option.{same_Some, slice_get_within, slice_get-get_or}
 use Rattle.std.proofs.Math.ListN.{set}
 use Rattle.std.specs.Prelude.{max, slice_get}
 use Rattle.ompt_events.specs.Records.{creation}
 use Rattle.ompt_events.proofs.PlaceLemmas.{at_within}
 use Rattle.wait_coverage.specs.declared.limits.Node.{Node}
-use Rattle.wait_coverage.specs.Done.{IsEarly, tasks_of, records_of}
-use Rattle.wait_coverage.specs.Limits.{IsFamilyLimit}
+use Rattle.wait_coverage.specs.Done.{tasks_of, records_of}
 use Rattle.teams.proofs.CallLemmas.{read_at}
 use Rattle.wait_coverage.proofs.LimitLemmas.{created_noted, early_at}
 use Rattle.wait_coverage.proofs.limits.create.Goals as goal
