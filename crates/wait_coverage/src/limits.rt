@@ -120,7 +120,8 @@ fn limit_at(done: &Done, nodes: &[Node], progress: &Progress, event: WaitEvent, 
     requires within { at < length done.now.teams.run.records }
     requires event { IsWaitEvent done.now.teams.run at event.task event.kind event.endpoint }
     requires noted { AreNoted done.now at nodes.now progress.now }
-    ensures { (event.kind ≡ WaitKind.Taskgroup → event.endpoint ≡ Endpoint.End → ⊥) → IsMark done.now at result }
+    ensures { (event.kind ≡ WaitKind.Taskgroup → event.endpoint ≡ Endpoint.End → ⊥)
+        → IsMark done.now at result }
 {
     match event.kind {
         WaitKind::Taskwait => {
