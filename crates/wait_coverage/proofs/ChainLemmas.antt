@@ -6,13 +6,12 @@ use Rattle.std.proofs.lemmas.List.{length_push, length-set, get_or-replicate, le
 use Rattle.std.proofs.Math.ListN.{set}
 use Rattle.std.specs.Prelude.{max, slice_get, replicate}
 use Rattle.std.specs.Option.{option_map_or}
-use Rattle.ompt_events.specs.declared.records.Record.{Record}
 use Rattle.ompt_events.specs.Records.{creation}
 use Rattle.ompt_events.specs.Places.{at}
 use Rattle.ompt_events.proofs.ListLemmas.{get_pushed, get_last, pushed_cases}
 use Rattle.task_tree.specs.Numbering.{AreApart}
 use Rattle.task_tree.proofs.LinkLemmas.{get_set_same, get_set_other}
-use Rattle.wait_coverage.specs.Done.{DoneView, records_of, tasks_of, IsEarly}
+use Rattle.wait_coverage.specs.Done.{DoneView, records_of, tasks_of}
 use Rattle.wait_coverage.specs.Limits.{IsFamilyLimit, IsOnChain, here, later, AreFalling, Gathers, HasNode, AreChains}
 use Rattle.wait_coverage.specs.declared.limits.Node.{Node}
 

@@ -3,6 +3,7 @@ pub mod LengthLemmas
 pub mod OrderLemmas
 pub mod DoneLemmas
 pub mod HeldLemmas
+pub mod KindLemmas
 pub mod ChainLemmas
 pub mod LimitLemmas
 pub mod WaitKindLemmas

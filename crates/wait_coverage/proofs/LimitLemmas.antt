@@ -4,7 +4,7 @@ use Rattle.std.proofs.lemmas.Bool.{cases_eq, cases_lt, false≢true}
 use Rattle.std.proofs.lemmas.Option.{none-some, same_Some, slice_get_within, slice_get-get_or}
 use Rattle.std.proofs.lemmas.List.{length_push, length-set, length-replicate}
 use Rattle.std.proofs.Math.ListN.{set}
-use Rattle.std.specs.Prelude.{max, slice_get, is_some, replicate, option_and_then, option_map, Contains}
+use Rattle.std.specs.Prelude.{max, slice_get, replicate, option_and_then, option_map, Contains}
 use Rattle.ompt_events.specs.declared.records.Record.{Record}
 use Rattle.ompt_events.specs.declared.records.Body.{Body}
 use Rattle.ompt_events.specs.declared.records.Body.TheVariants.{TaskCreate}
@@ -15,23 +15,23 @@ use Rattle.ompt_events.specs.declared.names.SyncKind.TheVariants.{Taskwait, Task
 use Rattle.ompt_events.specs.Records.{creation, region}
 use Rattle.ompt_events.specs.Places.{at}
 use Rattle.ompt_events.specs.Tree.{children_before, children_between, child_number}
-use Rattle.ompt_events.specs.Regions.{IsRegion, EndsRegion, ended, at_once, is_barrier, barrier_begun, IsBarrierBegin}
+use Rattle.ompt_events.specs.Regions.{IsRegion, EndsRegion, ended, at_once, is_barrier, IsBarrierBegin}
 use Rattle.ompt_events.specs.Teams.{IsTeammate}
 use Rattle.ompt_events.specs.Coverage.{Covers, IsFamily, waited, grouped, synchronised}
 use Rattle.ompt_events.proofs.ListLemmas.{pushed_cases}
-use Rattle.ompt_events.proofs.RecordLemmas.{at_through}
 use Rattle.ompt_events.proofs.RegionLemmas.{own_begin, begin_before}
 use Rattle.ompt_events.proofs.TreeLemmas.{before_child, child_place}
 use Rattle.task_tree.specs.Numbering.{AreApart}
-use Rattle.task_tree.specs.Subjects.{subject}
-use Rattle.task_tree.proofs.NamedLemmas.{region_subject}
 use Rattle.task_tree.proofs.LinkLemmas.{get_set_same, get_set_other}
 use Rattle.wait_coverage.specs.Done.{DoneView, records_of, tasks_of, IsEarly}
-use Rattle.wait_coverage.specs.Limits.{IsFamilyLimit, IsChildLimit, IsFamiliesLimit, IsLimitOfBegin, IsOnChain, Gathers, HasNode, AreLatest, AreLatestFamilies, AreChains, IsMark, AreNoted}
+use Rattle.wait_coverage.specs.Limits.{IsFamilyLimit, IsChildLimit, IsFamiliesLimit, IsLimitOfBegin, IsOnChain, Gathers, HasNode, AreLatest, AreLatestFamilies, AreChains, IsMark, AreMarks, AreNoted}
 use Rattle.wait_coverage.specs.declared.limits.Node.{Node}
 use Rattle.wait_coverage.specs.declared.limits.Progress.{Progress}
-use Rattle.teams.proofs.BarrierLemmas.{begun_region, begun_other}
-use Rattle.teams.proofs.RegionEndLemmas.{ends_at, one_region}
+use Rattle.teams.proofs.BarrierLemmas.{begun_region, begun_other, barrier_is_other}
+use Rattle.teams.proofs.EventLemmas.{no_wait}
+use Rattle.ompt_events.specs.Waits.{wait_kind}
+use Rattle.ompt_events.specs.declared.names.WaitKind.TheVariants.{Taskwait as ForTaskwait, Taskgroup as ForTaskgroup}
+use Rattle.teams.proofs.RegionEndLemmas.{ends_at, one_region, says_same}
 use Rattle.wait_coverage.proofs.CoverLemmas.{child_with, number_between}
 use Rattle.trace_ledger.proofs.StandLemmas.{created_child}
 use Rattle.wait_coverage.proofs.ChainLemmas.{chains_other, chains_more}
@@ -125,8 +125,8 @@ latest_other done n latest are none = record {
   ];
 }
 
-latest_more : (done : DoneView) (n own parent child value done d : ℕ) (latest : List ℕ) → AreApart (tasks_of done) → AreLatest done n latest → slice_get (tasks_of done) own ≡ Some parent → at creation (records_of done) n ≡ Some (parent, child) → value ≡ max (get_or latest own d) done → ((m : ℕ) → m < 2 ^ 32 → done ≤ m → IsEarly done m child) → AreLatest done (n + 1) (set latest own value)
-latest_more done n own parent child value done d latest apart are is_own creates is_value finished = record {
+latest_more : (done : DoneView) (n own parent child value early d : ℕ) (latest : List ℕ) → AreApart (tasks_of done) → AreLatest done n latest → slice_get (tasks_of done) own ≡ Some parent → at creation (records_of done) n ≡ Some (parent, child) → value ≡ max (get_or latest own d) early → ((m : ℕ) → m < 2 ^ 32 → early ≤ m → IsEarly done m child) → AreLatest done (n + 1) (set latest own value)
+latest_more done n own parent child value early d latest apart are is_own creates is_value finished = record {
   all = length-set latest own value ∙ are.all;
   each = λ index other limit is_other stands m c born small low below creates_there. elim (cases_eq index own) [
     | inl same ↦
@@ -160,8 +160,8 @@ families_other done n families are none = record {
   ];
 }
 
-families_more : (done : DoneView) (n own parent child value done d : ℕ) (families : List ℕ) → AreApart (tasks_of done) → AreLatestFamilies done n families → slice_get (tasks_of done) own ≡ Some parent → at creation (records_of done) n ≡ Some (parent, child) → value ≡ max (get_or families own d) done → IsFamilyLimit done child done → AreLatestFamilies done (n + 1) (set families own value)
-families_more done n own parent child value done d families apart are is_own creates is_value finished = record {
+families_more : (done : DoneView) (n own parent child value early d : ℕ) (families : List ℕ) → AreApart (tasks_of done) → AreLatestFamilies done n families → slice_get (tasks_of done) own ≡ Some parent → at creation (records_of done) n ≡ Some (parent, child) → value ≡ max (get_or families own d) early → IsFamilyLimit done child early → AreLatestFamilies done (n + 1) (set families own value)
+families_more done n own parent child value early d families apart are is_own creates is_value finished = record {
   all = length-set families own value ∙ are.all;
   each = λ index other limit is_other stands c born below creates_there. elim (cases_eq index own) [
     | inl same ↦
@@ -171,7 +171,7 @@ families_more done n own parent child value done d families apart are is_own cre
           | inl here ↦
               let pair = same_Some (parent, child) (other, born) (sym creates ∙ ap (at creation (records_of done)) (sym here) ∙ creates_there) in
               let P : ℕ → Type 0 = λ t. IsFamilyLimit done t limit in
-              subst P (ap (λ (p : ℕ × ℕ). p.1) pair) (weaker child done limit finished (omega (arith, is_value, is_limit)))
+              subst P (ap (λ (p : ℕ × ℕ). p.1) pair) (weaker child early limit finished (omega (arith, is_value, is_limit)))
           | inr earlier ↦
               weaker born (get_or families own d) limit
               (are.each own parent (get_or families own d) is_own (slice_get-get_or families own d within) c born (omega arith) (creates_there ∙ ap (λ t. Some (t, born)) (sym is_parent)))
@@ -212,7 +212,7 @@ pub noted_alone : (done : DoneView) (n : ℕ) (nodes : List Node) (new : Node) (
 noted_alone done n nodes new progress are none alone mark =
     noted_push done n nodes new progress progress are (latest_other done n progress.latest.items are.latest none)
     (families_other done n progress.families.items are.families none)
-    (chains_other (records_of done) (tasks_of done) nodes new progress.heads.items are.chains alone (ap (at creation (records_of done)) are.count ∙ none)) mark
+    (chains_other done nodes new progress.heads.items are.chains alone (ap (at creation (records_of done)) are.count ∙ none)) mark
 
 -- ---- the kinds of record
 
@@ -228,12 +228,12 @@ creates_no_region rs i parent child own kind endpoint creates says = there (slic
     there None is is' = none-some (parent, child) is
     there (Some r) is is' = of r.body is is'
 
-pub created_noted : (done : DoneView) (n own parent child done : ℕ) (nodes : List Node) (new : Node) (before after : Progress) → AreApart (tasks_of done) → AreNoted done n nodes before → at creation (records_of done) n ≡ Some (parent, child) → slice_get (tasks_of done) own ≡ Some parent → slice_get before.heads.items own ≡ Some new.previous → IsFamilyLimit done child new.limit → ((m : ℕ) → m < 2 ^ 32 → done ≤ m → IsEarly done m child) → after.heads.items ≡ set before.heads.items own (Some n) → ((old : ℕ) → slice_get before.latest.items own ≡ Some old → after.latest.items ≡ set before.latest.items own (max old done)) → ((old : ℕ) → slice_get before.families.items own ≡ Some old → after.families.items ≡ set before.families.items own (max old new.limit)) → AreNoted done (n + 1) (nodes ++ new ∷ []) after
-created_noted done n own parent child done nodes new before after apart are creates is_own head_there limit finished heads latest families =
+pub created_noted : (done : DoneView) (n own parent child early : ℕ) (nodes : List Node) (new : Node) (before after : Progress) → AreApart (tasks_of done) → AreNoted done n nodes before → at creation (records_of done) n ≡ Some (parent, child) → slice_get (tasks_of done) own ≡ Some parent → slice_get before.heads.items own ≡ Some new.previous → IsFamilyLimit done child new.limit → ((m : ℕ) → m < 2 ^ 32 → early ≤ m → IsEarly done m child) → after.heads.items ≡ set before.heads.items own (Some n) → ((old : ℕ) → slice_get before.latest.items own ≡ Some old → after.latest.items ≡ set before.latest.items own (max old early)) → ((old : ℕ) → slice_get before.families.items own ≡ Some old → after.families.items ≡ set before.families.items own (max old new.limit)) → AreNoted done (n + 1) (nodes ++ new ∷ []) after
+created_noted done n own parent child early nodes new before after apart are creates is_own head_there limit finished heads latest families =
     noted_push done n nodes new before after are
-    (subst (AreLatest done (n + 1)) (sym latest_are) (latest_more done n own parent child (max (get_or before.latest.items own 0) done) done 0 before.latest.items apart are.latest is_own creates refl finished))
+    (subst (AreLatest done (n + 1)) (sym latest_are) (latest_more done n own parent child (max (get_or before.latest.items own 0) early) early 0 before.latest.items apart are.latest is_own creates refl finished))
     (subst (AreLatestFamilies done (n + 1)) (sym families_are) (families_more done n own parent child (max (get_or before.families.items own 0) new.limit) new.limit 0 before.families.items apart are.families is_own creates refl limit))
-    (subst (AreChains done (nodes ++ new ∷ [])) (sym heads_are) (chains_more (records_of done) (tasks_of done) nodes new before.heads.items own parent apart are.chains is_own known makes kept))
+    (subst (AreChains done (nodes ++ new ∷ [])) (sym heads_are) (chains_more done nodes new before.heads.items own parent apart are.chains is_own known makes kept))
     (record {
       begins = λ task says. absurd (creates_no_region (records_of done) n parent child task Taskwait Begin creates says);
       meets = λ task begun. absurd (let known = begun_region (records_of done) n task begun in creates_no_region (records_of done) n parent child task known.0 known.1 creates known.2);
@@ -249,7 +249,7 @@ created_noted done n own parent child done nodes new before after apart are crea
     heads_are : after.heads.items ≡ set before.heads.items own (Some (length nodes))
     heads_are = heads ∙ ap (λ k. set before.heads.items own (Some k)) (sym are.count)
 
-    latest_are : after.latest.items ≡ set before.latest.items own (max (get_or before.latest.items own 0) done)
+    latest_are : after.latest.items ≡ set before.latest.items own (max (get_or before.latest.items own 0) early)
     latest_are = latest (get_or before.latest.items own 0) (slice_get-get_or before.latest.items own 0 (let inside = slice_get_within (tasks_of done) own parent is_own in let count = are.latest.all in omega (arith, inside, count)))
 
     families_are : after.families.items ≡ set before.families.items own (max (get_or before.families.items own 0) new.limit)
@@ -274,7 +274,7 @@ closed_noted done n own parent begin nodes new before after apart are ends is_ow
     noted_push done n nodes new before after are
     (subst (AreLatest done (n + 1)) (sym latest) (latest_other done n before.latest.items are.latest no_creation))
     (subst (AreLatestFamilies done (n + 1)) (sym families) (families_other done n before.families.items are.families no_creation))
-    (subst (AreChains done (nodes ++ new ∷ [])) (sym heads_are) (chains_more (records_of done) (tasks_of done) nodes new before.heads.items own parent apart are.chains is_own gathered.known makes kept))
+    (subst (AreChains done (nodes ++ new ∷ [])) (sym heads_are) (chains_more done nodes new before.heads.items own parent apart are.chains is_own gathered.known makes kept))
     (record {
       begins = λ task says. absurd (let same = same_Some (parent, Taskgroup, End) (task, Taskwait, Begin) (sym ends.ends ∙ says) in let kinds : End ≡ Begin = ap (λ (x : ℕ × SyncKind × Endpoint). x.2) same in cc);
       meets = λ task begun. absurd (begun_other (records_of done) n task parent Taskgroup End ends.ends refl begun);
@@ -330,15 +330,7 @@ ended_region rs i task begin kind says (at_once once) = absurd (let same = same_
 pub begin_earlier : (rs : List Record) (i task begin : ℕ) (kind : SyncKind) → EndsRegion rs i task kind begin → begin < i
 begin_earlier rs i task begin kind ends = begin_before rs i task begin kind ends
 
--- a record that creates
-pub creation_there : (rs : List Record) (i : ℕ) → (at creation rs i ≡ None → ⊥) → (parent child : ℕ) × (at creation rs i ≡ Some (parent, child))
-creation_there rs i some = of (at creation rs i) refl
-  where
-    of : (o : Option (ℕ × ℕ)) → at creation rs i ≡ o → (parent child : ℕ) × (at creation rs i ≡ Some (parent, child))
-    of None e = absurd (some e)
-    of (Some (parent, child)) e = (parent, child, e)
-
--- ---- taskwaits, and records that say nothing of them
+-- ---- records that create nothing
 
 no_creation : (rs : List Record) (i own : ℕ) (kind : SyncKind) (endpoint : Endpoint) → at region rs i ≡ Some (own, kind, endpoint) → at creation rs i ≡ None
 no_creation rs i own kind endpoint says = of (at creation rs i) refl
@@ -347,60 +339,95 @@ no_creation rs i own kind endpoint says = of (at creation rs i) refl
     of None e = refl
     of (Some (p, t)) e = absurd (creates_no_region rs i p t own kind endpoint e says)
 
--- what two readings of one record's region say
-same_says : (rs : List Record) (i task other : ℕ) (kind another : SyncKind) (e f : Endpoint) → at region rs i ≡ Some (task, kind, e) → at region rs i ≡ Some (other, another, f) → (task ≡ other) × (kind ≡ another) × (e ≡ f)
-same_says rs i task other kind another e f here there =
-    let same = same_Some (task, kind, e) (other, another, f) (sym here ∙ there) in
-    (ap (λ (p : ℕ × SyncKind × Endpoint). p.0) same, ap (λ (p : ℕ × SyncKind × Endpoint). p.1) same, ap (λ (p : ℕ × SyncKind × Endpoint). p.2) same)
-
 -- the end of a taskwait
-pub ended_noted : (done : DoneView) (n task : ℕ) (nodes : List Node) (new : Node) (progress : Progress) → AreNoted done n nodes progress → at region (records_of done) n ≡ Some (task, Taskwait, End) → new.previous ≡ None → IsLimitOfBegin (records_of done) nodes n new.limit → AreNoted done (n + 1) (nodes ++ new ∷ []) progress
-ended_noted done n task nodes new progress are says alone limit =
-    noted_alone done n nodes new progress are (no_creation (records_of done) n task Taskwait End says) alone
-    (record {
-      begins = λ t begins. absurd (let same = (same_says (records_of done) n task t Taskwait Taskwait End Begin says begins).2 in cc);
-      meets = λ t begun. absurd (begun_other (records_of done) n t task Taskwait End says refl begun);
-      ends = record {
-        waits = waits;
-        groups = λ p b c t there from less creates. absurd (let ends = ends_at (records_of done) n p b Taskgroup there in let same = (same_says (records_of done) n task p Taskwait Taskgroup End ends.endpoint says ends.says).1 in cc);
-      };
-    })
+pub ended_mark : (done : DoneView) (n task limit : ℕ) (nodes : List Node) → AreMarks done nodes → at region (records_of done) n ≡ Some (task, Taskwait, End) → IsLimitOfBegin (records_of done) nodes n limit → IsMark done n limit
+ended_mark done n task limit nodes marks says right = record {
+  begins = λ t begins. absurd (let same = (says_same (records_of done) n task t Taskwait Taskwait End Begin says begins).2 in cc);
+  meets = λ t begun. absurd (begun_other (records_of done) n t task Taskwait End says refl begun);
+  ends = record {
+    waits = waits;
+    groups = λ p b c t there from less creates. absurd (let ends = ends_at (records_of done) n p b Taskgroup there in let same = (says_same (records_of done) n task p Taskwait Taskgroup End ends.endpoint says ends.says).1 in cc);
+  };
+}
   where
-    waits : (p b : ℕ) → IsRegion (records_of done) n p Taskwait b → IsChildLimit done b p new.limit
+    waits : (p b : ℕ) → IsRegion (records_of done) n p Taskwait b → IsChildLimit done b p limit
     waits p b (ended ends) =
-        let there = limit p b ends in
+        let there = right p b ends in
         let begins = own_begin (records_of done) n p b Taskwait ends in
         let kinds : begins.kind ≡ Taskwait = same_Some begins.kind Taskwait (sym (ap (option_map (λ (r : ℕ × SyncKind × Endpoint). r.1)) begins.begins) ∙ ends.same_kind) in
         let P : ℕ → Type 0 = λ l. IsChildLimit done b p l in
-        subst P there.2 ((are.marks b there.0 there.1).begins p (begins.begins ∙ ap (λ k. Some (p, k, Begin)) kinds))
-    waits p b (at_once once) = absurd (let same = (same_says (records_of done) n task p Taskwait Taskwait End BeginEnd says once).2 in cc)
+        subst P there.2 ((marks b there.0 there.1).begins p (begins.begins ∙ ap (λ k. Some (p, k, Begin)) kinds))
+    waits p b (at_once once) = absurd (let same = (says_same (records_of done) n task p Taskwait Taskwait End BeginEnd says once).2 in cc)
 
 -- the begin of one, or one that begins and ends at once
-pub begun_noted : (done : DoneView) (n task : ℕ) (endpoint : Endpoint) (nodes : List Node) (new : Node) (progress : Progress) → AreNoted done n nodes progress → at region (records_of done) n ≡ Some (task, Taskwait, endpoint) → endpoint ≢ End → new.previous ≡ None → ((t : ℕ) → at subject (records_of done) n ≡ Some t → IsChildLimit done n t new.limit) → AreNoted done (n + 1) (nodes ++ new ∷ []) progress
-begun_noted done n task endpoint nodes new progress are says not_end alone limit =
-    noted_alone done n nodes new progress are (no_creation (records_of done) n task Taskwait endpoint says) alone
-    (record {
-      begins = λ t begins. mine t Begin begins;
-      meets = λ t begun. absurd (begun_other (records_of done) n t task Taskwait endpoint says refl begun);
-      ends = record {
-        waits = waits;
-        groups = λ p b c t there from less creates. absurd (let ends = ends_at (records_of done) n p b Taskgroup there in let same = (same_says (records_of done) n task p Taskwait Taskgroup endpoint ends.endpoint says ends.says).1 in cc);
-      };
-    })
+pub begun_mark : (done : DoneView) (n task limit : ℕ) (endpoint : Endpoint) → at region (records_of done) n ≡ Some (task, Taskwait, endpoint) → endpoint ≢ End → IsChildLimit done n task limit → IsMark done n limit
+begun_mark done n task limit endpoint says not_end right = record {
+  begins = λ t begins. mine t Begin begins;
+  meets = λ t begun. absurd (begun_other (records_of done) n t task Taskwait endpoint says refl begun);
+  ends = record {
+    waits = waits;
+    groups = λ p b c t there from less creates. absurd (let ends = ends_at (records_of done) n p b Taskgroup there in let same = (says_same (records_of done) n task p Taskwait Taskgroup endpoint ends.endpoint says ends.says).1 in cc);
+  };
+}
   where
-    mine : (t : ℕ) (e : Endpoint) → at region (records_of done) n ≡ Some (t, Taskwait, e) → IsChildLimit done n t new.limit
-    mine t e there = limit t (at_through region subject (t, Taskwait, e) t (records_of done) n (region_subject t Taskwait e) there)
+    mine : (t : ℕ) (e : Endpoint) → at region (records_of done) n ≡ Some (t, Taskwait, e) → IsChildLimit done n t limit
+    mine t e there =
+        let P : ℕ → Type 0 = λ k. IsChildLimit done n k limit in
+        subst P (says_same (records_of done) n task t Taskwait Taskwait endpoint e says there).0 right
 
-    waits : (p b : ℕ) → IsRegion (records_of done) n p Taskwait b → IsChildLimit done b p new.limit
-    waits p b (ended ends) = absurd (not_end (same_says (records_of done) n task p Taskwait Taskwait endpoint End says ends.ends).2)
+    waits : (p b : ℕ) → IsRegion (records_of done) n p Taskwait b → IsChildLimit done b p limit
+    waits p b (ended ends) = absurd (not_end (says_same (records_of done) n task p Taskwait Taskwait endpoint End says ends.ends).2)
     waits p b (at_once once) = mine p BeginEnd once
+
+-- the begin of a taskgroup, or one that begins and ends at once
+pub group_mark : (done : DoneView) (n task limit : ℕ) (endpoint : Endpoint) → at region (records_of done) n ≡ Some (task, Taskgroup, endpoint) → endpoint ≢ End → IsMark done n limit
+group_mark done n task limit endpoint says not_end = record {
+  begins = λ t begins. absurd (let same = (says_same (records_of done) n task t Taskgroup Taskwait endpoint Begin says begins).1 in cc);
+  meets = λ t begun. absurd (begun_other (records_of done) n t task Taskgroup endpoint says refl begun);
+  ends = record {
+    waits = λ p b there. absurd (let ends = ends_at (records_of done) n p b Taskwait there in let same = (says_same (records_of done) n task p Taskgroup Taskwait endpoint ends.endpoint says ends.says).1 in cc);
+    groups = groups;
+  };
+}
+  where
+    groups : (p b c t : ℕ) → IsRegion (records_of done) n p Taskgroup b → b ≤ c → c < n → at creation (records_of done) c ≡ Some (p, t) → IsFamilyLimit done t limit
+    groups p b c t (ended ends) from less creates = absurd (not_end (says_same (records_of done) n task p Taskgroup Taskgroup endpoint End says ends.ends).2)
+    groups p b c t (at_once once) from less creates = absurd (omega (arith, from, less))
+
+-- the begin or end of a barrier
+pub barrier_mark : (done : DoneView) (n task limit : ℕ) (kind : SyncKind) (endpoint : Endpoint) → at region (records_of done) n ≡ Some (task, kind, endpoint) → is_barrier kind ≡ true → IsFamiliesLimit done n task limit → IsMark done n limit
+barrier_mark done n task limit kind endpoint says barrier right = record {
+  begins = λ t begins. absurd (other Taskwait Begin t refl begins);
+  meets = λ t begun.
+      let known = begun_region (records_of done) n t begun in
+      let P : ℕ → Type 0 = λ k. IsFamiliesLimit done n k limit in
+      subst P (says_same (records_of done) n task t kind known.0 endpoint known.1 says known.2).0 right;
+  ends = record {
+    waits = λ p b there. absurd (let ends = ends_at (records_of done) n p b Taskwait there in other Taskwait ends.endpoint p refl ends.says);
+    groups = λ p b c t there from less creates. absurd (let ends = ends_at (records_of done) n p b Taskgroup there in other Taskgroup ends.endpoint p refl ends.says);
+  };
+}
+  where
+    other : (another : SyncKind) (e : Endpoint) (t : ℕ) → is_barrier another ≡ false → at region (records_of done) n ≡ Some (t, another, e) → ⊥
+    other another e t none there = barrier_is_other kind another barrier none (says_same (records_of done) n task t kind another endpoint e says there).1
+
+-- a record that begins or ends no region that waits for tasks
+pub quiet_mark : (done : DoneView) (n limit : ℕ) → ((task : ℕ) (kind : SyncKind) (endpoint : Endpoint) → at region (records_of done) n ≡ Some (task, kind, endpoint) → wait_kind kind ≡ None) → IsMark done n limit
+quiet_mark done n limit none = record {
+  begins = λ t begins. absurd (none-some ForTaskwait (sym (none t Taskwait Begin begins)));
+  meets = λ t begun. absurd (let known = begun_region (records_of done) n t begun in false≢true (sym (no_wait known.0 (none t known.0 known.1 known.2)) ∙ known.3));
+  ends = record {
+    waits = λ p b there. absurd (let ends = ends_at (records_of done) n p b Taskwait there in none-some ForTaskwait (sym (none p Taskwait ends.endpoint ends.says)));
+    groups = λ p b c t there from less creates. absurd (let ends = ends_at (records_of done) n p b Taskgroup there in none-some ForTaskgroup (sym (none p Taskgroup ends.endpoint ends.says)));
+  };
+}
 
 -- the end of a taskgroup that belongs to no begin
 pub unended_noted : (done : DoneView) (n own : ℕ) (nodes : List Node) (new : Node) (progress : Progress) → AreNoted done n nodes progress → at region (records_of done) n ≡ Some (own, Taskgroup, End) → ((task begin : ℕ) (kind : SyncKind) → IsRegion (records_of done) n task kind begin → ⊥) → new.previous ≡ None → AreNoted done (n + 1) (nodes ++ new ∷ []) progress
 unended_noted done n own nodes new progress are says never alone =
     noted_alone done n nodes new progress are (no_creation (records_of done) n own Taskgroup End says) alone
     (record {
-      begins = λ t begins. absurd (let same = (same_says (records_of done) n own t Taskgroup Taskwait End Begin says begins).2 in cc);
+      begins = λ t begins. absurd (let same = (says_same (records_of done) n own t Taskgroup Taskwait End Begin says begins).2 in cc);
       meets = λ t begun. absurd (begun_other (records_of done) n t own Taskgroup End says refl begun);
       ends = record {
         waits = λ p b there. absurd (never p b Taskwait there);
@@ -408,28 +435,11 @@ unended_noted done n own nodes new progress are says never alone =
       };
     })
 
--- a record that is no creation, no part of a taskwait and no end of a taskgroup that began before it
-pub other_noted : (done : DoneView) (n : ℕ) (nodes : List Node) (new : Node) (progress : Progress) → AreNoted done n nodes progress → at creation (records_of done) n ≡ None → ((task : ℕ) (endpoint : Endpoint) → at region (records_of done) n ≡ Some (task, Taskwait, endpoint) → ⊥) → ((task : ℕ) → at region (records_of done) n ≡ Some (task, Taskgroup, End) → ⊥) → ((task : ℕ) → barrier_begun (at region (records_of done) n) ≡ Some task → IsFamiliesLimit done n task new.limit) → new.previous ≡ None → AreNoted done (n + 1) (nodes ++ new ∷ []) progress
-other_noted done n nodes new progress are quiet no_wait no_group meets alone =
-    noted_alone done n nodes new progress are quiet alone
-    (record {
-      begins = λ t begins. absurd (no_wait t Begin begins);
-      meets = meets;
-      ends = record {
-        waits = λ p b there. absurd (let ends = ends_at (records_of done) n p b Taskwait there in no_wait p ends.endpoint ends.says);
-        groups = groups;
-      };
-    })
-  where
-    groups : (p b c t : ℕ) → IsRegion (records_of done) n p Taskgroup b → b ≤ c → c < n → at creation (records_of done) c ≡ Some (p, t) → IsFamilyLimit done t new.limit
-    groups p b c t (ended ends) from less creates = absurd (no_group p ends.ends)
-    groups p b c t (at_once once) from less creates = absurd (omega (arith, from, less))
+-- ---- what stands at the index of a task
 
-pub not_some : {X : Type 0} {o : Option X} → is_some o ≡ false → o ≡ None
-not_some {o = None} nothing = refl
-not_some {o = Some x} nothing = absurd (false≢true (sym nothing))
-
--- what is no index is none
-pub none_else : {X : Type 0} {o : Option X} → ((x : X) → o ≡ Some x → ⊥) → o ≡ None
-none_else {o = None} never = refl
-none_else {o = Some x} never = absurd (never x refl)
+-- its length, which is at most m
+pub early_at : (done : DoneView) (index task limit m : ℕ) → AreApart (tasks_of done) → slice_get (tasks_of done) index ≡ Some task → slice_get done.own index ≡ Some limit → limit ≤ m → IsEarly done m task
+early_at done index task limit m apart is_task stands low other length_there is_task_too stands_there =
+    let same = apart other index task is_task_too is_task in
+    let is_limit : length_there ≡ limit = same_Some length_there limit (sym stands_there ∙ ap (slice_get done.own) same ∙ stands) in
+    omega (arith, is_limit, low)

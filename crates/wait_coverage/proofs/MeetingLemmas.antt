@@ -1,37 +1,35 @@
 -- From which ledger length on what the end of a barrier covers is finished.
-use Rattle.std.proofs.Common.{◌≡◌, ◌∙◌, ℕ, ◌<◌, ◌≤◌, ◌+◌, true, List, length, Option, Some, None, refl, sym, ap, subst, arith, inl, inr}
+use Rattle.std.proofs.Common.{◌≡◌, ◌∙◌, ℕ, ◌<◌, ◌≤◌, ◌+◌, List, length, get_or, Some, None, refl, sym, ap, subst, arith, inl, inr}
 use Rattle.std.proofs.lemmas.Bool.{cases_eq}
-use Rattle.std.proofs.lemmas.Option.{same_Some, slice_get_within}
+use Rattle.std.proofs.lemmas.Option.{same_Some, slice_get_within, slice_get-get_or}
 use Rattle.std.proofs.lemmas.List.{length-set}
 use Rattle.std.proofs.Math.ListN.{set}
 use Rattle.std.specs.Global.{Vec}
 use Rattle.std.specs.Prelude.{slice_get}
 use Rattle.ompt_events.specs.declared.records.Record.{Record}
-use Rattle.ompt_events.specs.declared.names.Endpoint.{Endpoint}
 use Rattle.ompt_events.specs.declared.names.SyncKind.{SyncKind}
 use Rattle.ompt_events.specs.declared.names.SyncKind.TheVariants.{Taskwait, Taskgroup}
 use Rattle.ompt_events.specs.Records.{region}
 use Rattle.ompt_events.specs.Places.{at}
-use Rattle.ompt_events.specs.Regions.{IsRegion, is_barrier, barrier_begun, IsBarrierBegin}
+use Rattle.ompt_events.specs.Regions.{IsRegion, barrier_begun, IsBarrierBegin}
 use Rattle.ompt_events.specs.Teams.{IsTeammate}
 use Rattle.ompt_events.proofs.PlaceLemmas.{at_within}
 use Rattle.task_tree.specs.Numbering.{AreApart}
 use Rattle.task_tree.specs.Subjects.{subject}
-use Rattle.task_tree.specs.Family.{FamilyView, IsFamilyOf}
 use Rattle.task_tree.proofs.LinkLemmas.{get_set_same, get_set_other}
 use Rattle.task_tree.proofs.LookupLemmas.{subject_calls}
 use Rattle.task_tree.proofs.SubjectLemmas.{call_index}
-use Rattle.wait_coverage.specs.Done.{DoneView, records_of, tasks_of, IsEarly}
+use Rattle.wait_coverage.specs.Done.{DoneView, records_of, tasks_of}
 use Rattle.wait_coverage.specs.Limits.{IsFamiliesLimit, IsWaitLimit, IsEndLimit, AreEndLimits}
 use Rattle.wait_coverage.specs.declared.limits.Node.{Node}
-use Rattle.wait_coverage.specs.Meetings.{IsBarrierEnd, IsMeeting, AreMet, IsRaised, AreMeetingsAdded}
+use Rattle.wait_coverage.specs.Meetings.{IsMeeting, AreMet, IsRaised, AreMeetingsAdded}
 use Rattle.teams.specs.Rows.{row_at, AreSameRows}
-use Rattle.teams.specs.Teams.{AreTeams}
-use Rattle.teams.proofs.BarrierLemmas.{begin_says, begun_subject, begun_region, one_number, barrier_is_other}
-use Rattle.teams.proofs.RegionEndLemmas.{ends_at, one_region, says_same}
+use Rattle.teams.specs.Missed.{EndsBarrier, EndsNoBarrier, IsBarrierEnd}
+use Rattle.teams.specs.Teams.{IsTeams}
+use Rattle.teams.proofs.BarrierLemmas.{barrier_begins_at, begin_says, begun_subject, begun_region, one_number, barrier_is_other}
+use Rattle.teams.proofs.RegionEndLemmas.{IsSameRegion, ends_at, one_region}
 use Rattle.wait_coverage.proofs.LimitLemmas.{covers_cases}
 use Rattle.teams.proofs.RowLemmas.{row_here, row_there, row_set_same, row_set_other}
-use Rattle.wait_coverage.proofs.WaitLemmas.{not_begin}
 
 -- ---- the members' begins, one record more
 
@@ -104,75 +102,108 @@ met_more done n own task team number limit meetings reached old new apart met sa
 -- ---- the end of a barrier
 
 -- no barrier ends there
-pub plain_limit : (done : DoneView) (i limit : ℕ) → IsWaitLimit done i limit → (IsBarrierEnd (records_of done) i → ⊥) → IsEndLimit done i limit
+pub plain_limit : (done : DoneView) (i limit : ℕ) → IsWaitLimit done i limit → EndsNoBarrier (records_of done) i → IsEndLimit done i limit
 plain_limit done i limit noted none m t small low covers = elim (covers_cases (records_of done) i t covers) [
   | inl one ↦ noted.waits one.parent one.begin one.is_region m one.place t small low one.before one.creates
   | inr other ↦ elim other [
     | inl one ↦ noted.groups one.parent one.begin one.place one.child one.is_region one.from one.before one.creates m t small low one.of
-    | inr one ↦
-        let ends = ends_at (records_of done) i one.own one.begin one.kind one.is_region in
-        absurd (none (one.own, one.kind, ends.endpoint, ends.says, not_begin (records_of done) i one.own one.begin one.own one.kind one.kind ends.endpoint one.is_region ends.says, one.barrier))
+    | inr one ↦ absurd (none one.own one.begin one.kind one.is_region one.barrier)
   ]
 ]
 
-own_limit : (done : DoneView) (i index own team begin number : ℕ) (kind : SyncKind) (meetings : List (Vec ℕ)) → AreMet done (length (records_of done)) meetings → slice_get (tasks_of done) index ≡ Some own → slice_get done.teams.teams index ≡ Some (Some team) → IsRegion (records_of done) i own kind begin → IsBarrierBegin (records_of done) own number begin → IsMeeting done own number begin (row_at meetings team)
-own_limit done i index own team begin number kind meetings are is_own in_team there begins =
-    let ends = ends_at (records_of done) i own begin kind there in
-    let below = ends.below in
-    let inside = ends.inside in
-    are.each index own team number begin is_own in_team begins (omega (arith, below, inside))
+-- its begin has a number
+pub begin_inside : (done : DoneView) (i index begin : ℕ) → IsTeams done.teams → IsBarrierEnd done.teams.run i index begin → begin < length done.teams.numbers
+begin_inside done i index begin teams ends =
+    let barrier = ends.barrier in
+    let there = ends_at (records_of done) i barrier.task begin barrier.kind barrier.ends in
+    let below = there.below in
+    let inside = there.inside in
+    let all = teams.numbers.all in
+    omega (arith, below, inside, all)
+
+own_begins : (done : DoneView) (i index begin number : ℕ) → IsTeams done.teams → (ends : IsBarrierEnd done.teams.run i index begin) → slice_get done.teams.numbers begin ≡ Some number → IsBarrierBegin (records_of done) ends.barrier.task number begin
+own_begins done i index begin number teams ends numbered =
+    let barrier = ends.barrier in
+    teams.numbers.each begin number numbered barrier.task (barrier_begins_at (records_of done) i barrier.task begin barrier.kind barrier.ends barrier.barrier)
+
+own_limit : (done : DoneView) (i index team begin number : ℕ) (meetings : List (Vec ℕ)) → IsTeams done.teams → AreMet done (length (records_of done)) meetings → (ends : IsBarrierEnd done.teams.run i index begin) → slice_get done.teams.teams index ≡ Some (Some team) → slice_get done.teams.numbers begin ≡ Some number → IsMeeting done ends.barrier.task number begin (row_at meetings team)
+own_limit done i index team begin number meetings teams met ends in_team numbered =
+    let inside = begin_inside done i index begin teams ends in
+    let all = teams.numbers.all in
+    met.each index ends.barrier.task team number begin ends.indexed in_team (own_begins done i index begin number teams ends numbered) (omega (arith, inside, all))
 
 -- the team has a row, and the barrier's number a limit in it
-pub own_row : (done : DoneView) (i index own team begin number : ℕ) (kind : SyncKind) (meetings : List (Vec ℕ)) → AreMet done (length (records_of done)) meetings → slice_get (tasks_of done) index ≡ Some own → slice_get done.teams.teams index ≡ Some (Some team) → IsRegion (records_of done) i own kind begin → IsBarrierBegin (records_of done) own number begin → team < length meetings
-own_row done i index own team begin number kind meetings are is_own in_team there begins =
-    let known = own_limit done i index own team begin number kind meetings are is_own in_team there begins in
-    let row = row_there meetings team number known.limit known.there in
+pub own_row : (done : DoneView) (i index team begin : ℕ) (meetings : List (Vec ℕ)) → IsTeams done.teams → AreMet done (length (records_of done)) meetings → IsBarrierEnd done.teams.run i index begin → slice_get done.teams.teams index ≡ Some (Some team) → team < length meetings
+own_row done i index team begin meetings teams met ends in_team =
+    let numbered = slice_get-get_or done.teams.numbers begin 0 (begin_inside done i index begin teams ends) in
+    let known = own_limit done i index team begin (get_or done.teams.numbers begin 0) meetings teams met ends in_team numbered in
+    let row = row_there meetings team (get_or done.teams.numbers begin 0) known.limit known.there in
     slice_get_within meetings team row.0 row.1
 
-pub own_meeting : (done : DoneView) (i index own team begin number : ℕ) (kind : SyncKind) (meetings : List (Vec ℕ)) (row : Vec ℕ) → AreMet done (length (records_of done)) meetings → slice_get (tasks_of done) index ≡ Some own → slice_get done.teams.teams index ≡ Some (Some team) → slice_get meetings team ≡ Some row → IsRegion (records_of done) i own kind begin → IsBarrierBegin (records_of done) own number begin → number < length row.items
-own_meeting done i index own team begin number kind meetings row are is_own in_team stands there begins =
-    let known = own_limit done i index own team begin number kind meetings are is_own in_team there begins in
+pub own_meeting : (done : DoneView) (i index team begin number : ℕ) (meetings : List (Vec ℕ)) (row : Vec ℕ) → IsTeams done.teams → AreMet done (length (records_of done)) meetings → IsBarrierEnd done.teams.run i index begin → slice_get done.teams.teams index ≡ Some (Some team) → slice_get done.teams.numbers begin ≡ Some number → slice_get meetings team ≡ Some row → number < length row.items
+own_meeting done i index team begin number meetings row teams met ends in_team numbered stands =
+    let known = own_limit done i index team begin number meetings teams met ends in_team numbered in
     slice_get_within row.items number known.limit (sym (ap (λ l. slice_get l number) (row_here meetings team row stands)) ∙ known.there)
 
-pub met_limit : (done : DoneView) (family : FamilyView) (i index own team begin number limit : ℕ) (kind : SyncKind) (meetings : List (Vec ℕ)) (row : Vec ℕ) → IsFamilyOf (records_of done) family → AreTeams (records_of done) family.tasks done.teams.teams → AreMet done (length (records_of done)) meetings → slice_get family.tasks index ≡ Some own → slice_get done.teams.teams index ≡ Some (Some team) → slice_get meetings team ≡ Some row → IsRegion (records_of done) i own kind begin → is_barrier kind ≡ true → IsBarrierBegin (records_of done) own number begin → slice_get row.items number ≡ Some limit → IsEndLimit done i limit
-met_limit done family i index own team begin number limit kind meetings row are known met is_own in_team stands there barrier begins is_limit m t small low covers = elim (covers_cases (records_of done) i t covers) [
-  | inl one ↦ absurd (barrier_is_other kind Taskwait barrier refl (one_region (records_of done) i own one.parent begin one.begin kind Taskwait there one.is_region).kind_is)
+pub met_limit : (done : DoneView) (i index team begin number limit : ℕ) (meetings : List (Vec ℕ)) (row : Vec ℕ) → IsTeams done.teams → AreMet done (length (records_of done)) meetings → IsBarrierEnd done.teams.run i index begin → slice_get done.teams.teams index ≡ Some (Some team) → slice_get done.teams.numbers begin ≡ Some number → slice_get meetings team ≡ Some row → slice_get row.items number ≡ Some limit → IsEndLimit done i limit
+met_limit done i index team begin number limit meetings row teams met ends in_team numbered stands is_limit m t small low covers = elim (covers_cases rs i t covers) [
+  | inl one ↦ absurd (barrier_is_other kind Taskwait barrier.barrier refl (one_region rs i own one.parent begin one.begin kind Taskwait barrier.ends one.is_region).kind_is)
   | inr other ↦ elim other [
-    | inl one ↦ absurd (barrier_is_other kind Taskgroup barrier refl (one_region (records_of done) i own one.parent begin one.begin kind Taskgroup there one.is_region).kind_is)
+    | inl one ↦ absurd (barrier_is_other kind Taskgroup barrier.barrier refl (one_region rs i own one.parent begin one.begin kind Taskgroup barrier.ends one.is_region).kind_is)
     | inr one ↦
-        let same = one_region (records_of done) i one.own own one.begin begin one.kind kind one.is_region there in
-        let P : ℕ → Type 0 = λ x. IsBarrierBegin (records_of done) x one.number one.begin in
-        let Q : ℕ → Type 0 = λ b. IsBarrierBegin (records_of done) own one.number b in
-        let R : ℕ → Type 0 = λ x. IsTeammate (records_of done) x one.member in
-        let is_number = one_number (records_of done) own one.number number begin (subst Q same.begin_is (subst P same.task_is one.begins)) begins in
-        let says = begin_says (records_of done) one.member one.number one.start one.starts in
-        let says_region = begun_region (records_of done) one.start one.member says in
-        let called = call_index family.tasks (at subject (records_of done) one.start) _ one.member (subject_calls (records_of done) family one.start are) (begun_subject (records_of done) one.start one.member says) in
-        let mates = (known.mates index called.0 own one.member team is_own called.2 in_team).1 (subst R same.task_is one.mate) in
-        let meeting = met.each called.0 one.member team one.number one.start called.2 mates one.starts (at_within region (records_of done) one.start (one.member, says_region.0, says_region.1) says_region.2) in
+        let same = one_region rs i one.own own one.begin begin one.kind kind one.is_region barrier.ends in
+        let P : ℕ → Type 0 = λ x. IsBarrierBegin rs x one.number one.begin in
+        let Q : ℕ → Type 0 = λ b. IsBarrierBegin rs own one.number b in
+        let R : ℕ → Type 0 = λ x. IsTeammate rs x one.member in
+        let begins = own_begins done i index begin number teams ends numbered in
+        let is_number = one_number rs own one.number number begin (subst Q same.begin_is (subst P same.task_is one.begins)) begins in
+        let says = begin_says rs one.member one.number one.start one.starts in
+        let says_region = begun_region rs one.start one.member says in
+        let calls = subject_calls rs done.teams.run.family one.start teams.run.family in
+        let called = call_index (tasks_of done) (at subject rs one.start) _ one.member calls (begun_subject rs one.start one.member says) in
+        let in_team_too = (teams.teams.mates index called.0 own one.member team ends.indexed called.2 in_team).1 (subst R same.task_is one.mate) in
+        let inside = at_within region rs one.start (one.member, says_region.0, says_region.1) says_region.2 in
+        let meeting = met.each called.0 one.member team one.number one.start called.2 in_team_too one.starts inside in
         let is_same : meeting.limit ≡ limit = same_Some meeting.limit limit (sym meeting.there ∙ ap (λ l. slice_get l one.number) (row_here meetings team row stands) ∙ ap (slice_get row.items) is_number ∙ is_limit) in
         meeting.families one.place one.child one.before one.creates m t small (omega (arith, is_same, low)) one.of
   ]
 ]
+  where
+    rs : List Record
+    rs = records_of done
+
+    barrier : EndsBarrier (records_of done) i begin
+    barrier = ends.barrier
+
+    own : ℕ
+    own = ends.barrier.task
+
+    kind : SyncKind
+    kind = ends.barrier.kind
 
 -- a task in no team has no teammate
-pub teamless_limit : (done : DoneView) (i index own limit : ℕ) (kind : SyncKind) (endpoint : Endpoint) → AreTeams (records_of done) (tasks_of done) done.teams.teams → slice_get (tasks_of done) index ≡ Some own → slice_get done.teams.teams index ≡ Some None → at region (records_of done) i ≡ Some (own, kind, endpoint) → is_barrier kind ≡ true → IsEndLimit done i limit
-teamless_limit done i index own limit kind endpoint known is_own alone says barrier m t small low covers = elim (covers_cases (records_of done) i t covers) [
-  | inl one ↦ absurd (let ends = ends_at (records_of done) i one.parent one.begin Taskwait one.is_region in barrier_is_other kind Taskwait barrier refl (says_same (records_of done) i own one.parent kind Taskwait endpoint ends.endpoint says ends.says).1)
+pub teamless_limit : (done : DoneView) (i index begin limit : ℕ) → IsTeams done.teams → IsBarrierEnd done.teams.run i index begin → slice_get done.teams.teams index ≡ Some None → IsEndLimit done i limit
+teamless_limit done i index begin limit teams ends alone m t small low covers = elim (covers_cases (records_of done) i t covers) [
+  | inl one ↦ absurd (barrier_is_other barrier.kind Taskwait barrier.barrier refl (same one.parent one.begin Taskwait one.is_region).kind_is)
   | inr other ↦ elim other [
-    | inl one ↦ absurd (let ends = ends_at (records_of done) i one.parent one.begin Taskgroup one.is_region in barrier_is_other kind Taskgroup barrier refl (says_same (records_of done) i own one.parent kind Taskgroup endpoint ends.endpoint says ends.says).1)
+    | inl one ↦ absurd (barrier_is_other barrier.kind Taskgroup barrier.barrier refl (same one.parent one.begin Taskgroup one.is_region).kind_is)
     | inr one ↦
-        let ends = ends_at (records_of done) i one.own one.begin one.kind one.is_region in
-        let same = (says_same (records_of done) i own one.own kind one.kind endpoint ends.endpoint says ends.says).0 in
+        let is_task = (same one.own one.begin one.kind one.is_region).task_is in
         let R : ℕ → Type 0 = λ x. IsTeammate (records_of done) x one.member in
-        absurd (known.none index own one.member is_own alone (subst R (sym same) one.mate))
+        absurd (teams.teams.none index barrier.task one.member ends.indexed alone (subst R (sym is_task) one.mate))
   ]
 ]
+  where
+    barrier : EndsBarrier (records_of done) i begin
+    barrier = ends.barrier
+
+    same : (other start : ℕ) (kind : SyncKind) → IsRegion (records_of done) i other kind start → IsSameRegion barrier.task other begin start barrier.kind kind
+    same other start kind there = one_region (records_of done) i barrier.task other begin start barrier.kind kind barrier.ends there
 
 -- ---- one record more
 
 -- where no barrier ends
-pub added_other : (done : DoneView) (n : ℕ) (nodes : List Node) → AreMeetingsAdded done n nodes → (IsBarrierEnd (records_of done) n → ⊥) → AreMeetingsAdded done (n + 1) nodes
+pub added_other : (done : DoneView) (n : ℕ) (nodes : List Node) → AreMeetingsAdded done n nodes → EndsNoBarrier (records_of done) n → AreMeetingsAdded done (n + 1) nodes
 added_other done n nodes are none = record {
   count = are.count;
   known = λ i node below there. elim (cases_eq i n) [

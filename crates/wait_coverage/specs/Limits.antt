@@ -39,7 +39,8 @@ pub record IsWaitLimit (done : DoneView) (i limit : ℕ) : Type 0 where
 
 -- from this ledger length on each task that the end at i covers is finished
 abbrev pub IsEndLimit : DoneView → ℕ → ℕ → Type 0
-IsEndLimit done i limit = (m t : ℕ) → m < 2 ^ 32 → limit ≤ m → Covers (records_of done) i t → IsEarly done m t
+IsEndLimit done i limit =
+    (m t : ℕ) → m < 2 ^ 32 → limit ≤ m → Covers (records_of done) i t → IsEarly done m t
 
 -- ---- what is noted at the records
 

@@ -1,14 +1,7 @@
 -- From which ledger length on what the members of a team created before one barrier is finished.
-use Rattle.std.specs.Prelude.{ℕ, ◌≡◌, ◌<◌, ◌≤◌, true, List, length, Option, Some, slice_get}
+use Rattle.std.specs.Prelude.{ℕ, ◌≡◌, ◌<◌, ◌≤◌, List, length, Some, slice_get}
 use Rattle.std.specs.Global.{Vec}
-use Rattle.ompt_events.specs.declared.records.Record.{Record}
-use Rattle.ompt_events.specs.declared.records.Body.{Body}
-use Rattle.ompt_events.specs.declared.names.Endpoint.{Endpoint}
-use Rattle.ompt_events.specs.declared.names.Endpoint.TheVariants.{Begin}
-use Rattle.ompt_events.specs.declared.names.SyncKind.{SyncKind}
-use Rattle.ompt_events.specs.Records.{region}
-use Rattle.ompt_events.specs.Places.{at}
-use Rattle.ompt_events.specs.Regions.{is_barrier, IsBarrierBegin}
+use Rattle.ompt_events.specs.Regions.{IsBarrierBegin}
 use Rattle.teams.specs.Rows.{row_at}
 use Rattle.wait_coverage.specs.Done.{DoneView, records_of, tasks_of}
 use Rattle.wait_coverage.specs.Limits.{IsFamiliesLimit, IsWaitLimit, IsEndLimit}

@@ -120,7 +120,8 @@ fn limit_at(done: &Done, nodes: &[Node], progress: &Progress, event: WaitEvent, 
     requires within { at < length done.now.teams.run.records }
     requires event { IsWaitEvent done.now.teams.run at event.task event.kind event.endpoint }
     requires noted { AreNoted done.now at nodes.now progress.now }
-    ensures { (event.kind ≡ WaitKind.Taskgroup → event.endpoint ≡ Endpoint.End → ⊥) → IsMark done.now at result }
+    ensures { (event.kind ≡ WaitKind.Taskgroup → event.endpoint ≡ Endpoint.End → ⊥)
+        → IsMark done.now at result }
 {
     match event.kind {
         WaitKind::Taskwait => {
@@ -141,10 +142,10 @@ fn create(done: &Done, nodes: &[Node], progress: &mut Progress, made: Creation, 
     requires noted { AreNoted done.now at nodes.now progress.old }
     ensures { AreNoted done.now (at + 1) (nodes.now ++ result ∷ []) progress.new }
 {
-    let previous = progress.heads[made.parent];
-    progress.heads[made.parent] = Slot::some(at);
     let own = Limit::of(done.own()[made.child]);
     let limit = Limit::of(done.families()[made.child]);
+    let previous = progress.heads[made.parent];
+    progress.heads[made.parent] = Slot::some(at);
     progress.latest[made.parent] = progress.latest[made.parent].max(own);
     progress.families[made.parent] = progress.families[made.parent].max(limit);
     Node { limit, previous }
@@ -160,6 +161,7 @@ fn close(done: &Done, nodes: &[Node], progress: &mut Progress, event: WaitEvent,
     let Some(begin) = done.begin_of(at) else {
         return Node::alone(Limit::zero());
     };
+    let _run = done.run();
     let node = gather(nodes, progress.heads[event.task], begin);
     progress.heads[event.task] = Slot::some(at);
     node

@@ -81,6 +81,7 @@ fn end_limit(done: &Done, meetings: &[Vec<Limit>], end: BarrierEnd, at: usize) -
     requires met { AreMet done.now (length done.now.teams.run.records) meetings.now }
     ensures { IsEndLimit done.now at result }
 {
+    let _run = done.run();
     match done.team(end.task) {
         Some(team) => meetings[team][done.number(end.begin) as usize],
         None => Limit::zero(),

@@ -58,7 +58,7 @@ impl<'a> Known<'a> {
 
     /// What is known by these lengths.
     fn of(alloc: Global, done: Done<'a>) -> Result<Known<'a>, AllocError>
-        ensures { IfOk result (λ known. known.done ≡ done) }
+        ensures { IfOk result (λ known. known.done ≡ done.entry) }
     {
         let Noted {
             mut nodes,

@@ -5,6 +5,6 @@ use Rattle.wait_coverage.proofs.limits.find_limits.Given as goal
 -- what is known behind the records so far, and the begins so far have met
 abbrev pub invariant-loop-at : goal.invariant-loop-at
 invariant-loop-at l = record {
-  noted : AreNoted l.records l.at l.family.tasks l.nodes.items l.progress;
-  met : AreMet l.records l.at l.family.tasks l.teams.teams l.meetings.items;
+  noted : AreNoted l.done l.at l.nodes.items l.progress;
+  met : AreMet l.done l.at l.meetings.items;
 }

@@ -1,76 +1,50 @@
-use Rattle.std.proofs.Common.{◌∙◌, ◌<◌, length, Some, ap, arith, rules}
-use Rattle.wait_coverage.proofs.LengthLemmas.{region_index}
+use Rattle.std.proofs.Common.{◌∙◌, ◌<◌, length, Some, ap, rules}
 use Rattle.teams.proofs.CallLemmas.{read_at}
-use Rattle.wait_coverage.proofs.LimitLemmas.{none_else}
-use Rattle.teams.proofs.BarrierLemmas.{barrier_begins_at}
-use Rattle.teams.proofs.RegionEndLemmas.{ends_at}
-use Rattle.wait_coverage.proofs.MeetingLemmas.{met_limit, own_row, own_meeting, teamless_limit}
+use Rattle.wait_coverage.proofs.MeetingLemmas.{begin_inside, met_limit, own_row, own_meeting, teamless_limit}
 use Rattle.wait_coverage.proofs.meetings.end_limit.Goals as goal
 
-pub returns-in_default-team : goal.returns-in_default-team
-returns-in_default-team c =
-    let rs = c.args.records.now in
-    let i = c.args.at in
-    let ends = c.requires.ends in
-    let own = region_index rs c.args.family.now.tasks i c.in-Some.index ends.0 ends.1 ends.2 c.subject.result (c.subject.ensures rs c.requires.family) c.in-Some.is ends.3 in
-    teamless_limit rs i c.in-Some.index ends.0 c.zero-in_default-team.result ends.1 ends.2 c.args.family.now.tasks c.args.teams.now.teams c.requires.teams.teams own (c.team.ensures ∙ ap Some (none_else c.in_default-team.not-Some)) ends.3 ends.5
+pub returns-in-None : goal.returns-in-None
+returns-in-None c = teamless_limit c.args.done.now c.args.at c.args.end.task c.args.end.begin c.zero.result c.run-run.ensures.is_done.teams c.requires.ends (c.team.ensures ∙ ap Some c.in-None.is)
 
-pub number-number-requires : goal.number-number-requires
-number-number-requires c =
-    let ends = c.requires.ends in
-    let there = ends_at c.args.records.now c.args.at ends.0 c.in-Some-begin_of.begin ends.1 (c.in-Some-begin_of.ensures ends.0 ends.1 ends.2 ends.3) in
-    let below = there.below in
-    let inside = there.inside in
-    let all = c.requires.teams.numbers.all in
-    omega (arith, below, inside, all)
+pub number-requires : goal.number-requires
+number-requires c = begin_inside c.args.done.now c.args.at c.args.end.task c.args.end.begin c.run-run.ensures.is_done.teams c.requires.ends
 
 pub bounds-meetings-team : goal.bounds-meetings-team
 bounds-meetings-team c =
-    let rs = c.args.records.now in
-    let i = c.args.at in
-    let ends = c.requires.ends in
-    let own = region_index rs c.args.family.now.tasks i c.in-Some.index ends.0 ends.1 ends.2 c.subject.result (c.subject.ensures rs c.requires.family) c.in-Some.is ends.3 in
-    let there = c.in-Some-begin_of.ensures ends.0 ends.1 ends.2 ends.3 in
-    let in_team = c.team.ensures ∙ ap Some c.in-Some-team.is in
-    let begins = c.requires.teams.numbers.each c.in-Some-begin_of.begin c.number-number.result c.number-number.ensures ends.0 (barrier_begins_at rs i ends.0 c.in-Some-begin_of.begin ends.1 there ends.5) in
-    own_row rs i c.in-Some.index ends.0 c.in-Some-team.team c.in-Some-begin_of.begin c.number-number.result ends.1 c.args.family.now.tasks c.args.teams.now.teams c.args.meetings.now c.requires.met own in_team there begins
+    let in_team = c.team.ensures ∙ ap Some c.in-Some.is in
+    own_row c.args.done.now c.args.at c.args.end.task c.in-Some.team c.args.end.begin c.args.meetings.now c.run-run.ensures.is_done.teams c.requires.met c.requires.ends in_team
 
 pub offset_bounds-meetings-team : goal.offset_bounds-meetings-team
 offset_bounds-meetings-team c =
-    let rs = c.args.records.now in
-    let i = c.args.at in
-    let ends = c.requires.ends in
-    let own = region_index rs c.args.family.now.tasks i c.in-Some.index ends.0 ends.1 ends.2 c.subject.result (c.subject.ensures rs c.requires.family) c.in-Some.is ends.3 in
-    let there = c.in-Some-begin_of.ensures ends.0 ends.1 ends.2 ends.3 in
-    let in_team = c.team.ensures ∙ ap Some c.in-Some-team.is in
-    let begins = c.requires.teams.numbers.each c.in-Some-begin_of.begin c.number-number.result c.number-number.ensures ends.0 (barrier_begins_at rs i ends.0 c.in-Some-begin_of.begin ends.1 there ends.5) in
-    let inside : c.in-Some-team.team < length c.args.meetings.now = own_row rs i c.in-Some.index ends.0 c.in-Some-team.team c.in-Some-begin_of.begin c.number-number.result ends.1 c.args.family.now.tasks c.args.teams.now.teams c.args.meetings.now c.requires.met own in_team there begins in
+    let in_team = c.team.ensures ∙ ap Some c.in-Some.is in
+    let inside : c.in-Some.team < length c.args.meetings.now = own_row c.args.done.now c.args.at c.args.end.task c.in-Some.team c.args.end.begin c.args.meetings.now c.run-run.ensures.is_done.teams c.requires.met c.requires.ends in_team in
     search rules
 
 pub index-requires : goal.index-requires
 index-requires c =
-    let rs = c.args.records.now in
-    let i = c.args.at in
-    let ends = c.requires.ends in
-    let own = region_index rs c.args.family.now.tasks i c.in-Some.index ends.0 ends.1 ends.2 c.subject.result (c.subject.ensures rs c.requires.family) c.in-Some.is ends.3 in
-    let there = c.in-Some-begin_of.ensures ends.0 ends.1 ends.2 ends.3 in
-    let in_team = c.team.ensures ∙ ap Some c.in-Some-team.is in
-    let begins = c.requires.teams.numbers.each c.in-Some-begin_of.begin c.number-number.result c.number-number.ensures ends.0 (barrier_begins_at rs i ends.0 c.in-Some-begin_of.begin ends.1 there ends.5) in
-    let inside = own_row rs i c.in-Some.index ends.0 c.in-Some-team.team c.in-Some-begin_of.begin c.number-number.result ends.1 c.args.family.now.tasks c.args.teams.now.teams c.args.meetings.now c.requires.met own in_team there begins in
-    let row = read_at c.args.meetings.now c.in-Some-team.team c.index-meetings-team.result inside c.index-meetings-team.is in
-    let within : c.number-number.result < length c.index-meetings-team.result.items = own_meeting rs i c.in-Some.index ends.0 c.in-Some-team.team c.in-Some-begin_of.begin c.number-number.result ends.1 c.args.family.now.tasks c.args.teams.now.teams c.args.meetings.now c.index-meetings-team.result c.requires.met own in_team row there begins in
+    let done = c.args.done.now in
+    let index = c.args.end.task in
+    let begin = c.args.end.begin in
+    let meetings = c.args.meetings.now in
+    let row = c.index-meetings-team.result in
+    let teams = c.run-run.ensures.is_done.teams in
+    let in_team = c.team.ensures ∙ ap Some c.in-Some.is in
+    let inside = own_row done c.args.at index c.in-Some.team begin meetings teams c.requires.met c.requires.ends in_team in
+    let stands = read_at meetings c.in-Some.team row inside c.index-meetings-team.is in
+    let within : c.number.result < length row.items = own_meeting done c.args.at index c.in-Some.team begin c.number.result meetings row teams c.requires.met c.requires.ends in_team c.number.ensures stands in
     search rules
 
-pub returns : goal.returns
-returns c =
-    let rs = c.args.records.now in
-    let i = c.args.at in
-    let ends = c.requires.ends in
-    let own = region_index rs c.args.family.now.tasks i c.in-Some.index ends.0 ends.1 ends.2 c.subject.result (c.subject.ensures rs c.requires.family) c.in-Some.is ends.3 in
-    let there = c.in-Some-begin_of.ensures ends.0 ends.1 ends.2 ends.3 in
-    let in_team = c.team.ensures ∙ ap Some c.in-Some-team.is in
-    let begins = c.requires.teams.numbers.each c.in-Some-begin_of.begin c.number-number.result c.number-number.ensures ends.0 (barrier_begins_at rs i ends.0 c.in-Some-begin_of.begin ends.1 there ends.5) in
-    let inside = own_row rs i c.in-Some.index ends.0 c.in-Some-team.team c.in-Some-begin_of.begin c.number-number.result ends.1 c.args.family.now.tasks c.args.teams.now.teams c.args.meetings.now c.requires.met own in_team there begins in
-    let row = read_at c.args.meetings.now c.in-Some-team.team c.index-meetings-team.result inside c.index-meetings-team.is in
-    let within = own_meeting rs i c.in-Some.index ends.0 c.in-Some-team.team c.in-Some-begin_of.begin c.number-number.result ends.1 c.args.family.now.tasks c.args.teams.now.teams c.args.meetings.now c.index-meetings-team.result c.requires.met own in_team row there begins in
-    met_limit rs c.args.family.now i c.in-Some.index ends.0 c.in-Some-team.team c.in-Some-begin_of.begin c.number-number.result c.index.result.now ends.1 c.args.teams.now.teams c.args.meetings.now c.index-meetings-team.result c.requires.family c.requires.teams.teams c.requires.met own in_team row there ends.5 begins (read_at c.index-meetings-team.result.items c.number-number.result c.index.result.now within c.index.ensures)
+pub returns-in-Some : goal.returns-in-Some
+returns-in-Some c =
+    let done = c.args.done.now in
+    let index = c.args.end.task in
+    let begin = c.args.end.begin in
+    let meetings = c.args.meetings.now in
+    let row = c.index-meetings-team.result in
+    let teams = c.run-run.ensures.is_done.teams in
+    let in_team = c.team.ensures ∙ ap Some c.in-Some.is in
+    let inside = own_row done c.args.at index c.in-Some.team begin meetings teams c.requires.met c.requires.ends in_team in
+    let stands = read_at meetings c.in-Some.team row inside c.index-meetings-team.is in
+    let within = own_meeting done c.args.at index c.in-Some.team begin c.number.result meetings row teams c.requires.met c.requires.ends in_team c.number.ensures stands in
+    met_limit done c.args.at index c.in-Some.team begin c.number.result c.index.result.now meetings row teams c.requires.met c.requires.ends in_team c.number.ensures stands
+    (read_at row.items c.number.result c.index.result.now within c.index.ensures)
