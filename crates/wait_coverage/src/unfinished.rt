@@ -3,7 +3,7 @@ ghost use Rattle.std.specs.Prelude.{ℕ, ◌≡◌, ◌<◌, List, IfOk, IfErr, 
 ghost use Rattle.ompt_events.specs.declared.fault.Fault.TheVariants.{Memory};
 ghost use Rattle.trace_ledger.specs.Entries.{IsFreeUpTo, IsLedgerOf};
 ghost use Rattle.wait_coverage.specs.Done.{AreDone, AreChildrenDone};
-ghost use Rattle.wait_coverage.specs.Known.{AreCreditLengths};
+ghost use Rattle.wait_coverage.specs.Known.{AreHeldFrom, AreCreditLengths};
 ghost use Rattle.wait_coverage.specs.Limits.{IsEndLimit};
 ghost use Rattle.wait_coverage.specs.Spans.{IsCoverComplete};
 ghost use Rattle.wait_coverage.specs.Waits.{IsWaitAt, IsFirstOpen, IsFirstOpenEnd};
@@ -50,10 +50,14 @@ impl<'a> Known<'a> {
     ) -> Result<Known<'a>, Fault>
         ensures teams { IfOk result (λ known. known.done.teams ≡ teams.now) }
         ensures done { IsLedgerOf teams.now.run.records ledger.now → IfOk result (λ known. AreDone known.done) }
+        ensures credit { IsLedgerOf teams.now.run.records ledger.now → IsFreeUpTo teams.now.run.records 13
+            → IfOk result (λ known. AreHeldFrom known.done ledger.now) }
         ensures fault { IfErr result (λ fault. fault ≡ Memory) }
     {
         let done = Done::of_ledger(alloc, teams, ledger)?;
-        Ok(Known::of(alloc, done)?)
+        let known = Known::of(alloc, done)?;
+        let _run = known.done().run();
+        Ok(known)
     }
 
     /// What is known by these lengths.
@@ -109,7 +113,9 @@ pub fn find_known<'a>(alloc: Global, teams: &'a Teams<'a>) -> Result<Known<'a>, 
     ensures fault { IfErr result (λ fault. fault ≡ Memory) }
 {
     let done = Done::of_run(alloc, teams)?;
-    Ok(Known::of(alloc, done)?)
+    let known = Known::of(alloc, done)?;
+    let _run = known.done().run();
+    Ok(known)
 }
 
 /// The first record that ends a region that waits for tasks, and that covers an unfinished one; and of the

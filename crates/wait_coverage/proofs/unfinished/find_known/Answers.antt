@@ -1,3 +1,5 @@
-use Rattle.std.proofs.Common.{subst}
 use Rattle.wait_coverage.proofs.HeldLemmas.{held_from}
 use Rattle.wait_coverage.proofs.unfinished.find_known.Goals as goal
+
+pub returns-clause-credit : goal.returns-clause-credit
+returns-clause-credit c = ?

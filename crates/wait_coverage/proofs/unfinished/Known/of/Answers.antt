@@ -1,1 +1,0 @@
-use Rattle.wait_coverage.proofs.unfinished.Known.of.Goals as goal
