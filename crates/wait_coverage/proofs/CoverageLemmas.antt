@@ -12,14 +12,13 @@ use Rattle.ompt_events.specs.Regions.{IsRegion, IsBarrierBegin}
 use Rattle.ompt_events.specs.Causes.{missed, team_short}
 use Rattle.ompt_events.proofs.ListLemmas.{get_pushed, get_last, pushed_cases, get_contains, contains_get}
 use Rattle.ompt_events.specs.declared.names.Endpoint.TheVariants.{Begin, BeginEnd}
-use Rattle.ompt_events.specs.Records.{region, made}
+use Rattle.ompt_events.specs.Records.{region}
 use Rattle.ompt_events.specs.Places.{at, seen_at}
 use Rattle.ompt_events.specs.Tree.{HasPath}
 use Rattle.ompt_events.specs.Regions.{ended, at_once}
 use Rattle.ompt_events.proofs.RecordLemmas.{at_through}
 use Rattle.ompt_events.proofs.RegionLemmas.{own_begin}
 use Rattle.task_tree.specs.Subjects.{subject}
-use Rattle.task_tree.specs.Makers.{AreNoted}
 use Rattle.task_tree.specs.Family.{FamilyView, IsFamilyOf}
 use Rattle.task_tree.proofs.NamedLemmas.{region_subject}
 use Rattle.task_tree.proofs.PathLemmas.{root_known}
@@ -37,6 +36,8 @@ use Rattle.wait_coverage.specs.Coverage.{IsEnd, AreEnds, AreWaits, IsCoverAt, Is
 use Rattle.wait_coverage.specs.declared.waits.Wait.{Wait}
 use Rattle.wait_coverage.specs.declared.waits.Wait.TheVariants.{Taskwait as ForTaskwait, Taskgroup as ForTaskgroup, Barrier as ForBarrier}
 use Rattle.teams.proofs.RegionEndLemmas.{ends_at}
+use Rattle.wait_coverage.specs.Done.{DoneView, records_of, IsDoneView, AreDone, AreChildrenDone}
+use Rattle.wait_coverage.proofs.HeldLemmas.{own_children_done}
 use Rattle.wait_coverage.proofs.CreditLaw.{held_is_complete}
 use Rattle.teams.proofs.BarrierLemmas.{barrier_is_other, begun_subject, begin_says}
 use Rattle.wait_coverage.proofs.MateLemmas.{mate_of_number, begin_within}
@@ -348,6 +349,13 @@ wait_at_end coverage number end wait is read here =
 
 pub coverage_of : (inside coverage : CoverageView) → inside ≡ coverage → IsCoverage inside → IsCoverage coverage
 coverage_of inside coverage same is = subst IsCoverage same is
+
+-- what the search finds where the lengths are those of the records
+pub open_first : (known : TeamsView) (done : DoneView) (at end : ℕ) (found : Option ℕ) → done.teams ≡ known → IsDoneView done → AreDone done → at ≡ end → (AreChildrenDone done → MatchOption found (IsCoverComplete (records_of done) at) (IsFirstOpen (records_of done) at)) → MatchOption found (IsCoverComplete known.run.records end) (IsFirstOpen known.run.records end)
+open_first known done at end found same is are at_end answer =
+    let P : TeamsView → Type 0 = λ t. MatchOption found (IsCoverComplete t.run.records at) (IsFirstOpen t.run.records at) in
+    let Q : ℕ → Type 0 = λ e. MatchOption found (IsCoverComplete known.run.records e) (IsFirstOpen known.run.records e) in
+    subst Q at_end (subst P same (answer (own_children_done done is are)))
 
 -- ---- several ends
 

@@ -2,7 +2,7 @@
 use Rattle.std.proofs.Common.{◌≡◌, ◌∙◌, ℕ, ◌<◌, ◌≤◌, ◌^◌, true, List, length, Option, Some, None, refl, sym, ap, subst, arith, inl, inr}
 use Rattle.std.proofs.lemmas.Bool.{cases_lt}
 use Rattle.std.proofs.lemmas.Option.{same_Some, slice_get_within}
-use Rattle.std.specs.Prelude.{MatchOption, slice_get, Contains}
+use Rattle.std.specs.Prelude.{MatchOption, Contains}
 use Rattle.ompt_events.specs.declared.records.Record.{Record}
 use Rattle.ompt_events.specs.declared.names.SyncKind.{SyncKind}
 use Rattle.ompt_events.specs.declared.names.SyncKind.TheVariants.{Taskwait, Taskgroup}
@@ -18,13 +18,12 @@ use Rattle.credit_ledger.specs.declared.entry.Cover.{Cover}
 use Rattle.credit_ledger.specs.declared.entry.Cover.TheVariants.{Children, Descendants}
 use Rattle.trace_ledger.specs.Entries.{IsDone}
 use Rattle.wait_coverage.specs.Spans.{IsCoverComplete}
-use Rattle.wait_coverage.specs.Done.{DoneView, records_of, tasks_of, IsEarly, AreChildrenDone}
+use Rattle.wait_coverage.specs.Done.{DoneView, records_of, tasks_of, AreChildrenDone}
 use Rattle.wait_coverage.specs.Limits.{IsEndLimit}
 use Rattle.wait_coverage.specs.Waits.{EndsNoWaitAt, IsWaitAt, waits, groups, meets, IsWithin, before_begin, in_group, by_member, cover_of, IsAwaitedBy, IsAwaited, IsFirstOpen, IsFirstOpenEnd, IsLateAt, IsFirstLate}
 use Rattle.wait_coverage.specs.declared.waits.Wait.{Wait}
 use Rattle.wait_coverage.specs.declared.waits.Wait.TheVariants.{Taskwait as ForTaskwait, Taskgroup as ForTaskgroup, Barrier as ForBarrier}
 use Rattle.teams.proofs.BarrierLemmas.{one_number, barrier_is_other}
-use Rattle.wait_coverage.specs.declared.limits.Node.{Node}
 use Rattle.teams.proofs.RegionEndLemmas.{EndsAt, ends_at, one_region}
 use Rattle.wait_coverage.proofs.CoverLemmas.{child_with, child_stays, dropped, done_there, complete_there}
 use Rattle.trace_ledger.proofs.CompleteLemmas.{done_or_not}

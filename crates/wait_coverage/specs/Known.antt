@@ -1,6 +1,5 @@
 -- What is known of all tasks and ends before an end is looked at.
 use Rattle.std.specs.Prelude.{ℕ, ◌≡◌, ◌<◌, ◌≤◌, ◌^◌, ◌↔◌, List, Some, slice_get, take}
-use Rattle.ompt_events.specs.declared.records.Record.{Record}
 use Rattle.ompt_events.specs.Tree.{HasPath, IsChild}
 use Rattle.credit_ledger.specs.declared.entry.Entry.{Entry}
 use Rattle.trace_ledger.specs.Entries.{IsLedgerOf}

@@ -27,7 +27,7 @@ IsChildLimit done i task limit =
 abbrev pub IsFamiliesLimit : DoneView → ℕ → ℕ → ℕ → Type 0
 IsFamiliesLimit done i task limit =
     (c child : ℕ) → c < i → at creation (records_of done) c ≡ Some (task, child)
-        → IsFamilyLimit done child limit
+    → IsFamilyLimit done child limit
 
 -- from this ledger length on each task is finished that a taskwait or a taskgroup that ends at i covers
 pub record IsWaitLimit (done : DoneView) (i limit : ℕ) : Type 0 where
@@ -100,7 +100,7 @@ pub record AreChains (done : DoneView) (nodes : List Node)
   pub falling : AreFalling nodes
   pub each : (index task c child : ℕ) (head : Option ℕ) → slice_get (tasks_of done) index ≡ Some task
       → slice_get heads index ≡ Some head → c < length nodes
-          → at creation (records_of done) c ≡ Some (task, child)
+      → at creation (records_of done) c ≡ Some (task, child)
       → HasNode done nodes head c child
 
 -- at each end stands the limit of what it covers

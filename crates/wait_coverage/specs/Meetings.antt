@@ -18,7 +18,7 @@ pub record IsMeeting (done : DoneView) (task number i : ℕ) (row : List ℕ) : 
 pub record AreMet (done : DoneView) (n : ℕ) (meetings : List (Vec ℕ)) : Type 0 where
   pub each : (index task team number i : ℕ) → slice_get (tasks_of done) index ≡ Some task
       → slice_get done.teams.teams index ≡ Some (Some team)
-          → IsBarrierBegin (records_of done) task number i → i < n
+      → IsBarrierBegin (records_of done) task number i → i < n
       → IsMeeting done task number i (row_at meetings team)
 
 -- each has at least what it had, and the one with this number at least the limit

@@ -1,5 +1,5 @@
 //! The ends of waits in a trace, the credit that each waits for, and the task that is unfinished at each.
-ghost use Rattle.std.specs.Prelude.{ℕ, ◌≡◌, ◌<◌, ◌∷◌, [], List, Some, All, IfOk, IfErr, IsTrue, MatchOption, Contains, Option, length, slice_get, take};
+ghost use Rattle.std.specs.Prelude.{ℕ, ◌≡◌, ◌<◌, ◌≤◌, ◌∷◌, [], List, Some, All, IfOk, IfErr, IsTrue, MatchOption, Contains, Option, length, slice_get, take};
 ghost use Rattle.ompt_events.specs.declared.records.Record.{Record};
 ghost use Rattle.ompt_events.specs.declared.cause.Cause.TheVariants.{TeamShort};
 ghost use Rattle.ompt_events.specs.declared.fault.Fault.TheVariants.{Memory};
@@ -135,6 +135,7 @@ impl<'a> Coverage<'a> {
         }
         let alloc = *self.ends.allocator();
         let known = Known::of_ledger(alloc, self.teams(), ledger)?;
+        let _done = known.done();
         Ok(open_at(alloc, &known, self.end(number))?)
     }
 
@@ -195,6 +196,7 @@ impl<'a> Coverage<'a> {
     {
         let alloc = *self.ends.allocator();
         let known = Known::of_ledger(alloc, self.teams(), ledger)?;
+        let _done = known.done();
         let mut found = Vec::with_capacity(alloc, of.len())?;
         for index in 0..of.len() {
             found.push(open_at(alloc, &known, self.end(of[index]))?)?;

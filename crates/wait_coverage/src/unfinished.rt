@@ -2,7 +2,7 @@
 ghost use Rattle.std.specs.Prelude.{ℕ, ◌≡◌, ◌<◌, List, IfOk, IfErr, MatchOption, length};
 ghost use Rattle.ompt_events.specs.declared.fault.Fault.TheVariants.{Memory};
 ghost use Rattle.trace_ledger.specs.Entries.{IsFreeUpTo, IsLedgerOf};
-ghost use Rattle.wait_coverage.specs.Done.{AreDone, AreChildrenDone};
+ghost use Rattle.wait_coverage.specs.Done.{IsDoneView, AreDone, AreChildrenDone};
 ghost use Rattle.wait_coverage.specs.Known.{AreHeldFrom, AreCreditLengths};
 ghost use Rattle.wait_coverage.specs.Limits.{IsEndLimit};
 ghost use Rattle.wait_coverage.specs.Spans.{IsCoverComplete};
@@ -56,7 +56,7 @@ impl<'a> Known<'a> {
     {
         let done = Done::of_ledger(alloc, teams, ledger)?;
         let known = Known::of(alloc, done)?;
-        let _run = known.done().run();
+        let _done = known.done();
         Ok(known)
     }
 
@@ -73,9 +73,11 @@ impl<'a> Known<'a> {
     }
 
     /// The lengths of the tasks.
-    fn done(&self) -> &Done<'a>
-        ensures { result.now ≡ self.now.done }
+    pub(crate) fn done(&self) -> &Done<'a>
+        ensures value { result.now ≡ self.now.done }
+        ensures is_done { IsDoneView self.now.done }
     {
+        let _run = self.done.run();
         &self.done
     }
 
@@ -114,7 +116,7 @@ pub fn find_known<'a>(alloc: Global, teams: &'a Teams<'a>) -> Result<Known<'a>, 
 {
     let done = Done::of_run(alloc, teams)?;
     let known = Known::of(alloc, done)?;
-    let _run = known.done().run();
+    let _done = known.done();
     Ok(known)
 }
 
@@ -133,7 +135,7 @@ pub fn find_open(alloc: Global, known: &Known) -> Result<Option<(usize, u64)>, F
         (λ f. IsFirstOpenEnd known.now.done.teams.run.records f.0 f.1)) }
     ensures fault { IfErr result (λ fault. fault ≡ Memory) }
 {
-    let _run = known.done().run();
+    let _done = known.done();
     Ok(first_open_end(alloc, known)?)
 }
 

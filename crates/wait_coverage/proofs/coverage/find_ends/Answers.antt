@@ -4,8 +4,8 @@ use Rattle.wait_coverage.proofs.coverage.find_ends.Goals.{in-Some+in_ok-push+in_
 
 pub loop-at-preserved : goal.loop-at-preserved
 loop-at-preserved c =
-    let rs = c.args.records.now in
-    let tasks = c.args.family.now.tasks in
+    let rs = c.args.teams.now.run.records in
+    let tasks = c.args.teams.now.run.family.tasks in
     elim c.match-wait_at.branch [
       | in-Some+in_ok-push+in_ok-push-2 w ↦ rw (w.ends-is, w.waits-is, w.in_ok-push.ensures.items, w.in_ok-push-2.ensures.items) record {
         ends = ends_more rs tasks c.loop-at.at w.in-Some.wait c.loop-at.ends.items c.loop-at.invariant.ends w.in-Some.ensures;

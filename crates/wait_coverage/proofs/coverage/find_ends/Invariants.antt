@@ -4,6 +4,6 @@ use Rattle.wait_coverage.proofs.coverage.find_ends.Given as goal
 -- the ends so far, and what each waits for
 abbrev pub invariant-loop-at : goal.invariant-loop-at
 invariant-loop-at l = record {
-  ends : AreEnds l.records l.at l.ends.items;
-  waits : AreWaits l.records l.family.tasks l.ends.items l.waits.items;
+  ends : AreEnds l.teams.run.records l.at l.ends.items;
+  waits : AreWaits l.teams.run.records l.teams.run.family.tasks l.ends.items l.waits.items;
 }

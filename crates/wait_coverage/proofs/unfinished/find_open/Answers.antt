@@ -1,12 +1,11 @@
-use Rattle.std.proofs.Common.{subst}
 use Rattle.trace_ledger.proofs.ThereLemmas.{ledger_there}
-use Rattle.wait_coverage.specs.Done.{records_of, IsDoneView}
+use Rattle.wait_coverage.specs.Done.{records_of}
 use Rattle.wait_coverage.proofs.HeldLemmas.{held_children_done}
 use Rattle.wait_coverage.proofs.unfinished.find_open.Goals as goal
 
 pub returns-clause-first_by_credit : goal.returns-clause-first_by_credit
 returns-clause-first_by_credit c = λ free credit.
     let done = c.args.known.now.done in
-    let is : IsDoneView done = subst IsDoneView c.done.ensures c.run-run.ensures.is_done in
+    let is = c.done-done.ensures.is_done in
     let ledger = ledger_there (records_of done) is.teams.run.trace free in
     c.in_ok-first_open_end.ensures (held_children_done done ledger.0 is free ledger.1 (credit ledger.0 ledger.1))

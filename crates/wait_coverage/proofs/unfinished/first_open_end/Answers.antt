@@ -1,5 +1,4 @@
-use Rattle.std.proofs.Common.{◌∙◌, below_more, length, sym, ap, arith}
-
+use Rattle.std.proofs.Common.{◌∙◌, below_more, length, ap, arith}
 use Rattle.task_tree.specs.Runs.{RunView}
 use Rattle.wait_coverage.specs.Done.{DoneView, records_of}
 use Rattle.wait_coverage.proofs.OpenLemmas.{first_open_end, complete_whole}
@@ -13,5 +12,5 @@ loop-at-preserved c = λ exact. below_more _ _ (c.loop-at.invariant exact) (rw c
 
 pub returns : goal.returns
 returns c = λ exact.
-    let long = c.len-at-end.ensures.value ∙ ap (λ (r : RunView). length r.records) (c.run.ensures.value ∙ ap (λ (d : DoneView). d.teams.run) c.done.ensures) in
+    let long = c.len-at-end.ensures.value ∙ ap (λ (r : RunView). length r.records) (c.run.ensures.value ∙ ap (λ (d : DoneView). d.teams.run) c.done.ensures.value) in
     complete_whole (records_of c.args.known.now.done) c.loop-at.at (c.loop-at.invariant exact) (omega (arith, long, c.loop-at-test.false))

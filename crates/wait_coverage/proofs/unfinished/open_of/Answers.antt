@@ -1,4 +1,4 @@
-use Rattle.std.proofs.Common.{◌∙◌, ℕ, sym, ap, subst, arith, rules}
+use Rattle.std.proofs.Common.{◌∙◌, sym, ap, subst, arith}
 use Rattle.ompt_events.specs.Places.{seen_at}
 use Rattle.task_tree.specs.Runs.{RunView}
 use Rattle.teams.specs.Teams.{TeamsView}

@@ -24,4 +24,4 @@ pub loop-index-preserved : goal.loop-index-preserved
 loop-index-preserved c =
     let here = read_at c.args.roster.now c.loop-index.index c.index-roster-index.result c.loop-index-test.true c.index-roster-index.is in
     let seat = here ∙ ap Some (sym c.get.ensures ∙ c.unwrap-member.ensures) in
-    rw c.in_ok-push.ensures.items (roster_more c.args.self.now.records c.args.self.now.tree.family.tasks c.args.number c.loop-index.index c.unwrap-member.result c.args.roster.now c.loop-index.spans.items c.in_ok-member_span.field-0 c.loop-index.invariant seat c.in_ok-member_span.ensures)
+    rw c.in_ok-push.ensures.items (roster_more c.args.self.now.teams.run.records c.args.self.now.teams.run.family.tasks c.args.number c.loop-index.index c.unwrap-member.result c.args.roster.now c.loop-index.spans.items c.in_ok-member_span.field-0 c.loop-index.invariant seat c.in_ok-member_span.ensures)

@@ -11,7 +11,7 @@ index-requires c =
     search rules
 
 pub only_span-requires : goal.only_span-requires
-only_span-requires c = rw c.in-Taskwait.is at (waiting_within c.args.self.now.records c.args.self.now.tree.family.tasks c.requires.0 c.args.wait.now c.requires.1)
+only_span-requires c = rw c.in-Taskwait.is at (waiting_within c.args.self.now.teams.run.records c.args.self.now.teams.run.family.tasks c.requires.0 c.args.wait.now c.requires.1)
 
 pub index-from-requires : goal.index-from-requires
 index-from-requires c =
@@ -26,7 +26,7 @@ index-requires-in-Taskgroup c =
     search rules
 
 pub only_span-requires-in-Taskgroup : goal.only_span-requires-in-Taskgroup
-only_span-requires-in-Taskgroup c = rw c.in-Taskgroup.is at (waiting_within c.args.self.now.records c.args.self.now.tree.family.tasks c.requires.0 c.args.wait.now c.requires.1)
+only_span-requires-in-Taskgroup c = rw c.in-Taskgroup.is at (waiting_within c.args.self.now.teams.run.records c.args.self.now.teams.run.family.tasks c.requires.0 c.args.wait.now c.requires.1)
 
 pub returns-in-Taskwait : goal.returns-in-Taskwait
 returns-in-Taskwait c =
@@ -43,4 +43,4 @@ returns-in-Taskgroup c =
     rw (← c.self.view_is, c.in-Taskgroup.is) (if_ok-map (λ list each. λ end. group_spans _ c.in-Taskgroup.task c.in-Taskgroup.begin c.in-Taskgroup.end c.index-from.result.now c.index-in-Taskgroup.result.now end list.items c.self.invariant from to each) c.only_span-in-Taskgroup.result (rw (← c.self.view_is) at c.only_span-in-Taskgroup.ensures))
 
 pub returns-in-Barrier : goal.returns-in-Barrier
-returns-in-Barrier c = rw c.in-Barrier.is (if_ok-map (λ list each. λ end. barrier_spans c.args.self.now.records c.args.self.now.tree.family.tasks c.in-Barrier.task c.in-Barrier.number end list.items each) c.member_spans.result c.member_spans.ensures)
+returns-in-Barrier c = rw c.in-Barrier.is (if_ok-map (λ list each. λ end. barrier_spans c.args.self.now.teams.run.records c.args.self.now.teams.run.family.tasks c.in-Barrier.task c.in-Barrier.number end list.items each) c.member_spans.result c.member_spans.ensures)
