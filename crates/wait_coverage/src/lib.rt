@@ -1,11 +1,12 @@
-//! Which tasks the end of a region waits for, whether they are finished there, and whether the ledger of
-//! finished tasks holds their credit.
+//! From which ledger length on each task is finished, and its credit is held; which tasks the end of a
+//! region waits for, and whether they are finished there.
 //!
-//! `find_open` looks at the ends of a whole trace, `Coverage` answers for single ones with their credit, and
-//! `laws` says why held credit means finished tasks. Read `unfinished` first, then what it stands on: `order`
-//! (tasks behind their parents), `done` (after `lengths`: from which ledger length on each task is finished,
-//! and its descendants), `limits` and `meetings` (the same of what each end covers; after `limit`, a length in
-//! 32 bits), `waits` (the search where one is not); then `coverage`, after `numbers`.
+//! `Known` has the lengths, of the records (`find_known`) or of a ledger's entries. `find_open` looks at the
+//! ends of a whole trace, `Coverage` answers for single ones with their credit, and `laws` says why held
+//! credit means finished tasks. Read `unfinished` first, then what it stands on: `order` (tasks behind their
+//! parents), `done` (after `lengths`: a length for each task, and one for it and its descendants), `limits`
+//! and `meetings` (a length for what each end covers; after `limit`, a length in 32 bits), `waits` (the
+//! search where it is not reached); then `coverage`, after `numbers`.
 #![tactic(auto)]
 
 mod coverage;
