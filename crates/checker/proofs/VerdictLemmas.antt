@@ -1,12 +1,14 @@
 -- From what the searches find to the verdict.
-use Rattle.std.proofs.Common.{zero-add, ◌≡◌, ◌∙◌, ℕ, ◌<◌, ◌≤◌, ◌⊎◌, List, length, take, Option, Some, None, sym, ap, subst, arith, inl, inr}
+use Rattle.std.proofs.Common.{zero-add, ◌≡◌, ◌∙◌, ℕ, ◌<◌, ◌≤◌, ◌⊎◌, List, length, take, Option, Some, None, refl, sym, ap, subst, arith, inl, inr}
 use Rattle.std.specs.Prelude.{is_some, Contains, ⊤, slice_get, option_and_then}
 use Rattle.std.proofs.lemmas.Option.{none-some}
 use Rattle.std.proofs.lemmas.Bool.{cases_eq}
 use Rattle.ompt_events.specs.declared.records.Record.{Record}
 use Rattle.ompt_events.specs.declared.records.Part.{Part}
 use Rattle.ompt_events.specs.declared.records.Part.TheVariants as part
-use Rattle.ompt_events.specs.declared.cause.Cause.TheVariants.{NoOrder}
+use Rattle.ompt_events.specs.declared.cause.Cause.{Cause}
+use Rattle.ompt_events.specs.declared.cause.Cause.TheVariants.{SeqGap, CreatedTwice, Rootless, NotCurrent, Moved, StatusOrder, RegionOrder, TeamShort, NestedParallel, DepsPlace, ShareWrong, EntryTwice, LengthAhead, LengthBack, NoOrder, TargetTask}
+use Rattle.trace_ledger.specs.Entries.{IsFreeUpTo}
 use Rattle.ompt_events.specs.Records.{finish, region, started, wait_completed}
 use Rattle.ompt_events.specs.Places.{at, places}
 use Rattle.ompt_events.specs.HappensBefore.{IsStep, ledger, step}
@@ -215,3 +217,27 @@ end_first rs end start task predecessor unfinished late most = elim (cases_eq en
   | inl same ↦ absurd (one_first rs end start task predecessor unfinished late same)
   | inr apart ↦ open_before rs end task unfinished (λ k low. late.before k (omega (arith, low, most, apart)))
 ]
+
+-- ---- causes by their numbers
+
+listed : (cause : Cause) → Contains all_causes cause
+listed SeqGap = (0, omega arith, refl)
+listed CreatedTwice = (1, omega arith, refl)
+listed Rootless = (2, omega arith, refl)
+listed NotCurrent = (3, omega arith, refl)
+listed Moved = (4, omega arith, refl)
+listed StatusOrder = (5, omega arith, refl)
+listed RegionOrder = (6, omega arith, refl)
+listed TeamShort = (7, omega arith, refl)
+listed NestedParallel = (8, omega arith, refl)
+listed DepsPlace = (9, omega arith, refl)
+listed ShareWrong = (10, omega arith, refl)
+listed EntryTwice = (11, omega arith, refl)
+listed LengthAhead = (12, omega arith, refl)
+listed LengthBack = (13, omega arith, refl)
+listed NoOrder = (14, omega arith, refl)
+listed TargetTask = (15, omega arith, refl)
+
+-- where no cause occurs, none with a low number does
+pub free_up_to : (rs : List Record) (number : ℕ) → IsClear rs all_causes → IsFreeUpTo rs number
+free_up_to rs number clear cause low = clear cause (listed cause)

@@ -121,7 +121,7 @@ fn violation_of(alloc: Global, sound: &Sound) -> Result<Option<(usize, Why)>, Fa
     ensures memory_alone { IfErr result (λ fault. fault ≡ Memory) }
 {
     let known = find_known(alloc, sound.teams)?;
-    let unfinished = find_open(alloc, sound.teams, &known)?;
+    let unfinished = find_open(alloc, &known)?;
     let late = find_late_start(alloc, sound.edges, known.own())?;
     Ok(first_of(unfinished, late))
 }
