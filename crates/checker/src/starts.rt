@@ -30,7 +30,7 @@ pub(crate) fn find_late_start(
         (λ f. IsFirstLateStart edges.now.run.records f.0 f.1)) }
     ensures memory_alone { IfErr result (λ fault. fault ≡ Memory) }
 {
-    let latest = edges.latest(alloc, own)?;
+    let latest = edges.latest(own)?;
     let run = edges.run();
     if are_all_zero(&latest) {
         return Ok(None);

@@ -95,12 +95,12 @@ impl<'a> Edges<'a> {
     /// By index of the task the greatest of the lengths of its predecessors, 0 where it has none. It takes
     /// n log n steps in the records and their dependences, however many predecessors there are, and memory
     /// linear in them. Fails only when out of memory.
-    pub fn latest(&self, alloc: Global, own: &[u64]) -> Result<Vec<u64>, EdgeFault>
+    pub fn latest(&self, own: &[u64]) -> Result<Vec<u64>, EdgeFault>
         requires { length own.now ≡ length self.now.run.family.tasks }
         ensures latest { IfOk result (λ found. AreLatest self.now.run.records
             self.now.run.family.tasks own.now found.items) }
         ensures memory_alone { IfErr result (λ fault. fault ≡ Memory) }
     {
-        find_latest(alloc, &Lengths { edges: self, own })
+        find_latest(*self.lists.allocator(), &Lengths { edges: self, own })
     }
 }

@@ -42,7 +42,7 @@ fn of_edges(rt: &HostRuntime, edges: &Edges) -> Result<()> {
     if own.len() != tasks {
         bail!("there is not one number for each task");
     }
-    let Ok(latest) = edges.latest(rt.alloc(), own.as_slice()) else {
+    let Ok(latest) = edges.latest(own.as_slice()) else {
         bail!("out of memory");
     };
     for event in run.records() {

@@ -1,5 +1,5 @@
-//! Runs one layer alone. `bench/` times the words `values`, `read`, `write`, `ledger` and `calls`; `tests/`
-//! compares what the other words print. Nothing is promised but safety. Begin at `run`.
+//! Runs one layer alone. `bench/` times the words `values`, `read`, `write`, `ledger`, `coverage`, `open` and
+//! `calls`; `tests/` compares what the other words print. Nothing is promised but safety. Begin at `run`.
 #![tactic(auto)]
 
 mod calls;
@@ -24,7 +24,7 @@ use std::env;
 
 const WORDS: &str =
     "values, read, write, lines, names, tables, shares, states, ledger, devices, refusals, tree, edges, verdict, \
-     waits, shared or calls";
+     waits, coverage, open, shared or calls";
 
 /// Does what the word asks for.
 fn run(rt: &HostRuntime, word: &str) -> Result<()> {
@@ -44,6 +44,8 @@ fn run(rt: &HostRuntime, word: &str) -> Result<()> {
         "edges" => edges::of_input(rt),
         "verdict" => verdict::of_input(rt),
         "waits" => waits::each(rt),
+        "coverage" => waits::of_input(rt, false),
+        "open" => waits::of_input(rt, true),
         _ => bail!("the word must be {WORDS}"),
     }
 }

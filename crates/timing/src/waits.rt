@@ -2,7 +2,7 @@
 ghost use Rattle.std.specs.Prelude.{◌≡◌, ◌<◌, length};
 ghost use Rattle.task_tree.specs.Paths.{IsTreeOf};
 
-use crate::lines::traces_of_input;
+use crate::lines::{trace_of_input, traces_of_input};
 use anyhow::{Result, bail};
 use credit_ledger::Ledger;
 use ompt_events::Trace;
@@ -17,6 +17,40 @@ pub fn each(rt: &HostRuntime) -> Result<()> {
     for trace in traces_of_input(rt)?.iter() {
         of_trace(rt, trace)?;
     }
+    Ok(())
+}
+
+/// Makes the coverage and the ledger of the trace on standard input. If `searched`, also asks for the open task
+/// of each end.
+pub fn of_input(rt: &HostRuntime, searched: bool) -> Result<()> {
+    let trace = trace_of_input(rt)?;
+    let Ok(tree) = Tree::build(rt.alloc(), &trace) else {
+        bail!("no tree");
+    };
+    let Ok(states) = run(rt.alloc(), &trace, &tree) else {
+        bail!("no states");
+    };
+    let coverage = Coverage::build(rt.alloc(), &trace, &tree, &states)?;
+    let ledger = ledger_of(rt.alloc(), states.run())?;
+    if searched {
+        of_ends(rt, &coverage, &ledger)
+    } else {
+        let (ends, entries) = (coverage.ends().len(), ledger.len());
+        println!(rt; "{ends} ends, {entries} entries")?;
+        Ok(())
+    }
+}
+
+/// How many of all ends are open.
+fn of_ends(rt: &HostRuntime, coverage: &Coverage, ledger: &Ledger) -> Result<()> {
+    let ends = coverage.ends().len();
+    let mut all = Vec::with_capacity(rt.alloc(), ends)?;
+    for number in 0..ends {
+        all.push(number)?;
+    }
+    let found = coverage.first_open_all(all.as_slice(), ledger)?;
+    let open = found.iter().filter(|task| task.is_some()).count();
+    println!(rt; "{open} of {ends} ends are open")?;
     Ok(())
 }
 
