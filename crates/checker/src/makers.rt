@@ -1,5 +1,5 @@
 //! Which record makes each entry of the ledger.
-ghost use Rattle.std.specs.Prelude.{ℕ, ◌≡◌, ◌∷◌, [], ◌<◌, ◌≤◌, ◌^◌, ◌+◌, ◌==◌, ◌||◌, ◌↔◌, IfOk, IfErr, OnOk, IsTrue, false, length, slice_set};
+ghost use Rattle.std.specs.Prelude.{ℕ, ◌≡◌, ◌∷◌, [], ◌<◌, ◌+◌, ◌==◌, ◌||◌, ◌↔◌, IfOk, IfErr, OnOk, IsTrue, false, length, slice_set};
 ghost use Rattle.ompt_events.specs.declared.cause.Cause.TheVariants.{EntryTwice, LengthAhead};
 ghost use Rattle.ompt_events.specs.Causes.{RepeatsEntry, entries_in, IsAhead, IsFreeOf};
 ghost use Rattle.ompt_events.specs.Faults.{FindsFirst, IsFault};
@@ -113,24 +113,23 @@ fn repeats_entry(run: &Run, named: &mut Named, at: usize) -> Result<bool, AllocE
     ensures named { IfOk result (λ repeats. repeats ≡ false → IsNaming run.now.records (at + 1) named.new) }
 {
     if run.is_finishing(at) {
-        name_entry(named, run.len(), run.seen(at), at)
+        name_entry(named, run, run.seen(at), at)
     } else {
         Ok(false)
     }
 }
 
 /// Whether the entry was named already; afterwards it is, by the record at a place.
-fn name_entry(named: &mut Named, records: usize, entry: u32, at: usize) -> Result<bool, AllocError>
-    requires within { at < records }
-    requires few { records ≤ 2 ^ 22 }
-    ensures known { IfOk result (λ known. known ≡ is_named records named.old entry) }
-    ensures more { OnOk result ((e : ℕ) → is_named records named.new e
-        ≡ ((e == entry) || is_named records named.old e)) }
+fn name_entry(named: &mut Named, run: &Run, entry: u32, at: usize) -> Result<bool, AllocError>
+    requires { at < length run.now.records }
+    ensures known { IfOk result (λ known. known ≡ is_named (length run.now.records) named.old entry) }
+    ensures more { OnOk result ((e : ℕ) → is_named (length run.now.records) named.new e
+        ≡ ((e == entry) || is_named (length run.now.records) named.old e)) }
     ensures makers { OnOk result (named.new.makers.items ≡ slice_set named.old.makers.items entry at) }
 {
     let index = entry as usize;
     if index < named.makers.len() {
-        let known = (named.makers[index] as usize) < records;
+        let known = (named.makers[index] as usize) < run.len();
         named.makers[index] = at as u32;
         Ok(known)
     } else {

@@ -1,5 +1,5 @@
 //! The first task that starts, or taskwait that is complete, before one of its predecessors is finished.
-ghost use Rattle.std.specs.Prelude.{ℕ, ◌≡◌, ◌<◌, ◌+◌, ◌^◌, ◌↔◌, IfOk, IfErr, IsTrue, MatchOption, Some, false, length, replicate, slice_get, slice_index};
+ghost use Rattle.std.specs.Prelude.{ℕ, ◌≡◌, ◌<◌, ◌+◌, ◌↔◌, IfOk, IfErr, IsTrue, MatchOption, Some, false, length, replicate, slice_get, slice_index};
 ghost use Rattle.ompt_events.specs.declared.fault.Fault.TheVariants.{Memory};
 ghost use Rattle.ompt_events.specs.declared.cause.Cause.TheVariants.{EntryTwice, LengthAhead};
 ghost use Rattle.ompt_events.specs.Causes.{IsFreeOf};
@@ -141,27 +141,25 @@ impl Precedence<'_, '_> {
             return self.late_of(index, self.start_bound(at));
         }
         match self.run.wait_completed(at) {
-            Some(index) => self.late_of(index, u64::from(self.run.seen(at))),
+            Some(index) => self.late_of(index, self.run.seen(at)),
             None => Ok(None),
         }
     }
 
     /// The ledger length that decides what is complete where the record at the place starts an explicit task:
     /// what it finishes itself counts.
-    fn start_bound(&self, at: usize) -> u64
+    fn start_bound(&self, at: usize) -> u32
         requires { at < length self.now.run.records }
-        ensures bound { (index : ℕ) → StartsAt self.now.run.records self.now.run.family.tasks at index
+        ensures { (index : ℕ) → StartsAt self.now.run.records self.now.run.family.tasks at index
             → IsBound self.now.run.records at result }
-        ensures small { result < 2 ^ 32 }
     {
-        self.run.known_after(at)
+        self.run.known_after(at) as u32
     }
 
     /// Of the predecessors of the task at the index the first created one that the entries below the length
     /// don't finish.
-    fn late_of(&self, index: usize, bound: u64) -> Result<Option<u64>, Fault>
-        requires within { index < length self.now.run.family.tasks }
-        requires small { bound < 2 ^ 32 }
+    fn late_of(&self, index: usize, bound: u32) -> Result<Option<u64>, Fault>
+        requires { index < length self.now.run.family.tasks }
         ensures found { IfOk result (λ found. (task : ℕ)
             → slice_get self.now.run.family.tasks index ≡ Some task
             → MatchOption found (AreDoneBefore self.now.run.records task bound)
@@ -169,7 +167,7 @@ impl Precedence<'_, '_> {
         ensures memory_alone { IfErr result (λ fault. fault ≡ Memory) }
     {
         // Most predecessors are finished in time: only where one is not are they looked at.
-        if self.latest[index] <= bound {
+        if self.latest[index] <= u64::from(bound) {
             return Ok(None);
         }
         let predecessors = self.edges.of(self.run.task(index))?;
@@ -178,30 +176,29 @@ impl Precedence<'_, '_> {
 
     /// The first of a task's predecessors that the entries below the length don't finish. They stand in the
     /// order in which their parent created them.
-    fn first_behind(&self, predecessors: &[u64], bound: u64) -> Option<u64>
-        requires { bound < 2 ^ 32 }
+    fn first_behind(&self, predecessors: &[u64], bound: u32) -> Option<u64>
         ensures { (task : ℕ) → ArePredecessors self.now.run.records task predecessors.now
             → MatchOption result (AreDoneBefore self.now.run.records task bound)
             (IsFirstBehind self.now.run.records task bound) }
     {
+        // Tells that these are the tasks' lengths. Compiled, it is nothing.
+        let _own = self.own;
         for place in 0..predecessors.len() {
-            if is_behind(self.run, self.own, predecessors[place], bound) {
+            if self.is_behind(predecessors[place], bound) {
                 return Some(predecessors[place]);
             }
         }
         None
     }
-}
 
-/// Whether the entries below the length don't finish the task. It must be one that a record makes.
-fn is_behind(run: &Run, own: &[u64], task: u64, bound: u64) -> bool
-    requires small { bound < 2 ^ 32 }
-    requires own { AreOwn run.now.records run.now.family.tasks own.now }
-    ensures { (index : ℕ) → slice_get run.now.family.tasks index ≡ Some task
-        → IsTrue result ↔ (IsDone run.now.records bound task → ⊥) }
-{
-    match run.index_of(task) {
-        Some(index) => own[index] > bound,
-        None => false,
+    /// Whether the entries below the length don't finish the task. It must be one that a record makes.
+    fn is_behind(&self, task: u64, bound: u32) -> bool
+        ensures { (index : ℕ) → slice_get self.now.run.family.tasks index ≡ Some task
+            → IsTrue result ↔ (IsDone self.now.run.records bound task → ⊥) }
+    {
+        match self.run.index_of(task) {
+            Some(index) => self.own[index] > u64::from(bound),
+            None => false,
+        }
     }
 }
