@@ -20,8 +20,8 @@ pub fn each(rt: &HostRuntime) -> Result<()> {
     Ok(())
 }
 
-/// Makes the coverage and the ledger of the trace on standard input. If `searched`, also asks for the open task
-/// of each end.
+/// Makes the coverage and the ledger of the trace on standard input. If `searched`, also asks for the open
+/// task of each end.
 pub fn of_input(rt: &HostRuntime, searched: bool) -> Result<()> {
     let trace = trace_of_input(rt)?;
     let Ok(tree) = Tree::build(rt.alloc(), &trace) else {

@@ -1,9 +1,9 @@
 //! The ledger of a trace: the entries that its finishing records make, and what the credit in it tells.
 //!
-//! `laws` says that the ledger holds a task's credit exactly where the task is finished, and that entries of
-//! two records don't overlap. The definitions stand in `specs/Entries.antt` and `specs/Credits.antt`. `ledger`
-//! makes the ledger of a run, after `entries` (what one record brings back) and `makers` (which record makes
-//! each entry).
+//! `laws` says that the ledger holds a task's credit exactly where the task is finished, that entries of two
+//! records don't overlap, and that each trace without the causes 1 to 13 has a ledger. The definitions stand
+//! in `specs/Entries.antt` and `specs/Credits.antt`. `ledger` makes the ledger of a run, after `entries` (what
+//! one record brings back) and `makers` (which record makes each entry).
 #![tactic(auto)]
 
 mod entries;

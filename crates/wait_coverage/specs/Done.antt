@@ -9,8 +9,8 @@ use Rattle.task_tree.specs.Lineage.{parent_index, depth_in}
 use Rattle.teams.specs.Teams.{TeamsView, IsTeams}
 use Rattle.trace_ledger.specs.Entries.{IsDone}
 
--- what clauses see of the lengths of tasks: by index of the task a ledger length of its own, and one of the task
--- and all its descendants
+-- what clauses see of the lengths of tasks: by index of the task a ledger length of its own, and one of the
+-- task and all its descendants
 pub record DoneView : Type 0 where
   pub teams : TeamsView
   pub own : List ℕ
@@ -27,7 +27,7 @@ abbrev pub IsEarly : DoneView → ℕ → ℕ → Type 0
 IsEarly done m task = (index limit : ℕ) → slice_get (tasks_of done) index ≡ Some task
     → slice_get done.own index ≡ Some limit → limit ≤ m
 
--- that of each of its descendants is too
+-- so is that of each of its descendants
 abbrev pub IsFamilyEarly : DoneView → ℕ → ℕ → Type 0
 IsFamilyEarly done m task = (t : ℕ) → IsFamily (records_of done) task t → IsEarly done m t
 
@@ -89,8 +89,8 @@ pub data IsAbove (family : FamilyView) (top : ℕ) : ℕ → Type 0 where
   further : {index up : ℕ} → parent_index family index ≡ Some up → IsAbove family top up
       → IsAbove family top index
 
--- each has at least its floor, and the parents of the tasks from the place n on have at least what these have;
--- none has more than the greatest floor of the tasks that it is above
+-- each has at least its floor, and the parents of the tasks from the place n on have at least what these
+-- have; none has more than the greatest floor of the tasks that it is above
 pub record AreRaised (family : FamilyView) (order floor : List ℕ) (n : ℕ) (limits : List ℕ) : Type 0 where
   pub all : length limits ≡ length floor
   pub own : (index : ℕ) → slice_index floor index ≤ slice_index limits index

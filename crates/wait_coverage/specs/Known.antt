@@ -16,8 +16,8 @@ pub record KnownView : Type 0 where
 abbrev pub IsKnown : KnownView → Type 0
 IsKnown known = AreEndLimits known.done known.nodes
 
--- the entries hold the credit of each child in its parent's pool from its own length on, and not before; and that
--- of each task in its root's tree from the length of its family on (F. Mattern, 1989)
+-- the entries hold the credit of each child in its parent's pool from its own length on, and not before; and
+-- that of each task in its root's tree from the length of its family on, and not before (F. Mattern, 1989)
 pub record AreHeldFrom (done : DoneView) (entries : List Entry) : Type 0 where
   pub pool : (index task limit n root parent number : ℕ) (path : List ℕ)
       → slice_get (tasks_of done) index ≡ Some task → slice_get done.own index ≡ Some limit
@@ -30,4 +30,5 @@ pub record AreHeldFrom (done : DoneView) (entries : List Entry) : Type 0 where
 
 -- every ledger of the trace holds it so
 abbrev pub AreCreditLengths : DoneView → Type 0
-AreCreditLengths done = (entries : List Entry) → IsLedgerOf (records_of done) entries → AreHeldFrom done entries
+AreCreditLengths done =
+    (entries : List Entry) → IsLedgerOf (records_of done) entries → AreHeldFrom done entries

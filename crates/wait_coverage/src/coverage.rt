@@ -126,9 +126,11 @@ impl<'a> Coverage<'a> {
     pub fn first_open(&self, number: usize, ledger: &Ledger) -> Result<Option<u64>, CoverFault>
         requires { number < length self.now.ends }
         ensures fault { IfErr result (λ fault. fault ≡ Memory) }
-        ensures first { IsLedgerOf self.now.teams.run.records ledger.now → IsFreeUpTo self.now.teams.run.records 13
+        ensures first { IsLedgerOf self.now.teams.run.records ledger.now
+            → IsFreeUpTo self.now.teams.run.records 13
             → IfOk result (λ found. (end : ℕ) → slice_get self.now.ends number ≡ Some end
-            → MatchOption found (IsCoverComplete self.now.teams.run.records end) (IsFirstOpen self.now.teams.run.records end)) }
+            → MatchOption found (IsCoverComplete self.now.teams.run.records end)
+            (IsFirstOpen self.now.teams.run.records end)) }
     {
         if self.is_end_held(number, ledger)? {
             return Ok(None);
@@ -137,6 +139,30 @@ impl<'a> Coverage<'a> {
         let known = Known::of_ledger(alloc, self.teams(), ledger)?;
         let _done = known.done();
         Ok(open_at(alloc, &known, self.end(number))?)
+    }
+
+    /// The same for several ends. It goes over the ledger's entries once, for all of them, and takes a few
+    /// steps for each end in time; one that is open costs a few steps for each record.
+    pub fn first_open_all(
+        &self,
+        of: &[usize],
+        ledger: &Ledger,
+    ) -> Result<Vec<Option<u64>>, CoverFault>
+        requires { All (λ number. number < length self.now.ends) of.now }
+        ensures fault { IfErr result (λ fault. fault ≡ Memory) }
+        ensures first { IsLedgerOf self.now.teams.run.records ledger.now
+            → IsFreeUpTo self.now.teams.run.records 13
+            → IfOk result (λ found.
+            AreFirstOpen self.now.teams.run.records self.now.ends of.now (length of.now) found.items) }
+    {
+        let alloc = *self.ends.allocator();
+        let known = Known::of_ledger(alloc, self.teams(), ledger)?;
+        let _done = known.done();
+        let mut found = Vec::with_capacity(alloc, of.len())?;
+        for index in 0..of.len() {
+            found.push(open_at(alloc, &known, self.end(of[index]))?)?;
+        }
+        Ok(found)
     }
 
     /// The place of the end with this number among the ends.
@@ -181,32 +207,10 @@ impl<'a> Coverage<'a> {
         are_held(ledger, seen, spans.as_slice(), wait.cover())
     }
 
-    /// The same for several ends. It goes over the ledger's entries once, for all of them, and takes a few
-    /// steps for each end in time; one that is open costs a few steps for each record.
-    pub fn first_open_all(
-        &self,
-        of: &[usize],
-        ledger: &Ledger,
-    ) -> Result<Vec<Option<u64>>, CoverFault>
-        requires { All (λ number. number < length self.now.ends) of.now }
-        ensures fault { IfErr result (λ fault. fault ≡ Memory) }
-        ensures first { IsLedgerOf self.now.teams.run.records ledger.now → IsFreeUpTo self.now.teams.run.records 13
-            → IfOk result (λ found.
-            AreFirstOpen self.now.teams.run.records self.now.ends of.now (length of.now) found.items) }
-    {
-        let alloc = *self.ends.allocator();
-        let known = Known::of_ledger(alloc, self.teams(), ledger)?;
-        let _done = known.done();
-        let mut found = Vec::with_capacity(alloc, of.len())?;
-        for index in 0..of.len() {
-            found.push(open_at(alloc, &known, self.end(of[index]))?)?;
-        }
-        Ok(found)
-    }
-
     /// The credit that is waited for: one span, or for a barrier one of each member of the team.
     fn spans_of(&self, wait: &Wait) -> Result<Vec<Span>, AllocError>
-        requires { (end : ℕ) × IsWaitAt self.now.teams.run.records self.now.teams.run.family.tasks end wait.now }
+        requires { (end : ℕ)
+            × IsWaitAt self.now.teams.run.records self.now.teams.run.family.tasks end wait.now }
         ensures { IfOk result (λ spans. (end : ℕ)
             → IsWaitAt self.now.teams.run.records self.now.teams.run.family.tasks end wait.now
             → AreSpans self.now.teams.run.records end (cover_of wait.now) spans.items) }
@@ -265,8 +269,8 @@ impl<'a> Coverage<'a> {
     /// The same for the tasks at the indices of a roster.
     fn roster_spans(&self, roster: &[Slot], number: usize) -> Result<Vec<Span>, AllocError>
         requires { HaveBegun self.now.teams.begins number roster.now }
-        ensures { IfOk result (λ spans. AreRosterSpans self.now.teams.run.records self.now.teams.run.family.tasks number
-            roster.now (length roster.now) spans.items) }
+        ensures { IfOk result (λ spans. AreRosterSpans self.now.teams.run.records
+            self.now.teams.run.family.tasks number roster.now (length roster.now) spans.items) }
     {
         let mut spans = Vec::with_capacity(*self.ends.allocator(), roster.len())?;
         for index in 0..roster.len() {
@@ -302,8 +306,8 @@ fn stands_at(alloc: Global, tree: &Tree, task: u64) -> Result<(u64, Path), Alloc
     Ok((root, Path::from_vec(numbers)))
 }
 
-/// Whether the first entries of the ledger, so many as were seen, hold all the spans. No credit comes back from
-/// deeper than 1,024 steps below a root.
+/// Whether the first entries of the ledger, so many as were seen, hold all the spans. No credit comes back
+/// from deeper than 1,024 steps below a root.
 fn are_held(ledger: &Ledger, seen: u32, spans: &[Span], cover: Cover) -> Result<bool, CoverFault>
     ensures fault { IfErr result (λ fault. fault ≡ Memory) }
     ensures held { IfOk result (λ held. IsTrue held → AreAllHeld ledger.now seen cover spans.now) }

@@ -49,7 +49,8 @@ impl<'a> Known<'a> {
         ledger: &Ledger,
     ) -> Result<Known<'a>, Fault>
         ensures teams { IfOk result (λ known. known.done.teams ≡ teams.now) }
-        ensures done { IsLedgerOf teams.now.run.records ledger.now → IfOk result (λ known. AreDone known.done) }
+        ensures done { IsLedgerOf teams.now.run.records ledger.now
+            → IfOk result (λ known. AreDone known.done) }
         ensures credit { IsLedgerOf teams.now.run.records ledger.now → IsFreeUpTo teams.now.run.records 13
             → IfOk result (λ known. AreHeldFrom known.done ledger.now) }
         ensures fault { IfErr result (λ fault. fault ≡ Memory) }
@@ -123,10 +124,10 @@ pub fn find_known<'a>(alloc: Global, teams: &'a Teams<'a>) -> Result<Known<'a>, 
 /// The first record that ends a region that waits for tasks, and that covers an unfinished one; and of the
 /// tasks that it covers the first created one that is unfinished (OpenMP 5.2, 15.3 to 15.5). The lengths that
 /// are known must be those from which on the tasks are finished, or those from which on their credit is held
-/// (F. Mattern, 1989). It takes a few steps for each record, and memory linear in the records. `Memory` is the
-/// only refusal.
+/// (F. Mattern, 1989). It takes a few steps for each record, and memory linear in the records. `Memory` is
+/// the only refusal.
 pub fn find_open(alloc: Global, known: &Known) -> Result<Option<(usize, u64)>, Fault>
-    ensures first { AreChildrenDone known.now.done → IfOk result (λ found.
+    ensures first { AreDone known.now.done → IfOk result (λ found.
         MatchOption found ((i : ℕ) → IsCoverComplete known.now.done.teams.run.records i)
         (λ f. IsFirstOpenEnd known.now.done.teams.run.records f.0 f.1)) }
     ensures first_by_credit { IsFreeUpTo known.now.done.teams.run.records 13

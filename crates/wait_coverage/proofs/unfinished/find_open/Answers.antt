@@ -1,7 +1,10 @@
 use Rattle.trace_ledger.proofs.ThereLemmas.{ledger_there}
 use Rattle.wait_coverage.specs.Done.{records_of}
-use Rattle.wait_coverage.proofs.HeldLemmas.{held_children_done}
+use Rattle.wait_coverage.proofs.HeldLemmas.{held_children_done, own_children_done}
 use Rattle.wait_coverage.proofs.unfinished.find_open.Goals as goal
+
+pub returns-clause-first : goal.returns-clause-first
+returns-clause-first c = λ are. c.in_ok-first_open_end.ensures (own_children_done c.args.known.now.done c.done-done.ensures.is_done are)
 
 pub returns-clause-first_by_credit : goal.returns-clause-first_by_credit
 returns-clause-first_by_credit c = λ free credit.
