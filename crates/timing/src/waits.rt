@@ -1,11 +1,12 @@
 //! The waits of traces, with the credit that each waits for and what of it is unfinished.
-ghost use Rattle.std.specs.Prelude.{◌≡◌, ◌<◌, length};
+ghost use Rattle.std.specs.Prelude.{◌≡◌, ◌<◌, All, IfOk, length};
 ghost use Rattle.task_tree.specs.Paths.{IsTreeOf};
 
 use crate::lines::{trace_of_input, traces_of_input};
 use anyhow::{Result, bail};
 use credit_ledger::Ledger;
 use ompt_events::Trace;
+use std::alloc::{AllocError, Global};
 use task_states::{States, run};
 use task_tree::Tree;
 use trace_ledger::ledger_of;
@@ -44,14 +45,22 @@ pub fn of_input(rt: &HostRuntime, searched: bool) -> Result<()> {
 /// How many of all ends are open.
 fn of_ends(rt: &HostRuntime, coverage: &Coverage, ledger: &Ledger) -> Result<()> {
     let ends = coverage.ends().len();
-    let mut all = Vec::with_capacity(rt.alloc(), ends)?;
-    for number in 0..ends {
-        all.push(number)?;
-    }
+    let all = numbers_below(rt.alloc(), ends)?;
     let found = coverage.first_open_all(all.as_slice(), ledger)?;
     let open = found.iter().filter(|task| task.is_some()).count();
     println!(rt; "{open} of {ends} ends are open")?;
     Ok(())
+}
+
+/// The numbers below this one.
+fn numbers_below(alloc: Global, count: usize) -> Result<Vec<usize>, AllocError>
+    ensures { IfOk result (λ numbers. All (λ number. number < count) numbers.items) }
+{
+    let mut numbers = Vec::with_capacity(alloc, count)?;
+    for number in 0..count {
+        numbers.push(number)?;
+    }
+    Ok(numbers)
 }
 
 fn of_trace(rt: &HostRuntime, trace: &Trace) -> Result<()> {
