@@ -19,7 +19,7 @@ use Rattle.checker.proofs.ScheduleLemmas.{awaited_at, step_awaits, starts_below,
 
 -- ---- what a record knows
 
-known_least : (rs : List Record) (i : ℕ) → seen_at rs i ≤ known_after rs i
+pub known_least : (rs : List Record) (i : ℕ) → seen_at rs i ≤ known_after rs i
 known_least rs i = of (is_some (at finish rs i))
   where
     of : (b : Bool) → seen_at rs i ≤ cond b (seen_at rs i + 1) (seen_at rs i)

@@ -3,10 +3,12 @@ mod LengthLemmas
 mod EntryLemmas
 mod ListsLemmas
 mod QueueLemmas
+mod MissedLemmas
 mod OrderLemmas
 mod MergeLemmas
 mod MakerLemmas
 mod MergingLemmas
+mod EarlierLemmas
 mod FrontLemmas
 mod ScheduleLemmas
 mod InOrderLemmas

@@ -56,7 +56,7 @@ complete_in rs order i task linear (inr (body, event)) = inr (part_in rs order i
 -- ---- the first violation
 
 -- what must be complete is covered, or precedes what starts
-required_cases : (rs : List Record) (i task : ℕ) → IsRequired rs i task → Covers rs i task ⊎ IsPreceded rs i task
+pub required_cases : (rs : List Record) (i task : ℕ) → IsRequired rs i task → Covers rs i task ⊎ IsPreceded rs i task
 required_cases rs i task (covered covers) = inl covers
 required_cases rs i task (preceding {dependent = dependent} explicit start before) = inr (inl (dependent, explicit, start, before))
 required_cases rs i task (awaited {dependent = dependent} completes before) = inr (inr (dependent, completes, before))
@@ -126,12 +126,12 @@ region_ends : (rs : List Record) (i task begin : ℕ) (kind : SyncKind) → IsRe
 region_ends rs i task begin kind (ended ends) = ((task, kind, End), ends.ends)
 region_ends rs i task begin kind (at_once says) = ((task, kind, BeginEnd), says)
 
-cover_ends : (rs : List Record) (i task : ℕ) → Covers rs i task → (own : ℕ × SyncKind × Endpoint) × (at region rs i ≡ Some own)
+pub cover_ends : (rs : List Record) (i task : ℕ) → Covers rs i task → (own : ℕ × SyncKind × Endpoint) × (at region rs i ≡ Some own)
 cover_ends rs i task (coverage.waited {parent = parent} {begin = begin} is found) = region_ends rs i parent begin Taskwait is
 cover_ends rs i task (coverage.grouped {parent = parent} {begin = begin} is found of) = region_ends rs i parent begin Taskgroup is
 cover_ends rs i task (coverage.synchronised {own = own} {begin = begin} {kind = kind} number is barrier begins mate other found of) = region_ends rs i own begin kind is
 
-preceded_starts : (rs : List Record) (i task : ℕ) → IsPreceded rs i task → (own : ℕ) × ((at started rs i ≡ Some own) ⊎ (at wait_completed rs i ≡ Some own))
+pub preceded_starts : (rs : List Record) (i task : ℕ) → IsPreceded rs i task → (own : ℕ) × ((at started rs i ≡ Some own) ⊎ (at wait_completed rs i ≡ Some own))
 preceded_starts rs i task (inl (dependent, explicit, start, before)) = (dependent, inl start.starts)
 preceded_starts rs i task (inr (dependent, completes, before)) = (dependent, inr completes)
 

@@ -1,6 +1,8 @@
 -- What each verdict says of the records.
-use Rattle.std.specs.Prelude.{ℕ, List}
+use Rattle.std.specs.Prelude.{ℕ, ◌≡◌, ◌<◌, List, Some}
 use Rattle.ompt_events.specs.declared.records.Record.{Record}
+use Rattle.ompt_events.specs.Records.{created}
+use Rattle.ompt_events.specs.Places.{at}
 use Rattle.ompt_events.specs.CauseNames.{all_causes}
 use Rattle.ompt_events.specs.Linearization.{IsLinearization, IsGreedy}
 use Rattle.ompt_events.specs.Coverage.{Covers}
@@ -22,6 +24,22 @@ abbrev pub IsAlwaysComplete : List Record → Type 0
 IsAlwaysComplete rs =
     (order : List ℕ) → IsLinearization rs order → (i task : ℕ) → IsRequired rs i task
     → IsCompleteIn rs order task i
+
+-- some order that the records allow leaves a task incomplete at i that must be complete there
+pub record IsMissed (rs : List Record) (i task : ℕ) : Type 0 where
+  pub required : IsRequired rs i task
+  pub order : List ℕ
+  pub linearization : IsLinearization rs order
+  pub incomplete : IsCompleteIn rs order task i → ⊥
+
+-- the first record in file order at which some order leaves a required task incomplete, and of these tasks
+-- the one that was created first in file order
+pub record IsFirstMissed (rs : List Record) (i task : ℕ) : Type 0 where
+  pub missed : IsMissed rs i task
+  pub first : (k other : ℕ) → k < i → IsMissed rs k other → ⊥
+  pub creation : ℕ
+  pub is_created : at created rs creation ≡ Some task
+  pub created_first : (k other : ℕ) → k < creation → at created rs k ≡ Some other → IsMissed rs i other → ⊥
 
 -- what a yes with this order says
 pub record IsApproved (rs : List Record) (order : List ℕ) : Type 0 where
@@ -45,6 +63,7 @@ task_of (Predecessor task) = task
 pub record IsRejected (rs : List Record) (i : ℕ) (why : Why) : Type 0 where
   pub well_formed : IsWellFormed rs all_causes
   pub unfinished : IsFirstUnfinished rs i (task_of why)
+  pub missed : IsFirstMissed rs i (task_of why)
   pub reason : IsReason rs i why
 
 -- the verdict is that of the records

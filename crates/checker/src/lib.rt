@@ -9,6 +9,7 @@ mod checking;
 mod claims;
 mod front;
 mod in_order;
+pub mod laws;
 mod lengths;
 mod lists;
 mod makers;
