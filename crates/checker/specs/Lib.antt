@@ -11,3 +11,4 @@ pub mod Queue
 pub mod Merge
 pub mod InOrder
 pub mod Starts
+pub mod Counter

@@ -14,6 +14,7 @@ mod lengths;
 mod lists;
 mod makers;
 mod merge;
+mod ordered;
 mod queue;
 mod schedule;
 mod sound;
