@@ -12,11 +12,14 @@ use Rattle.ompt_events.specs.declared.records.Record.{Record}
 use Rattle.ompt_events.specs.Places.{thread_at, seen_at}
 use Rattle.ompt_events.specs.declared.cause.Cause.TheVariants.{Moved}
 use Rattle.ompt_events.specs.Causes.{IsFreeOf}
-use Rattle.checker.specs.Merge.{Awaits, StartsOrFulfils, Stands, MayFollow, AreHeads, IsLow, IsFront, IsReadyHead, AreOffered, AreMore, IsTaken, length_of}
-use Rattle.task_tree.specs.Family.{FamilyView, IsFamilyOf}
-use Rattle.checker.proofs.ScheduleLemmas.{awaits_or_not}
+use Rattle.checker.specs.Merge.{AreStanding, Awaits, Stands, IsUnplaced, MayFollow, AreHeads, IsLow, IsFront, IsReadyHead, AreOffered, AreMore, IsTaken, length_of}
+use Rattle.task_tree.specs.Family.{FamilyView}
+use Rattle.task_tree.specs.Runs.{RunView}
+use Rattle.checker.specs.Entries.{MakersView, IsLedger}
+use Rattle.checker.proofs.MakerLemmas.{low_reached}
+use Rattle.checker.proofs.ScheduleLemmas.{awaits_or_not, trace_apart}
 use Rattle.checker.proofs.MergeLemmas.{may_follow, ready_head, is_head, thread_of}
-use Rattle.checker.proofs.MergingLemmas.{IsMerging, merging_closed, stands_here, stands_still, stands_cases}
+use Rattle.checker.proofs.MergingLemmas.{standing_closed, stands_here, stands_still, stands_cases}
 
 -- ---- the test
 
@@ -191,13 +194,15 @@ ready_first rs placed none ready empty more all = record {
   ];
 }
 
--- what the merge knows of what stands
-pub front_merged : (rs : List Record) (family : FamilyView) (placed : List Bool) (heads order : List ℕ) (low : ℕ) → IsFamilyOf rs family → StartsOrFulfils rs → IsFreeOf rs Moved → IsMerging rs placed heads order → IsLow rs placed low → IsFront rs family placed heads low
-front_merged rs family placed heads order low family_of apart at_home merging is_low = record {
-  family_of = family_of;
-  apart = apart;
-  at_home = at_home;
-  closed = merging_closed rs placed heads order merging;
-  are_heads = merging.are_heads;
-  is_low = is_low;
-}
+-- what is known of a ledger's run while it is put in order
+pub front_of : (ledger : MakersView) (run : RunView) (makers : List ℕ) (placed : List Bool) (heads links order : List ℕ) (low : ℕ) → IsLedger ledger → run ≡ ledger.run → makers ≡ ledger.places → IsFreeOf ledger.run.records Moved → AreStanding run.records placed heads links order → low ≤ length makers → ((k : ℕ) → k < low → slice_index makers k < length placed → Stands placed (slice_index makers k)) → (low < length makers → IsUnplaced placed (slice_index makers low)) → IsFront run.records run.family placed heads low
+front_of ledger run makers placed heads links order low is same_run same_places at_home standing within passed missing =
+    let trace = rw (← same_run) at is.run.trace in
+    record {
+      family_of = rw (← same_run) at is.run.family;
+      apart = trace_apart run.records trace;
+      at_home = rw (← same_run) at at_home;
+      closed = standing_closed run.records placed heads links order standing;
+      are_heads = standing.are_heads;
+      is_low = low_reached run.records placed makers low (rw (← same_run, ← same_places) at is.makers) (rw (← same_run, ← same_places) at is.entries) (rw (← same_run) at is.reached) standing.all within passed missing;
+    }

@@ -1,26 +1,27 @@
 -- The merge of the threads, one record on.
-use Rattle.std.proofs.Common.{zero, suc, ◌≡◌, ◌≢◌, ◌∙◌, ℕ, ◌<◌, ◌≤◌, ◌+◌, List, [], ◌∷◌, ◌++◌, length, get_or, Some, Bool, true, false, refl, sym, ap, subst, arith, inl, inr, ◌⊎◌}
+use Rattle.std.proofs.Common.{zero, suc, ◌≡◌, ◌≢◌, ◌∙◌, ℕ, ◌<◌, ◌≤◌, ◌+◌, List, [], ◌∷◌, ◌++◌, length, get_or, Option, Some, None, Bool, true, false, refl, sym, ap, subst, arith, inl, inr, ◌⊎◌}
 use Rattle.std.proofs.lemmas.Bool.{cases_eq, cases_lt, false≢true}
 use Rattle.std.proofs.lemmas.Option.{same_Some, slice_get-get_or, slice_get_within}
-use Rattle.std.proofs.lemmas.List.{length-set, length-replicate, get_or-set_same, get_or-set_other, get_or-replicate, get_or_default, get_or-take, length-take, append-nil}
+use Rattle.std.proofs.lemmas.List.{length-set, length-replicate, get_or-set_same, get_or-set_other, get_or-replicate, get_or_default, get_or-take, length-take, append-nil, append_assoc, take-append-le, take_all, get_or_append_left, get_or_push, length_push}
 use Rattle.std.proofs.lemmas.List.Elements.{Contains-push, Contains-push_cases, Contains-append_left, Contains-append_cases}
 use Rattle.std.proofs.lemmas.List.Sorted.{IsPermutation-refl, IsPermutation-more, Contains-permutation}
 use Rattle.std.specs.List.Sorted.{IsPermutation}
 use Rattle.std.specs.List.{remove}
 use Rattle.ompt_events.proofs.PlaceLemmas.{contains_place, nothing_left}
 use Rattle.std.proofs.Math.ListN.{set}
-use Rattle.std.specs.Prelude.{slice_get, slice_index, Contains, ⊤, replicate, sum_by}
+use Rattle.std.specs.Prelude.{slice_get, slice_index, Contains, ⊤, replicate, sum_by, take, MatchOption}
 use Rattle.std.proofs.lemmas.List.Sums.{sum_by-set}
 use Rattle.ompt_events.specs.declared.records.Record.{Record}
 use Rattle.ompt_events.specs.Places.{places, thread_at}
-use Rattle.ompt_events.specs.HappensBefore.{step}
+use Rattle.ompt_events.specs.HappensBefore.{HappensBefore, step}
 use Rattle.ompt_events.specs.declared.cause.Cause.TheVariants.{NoOrder}
-use Rattle.ompt_events.specs.Causes.{HasCause, no_order, HasNoOrder, IsFirstWith}
+use Rattle.ompt_events.specs.Causes.{HasCause, no_order, HasNoOrder, IsFreeOf}
+use Rattle.ompt_events.specs.Faults.{FindsFirst}
 use Rattle.ompt_events.specs.Linearization.{IsDue, IsReady, IsFirstReady, IsGreedy, IsGrounded, IsLinearization}
-use Rattle.checker.specs.Merge.{AreClosed, Stands, MayFollow, AreHeads}
-use Rattle.checker.specs.Lists.{AreLists, IsNextWith}
+use Rattle.checker.specs.Merge.{AreClosed, Stands, IsFirstUnplaced, MayFollow, AreHeads, AreInTurn, IsGreedyBehind, AreStanding}
+use Rattle.checker.specs.Lists.{AreLists, IsNextWith, IsRising}
 use Rattle.checker.proofs.MergeLemmas.{stands_or_not, is_head}
-use Rattle.ompt_events.proofs.LinearizationLemmas.{IsClosed, due_from_steps, closed_more, greedy_more, greedy_grounded, grounded_rising}
+use Rattle.ompt_events.proofs.LinearizationLemmas.{IsClosed, due_from_steps, grounded_rising}
 use Rattle.ompt_events.proofs.HappensBeforeLemmas.{before_to, before_from}
 
 -- what stands is one of the places
@@ -52,32 +53,50 @@ none_stands n i stands =
     let e : false ≡ true = sym (get_or-replicate n i false false within) ∙ same_Some (get_or (replicate n false) i false) true (sym (slice_get-get_or (replicate n false) i false (stands_within (replicate n false) i stands)) ∙ stands) in
     false≢true e
 
--- how far the merge has come
-pub record IsMerging (rs : List Record) (placed : List Bool) (heads : List ℕ) (order : List ℕ) : Type 0 where
-  pub all : length placed ≡ length rs
-  pub to_order : (i : ℕ) → Stands placed i → Contains order i
-  pub from_order : (i : ℕ) → Contains order i → Stands placed i
-  pub are_heads : AreHeads rs placed heads
-  -- of each thread nothing beyond its head stands
-  pub above : (thread i : ℕ) → thread_at rs i ≡ Some thread → Stands placed i → i < slice_index heads thread
-  pub greedy : IsGreedy rs order
-  pub closed : IsClosed rs order
-  -- the records that are left to place
-  pub left : List ℕ
-  pub permutation : IsPermutation (places rs) (order ++ left)
+-- what is in the first part of a list is in the list
+contains_taken : (n : ℕ) (xs : List ℕ) (x : ℕ) → Contains (take n xs) x → Contains xs x
+contains_taken n xs x (k, below, is) =
+    let low : k < n = let t = length-take n xs in omega (arith, below, t) in
+    let inside : k < length xs = let t = length-take n xs in omega (arith, below, t) in
+    (k, inside, sym (get_or-take n xs k x low) ∙ is)
+
+-- what may stand next where those before it do has all that happens before it earlier
+pub turn_grounded : (rs : List Record) (order : List ℕ) → AreInTurn rs order → IsGrounded rs order
+turn_grounded rs order in_turn k below = (in_turn k below).due
+
+pub turn_closed : (rs : List Record) (order : List ℕ) → AreInTurn rs order → IsClosed rs order
+turn_closed rs order in_turn b (k, inside, is) a before =
+    let there : slice_index order k ≡ b = get_or_default order k 0 b inside ∙ is in
+    let P : ℕ → Type 0 = HappensBefore rs a in
+    contains_taken k order a ((in_turn k inside).due a (subst P (sym there) before))
+
+-- what holds of each place and those before it goes on to hold with one more place of which it holds
+pub each_more : (P : List ℕ → ℕ → Type 0) (order : List ℕ) (place : ℕ) → ((k : ℕ) → k < length order → P (take k order) (slice_index order k)) → P order place → (k : ℕ) → k < length (order ++ place ∷ []) → P (take k (order ++ place ∷ [])) (slice_index (order ++ place ∷ []) k)
+each_more P order place each next k below = elim (cases_lt k (length order)) [
+  | inl old ↦
+      let old_too : k ≤ length order = omega arith in
+      rw (take-append-le k order (place ∷ []), get_or_append_left order (place ∷ []) 0 k old) (each k old)
+  | inr new ↦
+      let is_last : k ≡ length order = let b = below in omega (arith, length_push order place) in
+      rw (is_last, take_whole, get_or_push order place 0 (length order) refl) next
+]
+  where
+    take_whole : take (length order) (order ++ place ∷ []) ≡ order
+    take_whole = take-append-le (length order) order (place ∷ []) (omega arith) ∙ take_all (length order) order (omega arith)
 
 -- what stands does so with all that happens before it
-pub merging_closed : (rs : List Record) (placed : List Bool) (heads order : List ℕ) → IsMerging rs placed heads order → AreClosed rs placed
-merging_closed rs placed heads order merging a b before stands = merging.from_order a (merging.closed b (merging.to_order b stands) a before)
+pub standing_closed : (rs : List Record) (placed : List Bool) (heads links order : List ℕ) → AreStanding rs placed heads links order → AreClosed rs placed
+standing_closed rs placed heads links order standing a b before stands = standing.from_order a (turn_closed rs order standing.in_turn b (standing.to_order b stands) a before)
 
 contains_none : (i : ℕ) → Contains (let l : List ℕ = [] in l) i → ⊥
 contains_none i (k, below, is) = absurd (omega arith)
 
-pub merging_start : (rs : List Record) (heads nexts : List ℕ) (placed : List Bool) → placed ≡ replicate (length rs) false → AreLists (thread_at rs) (length rs) 0 heads nexts → ((i thread : ℕ) → thread_at rs i ≡ Some thread → thread < length heads) → IsMerging rs placed heads []
-merging_start rs heads nexts placed is lists all = rw is (record {
+pub none_standing : (rs : List Record) (heads links : List ℕ) (placed : List Bool) → placed ≡ replicate (length rs) false → AreLists (thread_at rs) (length rs) 0 heads links → ((i thread : ℕ) → thread_at rs i ≡ Some thread → thread < length heads) → IsRising (length rs) links → AreStanding rs placed heads links []
+none_standing rs heads links placed is lists all rising = rw is (record {
   all = length-replicate (length rs) false;
   to_order = λ i stands. absurd (none_stands (length rs) i stands);
   from_order = λ i c. absurd (contains_none i c);
+  in_turn = λ k below. absurd (omega (arith, below));
   are_heads = record {
     all = all;
     below = λ thread i runs below. absurd ((lists.first thread (all i thread runs)).none i (omega arith) below runs);
@@ -85,15 +104,15 @@ merging_start rs heads nexts placed is lists all = rw is (record {
     missing = λ thread low stands. none_stands (length rs) (slice_index heads thread) stands;
   };
   above = λ thread i runs stands. absurd (none_stands (length rs) i stands);
-  greedy = λ k below. absurd (omega arith);
-  closed = λ b c. absurd (contains_none b c);
+  rising = rising;
+  next = λ i thread within runs. lists.next i thread (omega arith) within runs;
   left = places rs;
   permutation = IsPermutation-refl (places rs);
 })
 
 -- the heads after the head of a thread was placed
-heads_more : (rs : List Record) (placed : List Bool) (heads order : List ℕ) (place thread next : ℕ) → IsMerging rs placed heads order → MayFollow rs placed place → thread_at rs place ≡ Some thread → IsNextWith (thread_at rs) (length rs) thread (place + 1) next → AreHeads rs (set placed place true) (set heads thread next)
-heads_more rs placed heads order place thread next merging may runs is_next = record {
+heads_more : (rs : List Record) (placed : List Bool) (heads links order : List ℕ) (place thread next : ℕ) → AreStanding rs placed heads links order → MayFollow rs placed place → thread_at rs place ≡ Some thread → IsNextWith (thread_at rs) (length rs) thread (place + 1) next → AreHeads rs (set placed place true) (set heads thread next)
+heads_more rs placed heads links order place thread next merging may runs is_next = record {
   all = λ i other runs_there. rw (length-set heads thread next) (merging.are_heads.all i other runs_there);
   below = λ other i runs_there below. elim (cases_eq other thread) [
     | inl same ↦ stands_below i (runs_there ∙ ap Some same) (rw (same, here) at below)
@@ -142,112 +161,154 @@ heads_more rs placed heads order place thread next merging may runs is_next = re
       | inr is ↦ absurd (let h = is_next.behind in omega (arith, h, is))
     ]
 
--- one more record stands
-pub merging_more : (rs : List Record) (placed : List Bool) (heads order : List ℕ) (place thread next : ℕ) → IsMerging rs placed heads order → MayFollow rs placed place → ((i : ℕ) → i < place → MayFollow rs placed i → ⊥) → thread_at rs place ≡ Some thread → IsNextWith (thread_at rs) (length rs) thread (place + 1) next → IsMerging rs (set placed place true) (set heads thread next) (order ++ place ∷ [])
-merging_more rs placed heads order place thread next merging may first runs is_next = record {
-  all = length-set placed place true ∙ merging.all;
+-- one more record stands, which may stand next
+pub standing_more : (rs : List Record) (placed : List Bool) (heads links order : List ℕ) (place thread : ℕ) → AreStanding rs placed heads links order → MayFollow rs placed place → thread_at rs place ≡ Some thread → AreStanding rs (set placed place true) (set heads thread (slice_index links place)) links (order ++ place ∷ [])
+standing_more rs placed heads links order place thread standing may runs = record {
+  all = length-set placed place true ∙ standing.all;
   to_order = λ i stands. elim (stands_cases placed place i stands) [
-    | inl old ↦ Contains-append_left order (place ∷ []) i (merging.to_order i old)
+    | inl old ↦ Contains-append_left order (place ∷ []) i (standing.to_order i old)
     | inr same ↦ rw same (Contains-push order place)
   ];
   from_order = λ i c. elim (Contains-push_cases order place i c) [
-    | inl old ↦ stands_still placed place i (merging.from_order i old)
-    | inr same ↦ let P : ℕ → Type 0 = λ j. Stands (set placed place true) j in subst P same (stands_here placed place (rw merging.all may.within))
+    | inl old ↦ stands_still placed place i (standing.from_order i old)
+    | inr same ↦ let P : ℕ → Type 0 = λ j. Stands (set placed place true) j in subst P same (stands_here placed place (rw standing.all may.within))
   ];
-  are_heads = heads_more rs placed heads order place thread next merging may runs is_next;
+  in_turn = each_more (IsReady rs (λ _. ⊤)) order place standing.in_turn (record {
+    within = may.within;
+    taken = tt;
+    missing = λ c. may.missing (standing.from_order place c);
+    due = due;
+  });
+  are_heads = heads_more rs placed heads links order place thread next standing may runs is_next;
   above = λ other i runs_there stands. elim (cases_eq other thread) [
     | inl same ↦ rw (same, here) (elim (stands_cases placed place i stands) [
-      | inl old ↦ let h = merging.above thread i (runs_there ∙ ap Some same) old in omega (arith, h, head_is)
-      | inr is ↦ omega arith
+      | inl old ↦ let h = standing.above thread i (runs_there ∙ ap Some same) old in let behind = is_next.behind in omega (arith, h, head_is, behind)
+      | inr is ↦ let behind = is_next.behind in omega (arith, is, behind)
     ])
     | inr apart ↦ rw (there other apart) (elim (stands_cases placed place i stands) [
-      | inl old ↦ merging.above other i runs_there old
+      | inl old ↦ standing.above other i runs_there old
       | inr is ↦ absurd (apart (same_Some other thread (sym runs_there ∙ ap (thread_at rs) is ∙ runs)))
     ])
   ];
-  greedy = greedy_more rs order place merging.greedy first_ready;
-  closed = closed_more rs order place merging.closed due;
+  rising = standing.rising;
+  next = standing.next;
   left = left_after.0;
   permutation = left_after.1;
 }
   where
+    next : ℕ
+    next = slice_index links place
+
+    is_next : IsNextWith (thread_at rs) (length rs) thread (place + 1) next
+    is_next = standing.next place thread may.within runs
+
     here : slice_index (set heads thread next) thread ≡ next
-    here = get_or-set_same heads thread next 0 (merging.are_heads.all place thread runs)
+    here = get_or-set_same heads thread next 0 (standing.are_heads.all place thread runs)
 
     there : (other : ℕ) → other ≢ thread → slice_index (set heads thread next) other ≡ slice_index heads other
     there other apart = get_or-set_other heads thread other next 0 apart
 
     head_is : slice_index heads thread ≡ place
-    head_is = is_head rs placed heads place thread merging.are_heads runs may
+    head_is = is_head rs placed heads place thread standing.are_heads runs may
 
     left_after : (rest : List ℕ) × IsPermutation (places rs) ((order ++ place ∷ []) ++ rest)
-    left_after = elim (Contains-append_cases order merging.left place (Contains-permutation (places rs) (order ++ merging.left) place merging.permutation (contains_place rs place may.within))) [
-      | inl c ↦ absurd (may.missing (merging.from_order place c))
-      | inr c ↦ (remove merging.left c.0, IsPermutation-more (places rs) order merging.left c.0 place c.1 (sym c.2) merging.permutation)
+    left_after = elim (Contains-append_cases order standing.left place (Contains-permutation (places rs) (order ++ standing.left) place standing.permutation (contains_place rs place may.within))) [
+      | inl c ↦ absurd (may.missing (standing.from_order place c))
+      | inr c ↦ (remove standing.left c.0, IsPermutation-more (places rs) order standing.left c.0 place c.1 (sym c.2) standing.permutation)
     ]
 
     due : IsDue rs order place
-    due a before = due_from_steps rs order merging.closed a place before (λ c s. merging.to_order c (may.steps c s))
+    due a before = due_from_steps rs order (turn_closed rs order standing.in_turn) a place before (λ c s. standing.to_order c (may.steps c s))
+
+-- what may stand next in the list may follow what stands
+pub ready_follows : (rs : List Record) (placed : List Bool) (heads links order : List ℕ) (place : ℕ) → AreStanding rs placed heads links order → IsReady rs (λ _. ⊤) order place → MayFollow rs placed place
+ready_follows rs placed heads links order place standing ready = record {
+  within = ready.within;
+  missing = λ stands. ready.missing (standing.to_order place stands);
+  steps = λ a s. standing.from_order a (ready.due a (step s));
+}
+
+-- the base stands, and behind it the order goes on greedily
+pub record IsMerging (rs : List Record) (placed : List Bool) (heads links base order : List ℕ) : Type 0 where
+  pub standing : AreStanding rs placed heads links order
+  pub behind : IsGreedyBehind rs base order
+
+pub merging_start : (rs : List Record) (placed : List Bool) (heads links base : List ℕ) → AreStanding rs placed heads links base → IsMerging rs placed heads links base base
+merging_start rs placed heads links base standing = record {
+  standing = standing;
+  behind = record {
+    more = [];
+    parts = sym (append-nil base);
+    greedy = λ k below. absurd (omega (arith, below));
+  };
+}
+
+-- the first record that may follow
+pub merging_more : (rs : List Record) (placed : List Bool) (heads links base order : List ℕ) (place thread : ℕ) → IsMerging rs placed heads links base order → MayFollow rs placed place → ((i : ℕ) → i < place → MayFollow rs placed i → ⊥) → thread_at rs place ≡ Some thread → IsMerging rs (set placed place true) (set heads thread (slice_index links place)) links base (order ++ place ∷ [])
+merging_more rs placed heads links base order place thread merging may first runs = record {
+  standing = now;
+  behind = record {
+    more = merging.behind.more ++ place ∷ [];
+    parts = ap (λ l. l ++ place ∷ []) merging.behind.parts ∙ append_assoc base merging.behind.more (place ∷ []);
+    greedy = each_more (λ xs i. IsFirstReady rs (λ _. ⊤) (base ++ xs) i) merging.behind.more place merging.behind.greedy (
+      let P : List ℕ → Type 0 = λ l. IsFirstReady rs (λ _. ⊤) l place in subst P merging.behind.parts first_ready);
+  };
+}
+  where
+    now : AreStanding rs (set placed place true) (set heads thread (slice_index links place)) links (order ++ place ∷ [])
+    now = standing_more rs placed heads links order place thread merging.standing may runs
 
     first_ready : IsFirstReady rs (λ _. ⊤) order place
     first_ready = record {
       ready = record {
         within = may.within;
         taken = tt;
-        missing = λ c. may.missing (merging.from_order place c);
-        due = due;
+        missing = λ c. may.missing (merging.standing.from_order place c);
+        due = λ a before. due_from_steps rs order (turn_closed rs order merging.standing.in_turn) a place before (λ c s. merging.standing.to_order c (may.steps c s));
       };
-      first = λ k earlier ready. first k earlier (record {
-        within = ready.within;
-        missing = λ stands. ready.missing (merging.to_order k stands);
-        steps = λ a s. merging.from_order a (ready.due a (step s));
-      });
+      first = λ k earlier ready. first k earlier (ready_follows rs placed heads links order k merging.standing ready);
     }
 
 -- where no record may follow, none is ready
-pub none_ready : (rs : List Record) (placed : List Bool) (heads order : List ℕ) → IsMerging rs placed heads order → ((i : ℕ) → MayFollow rs placed i → ⊥) → (i : ℕ) → IsReady rs (λ _. ⊤) order i → ⊥
-none_ready rs placed heads order merging none i ready = none i (record {
-  within = ready.within;
-  missing = λ stands. ready.missing (merging.to_order i stands);
-  steps = λ a s. merging.from_order a (ready.due a (step s));
-})
+pub none_ready : (rs : List Record) (placed : List Bool) (heads links order : List ℕ) → AreStanding rs placed heads links order → ((i : ℕ) → MayFollow rs placed i → ⊥) → (i : ℕ) → IsReady rs (λ _. ⊤) order i → ⊥
+none_ready rs placed heads links order standing none i ready = none i (ready_follows rs placed heads links order i standing ready)
 
 -- with every place filled the order is a linearization
-pub all_ordered : (rs : List Record) (placed : List Bool) (heads order : List ℕ) → IsMerging rs placed heads order → ((i : ℕ) → i < length rs → Stands placed i) → IsLinearization rs order
-all_ordered rs placed heads order merging full = record {
-  all_once = rw (nothing_left rs order merging.left merging.permutation (λ i inside. merging.to_order i (full i inside)), append-nil) at merging.permutation;
-  rising = λ a b before. grounded_rising rs order (greedy_grounded rs order merging.greedy) a b before (merging.to_order b (full b (before_to rs a b before)));
+pub all_ordered : (rs : List Record) (placed : List Bool) (heads links order : List ℕ) → AreStanding rs placed heads links order → ((i : ℕ) → i < length rs → Stands placed i) → IsLinearization rs order
+all_ordered rs placed heads links order standing full = record {
+  all_once = rw (nothing_left rs order standing.left standing.permutation (λ i inside. standing.to_order i (full i inside)), append-nil) at standing.permutation;
+  rising = λ a b before. grounded_rising rs order (turn_grounded rs order standing.in_turn) a b before (standing.to_order b (full b (before_to rs a b before)));
 }
 
 -- each record that stands has an order
-pub stands_ordered : (rs : List Record) (placed : List Bool) (heads order : List ℕ) (i : ℕ) → IsMerging rs placed heads order → Stands placed i → HasCause rs i NoOrder → ⊥
-stands_ordered rs placed heads order i merging stands (no_order h) = h.never order (greedy_grounded rs order merging.greedy) (merging.to_order i stands)
+pub stands_ordered : (rs : List Record) (placed : List Bool) (heads links order : List ℕ) (i : ℕ) → AreStanding rs placed heads links order → Stands placed i → HasCause rs i NoOrder → ⊥
+stands_ordered rs placed heads links order i standing stands (no_order h) = h.never order (turn_grounded rs order standing.in_turn) (standing.to_order i stands)
 
 -- and where no record may follow, one that doesn't stand has none
-pub missing_unordered : (rs : List Record) (placed : List Bool) (heads order : List ℕ) (i : ℕ) → IsMerging rs placed heads order → ((j : ℕ) → MayFollow rs placed j → ⊥) → i < length rs → (Stands placed i → ⊥) → HasNoOrder rs i
-missing_unordered rs placed heads order i merging none within missing = record {
+pub missing_unordered : (rs : List Record) (placed : List Bool) (heads links order : List ℕ) (i : ℕ) → AreStanding rs placed heads links order → ((j : ℕ) → MayFollow rs placed j → ⊥) → i < length rs → (Stands placed i → ⊥) → HasNoOrder rs i
+missing_unordered rs placed heads links order i standing none within missing = record {
   within = within;
-  never = λ other grounded c. missing (merging.from_order i (
+  never = λ other grounded c. missing (standing.from_order i (
       let P : ℕ → Type 0 = λ j. Contains order j in
       let is : slice_index other c.0 ≡ i = get_or_default other c.0 0 i c.1 ∙ c.2 in
-      subst P is (grounded_stands rs placed heads order other merging none grounded (c.0 + 1) c.0 (omega arith) c.1 (rw is within))
+      subst P is (grounded_stands rs placed heads links order other standing none grounded (c.0 + 1) c.0 (omega arith) c.1 (rw is within))
       ));
 }
   where
-    grounded_stands : (rs' : List Record) (placed' : List Bool) (heads' order' other : List ℕ) → IsMerging rs' placed' heads' order' → ((j : ℕ) → MayFollow rs' placed' j → ⊥) → IsGrounded rs' other → (n q : ℕ) → q < n → q < length other → slice_index other q < length rs' → Contains order' (slice_index other q)
-    grounded_stands rs' placed' heads' order' other merging' none' grounded zero q below inside real = absurd (omega arith)
-    grounded_stands rs' placed' heads' order' other merging' none' grounded (suc n) q below inside real = elim (stands_or_not placed' (slice_index other q)) [
-      | inl stands ↦ merging'.to_order (slice_index other q) stands
-      | inr missing' ↦ absurd (none_ready rs' placed' heads' order' merging' none' (slice_index other q) (record {
+    grounded_stands : (rs' : List Record) (placed' : List Bool) (heads' links' order' other : List ℕ) → AreStanding rs' placed' heads' links' order' → ((j : ℕ) → MayFollow rs' placed' j → ⊥) → IsGrounded rs' other → (n q : ℕ) → q < n → q < length other → slice_index other q < length rs' → Contains order' (slice_index other q)
+    grounded_stands rs' placed' heads' links' order' other standing' none' grounded zero q below inside real = absurd (omega arith)
+    grounded_stands rs' placed' heads' links' order' other standing' none' grounded (suc n) q below inside real = elim (stands_or_not placed' (slice_index other q)) [
+      | inl stands ↦ standing'.to_order (slice_index other q) stands
+      | inr missing' ↦ absurd (none_ready rs' placed' heads' links' order' standing' none' (slice_index other q) (record {
         within = real;
         taken = tt;
-        missing = λ c. missing' (merging'.from_order (slice_index other q) c);
+        missing = λ c. missing' (standing'.from_order (slice_index other q) c);
         due = λ a before.
             let earlier = grounded q inside a before in
             let p_low : earlier.0 < q = let e = earlier.1 in let t = length-take q other in omega (arith, e, t) in
             let is : slice_index other earlier.0 ≡ a = get_or_default other earlier.0 0 a (omega arith) ∙ sym (get_or-take q other earlier.0 a p_low) ∙ earlier.2 in
             let P : ℕ → Type 0 = λ j. Contains order' j in
-            subst P is (grounded_stands rs' placed' heads' order' other merging' none' grounded n earlier.0 (omega arith) (omega arith) (rw is (before_from rs' a (slice_index other q) before)));
+            subst P is (grounded_stands rs' placed' heads' links' order' other standing' none' grounded n earlier.0 (omega arith) (omega arith) (rw is (before_from rs' a (slice_index other q) before)));
       }))
     ]
 
@@ -276,13 +337,28 @@ passed_more placed makers low next place old new k below real = elim (cases_lt k
   | inr after ↦ new k after below real
 ]
 
--- the first place that isn't filled
-pub first_unordered : (rs : List Record) (placed : List Bool) (heads order : List ℕ) (i : ℕ) → IsMerging rs placed heads order → ((j : ℕ) → MayFollow rs placed j → ⊥) → i < length rs → (Stands placed i → ⊥) → ((k : ℕ) → k < i → Stands placed k) → IsFirstWith rs NoOrder i
-first_unordered rs placed heads order i merging none within missing before = record {
-  within = within;
-  has = no_order (missing_unordered rs placed heads order i merging none within missing);
-  first = λ k below has. stands_ordered rs placed heads order k merging (before k below) has;
-}
-
-pub unordered_within : (rs : List Record) (i : ℕ) → HasCause rs i NoOrder → i < length rs
+unordered_within : (rs : List Record) (i : ℕ) → HasCause rs i NoOrder → i < length rs
 unordered_within rs i (no_order h) = h.within
+
+-- where no record may follow, the first that doesn't stand is the first without an order; and where all stand, each
+-- record has one
+pub finds_unordered : (rs : List Record) (placed : List Bool) (heads links order : List ℕ) (found : Option ℕ) → AreStanding rs placed heads links order → ((j : ℕ) → MayFollow rs placed j → ⊥) → MatchOption found ((i : ℕ) → i < length placed → Stands placed i) (IsFirstUnplaced placed) → FindsFirst rs NoOrder found
+finds_unordered rs placed heads links order None standing none every = λ i has. stands_ordered rs placed heads links order i standing (every i (rw standing.all (unordered_within rs i has))) has
+finds_unordered rs placed heads links order (Some i) standing none is =
+    let within : i < length rs = rw standing.all at is.unplaced.within in
+    record {
+      within = within;
+      has = no_order (missing_unordered rs placed heads links order i standing none within is.unplaced.missing);
+      first = λ k below has. stands_ordered rs placed heads links order k standing (is.before k below) has;
+    }
+
+-- where each record has an order, all stand
+pub all_stand : (rs : List Record) (placed : List Bool) (heads links order : List ℕ) → AreStanding rs placed heads links order → ((j : ℕ) → MayFollow rs placed j → ⊥) → IsFreeOf rs NoOrder → (i : ℕ) → i < length rs → Stands placed i
+all_stand rs placed heads links order standing none free i within = elim (stands_or_not placed i) [
+  | inl stands ↦ stands
+  | inr missing ↦ absurd (free i (no_order (missing_unordered rs placed heads links order i standing none within missing)))
+]
+
+-- behind nothing the order is the greedy one
+pub greedy_alone : (rs : List Record) (order : List ℕ) → IsGreedyBehind rs [] order → IsGreedy rs order
+greedy_alone rs order behind = let P : List ℕ → Type 0 = λ l. IsGreedy rs l in subst P (sym behind.parts) behind.greedy

@@ -1,16 +1,18 @@
 -- The records while they are put into an order.
-use Rattle.std.specs.Prelude.{ℕ, ◌≡◌, ◌≢◌, ◌<◌, ◌≤◌, ◌+◌, ◌==◌, ◌⊎◌, List, Contains, length, Bool, true, Option, Some, option_and_then, option_map, slice_get, slice_index}
+use Rattle.std.specs.Prelude.{ℕ, ◌≡◌, ◌≢◌, ◌<◌, ◌≤◌, ◌+◌, ◌==◌, ◌⊎◌, ◌++◌, ⊤, List, Contains, length, take, Bool, true, Option, Some, option_and_then, option_map, slice_get, slice_index}
 use Rattle.std.specs.Option.{option_or}
 use Rattle.std.specs.List.{position}
+use Rattle.std.specs.List.Sorted.{IsPermutation}
 use Rattle.ompt_events.specs.declared.records.Record.{Record}
 use Rattle.ompt_events.specs.declared.records.Body.{Body}
 use Rattle.ompt_events.specs.Records.{created, started, discarded, fulfilled}
-use Rattle.ompt_events.specs.Places.{at, thread_at, seen_at}
+use Rattle.ompt_events.specs.Places.{at, thread_at, seen_at, places}
 use Rattle.ompt_events.specs.HappensBefore.{IsFinishing, IsStep, HappensBefore}
+use Rattle.ompt_events.specs.Linearization.{IsReady, IsGreedyAfter}
 use Rattle.ompt_events.specs.declared.cause.Cause.TheVariants.{Moved}
 use Rattle.ompt_events.specs.Causes.{entries_in, IsFreeOf}
 use Rattle.task_tree.specs.Family.{FamilyView, IsFamilyOf}
-use Rattle.checker.specs.Lists.{AreLists, IsRising}
+use Rattle.checker.specs.Lists.{AreLists, IsNextWith, IsRising}
 use Rattle.checker.specs.declared.waiting.Waiting.{Waiting}
 
 -- the task that the record fulfils, discards or starts: it was created before
@@ -48,10 +50,42 @@ pub record AreHeads (rs : List Record) (placed : List Bool) (heads : List ℕ) :
       → thread_at rs (slice_index heads thread) ≡ Some thread
   pub missing : (thread : ℕ) → thread < length heads → Stands placed (slice_index heads thread) → ⊥
 
+-- each of the list may stand next where those before it in the list stand
+abbrev pub AreInTurn : List Record → List ℕ → Type 0
+AreInTurn rs order =
+    (k : ℕ) → k < length order → IsReady rs (λ _. ⊤) (take k order) (slice_index order k)
+
+-- the order begins with these, and goes on with the first record in file order that may stand next, until all stand
+pub record IsGreedyBehind (rs : List Record) (base order : List ℕ) : Type 0 where
+  pub more : List ℕ
+  pub parts : order ≡ base ++ more
+  pub greedy : IsGreedyAfter rs (λ _. ⊤) base more
+
+-- just those of the order stand, of each thread up to its head, and the links lead from each record to the next
+-- one of its thread
+pub record AreStanding (rs : List Record) (placed : List Bool) (heads links order : List ℕ) : Type 0 where
+  pub all : length placed ≡ length rs
+  pub to_order : (i : ℕ) → Stands placed i → Contains order i
+  pub from_order : (i : ℕ) → Contains order i → Stands placed i
+  pub in_turn : AreInTurn rs order
+  pub are_heads : AreHeads rs placed heads
+  pub above : (thread i : ℕ) → thread_at rs i ≡ Some thread → Stands placed i → i < slice_index heads thread
+  pub rising : IsRising (length rs) links
+  pub next : (i thread : ℕ) → i < length rs → thread_at rs i ≡ Some thread
+      → IsNextWith (thread_at rs) (length rs) thread (i + 1) (slice_index links i)
+  -- the records that are left to place
+  pub left : List ℕ
+  pub permutation : IsPermutation (places rs) (order ++ left)
+
 -- there is such a record, and it doesn't stand
 pub record IsUnplaced (placed : List Bool) (i : ℕ) : Type 0 where
   pub within : i < length placed
   pub missing : Stands placed i → ⊥
+
+-- the first record that doesn't stand
+pub record IsFirstUnplaced (placed : List Bool) (i : ℕ) : Type 0 where
+  pub unplaced : IsUnplaced placed i
+  pub before : (k : ℕ) → k < i → Stands placed k
 
 -- the ledger length that is reached: each entry below it is made by a record that stands; and where a record
 -- names a greater length, the record that makes the next entry doesn't stand

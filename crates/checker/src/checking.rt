@@ -110,7 +110,8 @@ fn order_by_merge(alloc: Global, sound: &Sound) -> Result<Order, Fault>
     let run = sound.run();
     let makers = Makers::in_run(alloc, run)?;
     exclude(Cause::LengthBack, find_back(run))?;
-    Ok(Order::from_vec(find_order(alloc, &makers)?))
+    let none = Vec::with_capacity(alloc, run.len())?;
+    Ok(Order::from_vec(find_order(alloc, &makers, none)?))
 }
 
 /// The first record at which a task that must be finished is not, and why it must be.

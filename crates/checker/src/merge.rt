@@ -1,89 +1,127 @@
 //! The greedy order of the records.
-ghost use Rattle.std.specs.Prelude.{ℕ, ◌≡◌, ◌∷◌, [], ◌<◌, ◌≤◌, ◌↔◌, IfNone, IfSome, IfOk, IfErr, IsTrue, OnOk, false, length, replicate, slice_index};
+ghost use Rattle.std.specs.Prelude.{ℕ, ◌≡◌, ◌∷◌, [], ◌<◌, ◌≤◌, ◌↔◌, List, Some, MatchOption, IfOk, IfErr, IsTrue, OnOk, false, true, length, replicate, slice_index, slice_set};
 ghost use Rattle.ompt_events.specs.declared.cause.Cause.TheVariants.{Moved, NoOrder};
-ghost use Rattle.ompt_events.specs.Linearization.{IsLinearization, IsGreedy};
+ghost use Rattle.ompt_events.specs.Places.{thread_at};
+ghost use Rattle.ompt_events.specs.Linearization.{IsLinearization};
 ghost use Rattle.ompt_events.specs.Causes.{IsFreeOf};
 ghost use Rattle.ompt_events.specs.Faults.{IsFault};
-ghost use Rattle.checker.specs.Merge.{Stands, IsUnplaced, IsFront, AreOffered};
+ghost use Rattle.checker.specs.Merge.{Stands, IsUnplaced, IsFirstUnplaced, IsFront, AreOffered, AreInTurn, IsGreedyBehind, AreStanding};
 
 use crate::front::{Front, stands, take_first};
 use crate::lists::{Lists, lists_of_threads};
 use crate::makers::Makers;
 use crate::queue::Queue;
 use crate::waiting::{Placed, Waiting};
-use ompt_events::{Cause, Fault};
+use ompt_events::{Cause, Fault, exclude};
 use std::alloc::{AllocError, Global};
 use task_tree::Run;
 
-/// The greedy order: again and again the first record in file order of which all that happens before it
-/// stands already. Searches for the first record that has no place in it.
-pub(crate) fn find_order(alloc: Global, makers: &Makers) -> Result<Vec<u32>, Fault>
-    requires { IsFreeOf makers.now.run.records Moved }
+/// The order that begins with these records and goes on greedily: again and again with the first record in
+/// file order of which all that happens before it stands already. Searches for the first record that has no
+/// place in it.
+pub(crate) fn find_order(alloc: Global, makers: &Makers, base: Vec<u32>) -> Result<Vec<u32>, Fault>
+    requires home { IsFreeOf makers.now.run.records Moved }
+    requires base { AreInTurn makers.now.run.records base.items }
     ensures linearization { IfOk result (λ order. IsLinearization makers.now.run.records order.items) }
-    ensures greedy { IfOk result (λ order. IsGreedy makers.now.run.records order.items) }
+    ensures greedy { IfOk result (λ order. IsGreedyBehind makers.now.run.records base.items order.items) }
     ensures free { OnOk result (IsFreeOf makers.now.run.records NoOrder) }
     ensures fault { IfErr result (IsFault makers.now.run.records (NoOrder ∷ [])) }
 {
     let run = makers.run();
     let places = makers.places();
-    let mut placed = none_placed(alloc, run.len())?;
-    let Lists {
-        firsts: mut heads,
-        nexts: links,
-    } = lists_of_threads(alloc, run)?;
+    let mut standing = Standing::of(alloc, run, base.as_slice())?;
     let waiting = Waiting::of(alloc, makers)?;
-    let mut low = first_missing(&placed, places, 0);
-    let mut ready = first_ready(alloc, run, &placed, &heads, low)?;
-    let mut order = Vec::with_capacity(alloc, run.len())?;
-    'merge: while let Some(place) = take_first(&mut ready, &placed) {
+    let mut low = first_missing(&standing.placed, places, 0);
+    let mut ready = standing.first_ready(alloc, run, low)?;
+    let mut order = base;
+    'merge: while let Some(place) = take_first(&mut ready, &standing.placed) {
         order.push(place as u32)?;
-        placed[place] = true;
-        let next = links[place];
-        heads[run.thread(place) as usize] = next;
+        standing.place(run, place);
         let was_low = low;
-        low = first_missing(&placed, places, low);
+        low = first_missing(&standing.placed, places, low);
         let front = Front {
             run,
-            placed: placed.as_slice(),
-            heads: heads.as_slice(),
+            placed: standing.placed.as_slice(),
+            heads: standing.heads.as_slice(),
             low,
         };
         let just_placed = Placed {
             place,
-            next: next as usize,
+            next: standing.links[place] as usize,
             was_low,
         };
         waiting.release(&front, &mut ready, just_placed)?;
     }
-    match first_unplaced(&placed) {
-        Some(at) => Err(Fault::Malformed {
-            at,
-            cause: Cause::NoOrder,
-        }),
-        None => Ok(order),
-    }
+    exclude(Cause::NoOrder, first_unplaced(&standing.placed))?;
+    Ok(order)
 }
 
-/// The records that may stand first.
-fn first_ready(
-    alloc: Global,
-    run: &Run,
-    placed: &[bool],
-    heads: &[u32],
-    low: usize,
-) -> Result<Queue, AllocError>
-    requires { IsFront run.now.records run.now.family placed.now heads.now low }
-    ensures ready { IfOk result (AreOffered run.now.records placed.now) }
-{
-    let mut ready = Queue::new(alloc);
-    let front = Front {
-        run,
-        placed,
-        heads,
-        low,
-    };
-    front.offer_heads(&mut ready)?;
-    Ok(ready)
+/// Which records stand: a mark for each record, the first of each thread that doesn't stand, and behind each
+/// record the next one of its thread. The number of records stands for none.
+#[derive(Drop)]
+struct Standing {
+    placed: Vec<bool>,
+    heads: Vec<u32>,
+    links: Vec<u32>,
+}
+
+impl Standing {
+    /// These stand.
+    fn of(alloc: Global, run: &Run, order: &[u32]) -> Result<Standing, AllocError>
+        requires { AreInTurn run.now.records order.now }
+        ensures { IfOk result (λ standing. AreStanding run.now.records standing.placed.items standing.heads.items
+            standing.links.items order.now) }
+    {
+        let mut standing = Standing::none(alloc, run)?;
+        for index in 0..order.len() {
+            standing.place(run, order[index] as usize);
+        }
+        Ok(standing)
+    }
+
+    /// None stands.
+    fn none(alloc: Global, run: &Run) -> Result<Standing, AllocError>
+        ensures { IfOk result (λ standing. AreStanding run.now.records standing.placed.items standing.heads.items
+            standing.links.items []) }
+    {
+        let Lists { firsts, nexts } = lists_of_threads(alloc, run)?;
+        Ok(Standing {
+            placed: none_placed(alloc, run.len())?,
+            heads: firsts,
+            links: nexts,
+        })
+    }
+
+    /// One more stands. Inlined into the merge.
+    #[inline(always)]
+    fn place(&mut self, run: &Run, place: usize)
+        requires within { place < length run.now.records }
+        requires all { (order : List ℕ) × AreStanding run.now.records self.old.placed.items
+            self.old.heads.items self.old.links.items order }
+        ensures placed { self.new.placed.items ≡ slice_set self.old.placed.items place true }
+        ensures heads { (thread : ℕ) → thread_at run.now.records place ≡ Some thread → self.new.heads.items
+            ≡ slice_set self.old.heads.items thread (slice_index self.old.links.items place) }
+        ensures links { self.new.links.items ≡ self.old.links.items }
+    {
+        self.placed[place] = true;
+        self.heads[usize::from(run.thread(place))] = self.links[place];
+    }
+
+    /// The records that may stand next.
+    fn first_ready(&self, alloc: Global, run: &Run, low: usize) -> Result<Queue, AllocError>
+        requires { IsFront run.now.records run.now.family self.now.placed.items self.now.heads.items low }
+        ensures { IfOk result (AreOffered run.now.records self.now.placed.items) }
+    {
+        let mut ready = Queue::new(alloc);
+        let front = Front {
+            run,
+            placed: self.placed.as_slice(),
+            heads: self.heads.as_slice(),
+            low,
+        };
+        front.offer_heads(&mut ready)?;
+        Ok(ready)
+    }
 }
 
 /// No record stands.
@@ -95,10 +133,8 @@ fn none_placed(alloc: Global, len: usize) -> Result<Vec<bool>, AllocError>
 
 /// The first record that does not stand.
 fn first_unplaced(placed: &[bool]) -> Option<usize>
-    ensures every { IfNone result ((i : ℕ) → i < length placed.now → Stands placed.now i) }
-    ensures within { IfSome result (λ at. at < length placed.now) }
-    ensures before { IfSome result (λ at. (i : ℕ) → i < at → Stands placed.now i) }
-    ensures missing { IfSome result (λ at. Stands placed.now at → ⊥) }
+    ensures { MatchOption result ((i : ℕ) → i < length placed.now → Stands placed.now i)
+        (IsFirstUnplaced placed.now) }
 {
     for at in 0..placed.len() {
         if !stands(placed, at) {

@@ -1,4 +1,4 @@
-use Rattle.std.proofs.Common.{[], ◌∷◌, refl, subst, arith}
+use Rattle.std.proofs.Common.{[], ◌∷◌, ◌<◌, length, refl, ap, subst, arith}
 use Rattle.std.proofs.lemmas.Result.{err_from_is_err_and}
 use Rattle.ompt_events.specs.declared.cause.Cause.TheVariants.{Moved, EntryTwice, LengthAhead, LengthBack, NoOrder}
 use Rattle.ompt_events.specs.CauseNames.{before}
@@ -6,6 +6,7 @@ use Rattle.ompt_events.specs.Causes.{IsFreeOf}
 use Rattle.checker.specs.Entries.{IsLedger}
 use Rattle.checker.specs.Search.{IsClear}
 use Rattle.checker.proofs.PhaseLemmas.{beyond, least_more, clear_more, one_clear, only_clear}
+use Rattle.checker.proofs.MergingLemmas.{greedy_alone}
 use Rattle.checker.proofs.checking.order_by_merge.Goals as goal
 
 pub returns-in_err-makers-clause-least : goal.returns-in_err-makers-clause-least
@@ -27,8 +28,14 @@ returns-in_err-exclude-clause-least c =
     let p = err_from_is_err_and c.from_residual-in_err-exclude.result c.from_residual-in_err-exclude.ensures.1 in
     rw (p.1, p.2) (least_more rs (before LengthBack) (LengthBack ∷ []) (beyond LengthBack) c.in_err-exclude.field-0.0 refl clear (c.in_err-exclude.ensures.fault rs (rw c.run-run.ensures.value at c.find_back.ensures)))
 
-pub find_order-requires : goal.find_order-requires
-find_order-requires c = rw (c.in_ok-makers.ensures.run, c.run-run.ensures.value) (c.run-run.ensures.is_sound.clear Moved (4, omega arith, refl))
+pub find_order-requires-clause-base : goal.find_order-requires-clause-base
+find_order-requires-clause-base c = λ k below. absurd (let below : k < length c.in_ok-none.none.items = below in let none = ap length c.in_ok-none.ensures.items in omega (arith, below, none))
+
+pub returns-clause-greedy : goal.returns-clause-greedy
+returns-clause-greedy c = rw (c.from_vec.ensures) (greedy_alone c.args.sound.now.records c.in_ok-find_order.field-0.items (rw (c.in_ok-makers.ensures.run, c.run-run.ensures.value, c.in_ok-none.ensures.items) at c.in_ok-find_order.ensures.greedy))
+
+pub find_order-requires-clause-home : goal.find_order-requires-clause-home
+find_order-requires-clause-home c = rw (c.in_ok-makers.ensures.run, c.run-run.ensures.value) (c.run-run.ensures.is_sound.clear Moved (4, omega arith, refl))
 
 pub returns-in_err-find_order-clause-least : goal.returns-in_err-find_order-clause-least
 returns-in_err-find_order-clause-least c =

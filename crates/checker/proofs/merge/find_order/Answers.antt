@@ -1,148 +1,122 @@
-use Rattle.std.proofs.Common.{true, ◌≡◌, ◌∙◌, ◌<◌, ◌≤◌, ◌+◌, ◌++◌, [], ◌∷◌, ℕ, Some, length, sym, arith, rules}
+use Rattle.std.proofs.Common.{true, ◌≡◌, ◌∙◌, ◌<◌, ◌≤◌, ◌+◌, ◌++◌, [], ◌∷◌, ℕ, List, Some, length, sym, ap, subst, arith, rules}
 use Rattle.std.proofs.Math.ListN.{set}
 use Rattle.std.proofs.lemmas.List.{get_or_default, get_or-set_same, length-set}
+use Rattle.std.proofs.lemmas.Result.{err_from_is_err_and}
 use Rattle.std.specs.Prelude.{slice_index}
 use Rattle.ompt_events.specs.Places.{thread_at}
-use Rattle.checker.specs.Lists.{IsNextWith}
+use Rattle.ompt_events.specs.declared.records.Record.{Record}
+use Rattle.ompt_events.specs.Faults.{FindsFirst}
 use Rattle.checker.specs.Merge.{Stands, IsUnplaced, IsFront, IsTaken, MayFollow}
 use Rattle.ompt_events.specs.declared.cause.Cause.TheVariants.{NoOrder}
-use Rattle.ompt_events.proofs.FaultLemmas.{malformed_alone}
-use Rattle.checker.proofs.MakerLemmas.{low_reached}
-use Rattle.checker.proofs.MergingLemmas.{IsMerging, merging_start, merging_more, missing_less, passed_more, first_unordered, all_ordered, stands_ordered, unordered_within}
-use Rattle.checker.proofs.FrontLemmas.{front_merged, ready_more}
-use Rattle.checker.proofs.ScheduleLemmas.{trace_apart}
+use Rattle.checker.proofs.MergeLemmas.{thread_of}
+use Rattle.checker.proofs.MergingLemmas.{IsMerging, merging_start, merging_more, missing_less, passed_more, finds_unordered, all_stand, all_ordered}
+use Rattle.checker.proofs.FrontLemmas.{front_of, ready_more}
 use Rattle.checker.proofs.merge.find_order.Goals as goal
 
 pub first_ready-requires : goal.first_ready-requires
 first_ready-requires c =
-    let rs = c.run-run.result.now.records in
-    let placed = c.in_ok-placed.placed.items in
-    let heads = c.in_ok-heads.field-0.firsts.items in
+    let placed = c.in_ok-standing.standing.placed.items in
     let makers = c.places-places.result.now in
-    let low = c.first_missing-low.result in
-    let passed : (k : ℕ) → 0 ≤ k → k < low → slice_index makers k < length placed → Stands placed (slice_index makers k) = rw c.deref.ensures.value at c.first_missing-low.ensures.passed in
-    let missing : low < length makers → IsUnplaced placed (slice_index makers low) = rw c.deref.ensures.value at c.first_missing-low.ensures.missing in
-    let merging : IsMerging rs placed heads [] = merging_start rs heads c.in_ok-heads.field-0.nexts.items placed (rw c.len.ensures.value at c.in_ok-placed.ensures) c.in_ok-heads.ensures.lists c.in_ok-heads.ensures.keys in
-    let is_low = low_reached rs placed makers low (rw (← c.run-run.ensures.value, ← c.places-places.ensures) at c.run-run.ensures.is_ledger.makers) (rw (← c.run-run.ensures.value, ← c.places-places.ensures) at c.run-run.ensures.is_ledger.entries) (rw (← c.run-run.ensures.value) at c.run-run.ensures.is_ledger.reached) merging.all c.first_missing-low.ensures.within (λ k. passed k (omega arith)) missing in
-    rw (c.deref-2.ensures.value, c.deref-3.ensures.value) (front_merged rs c.run-run.result.now.family placed heads [] low (rw (← c.run-run.ensures.value) at c.run-run.ensures.is_ledger.run.family) (trace_apart rs (rw (← c.run-run.ensures.value) at c.run-run.ensures.is_ledger.run.trace)) (rw (← c.run-run.ensures.value) at c.requires) merging is_low)
+    let passed : (k : ℕ) → 0 ≤ k → k < c.first_missing-low.result → slice_index makers k < length placed → Stands placed (slice_index makers k) = rw c.deref.ensures.value at c.first_missing-low.ensures.passed in
+    let missing : c.first_missing-low.result < length makers → IsUnplaced placed (slice_index makers c.first_missing-low.result) = rw c.deref.ensures.value at c.first_missing-low.ensures.missing in
+    front_of c.args.makers.now c.run-run.result.now makers placed c.in_ok-standing.standing.heads.items c.in_ok-standing.standing.links.items c.args.base.items c.first_missing-low.result c.run-run.ensures.is_ledger c.run-run.ensures.value c.places-places.ensures c.requires.home (rw c.as_slice.ensures.value at c.in_ok-standing.ensures) c.first_missing-low.ensures.within (λ k. passed k (omega arith)) missing
 
 pub merge-init : goal.merge-init
 merge-init c =
-    let rs = c.run-run.result.now.records in
-    let placed = c.in_ok-placed.placed.items in
-    let heads = c.in_ok-heads.field-0.firsts.items in
+    let placed = c.in_ok-standing.standing.placed.items in
     let makers = c.places-places.result.now in
-    let low = c.first_missing-low.result in
-    let passed : (k : ℕ) → 0 ≤ k → k < low → slice_index makers k < length placed → Stands placed (slice_index makers k) = rw c.deref.ensures.value at c.first_missing-low.ensures.passed in
-    let missing : low < length makers → IsUnplaced placed (slice_index makers low) = rw c.deref.ensures.value at c.first_missing-low.ensures.missing in
-    let merging : IsMerging rs placed heads [] = merging_start rs heads c.in_ok-heads.field-0.nexts.items placed (rw c.len.ensures.value at c.in_ok-placed.ensures) c.in_ok-heads.ensures.lists c.in_ok-heads.ensures.keys in
+    let passed : (k : ℕ) → 0 ≤ k → k < c.first_missing-low.result → slice_index makers k < length placed → Stands placed (slice_index makers k) = rw c.deref.ensures.value at c.first_missing-low.ensures.passed in
+    let missing : c.first_missing-low.result < length makers → IsUnplaced placed (slice_index makers c.first_missing-low.result) = rw c.deref.ensures.value at c.first_missing-low.ensures.missing in
     record {
-      merging = rw c.in_ok-order.ensures.items merging;
+      merging = merging_start c.run-run.result.now.records placed c.in_ok-standing.standing.heads.items c.in_ok-standing.standing.links.items c.args.base.items (rw c.as_slice.ensures.value at c.in_ok-standing.ensures);
       within = c.first_missing-low.ensures.within;
       passed = λ k. passed k (omega arith);
       missing = missing;
-      ready = rw c.deref-2.ensures.value at c.in_ok-ready.ensures.ready;
+      ready = c.in_ok-ready.ensures;
     }
-
-pub index_mut-requires-in-Some : goal.index_mut-requires-in-Some
-index_mut-requires-in-Some c =
-    let rs = c.run-run.result.now.records in
-    let placed = c.merge.placed.items in
-    let taken : IsTaken rs placed c.in-Some.place c.take_first.new.ready = (rw c.deref-in-merge.ensures.value at c.in-Some.ensures.taken) rs c.merge.invariant.ready in
-    let runs = c.thread.ensures in
-    let low = c.merge.invariant.merging.are_heads.all c.in-Some.place c.thread.result runs in
-    search rules
 
 pub release-requires-clause-front : goal.release-requires-clause-front
 release-requires-clause-front c =
     let rs = c.run-run.result.now.records in
-    let placed = c.merge.placed.items in
-    let heads = c.merge.heads.items in
-    let order = c.merge.order.items in
+    let placed = c.merge.standing.placed.items in
+    let heads = c.merge.standing.heads.items in
+    let links = c.merge.standing.links.items in
     let makers = c.places-places.result.now in
     let place = c.in-Some.place in
     let low = c.merge.low in
     let now_low = c.first_missing-low-in-Some.result in
     let merging = c.merge.invariant.merging in
     let taken : IsTaken rs placed place c.take_first.new.ready = (rw c.deref-in-merge.ensures.value at c.in-Some.ensures.taken) rs c.merge.invariant.ready in
-    let runs : thread_at rs place ≡ Some c.thread.result = c.thread.ensures in
-    let inside : place < length placed = rw merging.all taken.next.within in
-    let lists = c.in_ok-heads.ensures.lists in
-    let nexts = c.in_ok-heads.field-0.nexts.items in
-    let read : slice_index nexts place ≡ c.index-next.result.now = get_or_default nexts place 0 c.index-next.result.now (rw c.in_ok-heads.ensures.rising.all taken.next.within) ∙ sym c.index-next.ensures in
-    let next : IsNextWith (thread_at rs) (length rs) c.thread.result (place + 1) c.index-next.result.now = rw (← read) (lists.next place c.thread.result (omega arith) taken.next.within runs) in
-    let now_merging = merging_more rs placed heads order place c.thread.result c.index-next.result.now merging taken.next taken.first runs next in
-    let stood : c.deref-in-Some.result.now ≡ set placed place true = c.deref-in-Some.ensures.value in
-    let passed : (k : ℕ) → low ≤ k → k < now_low → slice_index makers k < length (set placed place true) → Stands (set placed place true) (slice_index makers k) = rw stood at c.first_missing-low-in-Some.ensures.passed in
-    let missing : now_low < length makers → IsUnplaced (set placed place true) (slice_index makers now_low) = rw stood at c.first_missing-low-in-Some.ensures.missing in
-    let now_passed = passed_more placed makers low now_low place c.merge.invariant.passed passed in
-    let is_low = low_reached rs (set placed place true) makers now_low (rw (← c.run-run.ensures.value, ← c.places-places.ensures) at c.run-run.ensures.is_ledger.makers) (rw (← c.run-run.ensures.value, ← c.places-places.ensures) at c.run-run.ensures.is_ledger.entries) (rw (← c.run-run.ensures.value) at c.run-run.ensures.is_ledger.reached) (length-set placed place true ∙ merging.all) c.first_missing-low-in-Some.ensures.within now_passed missing in
-    let front : IsFront rs c.run-run.result.now.family (set placed place true) (set heads c.thread.result c.index-next.result.now) now_low = front_merged rs c.run-run.result.now.family (set placed place true) (set heads c.thread.result c.index-next.result.now) (order ++ place ∷ []) now_low (rw (← c.run-run.ensures.value) at c.run-run.ensures.is_ledger.run.family) (trace_apart rs (rw (← c.run-run.ensures.value) at c.run-run.ensures.is_ledger.run.trace)) (rw (← c.run-run.ensures.value) at c.requires) now_merging is_low in
-    rw (c.as_slice.ensures.value, c.as_slice-in-Some.ensures.value) front
+    let runs = thread_of rs place taken.next.within in
+    let now_placed = c.place.new.self.placed.items in
+    let placed_is : now_placed ≡ set placed place true = c.place.ensures.placed in
+    let heads_are = c.place.ensures.heads runs.0 runs.1 in
+    let now : IsMerging rs now_placed c.place.new.self.heads.items c.place.new.self.links.items c.args.base.items (c.merge.order.items ++ place ∷ []) = rw (placed_is, heads_are, c.place.ensures.links) (merging_more rs placed heads links c.args.base.items c.merge.order.items place runs.0 merging taken.next taken.first runs.1) in
+    let passed : (k : ℕ) → low ≤ k → k < now_low → slice_index makers k < length now_placed → Stands now_placed (slice_index makers k) = rw c.deref-in-Some.ensures.value at c.first_missing-low-in-Some.ensures.passed in
+    let missing : now_low < length makers → IsUnplaced now_placed (slice_index makers now_low) = rw c.deref-in-Some.ensures.value at c.first_missing-low-in-Some.ensures.missing in
+    let now_passed : (k : ℕ) → k < now_low → slice_index makers k < length now_placed → Stands now_placed (slice_index makers k) = rw placed_is (passed_more placed makers low now_low place c.merge.invariant.passed (rw placed_is at passed)) in
+    let front = front_of c.args.makers.now c.run-run.result.now makers now_placed c.place.new.self.heads.items c.place.new.self.links.items (c.merge.order.items ++ place ∷ []) now_low c.run-run.ensures.is_ledger c.run-run.ensures.value c.places-places.ensures c.requires.home now.standing c.first_missing-low-in-Some.ensures.within now_passed missing in
+    rw (c.as_slice-in-Some.ensures.value, c.as_slice-in-Some-2.ensures.value) front
 
 pub merge-smaller : goal.merge-smaller
 merge-smaller c =
-    let rs = c.run-run.result.now.records in
-    let placed = c.merge.placed.items in
-    let taken : IsTaken rs placed c.in-Some.place c.take_first.new.ready = (rw c.deref-in-merge.ensures.value at c.in-Some.ensures.taken) rs c.merge.invariant.ready in
-    missing_less placed c.in-Some.place (rw c.merge.invariant.merging.all taken.next.within) taken.next.missing
+    let placed = c.merge.standing.placed.items in
+    let taken : IsTaken c.run-run.result.now.records placed c.in-Some.place c.take_first.new.ready = (rw c.deref-in-merge.ensures.value at c.in-Some.ensures.taken) c.run-run.result.now.records c.merge.invariant.ready in
+    rw c.place.ensures.placed (missing_less placed c.in-Some.place (rw c.merge.invariant.merging.standing.all taken.next.within) taken.next.missing)
 
 pub merge-preserved : goal.merge-preserved
 merge-preserved c =
     let rs = c.run-run.result.now.records in
-    let placed = c.merge.placed.items in
-    let heads = c.merge.heads.items in
-    let order = c.merge.order.items in
+    let placed = c.merge.standing.placed.items in
+    let heads = c.merge.standing.heads.items in
+    let links = c.merge.standing.links.items in
     let makers = c.places-places.result.now in
     let place = c.in-Some.place in
     let low = c.merge.low in
     let now_low = c.first_missing-low-in-Some.result in
     let merging = c.merge.invariant.merging in
     let taken : IsTaken rs placed place c.take_first.new.ready = (rw c.deref-in-merge.ensures.value at c.in-Some.ensures.taken) rs c.merge.invariant.ready in
-    let runs : thread_at rs place ≡ Some c.thread.result = c.thread.ensures in
-    let inside : place < length placed = rw merging.all taken.next.within in
-    let lists = c.in_ok-heads.ensures.lists in
-    let nexts = c.in_ok-heads.field-0.nexts.items in
-    let read : slice_index nexts place ≡ c.index-next.result.now = get_or_default nexts place 0 c.index-next.result.now (rw c.in_ok-heads.ensures.rising.all taken.next.within) ∙ sym c.index-next.ensures in
-    let next : IsNextWith (thread_at rs) (length rs) c.thread.result (place + 1) c.index-next.result.now = rw (← read) (lists.next place c.thread.result (omega arith) taken.next.within runs) in
-    let now_merging = merging_more rs placed heads order place c.thread.result c.index-next.result.now merging taken.next taken.first runs next in
-    let stood : c.deref-in-Some.result.now ≡ set placed place true = c.deref-in-Some.ensures.value in
-    let passed : (k : ℕ) → low ≤ k → k < now_low → slice_index makers k < length (set placed place true) → Stands (set placed place true) (slice_index makers k) = rw stood at c.first_missing-low-in-Some.ensures.passed in
-    let missing : now_low < length makers → IsUnplaced (set placed place true) (slice_index makers now_low) = rw stood at c.first_missing-low-in-Some.ensures.missing in
-    let now_passed = passed_more placed makers low now_low place c.merge.invariant.passed passed in
-    let is_low = low_reached rs (set placed place true) makers now_low (rw (← c.run-run.ensures.value, ← c.places-places.ensures) at c.run-run.ensures.is_ledger.makers) (rw (← c.run-run.ensures.value, ← c.places-places.ensures) at c.run-run.ensures.is_ledger.entries) (rw (← c.run-run.ensures.value) at c.run-run.ensures.is_ledger.reached) (length-set placed place true ∙ merging.all) c.first_missing-low-in-Some.ensures.within now_passed missing in
-    let front : IsFront rs c.run-run.result.now.family (set placed place true) (set heads c.thread.result c.index-next.result.now) now_low = front_merged rs c.run-run.result.now.family (set placed place true) (set heads c.thread.result c.index-next.result.now) (order ++ place ∷ []) now_low (rw (← c.run-run.ensures.value) at c.run-run.ensures.is_ledger.run.family) (trace_apart rs (rw (← c.run-run.ensures.value) at c.run-run.ensures.is_ledger.run.trace)) (rw (← c.run-run.ensures.value) at c.requires) now_merging is_low in
-    let was_low = low_reached rs placed makers low (rw (← c.run-run.ensures.value, ← c.places-places.ensures) at c.run-run.ensures.is_ledger.makers) (rw (← c.run-run.ensures.value, ← c.places-places.ensures) at c.run-run.ensures.is_ledger.entries) (rw (← c.run-run.ensures.value) at c.run-run.ensures.is_ledger.reached) merging.all c.merge.invariant.within c.merge.invariant.passed c.merge.invariant.missing in
-    let was = front_merged rs c.run-run.result.now.family placed heads order low (rw (← c.run-run.ensures.value) at c.run-run.ensures.is_ledger.run.family) (trace_apart rs (rw (← c.run-run.ensures.value) at c.run-run.ensures.is_ledger.run.trace)) (rw (← c.run-run.ensures.value) at c.requires) merging was_low in
-    let is_next = get_or-set_same heads c.thread.result c.index-next.result.now 0 (merging.are_heads.all place c.thread.result runs) in
+    let runs = thread_of rs place taken.next.within in
+    let now_placed = c.place.new.self.placed.items in
+    let placed_is : now_placed ≡ set placed place true = c.place.ensures.placed in
+    let heads_are = c.place.ensures.heads runs.0 runs.1 in
+    let now : IsMerging rs now_placed c.place.new.self.heads.items c.place.new.self.links.items c.args.base.items (c.merge.order.items ++ place ∷ []) = rw (placed_is, heads_are, c.place.ensures.links) (merging_more rs placed heads links c.args.base.items c.merge.order.items place runs.0 merging taken.next taken.first runs.1) in
+    let passed : (k : ℕ) → low ≤ k → k < now_low → slice_index makers k < length now_placed → Stands now_placed (slice_index makers k) = rw c.deref-in-Some.ensures.value at c.first_missing-low-in-Some.ensures.passed in
+    let missing : now_low < length makers → IsUnplaced now_placed (slice_index makers now_low) = rw c.deref-in-Some.ensures.value at c.first_missing-low-in-Some.ensures.missing in
+    let now_passed : (k : ℕ) → k < now_low → slice_index makers k < length now_placed → Stands now_placed (slice_index makers k) = rw placed_is (passed_more placed makers low now_low place c.merge.invariant.passed (rw placed_is at passed)) in
+    let front = front_of c.args.makers.now c.run-run.result.now makers now_placed c.place.new.self.heads.items c.place.new.self.links.items (c.merge.order.items ++ place ∷ []) now_low c.run-run.ensures.is_ledger c.run-run.ensures.value c.places-places.ensures c.requires.home now.standing c.first_missing-low-in-Some.ensures.within now_passed missing in
+    let was = front_of c.args.makers.now c.run-run.result.now makers placed heads links c.merge.order.items low c.run-run.ensures.is_ledger c.run-run.ensures.value c.places-places.ensures c.requires.home merging.standing c.merge.invariant.within c.merge.invariant.passed c.merge.invariant.missing in
+    let is_next : slice_index (set heads runs.0 (slice_index links place)) runs.0 ≡ slice_index links place = get_or-set_same heads runs.0 (slice_index links place) 0 (merging.standing.are_heads.all place runs.0 runs.1) in
+    let next_is : c.index.result.now ≡ slice_index links place = c.index.ensures ∙ get_or_default c.place.new.self.links.items place c.index.result.now 0 (rw c.place.ensures.links (rw merging.standing.rising.all taken.next.within)) ∙ ap (λ l. slice_index l place) c.place.ensures.links in
     record {
-      merging = rw c.in_ok-push.ensures.items now_merging;
+      merging = rw c.in_ok-push.ensures.items now;
       within = c.first_missing-low-in-Some.ensures.within;
       passed = now_passed;
       missing = missing;
-      ready = ready_more rs c.run-run.result.now.family placed heads low now_low place c.thread.result c.index-next.result.now c.take_first.new.ready c.release.new.ready was front runs is_next inside taken (rw c.as_slice.ensures.value at c.in_ok-release.ensures.more) (rw c.as_slice.ensures.value at c.in_ok-release.ensures.next) (rw c.as_slice.ensures.value at c.in_ok-release.ensures.awaiting) (λ i k above below. (rw c.as_slice.ensures.value at c.in_ok-release.ensures.naming) i k (omega (arith, above)) (omega (arith, below)));
+      ready = rw placed_is (ready_more rs c.run-run.result.now.family placed heads low now_low place runs.0 (slice_index links place) c.take_first.new.ready c.release.new.ready was (rw (placed_is, heads_are) at front) runs.1 is_next (rw merging.standing.all taken.next.within) taken (rw (c.as_slice-in-Some.ensures.value, placed_is) at c.in_ok-release.ensures.more) (rw (c.as_slice-in-Some.ensures.value, placed_is, next_is) at c.in_ok-release.ensures.next) (rw (c.as_slice-in-Some.ensures.value, placed_is) at c.in_ok-release.ensures.awaiting) (λ i k above below. (rw (c.as_slice-in-Some.ensures.value, placed_is) at c.in_ok-release.ensures.naming) i k (omega (arith, above)) (omega (arith, below))));
     }
 
-pub returns-in-Some-first_unplaced-clause-fault : goal.returns-in-Some-first_unplaced-clause-fault
-returns-in-Some-first_unplaced-clause-fault c =
+pub returns-in_err-exclude-clause-fault : goal.returns-in_err-exclude-clause-fault
+returns-in_err-exclude-clause-fault c =
     let rs = c.run-run.result.now.records in
-    let merging = c.merge.invariant.merging in
-    let placed = c.merge.placed.items in
-    let i = c.in-Some-first_unplaced.at in
-    let none : (j : ℕ) → MayFollow rs placed j → ⊥ = (rw c.deref-in-merge.ensures.value at c.in_default.ensures.none) rs c.merge.invariant.ready in
-    let within : i < length placed = rw c.deref-4.ensures.value at c.in-Some-first_unplaced.ensures.within in
-    let missing : Stands placed i → ⊥ = rw c.deref-4.ensures.value at c.in-Some-first_unplaced.ensures.missing in
-    let before : (k : ℕ) → k < i → Stands placed k = rw c.deref-4.ensures.value at c.in-Some-first_unplaced.ensures.before in
-    rw (← c.run-run.ensures.value) (malformed_alone rs NoOrder i (first_unordered rs placed c.merge.heads.items c.merge.order.items i merging none (rw (← merging.all) within) missing before))
+    let none : (j : ℕ) → MayFollow rs c.merge.standing.placed.items j → ⊥ = (rw c.deref-in-merge.ensures.value at c.in_default.ensures.none) rs c.merge.invariant.ready in
+    let finds : FindsFirst rs NoOrder c.first_unplaced.result = finds_unordered rs c.merge.standing.placed.items c.merge.standing.heads.items c.merge.standing.links.items c.merge.order.items c.first_unplaced.result c.merge.invariant.merging.standing none (rw c.deref-2.ensures.value at c.first_unplaced.ensures) in
+    let p = err_from_is_err_and c.from_residual-in_err-exclude.result c.from_residual-in_err-exclude.ensures.1 in
+    rw (p.1, p.2, ← c.run-run.ensures.value) (c.in_err-exclude.ensures.fault rs finds)
 
 pub returns-clause-linearization : goal.returns-clause-linearization
 returns-clause-linearization c =
-    let merging = c.merge.invariant.merging in
-    let every : (i : ℕ) → i < length c.merge.placed.items → Stands c.merge.placed.items i = rw c.deref-4.ensures.value at c.in-None.ensures.every in
-    rw c.run-run.ensures.value at (all_ordered c.run-run.result.now.records c.merge.placed.items c.merge.heads.items c.merge.order.items merging (λ i inside. every i (rw merging.all inside)))
+    let rs = c.run-run.result.now.records in
+    let placed = c.merge.standing.placed.items in
+    let standing = c.merge.invariant.merging.standing in
+    let none : (j : ℕ) → MayFollow rs placed j → ⊥ = (rw c.deref-in-merge.ensures.value at c.in_default.ensures.none) rs c.merge.invariant.ready in
+    let finds : FindsFirst rs NoOrder c.first_unplaced.result = finds_unordered rs placed c.merge.standing.heads.items c.merge.standing.links.items c.merge.order.items c.first_unplaced.result standing none (rw c.deref-2.ensures.value at c.first_unplaced.ensures) in
+    let full = all_stand rs placed c.merge.standing.heads.items c.merge.standing.links.items c.merge.order.items standing none (c.in_ok-exclude.ensures.free rs finds) in
+    rw (← c.run-run.ensures.value) (all_ordered rs placed c.merge.standing.heads.items c.merge.standing.links.items c.merge.order.items standing full)
 
 pub returns-clause-free : goal.returns-clause-free
-returns-clause-free c = rw (← c.run-run.ensures.value) (λ i has.
-    let merging = c.merge.invariant.merging in
-    let every : (j : ℕ) → j < length c.merge.placed.items → Stands c.merge.placed.items j = rw c.deref-4.ensures.value at c.in-None.ensures.every in
-    stands_ordered c.run-run.result.now.records c.merge.placed.items c.merge.heads.items c.merge.order.items i merging (every i (rw merging.all (unordered_within c.run-run.result.now.records i has))) has)
+returns-clause-free c =
+    let rs = c.run-run.result.now.records in
+    let none : (j : ℕ) → MayFollow rs c.merge.standing.placed.items j → ⊥ = (rw c.deref-in-merge.ensures.value at c.in_default.ensures.none) rs c.merge.invariant.ready in
+    let finds : FindsFirst rs NoOrder c.first_unplaced.result = finds_unordered rs c.merge.standing.placed.items c.merge.standing.heads.items c.merge.standing.links.items c.merge.order.items c.first_unplaced.result c.merge.invariant.merging.standing none (rw c.deref-2.ensures.value at c.first_unplaced.ensures) in
+    rw (← c.run-run.ensures.value) (c.in_ok-exclude.ensures.free rs finds)
