@@ -1,4 +1,4 @@
-use Rattle.std.proofs.Common.{◌≡◌, ◌∙◌, Some, sym, ap}
+use Rattle.std.proofs.Common.{◌≡◌, ◌∙◌, Some, sym, ap, arith}
 use Rattle.std.proofs.lemmas.Option.{none-some, same_Some}
 use Rattle.checker.specs.Merge.{Awaits}
 use Rattle.checker.proofs.LengthLemmas.{awaited_within}
@@ -7,7 +7,9 @@ use Rattle.checker.proofs.BeforeLemmas.{raised_none, raised_same}
 use Rattle.checker.proofs.before.raise_to_creation.Goals as goal
 
 pub raise-requires-clause-within : goal.raise-requires-clause-within
-raise-requires-clause-within c = awaited_within c.args.run.now.records c.args.at c.in-Some.creation c.creation_awaited.result c.creation_awaited.ensures c.in-Some.is
+raise-requires-clause-within c =
+    let within = awaited_within c.args.run.now.records c.args.at c.in-Some.creation c.creation_awaited.result c.creation_awaited.ensures c.in-Some.is in
+    omega (arith, within)
 
 pub returns-in-Some : goal.returns-in-Some
 returns-in-Some c =
