@@ -16,3 +16,4 @@ mod StartLemmas
 mod LateLemmas
 mod PhaseLemmas
 mod VerdictLemmas
+mod BeforeLemmas

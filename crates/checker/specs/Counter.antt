@@ -1,8 +1,8 @@
 -- The order of all records in which one stands as early as it can, and what it shows of a task.
-use Rattle.std.specs.Prelude.{ℕ, ◌≡◌, ◌<◌, ◌↔◌, ⊤, List, [], ◌∷◌, ◌++◌, Contains, Some, length, slice_index}
+use Rattle.std.specs.Prelude.{ℕ, ◌≡◌, ◌<◌, ◌≤◌, ◌⊎◌, ◌↔◌, ⊤, List, [], ◌∷◌, ◌++◌, Contains, Some, length, slice_index}
 use Rattle.ompt_events.specs.declared.records.Record.{Record}
-use Rattle.ompt_events.specs.Places.{thread_at}
-use Rattle.ompt_events.specs.HappensBefore.{HappensBefore}
+use Rattle.ompt_events.specs.Places.{thread_at, seen_at}
+use Rattle.ompt_events.specs.HappensBefore.{IsFinishing, HappensBefore}
 use Rattle.ompt_events.specs.Linearization.{IsLinearization, IsGreedy, IsGreedyAfter}
 use Rattle.ompt_events.specs.Completion.{IsCompleteIn}
 use Rattle.ompt_events.specs.Violations.{IsRequired}
@@ -52,3 +52,36 @@ pub record AreBounds (rs : List Record) (i : ℕ) (bounds : List ℕ) : Type 0 w
   pub all : (a thread : ℕ) → thread_at rs a ≡ Some thread → thread < length bounds
   pub each : (a thread : ℕ) → thread_at rs a ≡ Some thread
       → (a < slice_index bounds thread) ↔ HappensBefore rs a i
+
+-- ---- while the bounds are found
+
+-- there is a bound for each thread
+abbrev pub HaveAllThreads : List Record → List ℕ → Type 0
+HaveAllThreads rs bounds = (a thread : ℕ) → thread_at rs a ≡ Some thread → thread < length bounds
+
+-- the record is below the bound of its thread
+pub record IsBelow (rs : List Record) (bounds : List ℕ) (a : ℕ) : Type 0 where
+  pub thread : ℕ
+  pub is_on : thread_at rs a ≡ Some thread
+  pub below : a < slice_index bounds thread
+
+-- all that is below the bounds happens before i
+abbrev pub AreAllBefore : List Record → ℕ → List ℕ → Type 0
+AreAllBefore rs i bounds = (a : ℕ) → IsBelow rs bounds a → HappensBefore rs a i
+
+-- just the earlier records of the thread of i are below
+pub record AreEarlierInThread (rs : List Record) (i : ℕ) (bounds : List ℕ) : Type 0 where
+  pub earlier : (a : ℕ) → a < i → thread_at rs a ≡ thread_at rs i → IsBelow rs bounds a
+  pub only : (a : ℕ) → IsBelow rs bounds a → (a < i) × (thread_at rs a ≡ thread_at rs i)
+
+-- the record makes one of so many entries
+abbrev pub MakesBelow : List Record → ℕ → ℕ → Type 0
+MakesBelow rs entries c = IsFinishing rs c × (seen_at rs c < entries)
+
+-- the bounds were raised to each record with the property, and no further: just those records, and earlier ones
+-- of their threads, came below
+pub record AreRaisedTo (rs : List Record) (has : ℕ → Type 0) (old new : List ℕ) : Type 0 where
+  pub kept : (a : ℕ) → IsBelow rs old a → IsBelow rs new a
+  pub raised : (c : ℕ) → has c → IsBelow rs new c
+  pub only : (a : ℕ) → IsBelow rs new a
+      → IsBelow rs old a ⊎ ((c : ℕ) × has c × (a ≤ c) × (thread_at rs a ≡ thread_at rs c))

@@ -5,6 +5,7 @@
 //! and `checking` first, then the phases in the order in which `checking` calls them.
 #![tactic(auto)]
 
+mod before;
 mod checking;
 mod claims;
 mod front;

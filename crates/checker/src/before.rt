@@ -1,0 +1,112 @@
+//! What happens before a record, as one place for each thread.
+ghost use Rattle.std.specs.Prelude.{ℕ, ◌≡◌, ◌<◌, ◌≤◌, ◌^◌, ◌↔◌, Some, IfOk, IsTrue, length};
+ghost use Rattle.ompt_events.specs.Traces.{IsTrace};
+ghost use Rattle.checker.specs.Counter.{AreBounds, HaveAllThreads, IsBelow, AreEarlierInThread, MakesBelow, AreRaisedTo, AreAllBefore};
+ghost use Rattle.checker.specs.Merge.{Awaits};
+
+use crate::makers::Makers;
+use crate::ordered::Ordered;
+use crate::schedule::creation_awaited;
+use std::alloc::{AllocError, Global};
+use task_tree::Run;
+
+/// What happens before the record at a place: by thread the place below which the thread's records do. It
+/// takes a few steps for each record, and memory for one number a thread.
+pub(crate) fn find_before(
+    alloc: Global,
+    ordered: &Ordered,
+    at: usize,
+) -> Result<Vec<u32>, AllocError>
+    requires { at < length ordered.now.ledger.run.records }
+    ensures { IfOk result (λ bounds. AreBounds ordered.now.ledger.run.records at bounds.items) }
+{
+    let run = ordered.run();
+    let mut found = bounds_in_thread(alloc, run, at)?;
+    let bounds = found.as_mut_slice();
+    raise_to_makers(bounds, ordered.makers, run.seen(at) as usize);
+    raise_to_creation(bounds, run, at);
+    raise_to_creations(bounds, ordered);
+    Ok(found)
+}
+
+/// The bounds below which just the earlier records of the thread of the record at a place are.
+fn bounds_in_thread(alloc: Global, run: &Run, at: usize) -> Result<Vec<u32>, AllocError>
+    requires within { at < length run.now.records }
+    requires is_trace { IsTrace run.now.records }
+    ensures all { IfOk result (λ bounds. HaveAllThreads run.now.records bounds.items) }
+    ensures earlier { IfOk result (λ bounds. AreEarlierInThread run.now.records at bounds.items) }
+{
+    let mut bounds = vec![in alloc; 0; 256]?;
+    bounds[usize::from(run.thread(at))] = at as u32;
+    Ok(bounds)
+}
+
+/// Raises the bounds to the records that make the entries below a ledger length.
+fn raise_to_makers(bounds: &mut [u32], makers: &Makers, seen: usize)
+    requires all { HaveAllThreads makers.now.run.records bounds.old }
+    requires reached { seen ≤ length makers.now.places }
+    ensures { AreRaisedTo makers.now.run.records (MakesBelow makers.now.run.records seen)
+        bounds.old bounds.new }
+{
+    let run = makers.run();
+    let places = makers.places();
+    for entry in 0..seen {
+        let maker = places[entry] as usize;
+        if maker < run.len() {
+            raise(bounds, run, maker);
+        }
+    }
+}
+
+/// Raises the bounds to the creation that each record below them awaits, until those are below them too. A
+/// record awaits one that stands before it in the order, so one pass from the end serves.
+fn raise_to_creations(bounds: &mut [u32], ordered: &Ordered)
+    requires { HaveAllThreads ordered.now.ledger.run.records bounds.old }
+    ensures kept { (a : ℕ) → IsBelow ordered.now.ledger.run.records bounds.old a
+        → IsBelow ordered.now.ledger.run.records bounds.new a }
+    ensures closed { (b c : ℕ) → IsBelow ordered.now.ledger.run.records bounds.new b
+        → Awaits ordered.now.ledger.run.records b c → IsBelow ordered.now.ledger.run.records bounds.new c }
+    ensures before { (i : ℕ) → AreAllBefore ordered.now.ledger.run.records i bounds.old
+        → AreAllBefore ordered.now.ledger.run.records i bounds.new }
+{
+    let run = ordered.run();
+    let count = ordered.order.len();
+    for step in 0..count {
+        let place = ordered.order.place_at(count - 1 - step).unwrap();
+        if is_below(bounds, run, place) {
+            raise_to_creation(bounds, run, place);
+        }
+    }
+}
+
+/// Raises the bounds to the creation that the record at a place awaits.
+fn raise_to_creation(bounds: &mut [u32], run: &Run, at: usize)
+    requires within { at < length run.now.records }
+    requires few { length run.now.records ≤ 2 ^ 22 }
+    requires all { HaveAllThreads run.now.records bounds.old }
+    ensures { AreRaisedTo run.now.records (Awaits run.now.records at) bounds.old bounds.new }
+{
+    if let Some(creation) = creation_awaited(run, at) {
+        raise(bounds, run, creation);
+    }
+}
+
+/// Raises the bound of the record's thread if need be, so that the record is below it.
+fn raise(bounds: &mut [u32], run: &Run, place: usize)
+    requires within { place < length run.now.records }
+    requires few { length run.now.records ≤ 2 ^ 22 }
+    requires all { HaveAllThreads run.now.records bounds.old }
+    ensures { AreRaisedTo run.now.records (λ c. c ≡ place) bounds.old bounds.new }
+{
+    let thread = usize::from(run.thread(place));
+    bounds[thread] = bounds[thread].max(place as u32 + 1);
+}
+
+/// Whether the record at a place is below the bound of its thread.
+fn is_below(bounds: &[u32], run: &Run, place: usize) -> bool
+    requires within { place < length run.now.records }
+    requires all { HaveAllThreads run.now.records bounds.now }
+    ensures { IsTrue result ↔ IsBelow run.now.records bounds.now place }
+{
+    place < bounds[usize::from(run.thread(place))] as usize
+}
