@@ -4,6 +4,7 @@ mod EntryLemmas
 mod ListsLemmas
 mod QueueLemmas
 mod MissedLemmas
+mod CounterLemmas
 mod OrderLemmas
 mod MergeLemmas
 mod MakerLemmas

@@ -25,7 +25,7 @@ use Rattle.checker.proofs.EarlierLemmas.{earlier_first, earlier_behind, earlier_
 
 -- ---- what happens before a record is known there
 
-known_finish : (rs : List Record) (a : ℕ) → is_some (at finish rs a) ≡ true → known_after rs a ≡ seen_at rs a + 1
+pub known_finish : (rs : List Record) (a : ℕ) → is_some (at finish rs a) ≡ true → known_after rs a ≡ seen_at rs a + 1
 known_finish rs a finishes = ap (λ b. cond b (seen_at rs a + 1) (seen_at rs a)) finishes
 
 step_known : (rs : List Record) (a b : ℕ) → IsFreeOf rs LengthBack → IsStep rs a b → known_after rs a ≤ seen_at rs b

@@ -104,3 +104,8 @@ edges_clear rs clear placed = clear_more rs (before DepsPlace) (DepsPlace ∷ []
 
 pub claims_clear : (rs : List Record) → IsClear rs (before ShareWrong) → IsFreeOf rs ShareWrong → IsClear rs (before EntryTwice)
 claims_clear rs clear claims = clear_more rs (before ShareWrong) (ShareWrong ∷ []) clear (only_clear rs ShareWrong claims)
+
+-- where none of the causes that a phase looks for occurs, it fails for memory alone
+pub memory_alone : (rs : List Record) (sought : List Cause) (fault : Fault) → IsClear rs sought → IsFault rs sought fault → fault ≡ Memory
+memory_alone rs sought Memory clear found = refl
+memory_alone rs sought (Malformed i cause) clear found = absurd (clear cause found.sought_for i found.found.has)

@@ -1,5 +1,6 @@
 -- The order of all records in which one stands as early as it can, and what it shows of a task.
-use Rattle.std.specs.Prelude.{ℕ, ◌≡◌, ◌<◌, ◌≤◌, ◌⊎◌, ◌↔◌, ⊤, List, [], ◌∷◌, ◌++◌, Contains, Some, length, slice_index}
+use Rattle.std.specs.Prelude.{ℕ, ◌≡◌, ◌<◌, ◌≤◌, ◌⊎◌, ◌↔◌, ⊤, ltb, Bool, false, List, [], ◌∷◌, ◌++◌, Contains, Some, length, slice_index}
+use Rattle.std.specs.Option.{option_map_or}
 use Rattle.ompt_events.specs.declared.records.Record.{Record}
 use Rattle.ompt_events.specs.Places.{thread_at, seen_at}
 use Rattle.ompt_events.specs.HappensBefore.{IsFinishing, HappensBefore}
@@ -46,6 +47,10 @@ pub record IsOrdered (ordered : OrderedView) : Type 0 where
   pub well_formed : IsWellFormed ordered.ledger.run.records all_causes
   pub linearization : IsLinearization ordered.ledger.run.records ordered.order
   pub greedy : IsGreedy ordered.ledger.run.records ordered.order
+
+-- whether the record at i stands below the bound of its thread
+abbrev pub is_below : List Record → List ℕ → ℕ → Bool
+is_below rs bounds i = option_map_or (λ thread. ltb i (slice_index bounds thread)) (thread_at rs i) false
 
 -- by thread a place: of the thread's records just those below it happen before i
 pub record AreBounds (rs : List Record) (i : ℕ) (bounds : List ℕ) : Type 0 where

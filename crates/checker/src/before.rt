@@ -103,7 +103,7 @@ fn raise(bounds: &mut [u32], run: &Run, place: usize)
 }
 
 /// Whether the record at a place is below the bound of its thread.
-fn is_below(bounds: &[u32], run: &Run, place: usize) -> bool
+pub(crate) fn is_below(bounds: &[u32], run: &Run, place: usize) -> bool
     requires within { place < length run.now.records }
     requires all { HaveAllThreads run.now.records bounds.now }
     ensures { IsTrue result ↔ IsBelow run.now.records bounds.now place }

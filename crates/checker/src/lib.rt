@@ -8,6 +8,7 @@
 mod before;
 mod checking;
 mod claims;
+mod counter;
 mod front;
 mod in_order;
 pub mod laws;

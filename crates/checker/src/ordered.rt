@@ -32,4 +32,19 @@ impl<'a> Ordered<'a> {
     {
         self.makers.run()
     }
+
+    /// Its ledger.
+    pub(crate) fn makers(&self) -> &Makers<'a>
+        ensures value { result.now ≡ self.now.ledger }
+        ensures is_ordered { IsOrdered self.now }
+    {
+        self.makers
+    }
+
+    /// The order of its records.
+    pub(crate) fn order(&self) -> &Order
+        ensures { result.now ≡ self.now.order }
+    {
+        self.order
+    }
 }
