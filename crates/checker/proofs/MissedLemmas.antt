@@ -17,7 +17,9 @@ use Rattle.ompt_events.specs.Linearization.{IsEarlier, IsLinearization}
 use Rattle.ompt_events.specs.Completion.{IsPartFinished, CountsIn, CountsAt, IsCompleteIn, IsCompleteAt}
 use Rattle.ompt_events.specs.Causes.{IsFreeOf, known_after, length_back}
 use Rattle.ompt_events.specs.Violations.{IsRequired, IsUnfinished, IsFirstUnfinished}
-use Rattle.checker.specs.Verdicts.{IsMissed, IsFirstMissed}
+use Rattle.checker.specs.declared.verdict.Why.{Why}
+use Rattle.checker.specs.Verdicts.{IsMissed, IsFirstMissed, IsRejected, task_of}
+use Rattle.checker.specs.Search.{ClearView, IsClearView, IsFirstViolation}
 use Rattle.ompt_events.proofs.PlaceLemmas.{Contains-filter, contains_place, at_within}
 use Rattle.checker.proofs.LengthLemmas.{known_least}
 use Rattle.checker.proofs.VerdictLemmas.{complete_in, required_cases, cover_ends, preceded_starts}
@@ -214,4 +216,13 @@ first_missed rs order i task free linear is = record {
   creation = is.creation;
   is_created = is.is_created;
   created_first = λ k other below creates missed. is.created_first k other below creates (unfinished_by rs i other missed);
+}
+
+-- a no
+pub rejected : (view : ClearView) (i : ℕ) (why : Why) → IsClearView view → IsFirstViolation view.run.records i why → IsRejected view.run.records i why
+rejected view i why clear found = record {
+  well_formed = clear.well_formed;
+  unfinished = found.unfinished;
+  missed = first_missed view.run.records view.order i (task_of why) (clear.well_formed LengthBack (13, omega arith, refl)) clear.linearization found.unfinished;
+  reason = found.reason;
 }

@@ -7,6 +7,7 @@ use Rattle.ompt_events.specs.declared.cause.Cause.TheVariants.{EntryTwice}
 use Rattle.ompt_events.specs.CauseNames.{all_causes, before}
 use Rattle.ompt_events.specs.Causes.{IsWellFormed}
 use Rattle.ompt_events.specs.Faults.{IsFault}
+use Rattle.ompt_events.specs.Linearization.{IsLinearization, IsGreedy}
 use Rattle.ompt_events.specs.Violations.{IsFirstUnfinished}
 use Rattle.task_tree.specs.Runs.{RunView, IsRun}
 use Rattle.wait_coverage.specs.Spans.{IsCoverComplete}
@@ -45,3 +46,17 @@ AreAllReady rs = (i : ℕ) → AreReady rs i
 pub record IsFirstViolation (rs : List Record) (i : ℕ) (why : Why) : Type 0 where
   pub unfinished : IsFirstUnfinished rs i (task_of why)
   pub reason : IsReason rs i why
+
+-- ---- what is known where no cause occurs
+
+-- what clauses see of a trace without a cause
+pub record ClearView : Type 0 where
+  pub run : RunView
+  pub order : List ℕ
+
+-- no cause occurs in the run, and the order of its records is the greedy one
+pub record IsClearView (view : ClearView) : Type 0 where
+  pub is_run : IsRun view.run
+  pub well_formed : IsClear view.run.records all_causes
+  pub linearization : IsLinearization view.run.records view.order
+  pub greedy : IsGreedy view.run.records view.order

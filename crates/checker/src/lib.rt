@@ -17,6 +17,8 @@ mod lists;
 mod makers;
 mod merge;
 mod ordered;
+mod phases;
+mod question;
 mod queue;
 mod schedule;
 mod sound;

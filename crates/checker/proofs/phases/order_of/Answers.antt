@@ -4,7 +4,7 @@ use Rattle.ompt_events.specs.CauseNames.{before}
 use Rattle.ompt_events.specs.HappensBefore.{IsStep}
 use Rattle.checker.proofs.PhaseLemmas.{clear_more, one_clear, only_clear}
 use Rattle.checker.proofs.VerdictLemmas.{file_linear, file_greedy, file_orders}
-use Rattle.checker.proofs.checking.order_of.Goals as goal
+use Rattle.checker.proofs.phases.order_of.Goals as goal
 
 pub returns-then-is_in_order-clause-linearization : goal.returns-then-is_in_order-clause-linearization
 returns-then-is_in_order-clause-linearization c =

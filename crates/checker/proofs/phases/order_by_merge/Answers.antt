@@ -7,7 +7,7 @@ use Rattle.checker.specs.Entries.{IsLedger}
 use Rattle.checker.specs.Search.{IsClear}
 use Rattle.checker.proofs.PhaseLemmas.{beyond, least_more, clear_more, one_clear, only_clear}
 use Rattle.checker.proofs.MergingLemmas.{greedy_alone}
-use Rattle.checker.proofs.checking.order_by_merge.Goals as goal
+use Rattle.checker.proofs.phases.order_by_merge.Goals as goal
 
 pub returns-in_err-makers-clause-least : goal.returns-in_err-makers-clause-least
 returns-in_err-makers-clause-least c =

@@ -5,16 +5,16 @@ use Rattle.ompt_events.specs.CauseNames.{before}
 use Rattle.ompt_events.specs.Causes.{IsFreeOf}
 use Rattle.checker.specs.Search.{IsClear}
 use Rattle.checker.proofs.PhaseLemmas.{beyond, least_more, states_clear, teams_clear, nesting_clear, edges_clear, claims_clear}
-use Rattle.checker.proofs.checking.verdict_in_run.Goals as goal
+use Rattle.checker.proofs.phases.ask_run.Goals as goal
 
 pub returns-in_err-states-clause-malformed : goal.returns-in_err-states-clause-malformed
-returns-in_err-states-clause-malformed c =
+returns-in_err-states-clause-malformed g c =
     let rs = c.args.trace.now.records in
     let p = err_from_is_err_and c.from_residual.result c.from_residual.ensures.1 in
     rw (p.1, p.2) (least_more rs (before NotCurrent) (NotCurrent ∷ Moved ∷ StatusOrder ∷ RegionOrder ∷ []) (beyond RegionOrder) c.in_err-states.field-0.0 refl c.requires.clear (rw c.requires.records at c.in_err-states.ensures.fault))
 
 pub returns-in_err-teams-clause-malformed : goal.returns-in_err-teams-clause-malformed
-returns-in_err-teams-clause-malformed c =
+returns-in_err-teams-clause-malformed g c =
     let rs = c.args.trace.now.records in
     let states = c.in_ok-states.ensures in
     let clear : IsClear rs (before TeamShort) = states_clear rs c.requires.clear (rw c.requires.records at states.current) (rw c.requires.records at states.stay) (rw c.requires.records at states.ordered) (rw c.requires.records at states.closed) in
@@ -22,7 +22,7 @@ returns-in_err-teams-clause-malformed c =
     rw (p.1, p.2) (least_more rs (before TeamShort) (TeamShort ∷ []) (beyond TeamShort) c.in_err-teams.field-0.0 refl clear (rw (states.run, c.requires.records) at c.in_err-teams.ensures.fault))
 
 pub returns-in_err-exclude-clause-malformed : goal.returns-in_err-exclude-clause-malformed
-returns-in_err-exclude-clause-malformed c =
+returns-in_err-exclude-clause-malformed g c =
     let rs = c.args.trace.now.records in
     let states = c.in_ok-states.ensures in
     let whole : IsFreeOf rs TeamShort = rw (c.in_ok-teams.ensures.run, states.run, c.requires.records) at c.in_ok-teams.ensures.teams.whole in
@@ -31,7 +31,7 @@ returns-in_err-exclude-clause-malformed c =
     rw (p.1, p.2) (least_more rs (before NestedParallel) (NestedParallel ∷ []) (beyond NestedParallel) c.in_err-exclude.field-0.0 refl clear (c.in_err-exclude.ensures.fault rs (rw c.requires.records at c.in_ok-find_nested.ensures)))
 
 pub returns-in_err-edges-clause-malformed : goal.returns-in_err-edges-clause-malformed
-returns-in_err-edges-clause-malformed c =
+returns-in_err-edges-clause-malformed g c =
     let rs = c.args.trace.now.records in
     let states = c.in_ok-states.ensures in
     let whole : IsFreeOf rs TeamShort = rw (c.in_ok-teams.ensures.run, states.run, c.requires.records) at c.in_ok-teams.ensures.teams.whole in
@@ -41,7 +41,7 @@ returns-in_err-edges-clause-malformed c =
     rw (p.1, p.2) (least_more rs (before DepsPlace) (DepsPlace ∷ []) (beyond DepsPlace) c.in_err-edges.field-0.0 refl clear (rw c.requires.records at c.in_err-edges.ensures.fault))
 
 pub returns-in_err-exclude-2-clause-malformed : goal.returns-in_err-exclude-2-clause-malformed
-returns-in_err-exclude-2-clause-malformed c =
+returns-in_err-exclude-2-clause-malformed g c =
     let rs = c.args.trace.now.records in
     let states = c.in_ok-states.ensures in
     let whole : IsFreeOf rs TeamShort = rw (c.in_ok-teams.ensures.run, states.run, c.requires.records) at c.in_ok-teams.ensures.teams.whole in
@@ -52,7 +52,7 @@ returns-in_err-exclude-2-clause-malformed c =
     rw (p.1, p.2) (least_more rs (before ShareWrong) (ShareWrong ∷ []) (beyond ShareWrong) c.in_err-exclude-2.field-0.0 refl clear (c.in_err-exclude-2.ensures.fault rs (rw c.requires.records at c.find_wrong_claim.ensures)))
 
 pub invariant_of-sound : goal.invariant_of-sound
-invariant_of-sound c =
+invariant_of-sound g c =
     let rs = c.args.trace.now.records in
     let states = c.in_ok-states.ensures in
     let whole : IsFreeOf rs TeamShort = rw (c.in_ok-teams.ensures.run, states.run, c.requires.records) at c.in_ok-teams.ensures.teams.whole in

@@ -2,10 +2,10 @@ use Rattle.std.proofs.Common.{[], ◌∷◌, refl}
 use Rattle.std.proofs.lemmas.Result.{err_from_is_err_and}
 use Rattle.ompt_events.specs.declared.cause.Cause.TheVariants.{SeqGap, CreatedTwice, Rootless}
 use Rattle.checker.proofs.PhaseLemmas.{beyond, least_more, only_clear}
-use Rattle.checker.proofs.checking.verdict_of.Goals as goal
+use Rattle.checker.proofs.phases.ask.Goals as goal
 
 pub returns-in_err-family-clause-malformed : goal.returns-in_err-family-clause-malformed
-returns-in_err-family-clause-malformed c =
+returns-in_err-family-clause-malformed g c =
     let rs = c.args.trace.now.records in
     let p = err_from_is_err_and c.from_residual-in_err-family.result c.from_residual-in_err-family.ensures.1 in
     let clear = only_clear rs SeqGap (c.in_ok-exclude.ensures.free rs c.gap.ensures) in

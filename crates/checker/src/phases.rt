@@ -1,0 +1,97 @@
+//! The phases of a check, in the order of their causes.
+ghost use Rattle.std.specs.Prelude.{◌≡◌, IfOk, IfErr, OnOk};
+ghost use Rattle.ompt_events.specs.declared.cause.Cause.TheVariants.{NotCurrent, TargetTask};
+ghost use Rattle.ompt_events.specs.CauseNames.{before};
+ghost use Rattle.ompt_events.specs.Linearization.{IsLinearization, IsGreedy};
+ghost use Rattle.checker.specs.Search.{IsClear, IsLeastFound};
+
+use crate::claims::find_wrong_claim;
+use crate::in_order::is_in_order;
+use crate::lengths::find_back;
+use crate::makers::Makers;
+use crate::merge::find_order;
+use crate::question::{Clear, Question};
+use crate::sound::Sound;
+use crate::verdict::Order;
+use depend_edges::Edges;
+use ompt_events::{Cause, Fault, Trace, exclude};
+use std::alloc::Global;
+use task_states::{States, find_nested, gap, target};
+use task_tree::{Family, Run};
+use teams::Teams;
+
+/// The answer to the question, or the fault of the first phase that finds a cause. Each phase needs that the
+/// causes before its own do not occur. The phases stand in four functions, since a fault lets go all that its
+/// function made, and a proof has to look at each way to do so.
+pub(crate) fn ask<Q: Question>(alloc: Global, trace: &Trace, question: &Q) -> Result<Q::Answer, Fault>
+    ensures right { IfOk result (Q.is_right question.now trace.now.records) }
+    ensures malformed { IfErr result (IsLeastFound trace.now.records) }
+{
+    exclude(Cause::SeqGap, gap(trace))?;
+    let family = Family::build(alloc, trace)?;
+    ask_run(alloc, trace, &Run::of(trace, &family), question)
+}
+
+/// The same where the tree of tasks is known.
+fn ask_run<Q: Question>(
+    alloc: Global,
+    trace: &Trace,
+    run: &Run,
+    question: &Q,
+) -> Result<Q::Answer, Fault>
+    requires records { run.now.records ≡ trace.now.records }
+    requires clear { IsClear trace.now.records (before NotCurrent) }
+    ensures right { IfOk result (Q.is_right question.now trace.now.records) }
+    ensures malformed { IfErr result (IsLeastFound trace.now.records) }
+{
+    let states = States::in_run(alloc, run)?;
+    let teams = Teams::in_run(alloc, &states)?;
+    exclude(Cause::NestedParallel, find_nested(alloc, run)?)?;
+    let edges = Edges::in_run(alloc, run)?;
+    exclude(Cause::ShareWrong, find_wrong_claim(run))?;
+    let sound = Sound {
+        trace,
+        teams: &teams,
+        edges: &edges,
+    };
+    ask_sound(alloc, &sound, question)
+}
+
+/// The same where only order and ledger may still show a cause.
+fn ask_sound<Q: Question>(alloc: Global, sound: &Sound, question: &Q) -> Result<Q::Answer, Fault>
+    ensures right { IfOk result (Q.is_right question.now sound.now.records) }
+    ensures malformed { IfErr result (IsLeastFound sound.now.records) }
+{
+    let order = order_of(alloc, sound)?;
+    exclude(Cause::TargetTask, target(sound.trace))?;
+    question.answer(alloc, Clear { sound, order })
+}
+
+/// The greedy order of all records. Excludes EntryTwice, LengthAhead, LengthBack and NoOrder.
+fn order_of(alloc: Global, sound: &Sound) -> Result<Order, Fault>
+    ensures linearization { IfOk result (IsLinearization sound.now.records) }
+    ensures greedy { IfOk result (IsGreedy sound.now.records) }
+    ensures clear { OnOk result (IsClear sound.now.records (before TargetTask)) }
+    ensures least { IfErr result (IsLeastFound sound.now.records) }
+{
+    let run = sound.run();
+    // A file in the order of time costs one pass.
+    if is_in_order(run) {
+        return Ok(Order::in_file(run.len()));
+    }
+    order_by_merge(alloc, sound)
+}
+
+/// The same where file order doesn't show it. What is noted for the merge alone is let go at its end.
+fn order_by_merge(alloc: Global, sound: &Sound) -> Result<Order, Fault>
+    ensures linearization { IfOk result (IsLinearization sound.now.records) }
+    ensures greedy { IfOk result (IsGreedy sound.now.records) }
+    ensures clear { OnOk result (IsClear sound.now.records (before TargetTask)) }
+    ensures least { IfErr result (IsLeastFound sound.now.records) }
+{
+    let run = sound.run();
+    let makers = Makers::in_run(alloc, run)?;
+    exclude(Cause::LengthBack, find_back(run))?;
+    let none = Vec::with_capacity(alloc, run.len())?;
+    Ok(Order::from_vec(find_order(alloc, &makers, none)?))
+}
