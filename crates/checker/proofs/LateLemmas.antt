@@ -1,4 +1,4 @@
--- The first created predecessor that is unfinished where a task starts.
+-- The first created predecessor that is unfinished where a task starts, and whether a given one is.
 use Rattle.std.proofs.Common.{◌≡◌, ◌∙◌, ℕ, zero, suc, ◌<◌, ◌≤◌, ◌+◌, ◌-◌, ◌^◌, List, length, get_or, replicate, Option, Some, None, refl, sym, ap, subst, arith, inl, inr, ◌⊎◌, true, false}
 use Rattle.std.proofs.lemmas.Bool.{cases_lt, cases_order, false≢true}
 use Rattle.std.proofs.lemmas.Option.{none-some, same_Some, slice_get_within, slice_get-get_or}

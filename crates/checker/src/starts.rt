@@ -1,4 +1,5 @@
-//! The first task that starts, or taskwait that is complete, before one of its predecessors is finished.
+//! The first task that starts, or taskwait that is complete, before one of its predecessors is finished; and
+//! whether a given task is such a predecessor at a place.
 ghost use Rattle.std.specs.Prelude.{ℕ, ◌≡◌, ◌<◌, ◌+◌, ◌↔◌, IfOk, IfErr, IsTrue, MatchOption, Some, false, length, replicate, slice_get, slice_index, Contains};
 ghost use Rattle.ompt_events.specs.declared.fault.Fault.TheVariants.{Memory};
 ghost use Rattle.ompt_events.specs.declared.cause.Cause.TheVariants.{EntryTwice, LengthAhead};
