@@ -1,9 +1,9 @@
--- The first created predecessor that is unfinished where a task starts.
+-- The first created predecessor that is unfinished where a task starts, and whether a given one is.
 use Rattle.std.proofs.Common.{◌≡◌, ◌∙◌, ℕ, zero, suc, ◌<◌, ◌≤◌, ◌+◌, ◌-◌, ◌^◌, List, length, get_or, replicate, Option, Some, None, refl, sym, ap, subst, arith, inl, inr, ◌⊎◌, true, false}
 use Rattle.std.proofs.lemmas.Bool.{cases_lt, cases_order, false≢true}
-use Rattle.std.proofs.lemmas.Option.{none-some, same_Some, slice_get_within, slice_get-get_or, get_or_from_slice_get}
+use Rattle.std.proofs.lemmas.Option.{none-some, same_Some, slice_get_within, slice_get-get_or}
 use Rattle.std.proofs.lemmas.List.{length_push, length-replicate, get_or-replicate}
-use Rattle.std.specs.Prelude.{◌↔◌, IsTrue, IfOk, MatchOption, Bool, Result, Ok, Err, option_and_then, is_some, slice_get, slice_index, slice_index_or}
+use Rattle.std.specs.Prelude.{◌↔◌, Contains, IsTrue, IfOk, MatchOption, Bool, Result, Ok, Err, option_and_then, is_some, slice_get, slice_index, slice_index_or}
 use Rattle.ompt_events.specs.declared.records.Record.{Record}
 use Rattle.ompt_events.specs.declared.records.Body.{Body}
 use Rattle.ompt_events.specs.declared.records.Body.TheVariants.{TaskSchedule}
@@ -26,8 +26,7 @@ use Rattle.task_tree.proofs.OnceLemmas.{made_once, one_number}
 use Rattle.depend_edges.specs.Edges.{ArePredecessors, AreLatest}
 use Rattle.wait_coverage.specs.Done.{AreOwn}
 use Rattle.trace_ledger.specs.Entries.{IsDone}
-use Rattle.checker.specs.Starts.{IsPreceded, AreReady, IsFirstLateAt, IsBound, AreStarted, StartsAt, StartsNoneAt, AreDoneBefore, IsFirstBehind}
-use Rattle.ompt_events.specs.declared.fault.Fault.{Fault}
+use Rattle.checker.specs.Starts.{IsPreceded, IsLate, AreReady, IsFirstLateAt, IsDependentAt, IsPrecededByNone, IsBound, AreStarted, StartsAt, StartsNoneAt, IsBehind, AreDoneBefore, IsFirstBehind}
 use Rattle.checker.proofs.StartLemmas.{done_from, bound_still, complete_from_start}
 
 -- ---- children with greater numbers are created later
@@ -147,21 +146,47 @@ none_late rs tasks own latest i noted are_own are none predecessor preceded = el
 
 -- ---- what it says of the record
 
-late_by : (rs : List Record) (i task bound predecessor : ℕ) → IsBound rs i bound → ((p : ℕ) → IsPreceded rs i p ↔ IsPredecessor rs task p) → IsFirstBehind rs task bound predecessor → IsFirstLateAt rs i predecessor
-late_by rs i task bound predecessor is_bound same first = record {
-  late = ((same predecessor).1 first.behind.0, λ complete. first.behind.1 ((is_bound predecessor).0 complete));
-  creation = first.creation;
-  is_created = first.is_created;
-  created_first = λ k other below creates late.
-      first.first k other below creates ((same other).0 late.0, λ done. late.1 ((is_bound other).1 done));
-}
+-- what is found for the task that starts there, or for the taskwait that is complete there
+abbrev pub FindsLate : List Record → List ℕ → ℕ → ℕ → Option ℕ → Type 0
+FindsLate rs tasks index bound found = (task : ℕ) → slice_get tasks index ≡ Some task
+    → MatchOption found (AreDoneBefore rs task bound) (IsFirstBehind rs task bound)
 
-ready_by : (rs : List Record) (i task bound : ℕ) → IsBound rs i bound → ((p : ℕ) → IsPreceded rs i p ↔ IsPredecessor rs task p) → AreDoneBefore rs task bound → AreReady rs i
-ready_by rs i task bound is_bound same done predecessor preceded = (is_bound predecessor).1 (done predecessor ((same predecessor).0 preceded))
+pub if_ok : {X E : Type 0} (P Q : X → Type 0) (result : Result X E) → ((x : X) → P x → Q x) → IfOk result P → IfOk result Q
+if_ok P Q (Ok x) follows is = follows x is
+if_ok P Q (Err e) follows is = is
 
-pub found_by : (rs : List Record) (i task bound : ℕ) (found : Option ℕ) → IsBound rs i bound → ((p : ℕ) → IsPreceded rs i p ↔ IsPredecessor rs task p) → MatchOption found (AreDoneBefore rs task bound) (IsFirstBehind rs task bound) → MatchOption found (AreReady rs i) (IsFirstLateAt rs i)
-found_by rs i task bound None is_bound same done = ready_by rs i task bound is_bound same done
-found_by rs i task bound (Some predecessor) is_bound same first = late_by rs i task bound predecessor is_bound same first
+-- late is what the entries don't finish of the predecessors of what depends on them there
+pub late_if : (rs : List Record) (tasks : List ℕ) (i index bound task : ℕ) → (is : IsDependentAt rs tasks i index bound) → IsLate rs i task ↔ IsBehind rs is.dependent bound task
+late_if rs tasks i index bound task is = (
+  (λ late. ((is.same task).0 late.0, λ done. late.1 ((is.bounds task).1 done))),
+  (λ behind. ((is.same task).1 behind.0, λ complete. behind.1 ((is.bounds task).0 complete))),
+)
+
+-- what is told of the task, for the task that starts there, or for the taskwait that is complete there
+abbrev pub TellsLate : List Record → List ℕ → ℕ → ℕ → ℕ → Bool → Type 0
+TellsLate rs tasks index bound task answer = (dependent : ℕ) → slice_get tasks index ≡ Some dependent
+    → IsTrue answer ↔ IsBehind rs dependent bound task
+
+pub tells_late : (rs : List Record) (tasks : List ℕ) (i index bound task : ℕ) (answer : Bool) → IsDependentAt rs tasks i index bound → TellsLate rs tasks index bound task answer → IsTrue answer ↔ IsLate rs i task
+tells_late rs tasks i index bound task answer is tells =
+    let exact = tells is.dependent is.there in
+    let late = late_if rs tasks i index bound task is in
+    ((λ yes_it. late.1 (exact.0 yes_it)), (λ is_late. exact.1 (late.0 is_late)))
+
+pub none_to_tell : (rs : List Record) (i task : ℕ) → IsPrecededByNone rs i → IsTrue false ↔ IsLate rs i task
+none_to_tell rs i task none = ((λ never. absurd (false≢true never)), (λ late. absurd (none task late.0)))
+
+pub found_by : (rs : List Record) (tasks : List ℕ) (i index bound : ℕ) (found : Option ℕ) → IsDependentAt rs tasks i index bound → FindsLate rs tasks index bound found → MatchOption found (AreReady rs i) (IsFirstLateAt rs i)
+found_by rs tasks i index bound None is found = λ predecessor preceded.
+    (is.bounds predecessor).1 (found is.dependent is.there predecessor ((is.same predecessor).0 preceded))
+found_by rs tasks i index bound (Some predecessor) is found =
+    let first = found is.dependent is.there in
+    record {
+      late = (late_if rs tasks i index bound predecessor is).1 first.behind;
+      creation = first.creation;
+      is_created = first.is_created;
+      created_first = λ k other below creates late. first.first k other below creates ((late_if rs tasks i index bound other is).0 late);
+    }
 
 pub get_here : (predecessors : List ℕ) (n : ℕ) → n < length predecessors → slice_get predecessors n ≡ Some (slice_index_or predecessors n 0)
 get_here predecessors n within = slice_get-get_or predecessors n 0 within
@@ -189,9 +214,27 @@ first_here rs tasks predecessors bound n answer once noted within behind tells d
     let found = predecessor_index rs tasks task (slice_index_or predecessors n 0) noted is in
     first_is rs predecessors bound n task (slice_index_or predecessors n 0) once done are there ((tells found.0 found.1).0 behind)
 
-if_ok : {X E : Type 0} (P Q : X → Type 0) (result : Result X E) → ((x : X) → P x → Q x) → IfOk result P → IfOk result Q
-if_ok P Q (Ok x) follows is = follows x is
-if_ok P Q (Err e) follows is = is
+-- ---- one task
+
+-- the predecessors of the task that stands at the index, where its records go by another name
+pub predecessors_at : (rs others : List Record) (tasks items : List ℕ) (index own dependent : ℕ) → others ≡ rs → slice_get tasks index ≡ Some own → slice_get tasks index ≡ Some dependent → ArePredecessors others own items → ArePredecessors rs dependent items
+predecessors_at rs others tasks items index own dependent records_are is there are =
+    subst (λ t. ArePredecessors rs t items) (same_Some own dependent (sym is ∙ there)) (subst (λ r. ArePredecessors r own items) records_are are)
+
+pub behind_if : (rs : List Record) (tasks predecessors : List ℕ) (dependent bound task : ℕ) (answer : Bool) → AreNoted made rs (length rs) tasks → ArePredecessors rs dependent predecessors → Contains predecessors task → ((index : ℕ) → slice_get tasks index ≡ Some task → IsTrue answer ↔ (IsDone rs bound task → ⊥)) → IsTrue answer ↔ IsBehind rs dependent bound task
+behind_if rs tasks predecessors dependent bound task answer noted are among tells =
+    let is = are.only task among in
+    let found = predecessor_index rs tasks dependent task noted is in
+    let exact = tells found.0 found.1 in
+    ((λ behind. (is, exact.0 behind)), (λ behind. exact.1 behind.1))
+
+pub not_among : (rs : List Record) (predecessors : List ℕ) (dependent bound task : ℕ) (answer : Bool) → ArePredecessors rs dependent predecessors → IsTrue answer ↔ Contains predecessors task → answer ≡ false → IsTrue false ↔ IsBehind rs dependent bound task
+not_among rs predecessors dependent bound task answer are tells is = (
+  (λ never. absurd (false≢true never)),
+  (λ behind. absurd (false≢true (sym is ∙ tells.1 (are.all task behind.0)))),
+)
+
+-- ---- whose predecessors must be complete
 
 -- a taskwait that is complete starts nothing
 sound_wait : (b : Body) → HasItsNext b → (task other : ℕ) → wait_completed b ≡ Some task → started b ≡ Some other → ⊥
@@ -230,43 +273,29 @@ preceded_at_wait rs i task trace completes p = (
   (λ is. inr (task, completes, is)),
 )
 
--- the taskwait that is complete at i stands at the index
-abbrev pub CompletesAt : List Record → List ℕ → ℕ → ℕ → Type 0
-CompletesAt rs tasks i index =
-    (task : ℕ) × (slice_get tasks index ≡ Some task) × (at wait_completed rs i ≡ Some task)
+pub dependent_start : (rs : List Record) (tasks : List ℕ) (i index bound : ℕ) → IsTrace rs → StartsAt rs tasks i index → IsBound rs i bound → IsDependentAt rs tasks i index bound
+dependent_start rs tasks i index bound trace (task, there, explicit, start) is_bound =
+    record { dependent = task; there = there; same = preceded_at_start rs i task trace explicit start; bounds = is_bound }
 
--- none is
-abbrev pub CompletesNoneAt : List Record → ℕ → Type 0
-CompletesNoneAt rs i = (task : ℕ) → at wait_completed rs i ≡ Some task → ⊥
+pub dependent_wait : (rs : List Record) (tasks : List ℕ) (i index task : ℕ) → IsTrace rs → slice_get tasks index ≡ Some task → at wait_completed rs i ≡ Some task → IsDependentAt rs tasks i index (seen_at rs i)
+dependent_wait rs tasks i index task trace there completes = record {
+  dependent = task;
+  there = there;
+  same = preceded_at_wait rs i task trace completes;
+  bounds = bound_still rs i (λ (other, explicit, start). wait_starts_none rs i task other trace completes start.starts);
+}
 
--- what is found for the task that starts there, or for the taskwait that is complete there
-abbrev pub FindsLate : List Record → List ℕ → ℕ → ℕ → Option ℕ → Type 0
-FindsLate rs tasks index bound found = (task : ℕ) → slice_get tasks index ≡ Some task
-    → MatchOption found (AreDoneBefore rs task bound) (IsFirstBehind rs task bound)
-
-pub late_at_start : (rs : List Record) (tasks : List ℕ) (i index bound : ℕ) (result : Result (Option ℕ) Fault) → IsTrace rs → StartsAt rs tasks i index → IsBound rs i bound → IfOk result (FindsLate rs tasks index bound) → IfOk result (λ found. MatchOption found (AreReady rs i) (IsFirstLateAt rs i))
-late_at_start rs tasks i index bound result trace (task, there, explicit, start) is_bound is =
-    if_ok (FindsLate rs tasks index bound) (λ found. MatchOption found (AreReady rs i) (IsFirstLateAt rs i)) result
-    (λ found tells. found_by rs i task bound found is_bound (preceded_at_start rs i task trace explicit start) (tells task there)) is
-
-pub late_at_wait : (rs : List Record) (tasks : List ℕ) (i index : ℕ) (result : Result (Option ℕ) Fault) → IsTrace rs → CompletesAt rs tasks i index → IfOk result (FindsLate rs tasks index (seen_at rs i)) → IfOk result (λ found. MatchOption found (AreReady rs i) (IsFirstLateAt rs i))
-late_at_wait rs tasks i index result trace (task, there, completes) is =
-    if_ok (FindsLate rs tasks index (seen_at rs i)) (λ found. MatchOption found (AreReady rs i) (IsFirstLateAt rs i)) result
-    (λ found tells. found_by rs i task (seen_at rs i) found (bound_still rs i (λ (other, explicit, start). wait_starts_none rs i task other trace completes start.starts)) (preceded_at_wait rs i task trace completes) (tells task there)) is
-
-pub ready_where_none : (rs : List Record) (i : ℕ) → StartsNoneAt rs i → CompletesNoneAt rs i → AreReady rs i
-ready_where_none rs i starts completes task preceded = elim preceded [
-  | inl (dependent, explicit, start, is) ↦ absurd (starts dependent explicit start)
-  | inr (dependent, done, is) ↦ absurd (completes dependent done)
+pub preceded_by_none : (rs : List Record) (i : ℕ) → StartsNoneAt rs i → ((task : ℕ) → at wait_completed rs i ≡ Some task → ⊥) → IsPrecededByNone rs i
+preceded_by_none rs i starts completes task preceded = elim preceded [
+  | inl (dependent, explicit, start, is) ↦ starts dependent explicit start
+  | inr (dependent, done, is) ↦ completes dependent done
 ]
 
-pub index_of_wait : (rs : List Record) (tasks : List ℕ) (i index : ℕ) → CompletesAt rs tasks i index → index < length tasks
-index_of_wait rs tasks i index (task, there, completes) = slice_get_within tasks index task there
-
 pub ready_past : (rs : List Record) (i : ℕ) → length rs ≤ i → AreReady rs i
-ready_past rs i past = ready_where_none rs i
-    (λ task explicit start. let inside = at_within started rs i task start.starts in omega (arith, inside, past))
-    (λ task completes. let inside = at_within wait_completed rs i task completes in omega (arith, inside, past))
+ready_past rs i past task preceded = absurd (preceded_by_none rs i
+    (λ other explicit start. let inside = at_within started rs i other start.starts in omega (arith, inside, past))
+    (λ other completes. let inside = at_within wait_completed rs i other completes in omega (arith, inside, past))
+    task preceded)
 
 pub ready_whole : (rs : List Record) (n i : ℕ) → ((k : ℕ) → k < n → AreReady rs k) → length rs ≤ n → AreReady rs i
 ready_whole rs n i below past = elim (cases_lt i n) [
@@ -282,11 +311,3 @@ none_started rs tasks marks is = record {
     (λ (k, below, starts). absurd (omega (arith, below))),
   );
 }
-
-pub predecessors_to : (rs others : List Record) (task other : ℕ) (list items : List ℕ) → others ≡ rs → other ≡ task → items ≡ list → ArePredecessors others other items → ArePredecessors rs task list
-predecessors_to rs others task other list items records_are task_is list_is are =
-    subst (λ l. ArePredecessors rs task l) list_is (subst (λ t. ArePredecessors rs t items) task_is (subst (λ r. ArePredecessors r other items) records_are are))
-
-pub task_there : (tasks shown named : List ℕ) (index task : ℕ) → shown ≡ named → named ≡ tasks → slice_get tasks index ≡ Some task → slice_index_or shown index 0 ≡ task
-task_there tasks shown named index task shown_is named_is there =
-    ap (λ l. slice_index_or l index 0) (shown_is ∙ named_is) ∙ get_or_from_slice_get tasks index task 0 there

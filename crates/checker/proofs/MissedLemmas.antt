@@ -80,7 +80,7 @@ moved_all rs i front back permutation =
     let up : IsPermutation (seen ++ (unseen ++ i ∷ back)) (moved_up rs i front back) = IsPermutation-append_right seen (unseen ++ i ∷ back) (i ∷ (unseen ++ back)) (IsPermutation-middle unseen i back) in
     let P : List ℕ → Type 0 = IsPermutation (front ++ i ∷ back) in
     IsPermutation-trans (places rs) (front ++ i ∷ back) (moved_up rs i front back) permutation
-      (IsPermutation-trans (front ++ i ∷ back) (seen ++ (unseen ++ i ∷ back)) (moved_up rs i front back) (subst P (append_assoc seen unseen (i ∷ back)) parted) up)
+    (IsPermutation-trans (front ++ i ∷ back) (seen ++ (unseen ++ i ∷ back)) (moved_up rs i front back) (subst P (append_assoc seen unseen (i ∷ back)) parted) up)
 
 moved_rising : (rs : List Record) (i a b : ℕ) (front back : List ℕ) → IsFreeOf rs LengthBack → HappensBefore rs a b → IsEarlier (front ++ i ∷ back) a b → IsEarlier (moved_up rs i front back) a b
 moved_rising rs i a b front back free before e = elim (earlier_append_cases front (i ∷ back) a b e) [

@@ -62,6 +62,18 @@ StartsAt rs tasks i index =
 abbrev pub StartsNoneAt : List Record → ℕ → Type 0
 StartsNoneAt rs i = (task : ℕ) → IsExplicit rs task → IsStart rs i task → ⊥
 
+-- the task at the index is that whose predecessors must be complete at i, and no others; the bound decides
+-- which of them are
+pub record IsDependentAt (rs : List Record) (tasks : List ℕ) (i index bound : ℕ) : Type 0 where
+  pub dependent : ℕ
+  pub there : slice_get tasks index ≡ Some dependent
+  pub same : (task : ℕ) → IsPreceded rs i task ↔ IsPredecessor rs dependent task
+  pub bounds : IsBound rs i bound
+
+-- there is none
+abbrev pub IsPrecededByNone : List Record → ℕ → Type 0
+IsPrecededByNone rs i = (task : ℕ) → IsPreceded rs i task → ⊥
+
 -- the entries below the length don't finish this predecessor of the task
 abbrev pub IsBehind : List Record → ℕ → ℕ → ℕ → Type 0
 IsBehind rs task bound predecessor =

@@ -1,12 +1,13 @@
-//! The first task that starts, or taskwait that is complete, before one of its predecessors is finished.
-ghost use Rattle.std.specs.Prelude.{ℕ, ◌≡◌, ◌<◌, ◌+◌, ◌↔◌, IfOk, IfErr, IsTrue, MatchOption, Some, false, length, replicate, slice_get, slice_index};
+//! The first task that starts, or taskwait that is complete, before one of its predecessors is finished; and
+//! whether a given task is such a predecessor at a place.
+ghost use Rattle.std.specs.Prelude.{ℕ, ◌≡◌, ◌<◌, ◌+◌, ◌↔◌, IfOk, IfErr, IsTrue, MatchOption, Some, false, length, replicate, slice_get, slice_index, Contains};
 ghost use Rattle.ompt_events.specs.declared.fault.Fault.TheVariants.{Memory};
 ghost use Rattle.ompt_events.specs.declared.cause.Cause.TheVariants.{EntryTwice, LengthAhead};
 ghost use Rattle.ompt_events.specs.Causes.{IsFreeOf};
 ghost use Rattle.depend_edges.specs.Edges.{ArePredecessors};
 ghost use Rattle.wait_coverage.specs.Done.{AreOwn};
 ghost use Rattle.trace_ledger.specs.Entries.{IsDone};
-ghost use Rattle.checker.specs.Starts.{AreReady, IsFirstLateAt, IsFirstLateStart, IsBound, AreStarted, StartsAt, StartsNoneAt, AreDoneBefore, IsFirstBehind};
+ghost use Rattle.checker.specs.Starts.{IsLate, AreReady, IsPrecededByNone, IsDependentAt, IsFirstLateAt, IsFirstLateStart, IsBound, AreStarted, StartsAt, StartsNoneAt, IsBehind, AreDoneBefore, IsFirstBehind};
 
 use depend_edges::Edges;
 use ompt_events::Fault;
@@ -30,17 +31,11 @@ pub(crate) fn find_late_start(
         (λ f. IsFirstLateStart edges.now.run.records f.0 f.1)) }
     ensures memory_alone { IfErr result (λ fault. fault ≡ Memory) }
 {
-    let latest = edges.latest(own)?;
-    let run = edges.run();
-    if are_all_zero(&latest) {
+    let precedence = Precedence::of(edges, own)?;
+    if precedence.needs_no_wait() {
         return Ok(None);
     }
-    let precedence = Precedence {
-        run,
-        edges,
-        own,
-        latest,
-    };
+    let run = edges.run();
     let mut started = no_starts(alloc, run.task_count())?;
     for at in 0..run.len() {
         if let Some(task) = precedence.late_at(&started, at)? {
@@ -49,6 +44,32 @@ pub(crate) fn find_late_start(
         precedence.note_start(&mut started, at);
     }
     Ok(None)
+}
+
+/// Whether the task is a predecessor of what starts or is complete at the place, and is not finished there
+/// (OpenMP 5.2, 15.9.5 and 15.5). By index of the task `own` has the ledger length from which on it is
+/// finished. It takes n log n steps in the records and dependences, and memory linear in them; only memory
+/// can be refused.
+pub(crate) fn is_late(
+    alloc: Global,
+    edges: &Edges,
+    own: &[u64],
+    at: usize,
+    task: u64,
+) -> Result<bool, Fault>
+    requires own { AreOwn edges.now.run.records edges.now.run.family.tasks own.now }
+    requires once { IsFreeOf edges.now.run.records EntryTwice }
+    requires reached { IsFreeOf edges.now.run.records LengthAhead }
+    requires within { at < length edges.now.run.records }
+    ensures late { IfOk result (λ late. IsTrue late ↔ IsLate edges.now.run.records at task) }
+    ensures memory_alone { IfErr result (λ fault. fault ≡ Memory) }
+{
+    let precedence = Precedence::of(edges, own)?;
+    let started = precedence.find_started(alloc, at)?;
+    match precedence.dependent_at(&started, at) {
+        Some(dependent) => precedence.is_late_of(dependent.index, dependent.bound, task),
+        None => Ok(false),
+    }
 }
 
 /// What decides whether tasks start in time.
@@ -80,7 +101,35 @@ impl<'a, 'r> Model for Precedence<'a, 'r> {
     }) };
 }
 
-/// Whether no task has a predecessor that it might have to wait for.
+/// A task whose predecessors must be complete at a place.
+#[derive(Clone, Copy)]
+struct Dependent {
+    index: usize,
+    /// A predecessor is complete there exactly where the entries below this ledger length finish it.
+    bound: u32,
+}
+
+impl<'a, 'r> Precedence<'a, 'r> {
+    /// What decides it, by these edges and lengths. Fails only when out of memory.
+    fn of(edges: &'a Edges<'r>, own: &'a [u64]) -> Result<Precedence<'a, 'r>, Fault>
+        requires own { AreOwn edges.now.run.records edges.now.run.family.tasks own.now }
+        requires once { IsFreeOf edges.now.run.records EntryTwice }
+        requires reached { IsFreeOf edges.now.run.records LengthAhead }
+        ensures run { IfOk result (λ precedence. precedence.run ≡ edges.now.run) }
+        ensures memory_alone { IfErr result (λ fault. fault ≡ Memory) }
+    {
+        let run = edges.run();
+        let latest = edges.latest(own)?;
+        Ok(Precedence {
+            run,
+            edges,
+            own,
+            latest,
+        })
+    }
+}
+
+/// Whether all lengths are 0.
 fn are_all_zero(latest: &[u64]) -> bool
     ensures { IsTrue result → (index : ℕ) → index < length latest.now → slice_index latest.now index ≡ 0 }
 {
@@ -117,7 +166,35 @@ fn start_at(run: &Run, started: &[bool], at: usize) -> Option<usize>
     }
 }
 
+/// Whether the task is one of these.
+fn is_among(tasks: &[u64], task: u64) -> bool
+    ensures { IsTrue result ↔ Contains tasks.now task }
+{
+    tasks.iter().any(|other| *other == task)
+}
+
+// What must be complete at a place.
 impl Precedence<'_, '_> {
+    /// Whether no task has a predecessor that it might have to wait for.
+    fn needs_no_wait(&self) -> bool
+        ensures { IsTrue result → (i : ℕ) → AreReady self.now.run.records i }
+    {
+        are_all_zero(&self.latest)
+    }
+
+    /// By index of the task whether a record before the place starts it.
+    fn find_started(&self, alloc: Global, at: usize) -> Result<Vec<bool>, AllocError>
+        requires { at < length self.now.run.records }
+        ensures { IfOk result (λ started.
+            AreStarted self.now.run.records at self.now.run.family.tasks started.items) }
+    {
+        let mut started = no_starts(alloc, self.run.task_count())?;
+        for earlier in 0..at {
+            self.note_start(&mut started, earlier);
+        }
+        Ok(started)
+    }
+
     /// Notes the task that runs after the record at the place.
     fn note_start(&self, started: &mut Vec<bool>, at: usize)
         requires within { at < length self.now.run.records }
@@ -129,6 +206,23 @@ impl Precedence<'_, '_> {
         }
     }
 
+    /// The task whose predecessors must be complete at the place: an explicit one that starts there, or a
+    /// taskwait that is complete there.
+    fn dependent_at(&self, started: &[bool], at: usize) -> Option<Dependent>
+        requires within { at < length self.now.run.records }
+        requires started { AreStarted self.now.run.records at self.now.run.family.tasks started.now }
+        ensures { MatchOption result (IsPrecededByNone self.now.run.records at) (λ dependent.
+            IsDependentAt self.now.run.records self.now.run.family.tasks at dependent.index dependent.bound) }
+    {
+        if let Some(index) = start_at(self.run, started, at) {
+            let bound = self.start_bound(at);
+            return Some(Dependent { index, bound });
+        }
+        let index = self.run.wait_completed(at)?;
+        let bound = self.run.seen(at);
+        Some(Dependent { index, bound })
+    }
+
     /// Of the tasks that must be complete at the place as predecessors the first created one that isn't.
     fn late_at(&self, started: &[bool], at: usize) -> Result<Option<u64>, Fault>
         requires within { at < length self.now.run.records }
@@ -137,11 +231,8 @@ impl Precedence<'_, '_> {
             (IsFirstLateAt self.now.run.records at)) }
         ensures memory_alone { IfErr result (λ fault. fault ≡ Memory) }
     {
-        if let Some(index) = start_at(self.run, started, at) {
-            return self.late_of(index, self.start_bound(at));
-        }
-        match self.run.wait_completed(at) {
-            Some(index) => self.late_of(index, self.run.seen(at)),
+        match self.dependent_at(started, at) {
+            Some(dependent) => self.late_of(dependent.index, dependent.bound),
             None => Ok(None),
         }
     }
@@ -154,6 +245,23 @@ impl Precedence<'_, '_> {
             → IsBound self.now.run.records at result }
     {
         self.run.known_after(at) as u32
+    }
+
+    /// Whether the task is a predecessor of the one at the index, and the entries below the length don't
+    /// finish it.
+    fn is_late_of(&self, index: usize, bound: u32, task: u64) -> Result<bool, Fault>
+        requires { index < length self.now.run.family.tasks }
+        ensures late { IfOk result (λ late. (dependent : ℕ)
+            → slice_get self.now.run.family.tasks index ≡ Some dependent
+            → IsTrue late ↔ IsBehind self.now.run.records dependent bound task) }
+        ensures memory_alone { IfErr result (λ fault. fault ≡ Memory) }
+    {
+        let predecessors = self.edges.of(self.run.task(index))?;
+        if is_among(&predecessors, task) {
+            Ok(self.is_behind(task, bound))
+        } else {
+            Ok(false)
+        }
     }
 
     /// Of the predecessors of the task at the index the first created one that the entries below the length

@@ -1,8 +1,8 @@
 -- What of the tasks that an end covers is unfinished there.
-use Rattle.std.proofs.Common.{◌≡◌, ◌∙◌, ℕ, ◌<◌, ◌≤◌, ◌^◌, true, List, length, Option, Some, None, refl, sym, ap, subst, arith, inl, inr}
-use Rattle.std.proofs.lemmas.Bool.{cases_lt}
+use Rattle.std.proofs.Common.{◌≡◌, ◌∙◌, ℕ, ◌<◌, ◌≤◌, ◌^◌, true, false, List, length, Option, Some, None, refl, sym, ap, subst, arith, inl, inr}
+use Rattle.std.proofs.lemmas.Bool.{cases_lt, false≢true}
 use Rattle.std.proofs.lemmas.Option.{same_Some, slice_get_within}
-use Rattle.std.specs.Prelude.{MatchOption, Contains}
+use Rattle.std.specs.Prelude.{◌↔◌, IsTrue, MatchOption, Contains}
 use Rattle.ompt_events.specs.declared.records.Record.{Record}
 use Rattle.ompt_events.specs.declared.names.SyncKind.{SyncKind}
 use Rattle.ompt_events.specs.declared.names.SyncKind.TheVariants.{Taskwait, Taskgroup}
@@ -20,7 +20,7 @@ use Rattle.trace_ledger.specs.Entries.{IsDone}
 use Rattle.wait_coverage.specs.Spans.{IsCoverComplete}
 use Rattle.wait_coverage.specs.Done.{DoneView, records_of, tasks_of, AreChildrenDone}
 use Rattle.wait_coverage.specs.Limits.{IsEndLimit}
-use Rattle.wait_coverage.specs.Waits.{EndsNoWaitAt, IsWaitAt, waits, groups, meets, IsWithin, before_begin, in_group, by_member, cover_of, IsAwaitedBy, IsAwaited, IsFirstOpen, IsFirstOpenEnd, IsLateAt, IsFirstLate}
+use Rattle.wait_coverage.specs.Waits.{EndsNoWaitAt, IsWaitAt, waits, groups, meets, IsWithin, before_begin, in_group, by_member, cover_of, IsAwaitedBy, IsAwaited, IsOpen, IsFirstOpen, IsFirstOpenEnd, IsLateTask, IsLateAt, IsFirstLate}
 use Rattle.wait_coverage.specs.declared.waits.Wait.{Wait}
 use Rattle.wait_coverage.specs.declared.waits.Wait.TheVariants.{Taskwait as ForTaskwait, Taskgroup as ForTaskgroup, Barrier as ForBarrier}
 use Rattle.teams.proofs.BarrierLemmas.{one_number, barrier_is_other}
@@ -172,26 +172,46 @@ covers_at rs i task covers = elim (covers_cases rs i task covers) [
 pub none_complete : (rs : List Record) (i : ℕ) → EndsNoWaitAt rs i → IsCoverComplete rs i
 none_complete rs i ends_none task covers = let one = covers_at rs i task covers in absurd (ends_none one.task one.begin one.kind one.demands one.is_region)
 
+pub none_or_wait : (done : DoneView) (i : ℕ) (found : Option Wait) → MatchOption found (EndsNoWaitAt (records_of done) i) (IsWaitAt (records_of done) (tasks_of done) i) → MatchOption found (AreChildrenDone done → IsCoverComplete (records_of done) i) (IsWaitAt (records_of done) (tasks_of done) i)
+none_or_wait done i None ends_none = λ exact. none_complete (records_of done) i ends_none
+none_or_wait done i (Some wait) is = is
+
+-- a task is open where it is waited for, and its length is above the one that the end names
+pub late_if_open : (done : DoneView) (i seen task : ℕ) (wait : Wait) → AreChildrenDone done → seen < 2 ^ 32 → IsWaitAt (records_of done) (tasks_of done) i wait → seen_at (records_of done) i ≡ seen → IsLateTask done wait seen task ↔ IsOpen (records_of done) i task
+late_if_open done i seen task wait exact small is names = (
+  λ late. record {
+    covered = awaited_covered (records_of done) (tasks_of done) i task wait is late.0;
+    incomplete = λ complete.
+        let made = awaited_created (records_of done) (tasks_of done) task wait late.0 in
+        late.1 ((exact task seen made small).1 (subst (done_below done task) names (done_there (records_of done) i ends.0 task ends.2 ends.3.endpoint ends.3.says complete)));
+  },
+  λ is_open. (
+    covered_awaited (records_of done) (tasks_of done) i task wait is is_open.covered,
+    λ early. is_open.incomplete (complete_there (records_of done) i task (subst (done_below done task) (sym names) ((exact task seen (covered_explicit (records_of done) i task is_open.covered) small).0 early))),
+  ),
+)
+  where
+    ends : (own begin : ℕ) × (kind : SyncKind) × EndsAt (records_of done) i own begin kind
+    ends = wait_ends (records_of done) (tasks_of done) i wait is
+
 pub late_open : (done : DoneView) (i seen : ℕ) (wait : Wait) (found : Option ℕ) → AreChildrenDone done → seen < 2 ^ 32 → IsWaitAt (records_of done) (tasks_of done) i wait → seen_at (records_of done) i ≡ seen → MatchOption found ((place task : ℕ) → IsLateAt done wait seen place task → ⊥) (IsFirstLate done wait seen) → MatchOption found (IsCoverComplete (records_of done) i) (IsFirstOpen (records_of done) i)
 late_open done i seen wait None exact small is names in_time = λ task covers. elim (done_or_not (records_of done) seen task) [
   | inl finished ↦ complete_there (records_of done) i task (subst (done_below done task) (sym names) finished)
   | inr not_done ↦
       let awaited = covered_awaited (records_of done) (tasks_of done) i task wait is covers in
       let place = awaited_created (records_of done) (tasks_of done) task wait awaited in
-      absurd (in_time place.0 task (place.1, awaited, λ early. not_done ((exact task seen place small).0 early)))
+      absurd (in_time place.0 task (place.1, (awaited, λ early. not_done ((exact task seen place small).0 early))))
 ]
 late_open done i seen wait (Some task) exact small is names late = record {
-  is_open = record {
-    covered = awaited_covered (records_of done) (tasks_of done) i task wait is late.late.1;
-    incomplete = λ complete. late.late.2 ((exact task seen (late.place, late.late.0) small).1 (subst (done_below done task) names (done_there (records_of done) i ends.0 task ends.2 ends.3.endpoint ends.3.says complete)));
-  };
+  is_open = (late_if_open done i seen task wait exact small is names).0 late.late.1;
   creation = late.place;
   is_created = late.late.0;
-  created_first = λ k other below creates is_open. late.first k other below (creates, covered_awaited (records_of done) (tasks_of done) i other wait is is_open.covered, λ early. is_open.incomplete (complete_there (records_of done) i other (subst (done_below done other) (sym names) ((exact other seen (k, creates) small).0 early))));
+  created_first = λ k other below creates is_open. late.first k other below (creates, (late_if_open done i seen other wait exact small is names).1 is_open);
 }
-  where
-    ends : (own begin : ℕ) × (kind : SyncKind) × EndsAt (records_of done) i own begin kind
-    ends = wait_ends (records_of done) (tasks_of done) i wait is
+
+-- where all is complete no task is open
+pub none_open : (rs : List Record) (i task : ℕ) → IsCoverComplete rs i → IsTrue false ↔ IsOpen rs i task
+none_open rs i task complete = ((λ never. absurd (false≢true never)), (λ is_open. absurd (is_open.incomplete (complete task is_open.covered))))
 
 -- ---- all ends
 

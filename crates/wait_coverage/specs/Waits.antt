@@ -110,10 +110,15 @@ pub record IsFirstOpenEnd (rs : List Record) (i task : ℕ) : Type 0 where
   pub first_open : IsFirstOpen rs i task
   pub before : (k : ℕ) → k < i → IsCoverComplete rs k
 
--- the task that is created there is waited for, and its length is above the one seen
+-- the task is waited for, and its length is above the one seen
+abbrev pub IsLateTask : DoneView → Wait → ℕ → ℕ → Type 0
+IsLateTask done wait seen task =
+    IsAwaited (records_of done) (tasks_of done) wait task × (IsEarly done seen task → ⊥)
+
+-- and is created there
 abbrev pub IsLateAt : DoneView → Wait → ℕ → ℕ → ℕ → Type 0
-IsLateAt done wait seen place task = (at created (records_of done) place ≡ Some task)
-    × IsAwaited (records_of done) (tasks_of done) wait task × (IsEarly done seen task → ⊥)
+IsLateAt done wait seen place task =
+    (at created (records_of done) place ≡ Some task) × IsLateTask done wait seen task
 
 -- the first such task
 pub record IsFirstLate (done : DoneView) (wait : Wait) (seen task : ℕ) : Type 0 where

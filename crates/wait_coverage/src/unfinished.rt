@@ -1,19 +1,19 @@
-//! The first end of a region that covers an unfinished task.
-ghost use Rattle.std.specs.Prelude.{ℕ, ◌≡◌, ◌<◌, List, IfOk, IfErr, MatchOption, length};
+//! The first end of a region that covers an unfinished task, and whether an end covers a given one.
+ghost use Rattle.std.specs.Prelude.{ℕ, ◌≡◌, ◌<◌, ◌↔◌, List, IfOk, IfErr, IsTrue, MatchOption, length};
 ghost use Rattle.ompt_events.specs.declared.fault.Fault.TheVariants.{Memory};
 ghost use Rattle.trace_ledger.specs.Entries.{IsFreeUpTo, IsLedgerOf};
 ghost use Rattle.wait_coverage.specs.Done.{IsDoneView, AreDone, AreChildrenDone};
 ghost use Rattle.wait_coverage.specs.Known.{AreHeldFrom, AreCreditLengths};
 ghost use Rattle.wait_coverage.specs.Limits.{IsEndLimit};
 ghost use Rattle.wait_coverage.specs.Spans.{IsCoverComplete};
-ghost use Rattle.wait_coverage.specs.Waits.{IsWaitAt, IsFirstOpen, IsFirstOpenEnd};
+ghost use Rattle.wait_coverage.specs.Waits.{IsWaitAt, AreAwaited, IsOpen, IsFirstOpen, IsFirstOpenEnd, waiting};
 
 use crate::done::Done;
 use crate::limit::Limit;
 use crate::limits::{Node, Noted, find_limits};
 use crate::meetings::add_meetings;
 use crate::order::parents_first;
-use crate::waits::{Search, Wait, first_late, wait_at};
+use crate::waits::{Search, Wait, first_late, is_late_task, wait_at};
 use credit_ledger::Ledger;
 use ompt_events::Fault;
 use std::alloc::{AllocError, Global};
@@ -161,27 +161,57 @@ pub(crate) fn open_at(alloc: Global, known: &Known, at: usize) -> Result<Option<
         MatchOption found (IsCoverComplete known.now.done.teams.run.records at)
         (IsFirstOpen known.now.done.teams.run.records at)) }
 {
-    // Most waits end in time: only where this one did not is a late task looked for.
     let done = known.done();
-    if known.limit(at).is_reached(done.run().seen(at)) {
-        return Ok(None);
-    }
-    match wait_at(done.teams(), at) {
-        Some(wait) => open_of(alloc, done, wait, at),
+    match unmet_wait(known, at) {
+        Some(wait) => {
+            let marks = find_marks(alloc, done, wait)?;
+            Ok(first_late(done, marks.as_slice(), done.run().seen(at)))
+        }
         None => Ok(None),
     }
 }
 
-/// The same where it is known what the end waits for.
-fn open_of(alloc: Global, done: &Done, wait: Wait, at: usize) -> Result<Option<u64>, AllocError>
-    requires within { at < length done.now.teams.run.records }
-    requires wait { IsWaitAt done.now.teams.run.records done.now.teams.run.family.tasks at wait }
-    ensures { AreChildrenDone done.now → IfOk result (λ found.
-        MatchOption found (IsCoverComplete done.now.teams.run.records at)
-        (IsFirstOpen done.now.teams.run.records at)) }
+/// Whether the end at a place covers the task, and the task is unfinished there (OpenMP 5.2, 15.3 to 15.5).
+/// The lengths that are known must be those from which on the tasks are finished. It takes a few steps for
+/// each record, and memory linear in the records. `Memory` is the only refusal.
+pub fn is_open(alloc: Global, known: &Known, at: usize, task: u64) -> Result<bool, Fault>
+    requires { at < length known.now.done.teams.run.records }
+    ensures open { AreDone known.now.done → IfOk result (λ found.
+        IsTrue found ↔ IsOpen known.now.done.teams.run.records at task) }
+    ensures fault { IfErr result (λ fault. fault ≡ Memory) }
+{
+    let done = known.done();
+    match unmet_wait(known, at) {
+        Some(wait) => {
+            let marks = find_marks(alloc, done, wait)?;
+            Ok(is_late_task(done, marks.as_slice(), task, done.run().seen(at)))
+        }
+        None => Ok(false),
+    }
+}
+
+/// What the end at a place waits for, unless it is known that all of it is finished there.
+fn unmet_wait(known: &Known, at: usize) -> Option<Wait>
+    requires { at < length known.now.done.teams.run.records }
+    ensures { MatchOption result
+        (AreChildrenDone known.now.done → IsCoverComplete known.now.done.teams.run.records at)
+        (IsWaitAt known.now.done.teams.run.records known.now.done.teams.run.family.tasks at) }
+{
+    let done = known.done();
+    // Most waits end in time: only where this one did not is a late task looked for.
+    if known.limit(at).is_reached(done.run().seen(at)) {
+        return None;
+    }
+    wait_at(done.teams(), at)
+}
+
+/// By index of the task whether it is waited for.
+fn find_marks(alloc: Global, done: &Done, wait: Wait) -> Result<Vec<bool>, AllocError>
+    requires { waiting wait < length done.now.teams.run.family.tasks }
+    ensures { IfOk result (λ marks. AreAwaited done.now.teams.run.records
+        done.now.teams.run.family.tasks wait marks.items) }
 {
     let order = parents_first(alloc, done.run().family())?;
     let search = Search::of(done.teams(), wait);
-    let marks = search.find_awaited(alloc, order.as_slice())?;
-    Ok(first_late(done, marks.as_slice(), done.run().seen(at)))
+    search.find_awaited(alloc, order.as_slice())
 }

@@ -6,7 +6,7 @@ ghost use Rattle.task_tree.specs.Runs.{IsWaitEvent};
 ghost use Rattle.teams.specs.Rows.{row_at};
 ghost use Rattle.wait_coverage.specs.Done.{IsParentsFirst};
 ghost use Rattle.wait_coverage.specs.Search.{IsSearch, IsMarkedAbove};
-ghost use Rattle.wait_coverage.specs.Waits.{EndsNoWaitAt, IsWaitAt, IsWithin, IsOwnChild, IsAwaited, AreAwaited, IsLateAt, IsFirstLate, cover_of, waiting};
+ghost use Rattle.wait_coverage.specs.Waits.{EndsNoWaitAt, IsWaitAt, IsWithin, IsOwnChild, IsAwaited, AreAwaited, IsLateTask, IsLateAt, IsFirstLate, cover_of, waiting};
 ghost use Rattle.wait_coverage.specs.declared.waits.Wait.{Wait};
 
 use crate::done::Done;
@@ -253,11 +253,37 @@ fn late_at(done: &Done, marks: &[bool], place: usize, seen: u32) -> Option<u64>
 {
     let run = done.run();
     let index = run.created(place)?;
+    if is_late_index(done, marks, index, seen) {
+        Some(run.task(index))
+    } else {
+        None
+    }
+}
+
+/// Whether the task is marked, and its length is above the one seen.
+pub(crate) fn is_late_task(done: &Done, marks: &[bool], task: u64, seen: u32) -> bool
+    requires { length marks.now ≡ length done.now.teams.run.family.tasks }
+    ensures { (wait : Wait)
+        → AreAwaited done.now.teams.run.records done.now.teams.run.family.tasks wait marks.now
+        → IsTrue result ↔ IsLateTask done.now wait seen task }
+{
+    match done.run().index_of(task) {
+        Some(index) => is_late_index(done, marks, index, seen),
+        None => false,
+    }
+}
+
+/// The same of the task at the index.
+fn is_late_index(done: &Done, marks: &[bool], index: usize, seen: u32) -> bool
+    requires within { index < length done.now.teams.run.family.tasks }
+    requires all { length marks.now ≡ length done.now.teams.run.family.tasks }
+    ensures { (wait : Wait) (task : ℕ)
+        → AreAwaited done.now.teams.run.records done.now.teams.run.family.tasks wait marks.now
+        → slice_get done.now.teams.run.family.tasks index ≡ Some task
+        → IsTrue result ↔ IsLateTask done.now wait seen task }
+{
     if !marks[index] {
-        return None;
+        return false;
     }
-    if done.own()[index] <= u64::from(seen) {
-        return None;
-    }
-    Some(run.task(index))
+    done.own()[index] > u64::from(seen)
 }

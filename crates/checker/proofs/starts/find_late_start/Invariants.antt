@@ -5,4 +5,4 @@ use Rattle.checker.proofs.starts.find_late_start.Given as goal
 -- what the records so far start is known, and each of it started in time
 abbrev pub invariant-loop-at : goal.invariant-loop-at
 invariant-loop-at l =
-    AreStarted l.edges.run.records l.at l.edges.run.family.tasks l.started.items × ((k : ℕ) → k < l.at → AreReady l.edges.run.records k)
+    AreStarted l.fn.edges.run.records l.at l.fn.edges.run.family.tasks l.started.items × ((k : ℕ) → k < l.at → AreReady l.fn.edges.run.records k)
