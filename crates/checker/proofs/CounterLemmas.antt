@@ -1,18 +1,18 @@
 -- The order in which a record stands as early as it can, and what it shows of a task that is unfinished there.
-use Rattle.std.proofs.Common.{zero, suc, ◌≡◌, ◌≢◌, ◌∙◌, ℕ, ◌<◌, ◌≤◌, ◌+◌, ◌⊎◌, Bool, true, false, cond, ltb, List, [], ◌∷◌, ◌++◌, length, Option, Some, None, refl, sym, ap, subst, arith, inl, inr}
-use Rattle.std.specs.Prelude.{Contains, IsTrue, AllPairs, IsPermutation, filter, take, is_some, slice_get, slice_index, ⊤, ◌↔◌}
+use Rattle.std.proofs.Common.{zero, suc, ◌≡◌, ◌∙◌, ℕ, ◌<◌, ◌≤◌, ◌+◌, ◌⊎◌, Bool, true, false, cond, ltb, List, [], ◌∷◌, ◌++◌, length, Option, Some, None, refl, sym, ap, subst, arith, inl, inr}
+use Rattle.std.specs.Prelude.{Contains, IsTrue, IsPermutation, filter, take, is_some, slice_get, slice_index, ⊤, ◌↔◌}
 use Rattle.std.specs.Option.{option_map_or}
 use Rattle.std.proofs.lemmas.Bool.{false≢true, ltb-true, lt-ltb}
 use Rattle.std.proofs.lemmas.Option.{none-some, same_Some, slice_get-get_or, slice_get_within}
 use Rattle.std.proofs.lemmas.List.{append_assoc, append-nil, take_more, take_all}
-use Rattle.std.proofs.lemmas.List.Elements.{Contains-append_left, Contains-append_right, Contains-append_cases, Contains-push_cases, filter-append}
+use Rattle.std.proofs.lemmas.List.Elements.{Contains-append_right, filter-append}
 use Rattle.std.proofs.lemmas.List.Sorted.{Contains-permutation}
 use Rattle.ompt_events.specs.declared.records.Record.{Record}
 use Rattle.ompt_events.specs.declared.records.Part.{Part}
 use Rattle.ompt_events.specs.declared.records.Part.TheVariants as part
 use Rattle.ompt_events.specs.declared.cause.Cause.TheVariants.{LengthBack}
 use Rattle.ompt_events.specs.Records.{finish}
-use Rattle.ompt_events.specs.Places.{at, thread_at, seen_at, places}
+use Rattle.ompt_events.specs.Places.{at, thread_at, places}
 use Rattle.ompt_events.specs.HappensBefore.{HappensBefore, chain}
 use Rattle.ompt_events.specs.Linearization.{IsEarlier, IsLinearization, IsReady, IsFirstReady, IsGreedy, IsGreedyAfter}
 use Rattle.ompt_events.specs.Completion.{IsPartFinished, CountsIn, CountsAt, IsCompleteIn, IsCompleteAt}
@@ -160,7 +160,8 @@ earliest_behind rs order bounds now i linear greedy are behind = record {
   parts = behind.parts;
   just_before = λ a. (
     (λ among. (decides a).0 (filter_holds p order a among)),
-    (λ before. Contains-filter p order a (Contains-permutation (places rs) order a linear.all_once (contains_place rs a (before_from rs a i before))) ((decides a).1 before)));
+    (λ before. Contains-filter p order a (Contains-permutation (places rs) order a linear.all_once (contains_place rs a (before_from rs a i before))) ((decides a).1 before)),
+  );
   before_greedy = greedy_filter rs (λ a. HappensBefore rs a i) p order decides (λ a b before then. chain before then) greedy;
   after_greedy = behind.greedy;
 }

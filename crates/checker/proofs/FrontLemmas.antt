@@ -12,7 +12,7 @@ use Rattle.ompt_events.specs.declared.records.Record.{Record}
 use Rattle.ompt_events.specs.Places.{thread_at, seen_at}
 use Rattle.ompt_events.specs.declared.cause.Cause.TheVariants.{Moved}
 use Rattle.ompt_events.specs.Causes.{IsFreeOf}
-use Rattle.checker.specs.Merge.{AreStanding, Awaits, Stands, IsUnplaced, MayFollow, AreHeads, IsLow, IsFront, IsReadyHead, AreOffered, AreMore, IsTaken, length_of}
+use Rattle.checker.specs.Merge.{AreStanding, Awaits, Stands, IsUnplaced, MayFollow, AreHeads, IsFront, IsReadyHead, AreOffered, AreMore, IsTaken, length_of}
 use Rattle.task_tree.specs.Family.{FamilyView}
 use Rattle.task_tree.specs.Runs.{RunView}
 use Rattle.checker.specs.Entries.{MakersView, IsLedger}

@@ -251,7 +251,7 @@ merging_more rs placed heads links base order place thread merging may first run
     more = merging.behind.more ++ place ∷ [];
     parts = ap (λ l. l ++ place ∷ []) merging.behind.parts ∙ append_assoc base merging.behind.more (place ∷ []);
     greedy = each_more (λ xs i. IsFirstReady rs (λ _. ⊤) (base ++ xs) i) merging.behind.more place merging.behind.greedy (
-      let P : List ℕ → Type 0 = λ l. IsFirstReady rs (λ _. ⊤) l place in subst P merging.behind.parts first_ready);
+        let P : List ℕ → Type 0 = λ l. IsFirstReady rs (λ _. ⊤) l place in subst P merging.behind.parts first_ready);
   };
 }
   where

@@ -178,7 +178,7 @@ complete_at rs i task front back permutation complete = elim complete [
 
 -- ---- unfinished is missed
 
-required_within : (rs : List Record) (i task : ℕ) → IsRequired rs i task → i < length rs
+pub required_within : (rs : List Record) (i task : ℕ) → IsRequired rs i task → i < length rs
 required_within rs i task required = elim (required_cases rs i task required) [
   | inl covers ↦ let ends = cover_ends rs i task covers in at_within region rs i ends.0 ends.1
   | inr precedes ↦ elim (preceded_starts rs i task precedes).1 [

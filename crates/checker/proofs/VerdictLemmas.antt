@@ -23,13 +23,13 @@ use Rattle.ompt_events.specs.declared.names.SyncKind.{SyncKind}
 use Rattle.ompt_events.specs.declared.names.SyncKind.TheVariants.{Taskwait, Taskgroup}
 use Rattle.ompt_events.specs.declared.names.Endpoint.{Endpoint}
 use Rattle.ompt_events.specs.declared.names.Endpoint.TheVariants.{End, BeginEnd}
-use Rattle.ompt_events.specs.Violations.{IsRequired, covered, preceding, awaited}
+use Rattle.ompt_events.specs.Violations.{IsRequired, IsUnfinished, covered, preceding, awaited}
 use Rattle.ompt_events.specs.Causes.{IsFreeOf, no_order}
 use Rattle.wait_coverage.specs.Spans.{IsCoverComplete}
-use Rattle.wait_coverage.specs.Waits.{IsFirstOpenEnd}
+use Rattle.wait_coverage.specs.Waits.{IsOpen, IsFirstOpenEnd}
 use Rattle.ompt_events.specs.CauseNames.{all_causes}
 use Rattle.checker.specs.Verdicts.{AreComplete, IsAlwaysComplete, IsApproved}
-use Rattle.checker.specs.Starts.{IsPreceded, AreReady, IsFirstLateStart}
+use Rattle.checker.specs.Starts.{IsPreceded, IsLate, AreReady, IsFirstLateStart}
 use Rattle.checker.specs.Search.{IsClear, AreAllCovered, AreAllReady, IsFirstViolation}
 use Rattle.checker.specs.declared.verdict.Why.TheVariants.{Unfinished, Predecessor}
 use Rattle.std.proofs.lemmas.List.{length-take, get_or-take}
@@ -69,6 +69,19 @@ pub all_complete : (rs : List Record) → AreAllCovered rs → AreAllReady rs �
 all_complete rs ends starts i task required = elim (required_cases rs i task required) [
   | inl covers ↦ ends i task covers
   | inr precedes ↦ starts i task precedes
+]
+
+-- what is unfinished is open where a wait ends, or late where a task starts or a taskwait is complete
+pub open_unfinished : (rs : List Record) (i task : ℕ) → IsOpen rs i task → IsUnfinished rs i task
+open_unfinished rs i task is = record { required = covered is.covered; incomplete = is.incomplete }
+
+pub late_unfinished : (rs : List Record) (i task : ℕ) → IsLate rs i task → IsUnfinished rs i task
+late_unfinished rs i task is = record { required = preceded_required rs i task is.0; incomplete = is.1 }
+
+pub unfinished_cases : (rs : List Record) (i task : ℕ) → IsUnfinished rs i task → IsOpen rs i task ⊎ IsLate rs i task
+unfinished_cases rs i task is = elim (required_cases rs i task is.required) [
+  | inl covers ↦ inl (record { covered = covers; incomplete = is.incomplete })
+  | inr precedes ↦ inr (precedes, is.incomplete)
 ]
 
 -- an end before which all is ready

@@ -1,5 +1,5 @@
 -- The order of all records in which one stands as early as it can, and what it shows of a task.
-use Rattle.std.specs.Prelude.{ℕ, ◌≡◌, ◌<◌, ◌≤◌, ◌⊎◌, ◌↔◌, ⊤, ltb, Bool, false, List, [], ◌∷◌, ◌++◌, Contains, Some, length, slice_index}
+use Rattle.std.specs.Prelude.{ℕ, ◌≡◌, ◌<◌, ◌≤◌, ◌⊎◌, ◌↔◌, ⊤, ltb, Bool, false, List, [], ◌∷◌, ◌++◌, Contains, Option, Some, None, length, slice_index}
 use Rattle.std.specs.Option.{option_map_or}
 use Rattle.ompt_events.specs.declared.records.Record.{Record}
 use Rattle.ompt_events.specs.Places.{thread_at, seen_at}
@@ -10,7 +10,9 @@ use Rattle.ompt_events.specs.Violations.{IsRequired}
 use Rattle.ompt_events.specs.CauseNames.{all_causes}
 use Rattle.ompt_events.specs.Causes.{IsWellFormed}
 use Rattle.checker.specs.Entries.{MakersView, IsLedger}
-use Rattle.checker.specs.Verdicts.{IsMissed}
+use Rattle.checker.specs.declared.verdict.Verdict.{Verdict}
+use Rattle.checker.specs.declared.verdict.Verdict.TheVariants.{No}
+use Rattle.checker.specs.Verdicts.{IsMissed, task_of}
 
 -- the records that happen before i, again and again the first in file order of which all that happens before
 -- it stands; then i; then the others in the same manner
@@ -33,6 +35,13 @@ pub record IsCounterOrder (rs : List Record) (i task : ℕ) (order : List ℕ) :
 -- a cause occurs, or no order misses the task
 abbrev pub HasNoCounterOrder : List Record → ℕ → ℕ → Type 0
 HasNoCounterOrder rs i task = IsWellFormed rs all_causes → IsMissed rs i task → ⊥
+
+-- with a no goes an order that leaves its task incomplete at its record, and with no other verdict
+abbrev pub IsShownBy : List Record → Verdict → Option (List ℕ) → Type 0
+IsShownBy rs (No i why) (Some order) = IsCounterOrder rs i (task_of why) order
+IsShownBy rs (No i why) None = ⊥
+IsShownBy rs verdict (Some order) = ⊥
+IsShownBy rs verdict None = ⊤
 
 -- ---- what the search for it knows
 

@@ -46,7 +46,7 @@ impl Question for ForVerdict {
 }
 
 /// The first record at which a task that must be finished is not, and why it must be.
-fn violation_of(alloc: Global, clear: &Clear) -> Result<Option<(usize, Why)>, Fault>
+pub(crate) fn violation_of(alloc: Global, clear: &Clear) -> Result<Option<(usize, Why)>, Fault>
     ensures found { IfOk result (λ found. MatchOption found ((i : ℕ) → AreComplete clear.now.run.records i)
         (λ f. IsFirstViolation clear.now.run.records f.0 f.1)) }
     ensures memory_alone { IfErr result (λ fault. fault ≡ Memory) }

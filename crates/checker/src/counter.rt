@@ -1,45 +1,130 @@
-//! The order of all records in which one stands as early as it can.
-ghost use Rattle.std.specs.Prelude.{◌≡◌, ◌<◌, IfOk, IfErr, length, filter};
+//! An order that leaves a task incomplete where it must be complete.
+ghost use Rattle.std.specs.Prelude.{◌≡◌, ◌<◌, ◌↔◌, IfOk, IfErr, IsTrue, MatchOption, length};
 ghost use Rattle.ompt_events.specs.declared.fault.Fault.TheVariants.{Memory};
 ghost use Rattle.ompt_events.specs.Linearization.{IsLinearization};
-ghost use Rattle.checker.specs.Counter.{IsEarliestOrder, HaveAllThreads, is_below};
+ghost use Rattle.ompt_events.specs.Violations.{IsUnfinished};
+ghost use Rattle.checker.specs.Counter.{IsEarliestOrder, IsCounterOrder, HasNoCounterOrder, IsShownBy};
+ghost use Rattle.checker.specs.Verdicts.{IsVerdict};
 
-use crate::before::{find_before, is_below};
-use crate::merge::find_order;
+use crate::checking::violation_of;
+use crate::earliest::earliest_order;
+use crate::makers::Makers;
 use crate::ordered::Ordered;
-use crate::verdict::Order;
-use ompt_events::Fault;
-use std::alloc::{AllocError, Global};
+use crate::phases::ask;
+use crate::question::{Clear, Question};
+use crate::starts::is_late;
+use crate::verdict::{CheckFault, Order, Verdict};
+use ompt_events::{Fault, Trace};
+use std::alloc::Global;
+use wait_coverage::{find_known, is_open};
 
-/// The order in which the record at a place stands as early as it can: those that happen before it, each time
-/// the first in file order of which all that happens before it stands; then the record; then the others in
-/// the same manner. It takes n log n steps in the records.
-pub(crate) fn earliest_order(alloc: Global, ordered: &Ordered, at: usize) -> Result<Order, Fault>
-    requires { at < length ordered.now.ledger.run.records }
-    ensures earliest { IfOk result (IsEarliestOrder ordered.now.ledger.run.records at) }
-    ensures linearization { IfOk result (IsLinearization ordered.now.ledger.run.records) }
-    ensures memory_alone { IfErr result (λ fault. fault ≡ Memory) }
+/// An order of all records, allowed by them, in which the task is not complete at the place, although it must be:
+/// a wait ends there that covers it, or what starts or is complete there depends on it. It is the order in
+/// which the record at the place stands as early as it can: those that happen before it, each time the first
+/// in file order of which all that happens before it stands; then the record; then the others in the same
+/// manner. None where there is no such order, and where a cause occurs. It takes n log n steps in the
+/// records. Fails only when out of memory.
+pub fn counter_order(
+    alloc: Global,
+    trace: &Trace,
+    at: usize,
+    task: u64,
+) -> Result<Option<Order>, CheckFault>
+    ensures { IfOk result (λ found. MatchOption found (HasNoCounterOrder trace.now.records at task)
+        (IsCounterOrder trace.now.records at task)) }
 {
-    let makers = ordered.makers();
-    let bounds = find_before(alloc, ordered, at)?;
-    let mut base = below(alloc, ordered, bounds.as_slice())?;
-    base.push(at as u32)?;
-    Ok(Order::from_vec(find_order(alloc, makers, base)?))
+    match ask(alloc, trace, &ForCounter { at, task }) {
+        Ok(found) => Ok(found),
+        Err(Fault::Memory) => Err(CheckFault::Memory),
+        Err(Fault::Malformed { .. }) => Ok(None),
+    }
 }
 
-/// The records below the bounds of their threads, in their order.
-fn below(alloc: Global, ordered: &Ordered, bounds: &[u32]) -> Result<Vec<u32>, AllocError>
-    requires { HaveAllThreads ordered.now.ledger.run.records bounds.now }
-    ensures { IfOk result (λ places. places.items
-        ≡ filter (is_below ordered.now.ledger.run.records bounds.now) ordered.now.order) }
+/// The verdict that `check` gives, and for a no the order that `counter_order` gives for its record and task, in
+/// one pass through the phases.
+pub fn check_with_counter(
+    alloc: Global,
+    trace: &Trace,
+) -> Result<(Verdict, Option<Order>), CheckFault>
+    ensures verdict { IfOk result (λ answer. IsVerdict trace.now.records answer.0) }
+    ensures counter { IfOk result (λ answer. IsShownBy trace.now.records answer.0 answer.1) }
 {
-    let (run, order) = (ordered.run(), ordered.order());
-    let mut places = Vec::with_capacity(alloc, run.len())?;
-    for before in 0..order.len() {
-        let place = order.place_at(before).unwrap();
-        if is_below(bounds, run, place) {
-            places.push(place as u32)?;
+    match ask(alloc, trace, &ForVerdictAndCounter) {
+        Ok(answer) => Ok(answer),
+        Err(Fault::Memory) => Err(CheckFault::Memory),
+        Err(Fault::Malformed { at, cause }) => Ok((Verdict::Malformed { at, cause }, None)),
+    }
+}
+
+/// Asks for an order that leaves the task incomplete at the place.
+#[derive(Drop)]
+struct ForCounter {
+    at: usize,
+    task: u64,
+}
+
+impl Question for ForCounter {
+    type Answer = Option<Order>;
+
+    ghost is_right = { λ question records found. MatchOption found
+        (HasNoCounterOrder records question.at question.task)
+        (IsCounterOrder records question.at question.task) };
+
+    fn answer(&self, alloc: Global, clear: Clear) -> Result<Option<Order>, Fault> {
+        if self.at >= clear.sound().run().len() {
+            return Ok(None);
+        }
+        if !is_unfinished(alloc, &clear, self.at, self.task)? {
+            return Ok(None);
+        }
+        Ok(Some(counter_of(alloc, &clear, self.at)?))
+    }
+}
+
+/// Asks whether the trace is a yes or a no, and for the order of a no.
+struct ForVerdictAndCounter;
+
+impl Question for ForVerdictAndCounter {
+    type Answer = (Verdict, Option<Order>);
+
+    ghost is_right = { λ question records answer. IsVerdict records answer.0 × IsShownBy records answer.0 answer.1 };
+
+    fn answer(&self, alloc: Global, clear: Clear) -> Result<(Verdict, Option<Order>), Fault> {
+        match violation_of(alloc, &clear)? {
+            Some((at, why)) => {
+                let counter = counter_of(alloc, &clear, at)?;
+                Ok((Verdict::No { at, why }, Some(counter)))
+            }
+            None => Ok((Verdict::Yes { order: clear.order }, None)),
         }
     }
-    Ok(places)
+}
+
+/// Whether the task must be complete at the place, and isn't by what the record there has seen.
+fn is_unfinished(alloc: Global, clear: &Clear, at: usize, task: u64) -> Result<bool, Fault>
+    requires { at < length clear.now.run.records }
+    ensures unfinished { IfOk result (λ found. IsTrue found ↔ IsUnfinished clear.now.run.records at task) }
+    ensures memory_alone { IfErr result (λ fault. fault ≡ Memory) }
+{
+    let sound = clear.sound();
+    let known = find_known(alloc, sound.teams)?;
+    if is_open(alloc, &known, at, task)? {
+        return Ok(true);
+    }
+    is_late(alloc, sound.edges, known.own(), at, task)
+}
+
+/// The order in which the record at the place stands as early as it can.
+fn counter_of(alloc: Global, clear: &Clear, at: usize) -> Result<Order, Fault>
+    requires { at < length clear.now.run.records }
+    ensures earliest { IfOk result (IsEarliestOrder clear.now.run.records at) }
+    ensures linearization { IfOk result (IsLinearization clear.now.run.records) }
+    ensures memory_alone { IfErr result (λ fault. fault ≡ Memory) }
+{
+    let makers = Makers::in_run(alloc, clear.sound().run())?;
+    let ordered = Ordered {
+        makers: &makers,
+        order: &clear.order,
+    };
+    earliest_order(alloc, &ordered, at)
 }

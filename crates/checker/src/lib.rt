@@ -9,6 +9,7 @@ mod before;
 mod checking;
 mod claims;
 mod counter;
+mod earliest;
 mod front;
 mod in_order;
 pub mod laws;
@@ -27,4 +28,5 @@ mod verdict;
 mod waiting;
 
 pub use checking::check;
+pub use counter::{check_with_counter, counter_order};
 pub use verdict::{CheckFault, Order, Verdict, Why};

@@ -23,7 +23,11 @@ use teams::Teams;
 /// The answer to the question, or the fault of the first phase that finds a cause. Each phase needs that the
 /// causes before its own do not occur. The phases stand in four functions, since a fault lets go all that its
 /// function made, and a proof has to look at each way to do so.
-pub(crate) fn ask<Q: Question>(alloc: Global, trace: &Trace, question: &Q) -> Result<Q::Answer, Fault>
+pub(crate) fn ask<Q: Question>(
+    alloc: Global,
+    trace: &Trace,
+    question: &Q,
+) -> Result<Q::Answer, Fault>
     ensures right { IfOk result (Q.is_right question.now trace.now.records) }
     ensures malformed { IfErr result (IsLeastFound trace.now.records) }
 {

@@ -1,5 +1,5 @@
-use Rattle.std.proofs.Common.{ℕ, ap, sym, subst}
-use Rattle.checker.specs.Verdicts.{AreComplete, IsApproved}
+use Rattle.std.proofs.Common.{ℕ, ap, subst}
+use Rattle.checker.specs.Verdicts.{AreComplete}
 use Rattle.checker.specs.Search.{ClearView, IsClearView, IsFirstViolation}
 use Rattle.checker.proofs.VerdictLemmas.{approved}
 use Rattle.checker.proofs.MissedLemmas.{rejected}

@@ -1,8 +1,6 @@
-use Rattle.std.proofs.Common.{◌≡◌, ◌∙◌, ◌<◌, ◌++◌, [], ◌∷◌, ℕ, length, true, sym, subst, arith}
-use Rattle.std.proofs.Math.ListN.{set}
+use Rattle.std.proofs.Common.{◌<◌, length}
 use Rattle.std.proofs.lemmas.List.{take_more}
 use Rattle.std.specs.Prelude.{take, slice_index}
-use Rattle.checker.specs.Merge.{AreStanding}
 use Rattle.checker.proofs.MergeLemmas.{thread_of}
 use Rattle.checker.proofs.MergingLemmas.{ready_follows, standing_more}
 use Rattle.checker.proofs.merge.Standing.of.Goals as goal

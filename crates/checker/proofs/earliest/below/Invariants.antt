@@ -1,7 +1,7 @@
 use Rattle.std.proofs.Common.{◌≡◌}
 use Rattle.std.specs.Prelude.{filter, take}
 use Rattle.checker.specs.Counter.{is_below}
-use Rattle.checker.proofs.counter.below.Given as goal
+use Rattle.checker.proofs.earliest.below.Given as goal
 
 -- the places so far are those below their bounds of the first records of the order
 abbrev pub invariant-loop-before : goal.invariant-loop-before

@@ -1,11 +1,11 @@
-use Rattle.std.proofs.Common.{ℕ, ◌≡◌, ◌∷◌, [], ◌++◌, arith, refl, rules}
+use Rattle.std.proofs.Common.{◌≡◌, ◌∷◌, [], ◌++◌, arith, refl, rules}
 use Rattle.std.proofs.lemmas.Result.{err_from_is_err_and}
 use Rattle.std.specs.Prelude.{filter}
 use Rattle.ompt_events.specs.declared.cause.Cause.TheVariants.{Moved, NoOrder}
 use Rattle.checker.specs.Counter.{is_below}
 use Rattle.checker.proofs.PhaseLemmas.{memory_alone, only_clear}
 use Rattle.checker.proofs.CounterLemmas.{base_in_turn, earliest_behind}
-use Rattle.checker.proofs.counter.earliest_order.Goals as goal
+use Rattle.checker.proofs.earliest.earliest_order.Goals as goal
 
 pub find_order-requires-clause-home : goal.find_order-requires-clause-home
 find_order-requires-clause-home c = rw c.makers-makers.ensures.value (c.makers-makers.ensures.is_ordered.well_formed Moved (4, omega arith, refl))

@@ -1,10 +1,10 @@
-use Rattle.std.proofs.Common.{ℕ, ◌≡◌, ◌∙◌, ◌++◌, [], ◌∷◌, Bool, Some, true, false, sym, ap, cond}
+use Rattle.std.proofs.Common.{◌≡◌, ◌∙◌, ◌++◌, [], ◌∷◌, Some, true, false, sym, ap, cond}
 use Rattle.std.proofs.lemmas.List.{append-nil}
 use Rattle.std.specs.Prelude.{filter, take, slice_get}
 use Rattle.checker.specs.Counter.{is_below}
 use Rattle.checker.proofs.CounterLemmas.{filter_more, below_told}
-use Rattle.checker.proofs.counter.below.Goals.{then-is_below+in_ok-push, else-is_below}
-use Rattle.checker.proofs.counter.below.Goals as goal
+use Rattle.checker.proofs.earliest.below.Goals.{then-is_below+in_ok-push, else-is_below}
+use Rattle.checker.proofs.earliest.below.Goals as goal
 
 pub loop-before-preserved : goal.loop-before-preserved
 loop-before-preserved c =
