@@ -9,7 +9,7 @@ ghost use Rattle.wait_coverage.specs.Waits.{IsFirstOpenEnd};
 
 use crate::phases::ask;
 use crate::question::{Clear, Question};
-use crate::starts::find_late_start;
+use crate::starts::Precedence;
 use crate::verdict::{CheckFault, Verdict, Why};
 use ompt_events::{Fault, Trace};
 use std::alloc::Global;
@@ -54,7 +54,8 @@ pub(crate) fn violation_of(alloc: Global, clear: &Clear) -> Result<Option<(usize
     let sound = clear.sound();
     let known = find_known(alloc, sound.teams)?;
     let unfinished = find_open(alloc, &known)?;
-    let late = find_late_start(alloc, sound.edges, known.own())?;
+    let precedence = Precedence::of(sound.edges, known.own())?;
+    let late = precedence.find_late_start(alloc)?;
     Ok(first_of(unfinished, late))
 }
 

@@ -12,7 +12,7 @@ use crate::makers::Makers;
 use crate::ordered::Ordered;
 use crate::phases::ask;
 use crate::question::{Clear, Question};
-use crate::starts::is_late;
+use crate::starts::Precedence;
 use crate::verdict::{CheckFault, Order, Verdict};
 use ompt_events::{Fault, Trace};
 use std::alloc::Global;
@@ -111,7 +111,8 @@ fn is_unfinished(alloc: Global, clear: &Clear, at: usize, task: u64) -> Result<b
     if is_open(alloc, &known, at, task)? {
         return Ok(true);
     }
-    is_late(alloc, sound.edges, known.own(), at, task)
+    let precedence = Precedence::of(sound.edges, known.own())?;
+    precedence.is_late(alloc, at, task)
 }
 
 /// The order in which the record at the place stands as early as it can.

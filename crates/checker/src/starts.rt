@@ -15,66 +15,9 @@ use std::alloc::{AllocError, Global};
 use std::marker::Model;
 use task_tree::Run;
 
-/// The first record at which an explicit task starts, or a taskwait with dependences is complete, before one
-/// of its predecessors is finished (OpenMP 5.2, 15.9.5 and 15.5), and of those the one created first. By
-/// index of the task `own` has the ledger length from which on it is finished. It takes n log n steps in the
-/// records and dependences, and memory linear in them; only memory can be refused.
-pub(crate) fn find_late_start(
-    alloc: Global,
-    edges: &Edges,
-    own: &[u64],
-) -> Result<Option<(usize, u64)>, Fault>
-    requires own { AreOwn edges.now.run.records edges.now.run.family.tasks own.now }
-    requires once { IsFreeOf edges.now.run.records EntryTwice }
-    requires reached { IsFreeOf edges.now.run.records LengthAhead }
-    ensures found { IfOk result (λ found. MatchOption found ((i : ℕ) → AreReady edges.now.run.records i)
-        (λ f. IsFirstLateStart edges.now.run.records f.0 f.1)) }
-    ensures memory_alone { IfErr result (λ fault. fault ≡ Memory) }
-{
-    let precedence = Precedence::of(edges, own)?;
-    if precedence.needs_no_wait() {
-        return Ok(None);
-    }
-    let run = edges.run();
-    let mut started = no_starts(alloc, run.task_count())?;
-    for at in 0..run.len() {
-        if let Some(task) = precedence.late_at(&started, at)? {
-            return Ok(Some((at, task)));
-        }
-        precedence.note_start(&mut started, at);
-    }
-    Ok(None)
-}
-
-/// Whether the task is a predecessor of what starts or is complete at the place, and is not finished there
-/// (OpenMP 5.2, 15.9.5 and 15.5). By index of the task `own` has the ledger length from which on it is
-/// finished. It takes n log n steps in the records and dependences, and memory linear in them; only memory
-/// can be refused.
-pub(crate) fn is_late(
-    alloc: Global,
-    edges: &Edges,
-    own: &[u64],
-    at: usize,
-    task: u64,
-) -> Result<bool, Fault>
-    requires own { AreOwn edges.now.run.records edges.now.run.family.tasks own.now }
-    requires once { IsFreeOf edges.now.run.records EntryTwice }
-    requires reached { IsFreeOf edges.now.run.records LengthAhead }
-    requires within { at < length edges.now.run.records }
-    ensures late { IfOk result (λ late. IsTrue late ↔ IsLate edges.now.run.records at task) }
-    ensures memory_alone { IfErr result (λ fault. fault ≡ Memory) }
-{
-    let precedence = Precedence::of(edges, own)?;
-    let started = precedence.find_started(alloc, at)?;
-    match precedence.dependent_at(&started, at) {
-        Some(dependent) => precedence.is_late_of(dependent.index, dependent.bound, task),
-        None => Ok(false),
-    }
-}
-
 /// What decides whether tasks start in time.
 #[derive(Drop)]
-struct Precedence<'a, 'r> {
+pub(crate) struct Precedence<'a, 'r> {
     run: &'a Run<'r>,
     edges: &'a Edges<'r>,
     /// By index of the task the ledger length from which on it is finished.
@@ -110,8 +53,10 @@ struct Dependent {
 }
 
 impl<'a, 'r> Precedence<'a, 'r> {
-    /// What decides it, by these edges and lengths. Fails only when out of memory.
-    fn of(edges: &'a Edges<'r>, own: &'a [u64]) -> Result<Precedence<'a, 'r>, Fault>
+    /// What decides it, by these edges, and by the ledger length from which on each task is finished, by its
+    /// index. It takes n log n steps in the dependences, and memory linear in the tasks. Fails only when out
+    /// of memory.
+    pub(crate) fn of(edges: &'a Edges<'r>, own: &'a [u64]) -> Result<Precedence<'a, 'r>, Fault>
         requires own { AreOwn edges.now.run.records edges.now.run.family.tasks own.now }
         requires once { IsFreeOf edges.now.run.records EntryTwice }
         requires reached { IsFreeOf edges.now.run.records LengthAhead }
@@ -126,6 +71,44 @@ impl<'a, 'r> Precedence<'a, 'r> {
             own,
             latest,
         })
+    }
+
+    /// The first record at which an explicit task starts, or a taskwait with dependences is complete, before
+    /// one of its predecessors is finished (OpenMP 5.2, 15.9.5 and 15.5), and of those the one created first.
+    /// It takes n log n steps in the records and dependences, and memory linear in the tasks; only memory can
+    /// be refused.
+    pub(crate) fn find_late_start(&self, alloc: Global) -> Result<Option<(usize, u64)>, Fault>
+        ensures found { IfOk result (λ found. MatchOption found ((i : ℕ) → AreReady self.now.run.records i)
+            (λ f. IsFirstLateStart self.now.run.records f.0 f.1)) }
+        ensures memory_alone { IfErr result (λ fault. fault ≡ Memory) }
+    {
+        if self.needs_no_wait() {
+            return Ok(None);
+        }
+        let run = self.run;
+        let mut started = no_starts(alloc, run.task_count())?;
+        for at in 0..run.len() {
+            if let Some(task) = self.late_at(&started, at)? {
+                return Ok(Some((at, task)));
+            }
+            self.note_start(&mut started, at);
+        }
+        Ok(None)
+    }
+
+    /// Whether the task is a predecessor of what starts or is complete at the place, and is not finished
+    /// there (OpenMP 5.2, 15.9.5 and 15.5). It takes a few steps for each earlier record, and n log n in the
+    /// dependences of one task's siblings; only memory can be refused.
+    pub(crate) fn is_late(&self, alloc: Global, at: usize, task: u64) -> Result<bool, Fault>
+        requires { at < length self.now.run.records }
+        ensures late { IfOk result (λ late. IsTrue late ↔ IsLate self.now.run.records at task) }
+        ensures memory_alone { IfErr result (λ fault. fault ≡ Memory) }
+    {
+        let started = self.find_started(alloc, at)?;
+        match self.dependent_at(&started, at) {
+            Some(dependent) => self.is_late_of(dependent.index, dependent.bound, task),
+            None => Ok(false),
+        }
     }
 }
 

@@ -9,12 +9,12 @@ use Rattle.wait_coverage.specs.Waits.{IsFirstOpenEnd}
 use Rattle.checker.proofs.VerdictLemmas.{free_up_to}
 use Rattle.checker.proofs.checking.violation_of.Goals as goal
 
-pub find_late_start-requires-clause-once : goal.find_late_start-requires-clause-once
-find_late_start-requires-clause-once c =
+pub of-requires-clause-once : goal.of-requires-clause-once
+of-requires-clause-once c =
     rw (c.sound.invariant.1.1, c.sound.view_is, c.sound-sound.ensures.value) (c.sound-sound.ensures.is_clear.well_formed EntryTwice (11, omega arith, refl))
 
-pub find_late_start-requires-clause-reached : goal.find_late_start-requires-clause-reached
-find_late_start-requires-clause-reached c =
+pub of-requires-clause-reached : goal.of-requires-clause-reached
+of-requires-clause-reached c =
     rw (c.sound.invariant.1.1, c.sound.view_is, c.sound-sound.ensures.value) (c.sound-sound.ensures.is_clear.well_formed LengthAhead (12, omega arith, refl))
 
 -- what the search finds by the credit that the trace's ledger holds
@@ -30,4 +30,4 @@ returns-clause-found c =
     let found = subst Found same (c.in_ok-unfinished.ensures.first_by_credit (subst Free (sym same) free) (known.credit free)) in
     c.first_of.ensures run.records
     (subst Found view_is found)
-    (rw (c.sound.invariant.1.1, c.sound.view_is, c.sound-sound.ensures.value) at c.in_ok-late.ensures.found)
+    (rw (c.in_ok-precedence.ensures.run, c.sound.invariant.1.1, c.sound.view_is, c.sound-sound.ensures.value) at c.in_ok-late.ensures.found)

@@ -11,12 +11,12 @@ use Rattle.checker.specs.Starts.{IsLate}
 use Rattle.checker.proofs.VerdictLemmas.{open_unfinished, late_unfinished, unfinished_cases}
 use Rattle.checker.proofs.counter.is_unfinished.Goals as goal
 
-pub is_late-requires-clause-once : goal.is_late-requires-clause-once
-is_late-requires-clause-once c =
+pub of-requires-clause-once : goal.of-requires-clause-once
+of-requires-clause-once c =
     rw (c.sound.invariant.1.1, c.sound.view_is, c.sound-sound.ensures.value) (c.sound-sound.ensures.is_clear.well_formed EntryTwice (11, omega arith, refl))
 
-pub is_late-requires-clause-reached : goal.is_late-requires-clause-reached
-is_late-requires-clause-reached c =
+pub of-requires-clause-reached : goal.of-requires-clause-reached
+of-requires-clause-reached c =
     rw (c.sound.invariant.1.1, c.sound.view_is, c.sound-sound.ensures.value) (c.sound-sound.ensures.is_clear.well_formed LengthAhead (12, omega arith, refl))
 
 pub returns-then-branch-clause-unfinished : goal.returns-then-branch-clause-unfinished
@@ -44,4 +44,4 @@ returns-clause-unfinished c =
         | inr is_late ↦ late.1 is_late
       ]),
     ))
-    (rw (c.sound.invariant.1.1, c.sound.view_is, c.sound-sound.ensures.value) at c.is_late.ensures.late)
+    (rw (c.in_ok-precedence.ensures.run, c.sound.invariant.1.1, c.sound.view_is, c.sound-sound.ensures.value) at c.is_late.ensures.late)

@@ -1,8 +1,8 @@
 use Rattle.std.proofs.Common.{ℕ, ◌<◌}
 use Rattle.checker.specs.Starts.{AreReady, AreStarted}
-use Rattle.checker.proofs.starts.find_late_start.Given as goal
+use Rattle.checker.proofs.starts.Precedence.find_late_start.Given as goal
 
 -- what the records so far start is known, and each of it started in time
 abbrev pub invariant-loop-at : goal.invariant-loop-at
 invariant-loop-at l =
-    AreStarted l.fn.edges.run.records l.at l.fn.edges.run.family.tasks l.started.items × ((k : ℕ) → k < l.at → AreReady l.fn.edges.run.records k)
+    AreStarted l.fn.self.run.records l.at l.fn.self.run.family.tasks l.started.items × ((k : ℕ) → k < l.at → AreReady l.fn.self.run.records k)
