@@ -24,7 +24,7 @@ use std::env;
 
 const WORDS: &str =
     "values, read, write, lines, names, tables, shares, states, ledger, devices, refusals, tree, edges, verdict, \
-     waits, coverage, open, shared or calls";
+     counters, waits, coverage, open, shared or calls";
 
 /// Does what the word asks for.
 fn run(rt: &HostRuntime, word: &str) -> Result<()> {
@@ -43,6 +43,7 @@ fn run(rt: &HostRuntime, word: &str) -> Result<()> {
         "tree" => tree::of_input(rt),
         "edges" => edges::of_input(rt),
         "verdict" => verdict::of_input(rt),
+        "counters" => verdict::counters_of_input(rt),
         "waits" => waits::each(rt),
         "coverage" => waits::of_input(rt, false),
         "open" => waits::of_input(rt, true),

@@ -1,7 +1,7 @@
-//! What the calls on a trace answer, the order of a yes among them.
+//! What the calls on a trace answer, the order of a yes among them, and the orders that leave a task incomplete.
 use crate::lines::trace_of_input;
 use anyhow::Result;
-use checker::{Order, Verdict, check};
+use checker::{Order, Verdict, check, counter_order};
 use ompt_events::Trace;
 use std::alloc::{AllocError, Global};
 use task_states::{gap, target};
@@ -27,6 +27,29 @@ fn tell(rt: &HostRuntime, verdict: &Verdict) -> Result<()> {
             println!(rt; "yes, order {places:?}")?;
         }
         other => println!(rt; "{other:?}")?,
+    }
+    Ok(())
+}
+
+/// Prints, for each record of the trace on standard input and one past the last, and for each task that it
+/// creates, the order that leaves the task incomplete there, where there is one.
+pub fn counters_of_input(rt: &HostRuntime) -> Result<()> {
+    let trace = trace_of_input(rt)?;
+    for at in 0..trace.records().len() + 1 {
+        counters_at(rt, &trace, at)?;
+    }
+    Ok(())
+}
+
+/// Prints those at one record.
+fn counters_at(rt: &HostRuntime, trace: &Trace, at: usize) -> Result<()> {
+    for event in trace.records() {
+        if let Some(task) = event.body.created() {
+            if let Some(order) = counter_order(rt.alloc(), trace, at, task)? {
+                let places = places_of(rt.alloc(), &order)?;
+                println!(rt; "at {at}, task {task}: {places:?}")?;
+            }
+        }
     }
     Ok(())
 }
