@@ -8,7 +8,7 @@ use Rattle.clap.specs.declared.builder.command.Command.{Command}
 use Rattle.clap.specs.declared.builder.command.Command.TheViews.{out-Command}
 use Rattle.clap.specs.declared.parser.matches.ArgMatches.{ArgMatches}
 use Rattle.clap.proofs.OnLiterals.{clap_on_literals}
-use Rattle.taskaudit.specs.declared.work.Job.TheVariants.{Check}
+use Rattle.taskaudit.specs.declared.work.Job.{Job}
 use Rattle.taskaudit.specs.Commands.{command_line, job_named, AsksFor}
 
 is_simple_line : is_simple command_line ≡ true
@@ -20,19 +20,20 @@ pub is_free_line : (a : App) → a ≡ command_line → is_simple_and_free a ≡
 unfolding command_line clap_on_literals
 is_free_line a e = ap is_simple_and_free e
 
--- what the one subcommand comes to, where the test says that it is named
-asked_if : (is_named : Bool) (s : Shape) (rest : List Text) → s.name ≡ codes "check"
-    → is_some (option_map (λ (t : Shape). rows_at t rest) (cond is_named (Some s) None)) ≡ true
-    → option_and_then job_named (option_map (λ (t : Shape). rows_at t rest) (cond is_named (Some s) None)) ≡ Some (Check None)
-asked_if true s rest called e = rw called
-asked_if false s rest called e = cc
+-- what a subcommand comes to, where the tests say which one is named
+named_if : (first second : Bool) (s t : Shape) (rest : List Text) → s.name ≡ codes "check" → t.name ≡ codes "order"
+    → is_some (option_map (λ (it : Shape). rows_at it rest) (cond first (Some s) (cond second (Some t) None))) ≡ true
+    → is_some (option_and_then job_named (option_map (λ (it : Shape). rows_at it rest) (cond first (Some s) (cond second (Some t) None)))) ≡ true
+named_if true second s t rest check order e = rw check
+named_if false true s t rest check order e = rw order
+named_if false false s t rest check order e = cc
 
--- whatever the walk stopped at, a subcommand that is entered is `check`
-asks_at : (stop : Option (Text × List Text)) → is_some (entered (built command_line) stop) ≡ true
-    → option_and_then job_named (entered (built command_line) stop) ≡ Some (Check None)
+-- whatever the walk stopped at, a subcommand that is entered names a job
+names_at : (stop : Option (Text × List Text)) → is_some (entered (built command_line) stop) ≡ true
+    → is_some (option_and_then job_named (entered (built command_line) stop)) ≡ true
 unfolding command_line
-asks_at None e = cc
-asks_at (Some (name, rest)) e = asked_if _ _ rest refl e
+names_at None e = cc
+names_at (Some (name, rest)) e = named_if _ _ _ _ rest refl refl e
 
 is_some_map : {T U : Type 0} (f : T → U) (o : Option T) → is_some (option_map f o) ≡ is_some o
 is_some_map f None = refl
@@ -45,8 +46,16 @@ module _ (c : Command) (m : ArgMatches) (line : app_of c ≡ command_line) where
   meets_one local h =
       (h.parsed (h.from.globals ∙ local)).checked.subcommand (h.from.needs_subcommand ∙ ap (λ (a : App). a.top.subcommand_required) line)
 
-  -- and the words ask for what that names
-  pub asks_for : (words : List Text) → HasMatchesOf (app_of c) words m → has_subcommand m ≡ true → AsksFor words (Check None)
-  asks_for words h met =
-      let rows : subcommand_rows_of m ≡ subcommand_of command_line words = (h (ap is_simple line ∙ is_simple_line)).1 ∙ ap (λ (a : App). subcommand_of a words) line in
-      asks_at _ (sym (ap is_some rows) ∙ is_some_map _ _ ∙ met)
+  module _ (words : List Text) (h : HasMatchesOf (app_of c) words m) where
+    -- its matches are those that the words ask for
+    rows : subcommand_rows_of m ≡ subcommand_of command_line words
+    rows = (h (ap is_simple line ∙ is_simple_line)).1 ∙ ap (λ (a : App). subcommand_of a words) line
+
+    -- and it names a job
+    pub names_job : has_subcommand m ≡ true → is_some (option_and_then job_named (subcommand_rows_of m)) ≡ true
+    names_job met =
+        rw rows (names_at _ (sym (ap is_some rows) ∙ is_some_map _ _ ∙ met))
+
+    -- for which the words ask
+    pub asks_for : (job : Job) → option_and_then job_named (subcommand_rows_of m) ≡ Some job → AsksFor words job
+    asks_for job named = sym (ap (option_and_then job_named) rows) ∙ named

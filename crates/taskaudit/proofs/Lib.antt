@@ -2,3 +2,4 @@ pub mod CommandLemmas
 mod CountLemmas
 mod PlaceLemmas
 mod HeadlineLemmas
+mod OrderLemmas

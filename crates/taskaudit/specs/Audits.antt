@@ -1,16 +1,22 @@
 -- What an audit makes of the bytes that it reads, and what it writes.
-use Rattle.std.specs.Prelude.{◌≡◌, ℕ, List, take, Option, IfSome, Ok, ⊤}
+use Rattle.std.specs.Prelude.{◌≡◌, ℕ, ◌++◌, List, take, Option, IfSome, Ok, ⊤}
 use Rattle.std.specs.Io.KnownBytes.{Appends, Keeps}
+use Rattle.ompt_events.specs.declared.records.Record.{Record}
 use Rattle.ompt_events.specs.Traces.{TraceView}
 use Rattle.certificate.specs.Files.{file_says}
 use Rattle.certificate.specs.Reading.{IsToldRightly}
 use Rattle.checker.specs.declared.verdict.Verdict.{Verdict}
-use Rattle.checker.specs.Verdicts.{IsVerdict}
+use Rattle.checker.specs.declared.verdict.Verdict.TheVariants as verdict
+use Rattle.checker.specs.Verdicts.{IsVerdict, task_of}
+use Rattle.checker.specs.Counter.{IsCounterOrder}
+use Rattle.taskaudit.specs.declared.work.Job.{Job}
+use Rattle.taskaudit.specs.declared.work.Job.TheVariants.{Check, Order}
 use Rattle.taskaudit.specs.declared.work.Outcome.{Outcome}
 use Rattle.taskaudit.specs.declared.work.Outcome.TheVariants.{Yes}
 use Rattle.taskaudit.specs.declared.work.AuditFault.{AuditFault}
 use Rattle.taskaudit.specs.declared.work.AuditFault.TheVariants.{Read, Write}
 use Rattle.taskaudit.specs.Headline.{IsSynchronised}
+use Rattle.taskaudit.specs.Orders.{order_lines}
 use Rattle.taskaudit.specs.Reports.{report_of, outcome_of}
 
 -- the bytes that were read, where they are known, are a file for the trace, and this is the records' verdict
@@ -18,27 +24,41 @@ pub record IsJudged (bytes : Option (List ℕ)) (trace : TraceView) (verdict : V
   pub file : IfSome bytes (λ known. file_says known ≡ Ok trace)
   pub right : IsVerdict trace.records verdict
 
--- the report of the verdict was written, and nothing else, and the outcome is the verdict's kind
-pub record Reports (bytes old new : Option (List ℕ)) (outcome : Outcome) : Type 0 where
+-- what a job prints of the verdict: `check` its report; `order` behind it, of a yes its order, and of a no an
+-- order that leaves the named task incomplete at the named record
+abbrev pub Prints : Job → List Record → Verdict → List ℕ → Type 0
+Prints (Check workers) rs found text = text ≡ report_of rs found
+Prints Order rs (verdict.Yes order) text = text ≡ report_of rs (verdict.Yes order) ++ order_lines rs order
+Prints Order rs (verdict.No i why) text =
+    (order : List ℕ) × IsCounterOrder rs i (task_of why) order
+    × (text ≡ report_of rs (verdict.No i why) ++ order_lines rs order)
+Prints Order rs (verdict.Malformed i cause) text = text ≡ report_of rs (verdict.Malformed i cause)
+
+-- what the job prints of the verdict was written, and nothing else, and the outcome is the verdict's kind
+pub record Reports (job : Job) (bytes old new : Option (List ℕ)) (outcome : Outcome) : Type 0 where
   pub trace : TraceView
   pub verdict : Verdict
   pub judged : IsJudged bytes trace verdict
-  pub written : Appends old new (report_of trace.records verdict)
+  pub text : List ℕ
+  pub printed : Prints job trace.records verdict text
+  pub written : Appends old new text
   pub kind : outcome ≡ outcome_of verdict
   pub kept : outcome ≡ Yes → IsSynchronised trace.records
 
--- the report was written up to somewhere
-pub record BreaksOff (bytes old new : Option (List ℕ)) : Type 0 where
+-- that text was written up to somewhere
+pub record BreaksOff (job : Job) (bytes old new : Option (List ℕ)) : Type 0 where
   pub trace : TraceView
   pub verdict : Verdict
   pub judged : IsJudged bytes trace verdict
+  pub text : List ℕ
+  pub printed : Prints job trace.records verdict text
   pub count : ℕ
-  pub written : Appends old new (take count (report_of trace.records verdict))
+  pub written : Appends old new (take count text)
 
--- what a fault leaves: a prefix of the report where the sink failed, and else nothing
-abbrev pub Leaves : Option (List ℕ) → Option (List ℕ) → Option (List ℕ) → AuditFault → Type 0
-Leaves bytes old new (Write f) = BreaksOff bytes old new
-Leaves bytes old new _ = Keeps old new
+-- what a fault leaves: a prefix of that text where the sink failed, and else nothing
+abbrev pub Leaves : Job → Option (List ℕ) → Option (List ℕ) → Option (List ℕ) → AuditFault → Type 0
+Leaves job bytes old new (Write f) = BreaksOff job bytes old new
+Leaves job bytes old new _ = Keeps old new
 
 -- a fault of the input is the file's first one, or one of the source or of memory while the line was read;
 -- left is what the source has left

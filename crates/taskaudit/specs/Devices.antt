@@ -1,5 +1,5 @@
 -- What an audit tells of the failures of its source and its sink.
-use Rattle.std.specs.Prelude.{◌≡◌, ◌≢◌, ℕ, Option, Some, None, Result, Ok, Err}
+use Rattle.std.specs.Prelude.{◌≡◌, ◌≢◌, ℕ, Option, Some, None, Result, Ok, Err, ⊤}
 use Rattle.certificate.specs.declared.faults.ReadCause.{ReadCause}
 use Rattle.certificate.specs.declared.faults.WriteFault.{WriteFault}
 use Rattle.certificate.specs.declared.faults.WriteFault.TheVariants as write
@@ -22,6 +22,12 @@ read_cause_of _ = None
 abbrev pub written_of : Result Outcome AuditFault → Result (Unit {0}) WriteFault
 written_of (Err (Write f)) = Err f
 written_of _ = Ok tt
+
+-- the fault is of neither device
+abbrev pub IsOfNoDevice : AuditFault → Type 0
+IsOfNoDevice (Read f) = ⊥
+IsOfNoDevice (Write f) = ⊥
+IsOfNoDevice _ = ⊤
 
 -- the sink's answers that ask for another turn, counted: with the 10,001st the writing ends, and where
 -- nothing was written there was none

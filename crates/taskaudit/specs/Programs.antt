@@ -1,8 +1,8 @@
 -- The program, from the words of its command line to its exit status.
-use Rattle.std.specs.Prelude.{◌≡◌, ℕ, List, Option, None, Result, Ok, Err, OnOk, IfOk, IfErr}
+use Rattle.std.specs.Prelude.{◌≡◌, ℕ, List, Option, Result, Ok, Err, IfOk, IfErr}
 use Rattle.std.specs.Io.KnownBytes.{Keeps}
 use Rattle.clap.specs.Words.{Text, fault_of, HasKind}
-use Rattle.taskaudit.specs.declared.work.Job.TheVariants.{Check}
+use Rattle.taskaudit.specs.declared.work.Job.{Job}
 use Rattle.taskaudit.specs.declared.work.Outcome.{Outcome}
 use Rattle.taskaudit.specs.declared.work.Refusal.{Refusal}
 use Rattle.taskaudit.specs.declared.work.Refusal.TheVariants.{NotText, Words, Audit}
@@ -11,19 +11,22 @@ use Rattle.taskaudit.specs.Commands.{command_line, AsksFor}
 use Rattle.taskaudit.specs.Statuses.{exit_status_of}
 use Rattle.taskaudit.specs.Tellings.{Call, IsTold}
 
--- words are refused for what clap says of them, and nothing is written; an audit is refused only where the
--- words ask for one, and leaves what such a fault leaves
+-- what the words ask for is what was reported
+abbrev pub ReportsAsked : List Text → Option (List ℕ) → Option (List ℕ) → Option (List ℕ) → Outcome → Type 0
+ReportsAsked words bytes old new outcome = (job : Job) × AsksFor words job × Reports job bytes old new outcome
+
+-- words are refused for what clap says of them, and nothing is written; a job is refused only where the words
+-- ask for it, and leaves what such a fault leaves of it
 abbrev pub IsRefused : List Text → Option (List ℕ) → Option (List ℕ) → Option (List ℕ) → Refusal → Type 0
 IsRefused words bytes old new NotText = ⊥
 IsRefused words bytes old new (Words error) = HasKind (fault_of command_line words) error × Keeps old new
-IsRefused words bytes old new (Audit fault) = AsksFor words (Check None) × Leaves bytes old new fault
+IsRefused words bytes old new (Audit fault) = (job : Job) × AsksFor words job × Leaves job bytes old new fault
 
 -- what the words ask for is done, or why there are none is how it ends, and nothing is written
 abbrev pub IsServed : Result (List Text) Refusal → Option (List ℕ) → Option (List ℕ) → Option (List ℕ)
     → Result Outcome Refusal → Type 0
 IsServed (Ok words) bytes old new ending =
-    OnOk ending (AsksFor words (Check None)) × IfOk ending (Reports bytes old new)
-    × IfErr ending (IsRefused words bytes old new)
+    IfOk ending (ReportsAsked words bytes old new) × IfErr ending (IsRefused words bytes old new)
 IsServed (Err refusal) bytes old new ending = (ending ≡ Err refusal) × Keeps old new
 
 -- the exit status is that of the ending after it was told

@@ -1,10 +1,11 @@
 //! Judges recorded runs of OpenMP tasks: whether each wait ended, and each dependent task started, only when
 //! it was allowed to. Read `audit` first (`auditing.rt`): its clause `reports` is the headline. Then `run`
 //! (`program.rt`), from the words of the command line to the exit status, `tell` (`telling.rt`) and the texts
-//! (`report.rt`).
+//! (`report.rt`, and `order.rt` for an order).
 #![tactic(auto)]
 
 mod auditing;
+mod order;
 mod program;
 mod report;
 mod telling;

@@ -1,12 +1,10 @@
 //! The program from the words of its command line to its exit status.
-ghost use Rattle.std.specs.Prelude.{◌≡◌, map, IfOk, IfErr, OnOk};
+ghost use Rattle.std.specs.Prelude.{◌≡◌, map, IfOk, IfErr};
 ghost use Rattle.std.specs.Result.{result_map_both};
-ghost use Rattle.taskaudit.specs.Audits.{Reports};
-ghost use Rattle.taskaudit.specs.Commands.{AsksFor};
-ghost use Rattle.taskaudit.specs.Programs.{IsRefused, Ends, Runs};
+ghost use Rattle.taskaudit.specs.Programs.{ReportsAsked, IsRefused, Ends, Runs};
 ghost use Rattle.taskaudit.specs.Statuses.{exit_status_of};
 
-use crate::auditing::audit;
+use crate::auditing::{audit, audit_order};
 use crate::report::{WRONG_WORDS, fault_status, usage_status};
 use crate::telling::{Console, tell};
 use crate::words::job;
@@ -49,14 +47,14 @@ pub fn serve<S: AsStr, I: Source, O: Sink>(
     source: &mut I,
     sink: &mut O,
 ) -> Result<Outcome, Refusal>
-    ensures asked { OnOk result (AsksFor (map S.text words.entry.now) (Job.Check None)) }
-    ensures reports { IfOk result
-        (Reports (I.remaining source.old) (O.contents sink.old) (O.contents sink.new)) }
+    ensures reports { IfOk result (ReportsAsked (map S.text words.entry.now)
+        (I.remaining source.old) (O.contents sink.old) (O.contents sink.new)) }
     ensures refused { IfErr result (IsRefused (map S.text words.entry.now)
         (I.remaining source.old) (O.contents sink.old) (O.contents sink.new)) }
 {
     match job(alloc, words) {
         Ok(Job::Check(_)) => audit(alloc, source, sink).map_err(Refusal::Audit),
+        Ok(Job::Order) => audit_order(alloc, source, sink).map_err(Refusal::Audit),
         Err(error) => Err(Refusal::Words(error)),
     }
 }

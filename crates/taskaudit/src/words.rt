@@ -1,12 +1,12 @@
 //! The command line.
-ghost use Rattle.std.specs.Prelude.{◌≡◌, true, false, map, IfOk, IfErr};
-ghost use Rattle.clap.specs.Words.{app_of, fault_of, kind_of, takes, FailsBy};
+ghost use Rattle.std.specs.Prelude.{◌≡◌, true, false, map, IfOk, IfErr, Some, is_some, option_and_then};
+ghost use Rattle.clap.specs.Words.{app_of, shape_of, new_app, fault_of, kind_of, takes, subcommand_rows_of, FailsBy};
 ghost use Rattle.clap.specs.declared.builder.command.Command.TheViews.{out-Command};
-ghost use Rattle.taskaudit.specs.Commands.{command_line, AsksFor};
+ghost use Rattle.taskaudit.specs.Commands.{command_line, job_named, AsksFor};
 
 use crate::work::Job;
 use clap::error::ErrorKind;
-use clap::{Command, Error};
+use clap::{ArgMatches, Command, Error};
 use std::alloc::{AllocError, Global};
 use std::convert::AsStr;
 
@@ -15,8 +15,15 @@ const ABOUT: &str =
     "Checks recorded OpenMP tasks: did each wait end, and each dependent task start, only when \
                      it was allowed to?";
 
-/// What stands below the options in the help.
-const EXPLANATION: &str = r#"Answers, one line on standard output:
+/// What `check` is for.
+const CHECK_ABOUT: &str = "Checks the trace file on standard input";
+
+/// What `order` is for.
+const ORDER_ABOUT: &str =
+    "Checks the trace file on standard input, and prints an order of its events that shows the answer";
+
+/// What stands below the options in the help, and in that of `check`.
+const EXPLANATION: &str = r#"Answers of check, one line on standard output:
   yes: 6 records, 1 entries, 1 tasks, 1 waits
       in every order of the events that the file allows, each task that a
       taskwait, taskgroup or barrier waits for is complete when the wait
@@ -54,6 +61,22 @@ end or beginend of a sync_region, reads the ledger's length there and then. Any
 other event repeats what its thread last knew, 0 at first.
 docs/RECORDING.md says how to record, docs/FORMAT.md has the whole format."#;
 
+/// What stands below the options in the help of `order`.
+const ORDER_EXPLANATION: &str = r#"Answers, on standard output; the first line is that of check:
+  yes: 6 records, 1 entries, 1 tasks, 1 waits
+      below it all events in an order that the file allows, one line an event:
+      its thread, a space and its seq
+  no: line 7, thread 0, seq 5: task 2 unfinished
+      below it all events in an order that the file allows, in which the named
+      task is not complete at the named event: here task 2 at the line 0 5
+  malformed: line 4, thread 0, seq 2: cause 2 CreatedTwice
+      nothing below it
+
+Exit status: 0 yes, 1 no, 2 malformed, 3 input not read or answer not written,
+  4 wrong arguments, 5 out of memory. Errors go to standard error.
+
+taskaudit check --help says what the answers mean and what the input is."#;
+
 /// What the command line asks for; its first word is the program's name.
 pub fn job<'a, S: AsStr>(alloc: Global, words: &'a [S]) -> Result<Job, Error>
     ensures asked { IfOk result (AsksFor (map S.text words.entry.now)) }
@@ -64,9 +87,20 @@ pub fn job<'a, S: AsStr>(alloc: Global, words: &'a [S]) -> Result<Job, Error>
     ensures kinds { FailsBy (fault_of command_line (map S.text words.entry.now)) result }
 {
     match command(alloc)?.try_get_matches_from(words) {
-        // One subcommand is required, and there is one.
-        Ok(_) => Ok(Job::Check(None)),
+        // One subcommand is required, so one was met.
+        Ok(matches) => Ok(job_met(&matches)),
         Err(error) => Err(error),
+    }
+}
+
+/// The job that the subcommand names.
+fn job_met(matches: &ArgMatches) -> Job
+    requires { is_some (option_and_then job_named (subcommand_rows_of matches.now)) ≡ true }
+    ensures { option_and_then job_named (subcommand_rows_of matches.now) ≡ Some result }
+{
+    match matches.subcommand_name() {
+        Some("order") => Job::Order,
+        _ => Job::Check(None),
     }
 }
 
@@ -75,13 +109,23 @@ fn command<'a>(alloc: Global) -> Result<Command<'a>, AllocError>
     ensures app { IfOk result (λ c. app_of c ≡ command_line) }
     ensures local { IfOk result (λ c. (out-Command c).has_globals ≡ false) }
 {
-    let check = Command::new(alloc, "check")
-        .about("Checks the trace file on standard input")
-        .after_help(EXPLANATION);
+    let check = plain(alloc, "check", CHECK_ABOUT, EXPLANATION);
+    let order = plain(alloc, "order", ORDER_ABOUT, ORDER_EXPLANATION);
     Command::new(alloc, "taskaudit")
         .about(ABOUT)
         .after_help(EXPLANATION)
         .disable_help_subcommand(true)
         .subcommand_required(true)
-        .subcommand(check)
+        .subcommand(check)?
+        .subcommand(order)
+}
+
+/// A subcommand without arguments.
+fn plain<'a>(alloc: Global, name: &'a str, about: &'a str, explanation: &'a str) -> Command<'a>
+    ensures shape { shape_of result ≡ (new_app name.now).top }
+    ensures local { (out-Command result).has_globals ≡ false }
+{
+    Command::new(alloc, name)
+        .about(about)
+        .after_help(explanation)
 }

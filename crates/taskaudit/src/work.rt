@@ -12,6 +12,8 @@ use std::fmt;
 pub enum Job {
     /// To judge the trace on standard input, by this number of threads where one is given.
     Check(Option<u32>),
+    /// To judge the trace on standard input and print an order that shows the verdict.
+    Order,
 }
 
 /// The kind of a verdict that was reported.
