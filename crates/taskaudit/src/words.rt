@@ -29,8 +29,9 @@ const EXPLANATION: &str = r#"Answers of check, one line on standard output:
       taskwait, taskgroup or barrier waits for is complete when the wait
       ends, and each dependent task starts after all its predecessors
   no: line 5, thread 0, seq 3: task 2 unfinished
-      the first event in the file at which a task was not known to be
-      finished that must be: here a wait that ended before its task 2
+      the first event in the file at which some order of the events, allowed
+      by the file, leaves a task incomplete that must be complete: here a
+      wait that ended before its task 2; taskaudit order prints such an order
   no: line 7, thread 0, seq 5: task 2 must precede task 3
       here task 3 starts before its predecessor 2 is finished
   malformed: line 4, thread 0, seq 2: cause 2 CreatedTwice
