@@ -1,5 +1,6 @@
 #!/usr/bin/env python3
 """model.py < FILE: the answer of docs/MODEL.md to a readable trace file, found by the definitions there alone.
+model.py order < FILE: the same, and behind a yes or a no an order of all records, one line `T S` (thread, seq) a record.
 
 It shares no code with the program and saves no time: what is a relation there is a set here, and what happens before
 what is a transitive closure. The first line of each function names the definition that it restates. What a record
@@ -38,8 +39,10 @@ Claim = namedtuple('Claim', 'root path kept')
 Region = namedtuple('Region', 'task kind endpoint')
 Walk = namedtuple('Walk', 'roots current')
 Yes = namedtuple('Yes', 'order')
-No = namedtuple('No', 'place why task')
+No = namedtuple('No', 'place why task order')
 Malformed = namedtuple('Malformed', 'place number name')
+# All orders are tried of a trace with at most so many records.
+MOST_TRIED = 8
 
 
 # What a record says
@@ -130,12 +133,12 @@ def said(name, records):
 
 def is_root(records, task):
     """IsRoot: an initial or implicit task, which some record begins."""
-    return task in said('begun_root', records)
+    return task is not None and task in said('begun_root', records)
 
 
 def is_explicit(records, task):
     """IsExplicit: a task that another task created."""
-    return task in said('created', records)
+    return task is not None and task in said('created', records)
 
 
 def own_before(records, task, i):
@@ -321,12 +324,16 @@ def program_steps(records):
                            if starts_of.get(task) == b or task in (records[b].discarded, records[b].fulfilled)}
 
 
+def steps(records):
+    """IsStep: the program steps, and those from a finishing record to each that names a length above its entry."""
+    return program_steps(records) | {(a, b) for a in places(records) if records[a].finish
+                                     for b in places(records) if records[a].seen < records[b].seen}
+
+
 def happens_before(records):
-    """HappensBefore: for each place b the set of places from which steps lead to b (IsStep, and its chains)."""
-    ledger = {(a, b) for a in places(records) if records[a].finish
-              for b in places(records) if records[a].seen < records[b].seen}
+    """HappensBefore: for each place b the set of places from which steps lead to b (the steps, and their chains)."""
     before = [set() for _ in records]
-    for a, b in program_steps(records) | ledger:
+    for a, b in steps(records):
         before[b].add(a)
     for middle in places(records):
         for b in places(records):
@@ -335,15 +342,37 @@ def happens_before(records):
     return before
 
 
-def greedy(before):
-    """IsGreedy: the order in which each record is the first in file order that may stand next, as far as it gets."""
-    order, missing = [], list(places(before))
+def greedy(before, may, standing):
+    """IsGreedyAfter: behind the places that stand, repeatedly takes the first other one of `may` for which all that happens
+    before it stands, as long as there is one."""
+    order = []
     while True:
-        ready = next((i for i in missing if before[i].isdisjoint(missing)), None)
+        there = {*standing, *order}
+        ready = next((i for i in sorted(may - there) if before[i] <= there), None)
         if ready is None:
             return order
         order.append(ready)
-        missing.remove(ready)
+
+
+def earliest_order(before, i):
+    """IsEarliestOrder: what happens before i, then i, then all others; both groups in greedy order."""
+    first = [*greedy(before, before[i], []), i]
+    return first + greedy(before, {*places(before)}, first)
+
+
+def is_linearization(before, order):
+    """IsLinearization: the order has each place once, and what happens before a place stands earlier than it."""
+    return sorted(order) == [*places(before)] and all(before[i] <= {*order[:at]} for at, i in enumerate(order))
+
+
+def linearizations(before, standing=()):
+    """IsLinearization: yields each order that is one and begins with those that stand."""
+    missing = [i for i in places(before) if i not in standing]
+    if not missing:
+        yield standing
+    for i in missing:
+        if before[i] <= {*standing}:
+            yield from linearizations(before, (*standing, i))
 
 
 # What must be complete, and what is
@@ -414,6 +443,20 @@ def incomplete(records, i, earlier):
 def unfinished(records, i):
     """IsUnfinished: the tasks required at i and not complete by what the record there has seen (IsCompleteAt)."""
     return incomplete(records, i, {k for k in places(records) if records[k].seen < records[i].seen})
+
+
+def incomplete_in(records, order, i):
+    """IsViolation: the tasks required at i and not complete there in this order (IsCompleteIn)."""
+    return incomplete(records, i, {*order[:order.index(i)]})
+
+
+def missed(records, before):
+    """IsMissed: for each place the tasks required there and not complete in some linearization, by trying all of them."""
+    tried = {(i, frozenset(order[:at])) for order in linearizations(before) for at, i in enumerate(order)}
+    found = [set() for _ in records]
+    for i, earlier in tried:
+        found[i] |= incomplete(records, i, earlier)
+    return found
 
 
 # The causes of malformed. Each gives the places of the records that have it, if no cause above it occurs.
@@ -569,32 +612,49 @@ ALL_CAUSES = {
 # The verdict and its report
 
 def verdict(records):
-    """IsVerdict: Malformed with the least cause that occurs, else No at the first unfinished record, else Yes."""
+    """IsVerdict: Malformed with the least cause that occurs, else No at the first unfinished record, else Yes. With a No
+    goes an order too (IsShownBy)."""
     for number, (name, places_with) in enumerate(ALL_CAUSES.items(), 1):
         found = places_with(records)
         if found:
             return Malformed(min(found), number, name)
-    for i in places(records):
-        left = unfinished(records, i)
-        if left:
-            why = 'Unfinished' if covered(records, i) else 'Predecessor'
-            return No(i, why, next(record.created for record in records if record.created in left))
-    return Yes(approved_order(records))
-
-
-def approved_order(records):
-    """IsApproved: the greedy order, after a check that it is a linearization and that IsAlwaysComplete holds."""
     before = happens_before(records)
-    order = greedy(before)
-    assert sorted(order) == list(places(records))
-    assert all(before[i] <= set(order[:at]) for at, i in enumerate(order))
-    assert not any(incomplete(records, i, before[i]) for i in places(records))
+    left = [unfinished(records, i) for i in places(records)]
+    check_missed(records, before, left)
+    i = next((i for i in places(records) if left[i]), None)
+    if i is None:
+        return Yes(approved_order(before))
+    task = next(record.created for record in records if record.created in left[i])
+    return No(i, 'Unfinished' if covered(records, i) else 'Predecessor', task, counter_order(records, before, i, task))
+
+
+def check_missed(records, before, left):
+    """Checks that in a trace without a cause the tasks which are unfinished by what a record has seen are those that some
+    order leaves incomplete there. In each order all that happens before i stands before i, and in its earliest order
+    nothing else; where the records are few, all orders are tried too."""
+    earliest = [incomplete(records, i, before[i]) for i in places(records)]
+    assert left == earliest, 'what the records have seen disagrees with the orders in which they are earliest'
+    if len(records) <= MOST_TRIED:
+        assert left == missed(records, before), 'what the records have seen disagrees with all orders'
+
+
+def approved_order(before):
+    """IsApproved: the greedy order, after a check that it is a linearization."""
+    order = greedy(before, {*places(before)}, [])
+    assert is_linearization(before, order), 'the greedy order is no linearization'
     return order
 
 
-def report(records):
-    """report_of and outcome_status: the line of the answer, without its line feed, and the exit status."""
-    found = verdict(records)
+def counter_order(records, before, i, task):
+    """IsCounterOrder: the order in which i is earliest, after a check that it is a linearization and misses the task."""
+    order = earliest_order(before, i)
+    assert is_linearization(before, order), 'the order of a no is no linearization'
+    assert task in incomplete_in(records, order, i), 'the order of a no leaves its task complete'
+    return order
+
+
+def report(records, found):
+    """report_of and outcome_status: the line of a verdict, without its line feed, and the exit status."""
     if isinstance(found, Yes):
         tasks = len([record for record in records if record.creation])
         waits = len([record for record in records if kind_ended(record) in WAITS_FOR_TASKS])
@@ -608,12 +668,23 @@ def report(records):
     return f'no: {where}: task {found.task} must precede task {dependent_at(records, found.place)}', 1
 
 
-def main():
-    """Prints the answer and gives the exit status."""
-    text, status = report(read(sys.stdin.buffer.read()))
-    print(text)
+def order_lines(records, found):
+    """What `order` prints behind the report: thread and seq of each record, in the order that goes with a yes or a no."""
+    order = [] if isinstance(found, Malformed) else found.order
+    return [f'{records[i].thread} {records[i].seq}' for i in order]
+
+
+def main(words):
+    """Prints the answer, with the order where that is asked for, and gives the exit status."""
+    if words not in ([], ['order']):
+        print(__doc__)
+        return 4
+    records = read(sys.stdin.buffer.read())
+    found = verdict(records)
+    text, status = report(records, found)
+    print('\n'.join([text, *order_lines(records, found) * bool(words)]))
     return status
 
 
 if __name__ == '__main__':
-    sys.exit(main())
+    sys.exit(main(sys.argv[1:]))

@@ -5,6 +5,7 @@ too early: a wait ends, or a dependent task starts, before it may. The recorder 
 import itertools
 import os
 import sys
+from functools import partial
 
 HERE = os.path.dirname(os.path.abspath(__file__))
 sys.path.insert(0, os.path.join(HERE, '../examples'))
@@ -36,8 +37,9 @@ class Job(Task):
         before = self.parent.children[:self.parent.children.index(self)]
         return [it for it in before if any(conflict(one, other) for one in it.items for other in self.items)]
 
-    def is_ready(self):
-        return all(it.is_done for it in self.predecessors())
+    def is_ready(self, ending=None):
+        """Whether all predecessors are complete, if the task `ending` is."""
+        return all(it.is_done or it is ending for it in self.predecessors())
 
     def awaits(self):
         """The taskwait with dependences at which the task stands, if any."""
@@ -118,19 +120,11 @@ class Thread(Recorder):
 class Run:
     """A run, and its records in the order of time. `haste` is there while a hasty step may be taken."""
 
-    def __init__(self, chance, is_hasty):
+    def __init__(self, chance, threads):
         Task.ids = itertools.count(1)
         self.chance, self.haste, self.was_hasty = chance, False, False
         self.ledger, self.records, self.jobs, self.regions = Ledger(), [], [], itertools.count(100)
-        self.threads = [Thread(it, self) for it in range(chance.randint(1, 4))]
-        for thread in self.threads:
-            if chance.random() < 0.3:
-                thread.record('thread_begin', kind=chance.choice(['initial', 'worker', 'other', 'unknown']))
-        steps = chance.randint(0, chance.choice([20, 60, 120]))
-        hasty_from = chance.randint(0, steps) if is_hasty else None
-        for number in range(steps):
-            self.haste |= number == hasty_from
-            self.step(chance.choice(self.threads))
+        self.threads = [Thread(it, self) for it in range(threads)]
 
     def step(self, thread):
         """One random step of a thread, as often as not one that ends something."""
@@ -146,6 +140,14 @@ class Run:
     def allowed(self, *steps):
         """Those of the steps (what is done, and whether it may be done now) that may be taken."""
         return [(action, is_due) for action, is_due in steps if is_due or self.haste]
+
+    def beginnings(self):
+        """What a short run may begin with: a task that a wait may cover, or two of which one may depend on the other, and
+        the other runs."""
+        group = partial(self.begin_region, kind='taskgroup')
+        pair = [partial(self.create, with_items=True)] * 2
+        return ([self.create], [self.create, self.begin_region], [group, self.create], pair,
+                [*pair, lambda thread: thread.run_next('switch', self.jobs[0])])
 
     # What a thread may do
 
@@ -176,12 +178,15 @@ class Run:
         return steps + self.chance.sample(discards, min(1, len(discards)))
 
     def endings_of_body(self, thread):
-        """The ways in which the current task may end, each with a task that runs next."""
+        """The ways in which the current task may end, each with a task that runs next; that may be one which waited for
+        this one alone."""
         job = thread.current
         status = 'detach' if job.event == 'due' else 'complete'
         statuses = [status] if job.event else [status, status, 'cancel']
-        return [(lambda after=after, it=it: self.end_body(thread, it, after), True) for it in statuses
-                for after in self.runnable(thread)]
+        ending = None if status == 'detach' else job
+        after = [(it, True) for it in self.runnable(thread, ending)] + [(it, False) for it in self.waiting(ending)]
+        return [(lambda status=status, it=it: self.end_body(thread, status, it), is_due) for status in statuses
+                for it, is_due in after]
 
     def others(self, thread):
         """All other steps: something begins or is made, or another task runs."""
@@ -201,17 +206,18 @@ class Run:
             steps.append((lambda: self.fork(thread), True))
         return self.allowed(*steps)
 
-    def runnable(self, thread):
-        """The tasks that may run next on the thread: its innermost root, those it suspended there, and new ones."""
+    def runnable(self, thread, ending=None):
+        """The tasks that may run next on the thread, if the task `ending` is complete: its innermost root, those it
+        suspended there, and new ones."""
         root = thread.roots[-1]
         roots = [root] if root is not thread.current else []
         return roots + [it for it in self.jobs if it is not thread.current and not it.is_taskwait and (
             it.stands == 'suspended' and it.context is root and it.thread is thread
-            or it.stands == 'created' and it.is_ready())]
+            or it.stands == 'created' and it.is_ready(ending))]
 
-    def waiting(self):
-        """The tasks that may not start yet, since a predecessor is not complete."""
-        return [it for it in self.jobs if it.stands == 'created' and not it.is_taskwait and not it.is_ready()]
+    def waiting(self, ending=None):
+        """The tasks that may not start yet, since a predecessor is not complete, even if the task `ending` is."""
+        return [it for it in self.jobs if it.stands == 'created' and not it.is_taskwait and not it.is_ready(ending)]
 
     # What happens then
 
@@ -232,9 +238,9 @@ class Run:
             member.team = team
             it.begin(member, 'implicit', parallel, len(threads), index)
 
-    def create(self, thread, *flags):
+    def create(self, thread, *flags, with_items=None):
         job = Job(thread.current)
-        with_items = flags or self.chance.random() < 0.5
+        with_items = with_items or flags or self.chance.random() < 0.5
         job.items = [{'type': self.chance.choice(DEP_KINDS), 'var': self.chance.randint(7, 9)}
                      for _ in range(self.chance.randint(1, 3) if with_items else 0)]
         job.is_taskwait = 'taskwait' in flags
@@ -249,9 +255,9 @@ class Run:
         kinds = ['taskwait', 'taskwait', 'taskgroup', 'taskgroup', 'reduction']
         return self.chance.choice(kinds if job.parent else kinds + [*WAITING, 'barrier_implementation'])
 
-    def begin_region(self, thread):
+    def begin_region(self, thread, kind=None):
         job = thread.current
-        region = Region(self.kind_of_region(job), job)
+        region = Region(kind or self.kind_of_region(job), job)
         job.regions.append(region)
         thread.sync_region(region.kind, 'begin', job)
 
@@ -285,3 +291,36 @@ class Run:
     def discard(self, thread, job):
         thread.discard(job)
         job.stands, job.is_done = 'ended', True
+
+
+def long_run(chance, is_hasty):
+    """A run of one to four threads, of up to some hundred records."""
+    run = Run(chance, chance.randint(1, 4))
+    for thread in run.threads:
+        if chance.random() < 0.3:
+            thread.record('thread_begin', kind=chance.choice(['initial', 'worker', 'other', 'unknown']))
+    steps = chance.randint(0, chance.choice([20, 60, 120]))
+    hasty_from = chance.randint(0, steps) if is_hasty else None
+    for number in range(steps):
+        run.haste |= number == hasty_from
+        run.step(chance.choice(run.threads))
+    return run
+
+
+def short_run(chance, is_hasty, most):
+    """A run that ends once it has so many records. It begins with a task for which something soon may wait, and mostly
+    with a second thread, so that its records have several orders."""
+    run = Run(chance, chance.randint(2, 3))
+    first = run.threads[0]
+    run.begin_initial(first)
+    others = chance.choice(['in a team', 'at once', 'at once', 'later'])
+    if others == 'in a team':
+        run.fork(first)
+    for thread in run.threads[1:] if others == 'at once' else []:
+        run.begin_initial(thread)
+    for action in chance.choice(run.beginnings()):
+        action(first)
+    run.haste = is_hasty
+    while len(run.records) < most and chance.random() < 0.95:
+        run.step(chance.choice(run.threads))
+    return run

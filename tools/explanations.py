@@ -2,7 +2,7 @@
 words are those of docs/MODEL.md; `model` restates its definitions."""
 import json
 import re
-from collections import Counter, deque
+from collections import Counter, deque, namedtuple
 from itertools import islice
 
 import orders
@@ -16,6 +16,9 @@ ANSWER = re.compile(r'(?:malformed: (?P<malformed>.*): cause (?P<cause>\d+) \w+'
                     r'|unreadable: (?P<unreadable>.*): (?P<fault>\d) (?P<name>\w+)|(?P<yes>yes): .*|(?P<other>.*))\n?')
 
 
+# A segment of an order: a sentence about it, its first and its last records, and how many between them are left out.
+Order = namedtuple('Order', 'sentence first left_out last')
+
 # So many records of one kind are shown, and so many tasks named in a row.
 MOST_SHOWN = 8
 # A path has at most so many numbers.
@@ -23,11 +26,12 @@ MOST_NUMBERS = 1024
 
 
 class Explanation:
-    """An answer, sentences about it, and the lines of the file that it is about, each with the part that it has."""
+    """An answer, sentences about it, and the lines of the file that it is about, each with the part that it has; of a no
+    also an order in which the named task is not complete."""
 
     def __init__(self, answer):
         self.answer, self.sentences, self.shown = answer.rstrip(), [], []
-        self.line = self.task = None
+        self.line = self.task = self.order = None
 
     def say(self, text):
         self.sentences.append(text)
@@ -38,8 +42,8 @@ class Explanation:
         return record
 
 
-def explain(path, answer):
-    """Explains the answer on the file."""
+def explain(path, answer, order):
+    """Explains the answer on the file. `order` yields thread and seq of each record in the order that goes with a no."""
     told, trace, found = ANSWER.fullmatch(answer), Trace(path), Explanation(answer)
     if told is None or told['other'] is not None:
         found.say('The file was not judged.')
@@ -56,6 +60,7 @@ def explain(path, answer):
         if told['no']:
             found.task = int(told['task'])
             explain_no(found, trace, record)
+            explain_order(found, trace, record, order)
         else:
             CAUSES[int(told['cause']) - 1](found, trace, record)
             found.say(f"docs/CAUSES.md, cause {told['cause']}, says which mistakes give this, and what to mend.")
@@ -142,6 +147,43 @@ def say_when_finished(found, record, parts, starts):
     behind = [it for it in (*parts.values(), *starts) if it.thread == record.thread and it.seq > record.seq]
     if behind:
         found.say(f'Line {behind[0].number} stands behind line {record.number} in its thread: the runtime was too early.')
+
+
+def explain_order(found, trace, record, order):
+    """The segment of the order from what the task last did to the named record."""
+    own = {(it.thread, it.seq) for it in trace.of_task(found.task)}
+    named = (record.thread, record.seq)
+    segment = orders.segment_up_to(order, named, own)
+    if segment is None:
+        return
+    records = trace.placed({*segment.first, *segment.last})
+    parts = {it.number: f', {part}' for part, it in found.shown}
+    first, last = ([(f'thread {it.thread}' + parts.get(it.number, ''), it) for it in map(records.get, some)]
+                   for some in (segment.first, segment.last))
+    if record.region:
+        event = 'the wait ends'
+    elif record.wait_completed is not None:
+        event = f'taskwait {record.wait_completed} is complete'
+    else:
+        event = f'task {record.started} starts'
+    stands = 'created only after' if segment.first[0] == named else 'not complete when'
+    sentence = f'The events may also have happened in this order, in which task {found.task} is {stands} {event}:'
+    found.order = Order(sentence, first, segment.left_out(), last)
+
+
+def lines_of(shown, place_of=lambda code: None):
+    """Records as lines, each with the part that it has, and its place in the sources where that is known."""
+    lines = []
+    for part, it in shown:
+        place = place_of(it.value.get('codeptr'))
+        lines += [f'line {it.number}: {part}' + (f', at {place}' if place else ''), f'    {it.text}']
+    return lines
+
+
+def lines_of_order(order, place_of=lambda code: None):
+    """A segment of an order as lines."""
+    between = [f'({order.left_out} more left out here)'] * bool(order.left_out)
+    return [*lines_of(order.first, place_of), *between, *lines_of(order.last, place_of)]
 
 
 # What several causes ask

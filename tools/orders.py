@@ -1,11 +1,13 @@
-"""Orders of records: what has to come before what, a circle of that where there is no order, and one order where there
-is."""
+"""Orders of records: what has to come before what, a circle of that where there is no order, one order where there is,
+and segments of an order."""
 from collections import defaultdict, deque, namedtuple
 from heapq import heapify, heappop, heappush
 from itertools import groupby
 
 # So much is looked at in the search for a shortest circle; past that the shortest one found until then serves.
 MOST_LOOKED_AT = 10**6
+# Of a segment of an order so many records are kept at its begin, and so many at its end.
+MOST_KEPT = 10
 
 
 def needs(record):
@@ -154,3 +156,37 @@ def merged(records):
         for thread in [it.thread] * bool(lane) + waiting.pop(it.created, []):
             heappush(ready, (lanes[thread][0].number, thread))
     return found + sorted((it for lane in lanes.values() for it in lane), key=lambda it: it.number)
+
+
+class Segment:
+    """A segment of an order: its first records, the last ones of the others, and how many records it has."""
+
+    def __init__(self):
+        self.first, self.last, self.count = [], deque(maxlen=MOST_KEPT), 0
+
+    def add(self, it):
+        self.count += 1
+        (self.first if len(self.first) < MOST_KEPT else self.last).append(it)
+
+    def left_out(self):
+        return self.count - len(self.first) - len(self.last)
+
+
+def segment_up_to(order, named, own):
+    """The segment of the order from the last of a task's own records before the named one to that one; where none of them
+    stands before it, from the named one to the first of them. None where the named one is not in the order."""
+    found, order = Segment(), iter(order)
+    for it in order:
+        if it in own and it != named:
+            found = Segment()
+        if it in own or it == named or found.count:
+            found.add(it)
+        if it == named:
+            break
+    else:
+        return None
+    while found.first[0] == named and (it := next(order, None)):
+        found.add(it)
+        if it in own:
+            break
+    return found

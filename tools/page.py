@@ -4,6 +4,7 @@ record."""
 from html import escape
 
 from model import Walk, WAITS_FOR_TASKS, after_body, conflict
+from explanations import lines_of, lines_of_order
 from orders import in_order
 from traces import Trace
 
@@ -177,13 +178,19 @@ class Sheet:
                 + '\n'.join(self.parts) + '</svg>')
 
 
+def as_they_stand(lines):
+    return '<pre>' + escape('\n'.join(lines)) + '</pre>\n'
+
+
 def page(file, found):
     """The page, as text."""
     records = [] if found.answer.startswith('unreadable') else chosen(file, found)
-    lines = '\n'.join(f'line {it.number}: {part}\n    {it.text}' for part, it in found.shown)
+    order = ''
+    if found.order:
+        order = f'<p>{escape(found.order.sentence)}</p>\n' + as_they_stand(lines_of_order(found.order))
     told = ''.join(f'<p>{escape(it)}</p>\n' for it in found.sentences)
     return (f'<!DOCTYPE html>\n<html lang="en"><head><meta charset="utf-8"><title>{escape(found.answer)}</title>'
             f'<style>{STYLE}</style></head><body>\n<h1>{escape(found.answer)}</h1>\n{told}'
             f'<p>Records from left to right in an order that they allow; the first and the last may be left out.</p>{KEY}'
-            f'<div class="sheet">{Sheet(records, found).text()}</div>\n<pre>{escape(lines)}</pre>\n'
+            f'<div class="sheet">{Sheet(records, found).text()}</div>\n{as_they_stand(lines_of(found.shown))}{order}'
             f'<script>{SCRIPT}</script>\n</body></html>\n')

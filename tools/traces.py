@@ -98,6 +98,11 @@ class Trace:
     def record(self, number):
         return next(self.among(lambda it: it == number))
 
+    def placed(self, wanted):
+        """The records of these threads and numbers (`seq`), by both."""
+        found = self.records('|'.join(member(['seq'], seq) for seq in {seq for _, seq in wanted}))
+        return {(it.thread, it.seq): it for it in found if (it.thread, it.seq) in wanted}
+
     def creation(self, task):
         """The record that creates the explicit task."""
         return self.record(self.creations[task][2])
