@@ -14,8 +14,8 @@ use Rattle.checker.specs.Counter.{IsShownBy}
 use Rattle.checker.specs.Verdicts.{IsVerdict}
 use Rattle.taskaudit.specs.Orders.{place_line, order_lines, order_shown}
 
--- the places of such an order are records
-pub linear_within : (rs : List Record) (order : List ℕ) → IsLinearization rs order → (i : ℕ) → Contains order i → i < length rs
+-- the places of an order of all records are theirs
+linear_within : (rs : List Record) (order : List ℕ) → IsLinearization rs order → (i : ℕ) → Contains order i → i < length rs
 linear_within rs order linear i stands =
     place_below rs i (Contains-permutation order (places rs) i (IsPermutation-sym (places rs) order linear.all_once) stands)
 

@@ -1,6 +1,6 @@
--- What the program promises. Read Headline first: it quotes nothing but definitions of ompt_events. Then Audits
--- (`Reports.kept` ties the headline to an answer), Reports and Orders (what is printed), Devices, Statuses, and
--- Commands, Tellings and Programs (from the command line to the exit status).
+-- What the program promises. Read Headline first: it quotes nothing but definitions of ompt_events. Then
+-- Audits (`Reports.kept` ties the headline to an answer), Reports and Orders (what is printed), Devices,
+-- Statuses, and Commands, Tellings and Programs (from the command line to the exit status).
 pub mod Headline
 pub mod Audits
 pub mod Reports

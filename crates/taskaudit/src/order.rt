@@ -17,7 +17,8 @@ use std::alloc::{AllocError, Global};
 /// at most 2^22 records, and the line feed.
 const LINE: usize = 12;
 
-/// The report of the trace's verdict, and behind it the order that shows it. The counter order is that of a no.
+/// The report of the trace's verdict, and behind it the order that shows it. The counter order is that of a
+/// no.
 pub fn shown_text(
     alloc: Global,
     trace: &Trace,
@@ -51,7 +52,8 @@ fn order_shown<'a>(verdict: &'a Verdict, counter: &'a Option<Order>) -> Option<&
 fn order_text(report: String, order: &Order, records: &[Record]) -> Result<Vec<u8>, AuditFault>
     requires few { length records.now ≤ max_records }
     requires within { (i : ℕ) → Contains order.now i → i < length records.now }
-    ensures text { IfOk result (λ text. text.items ≡ string_bytes report ++ order_lines records.now order.now) }
+    ensures text { IfOk result (λ text. text.items
+        ≡ string_bytes report ++ order_lines records.now order.now) }
     ensures memory { IsOkUnless result AuditFault.Memory }
 {
     let mut text = report.into_bytes();

@@ -1,9 +1,16 @@
 use Rattle.std.proofs.Common.{◌≡◌, ◌∙◌, ◌<◌, arith, length, sym, Some}
+use Rattle.std.proofs.lemmas.Option.{slice_get-get_or}
 use Rattle.std.specs.Prelude.{slice_get}
 use Rattle.ompt_events.proofs.ListLemmas.{get_contains}
 use Rattle.ompt_events.proofs.PlaceLemmas.{read_get}
 use Rattle.taskaudit.proofs.OrderLemmas.{lines_more}
 use Rattle.taskaudit.proofs.order.put_lines.Goals as goal
+
+pub unwrap-place-requires : goal.unwrap-place-requires
+unwrap-place-requires c =
+    let order = c.args.order.now in
+    let below : c.loop-before.before < length order = omega (arith, c.loop-before-test.true, c.len-before-end.ensures) in
+    rw (c.place_at.ensures, slice_get-get_or order c.loop-before.before 0 below)
 
 pub bounds-records-place : goal.bounds-records-place
 bounds-records-place c =
