@@ -120,7 +120,7 @@ plain-body (ImplicitTask endpoint actual index flags parallel task) h = (
 )
 plain-body (TaskCreate deps flags task child) h = ((refl, refl), ((refl, tt), ((refl, plain-task_flags flags.0 1), ((refl, h.0), ((refl, h.1), tt)))))
 plain-body (Dependences task list) h = ((refl, refl), ((refl, h.0), ((refl, plain-deps list h.1), tt)))
-plain-body (TaskSchedule status prior next share) h = ((refl, refl), ((refl, plain-status status), ((refl, h.0), ((refl, plain-number_or_null next 2 h.1), plain-claim share h.2))))
+plain-body (TaskSchedule status turns prior next share) h = ((refl, refl), ((refl, plain-status status), ((refl, h.0), ((refl, plain-number_or_null next 2 h.1), plain-claim share h.2))))
 plain-body (SyncRegion kind endpoint parallel task) h = ((refl, refl), ((refl, plain-sync_kind kind), ((refl, plain-endpoint endpoint), ((refl, plain-number_or_null parallel 2 h.0), ((refl, h.1), tt)))))
 plain-body (body.Cancel flags task share) h = ((refl, refl), ((refl, plain-cancel_flags flags.0 1), ((refl, h.0), plain-claim share h.1)))
 
@@ -211,7 +211,7 @@ size-body (ParallelEnd task parallel) sound = omega arith
 size-body (ImplicitTask endpoint actual index flags parallel task) sound = omega (arith, size-endpoint endpoint, size-task_flags flags.0)
 size-body (TaskCreate deps flags task child) sound = omega (arith, size-task_flags flags.0)
 size-body (Dependences task list) sound = omega (arith, size-deps list sound.few_dependences)
-size-body (TaskSchedule status prior next share) sound = omega (arith, size-status status, size-number_or_null next, size-claim share sound.short_path)
+size-body (TaskSchedule status turns prior next share) sound = omega (arith, size-status status, size-number_or_null next, size-claim share sound.short_path)
 size-body (SyncRegion kind endpoint parallel task) sound = omega (arith, size-sync_kind kind, size-endpoint endpoint, size-number_or_null parallel)
 size-body (body.Cancel flags task share) sound = omega (arith, size-cancel_flags flags.0, size-claim share sound.short_path)
 
@@ -257,7 +257,7 @@ fits-body (ParallelEnd task parallel) range sound = refl
 fits-body (ImplicitTask endpoint actual index flags parallel task) range sound = rw (short actual range.0) (short index range.1)
 fits-body (TaskCreate deps flags task child) range sound = refl
 fits-body (Dependences task list) range sound = le-leb (length list) max_dependences sound.few_dependences
-fits-body (TaskSchedule status prior next share) range sound = fits-claim share range.2 sound.short_path
+fits-body (TaskSchedule status turns prior next share) range sound = fits-claim share range.2 sound.short_path
 fits-body (SyncRegion kind endpoint parallel task) range sound = refl
 fits-body (body.Cancel flags task share) range sound = fits-claim share range.1 sound.short_path
 

@@ -93,7 +93,7 @@ pub line-dependences : (r : Record) (task : ℕ) (list : List Dep) → line_of (
 unfolding with_member escape_byte
 line-dependences r task list = refl
 
-pub line-switching : (r : Record) (status : Status) (prior : ℕ) (next : Option ℕ) → line_of (with_body r (TaskSchedule status prior next None))
+pub line-switching : (r : Record) (status : Status) (prior : ℕ) (next : Option ℕ) → line_of (with_body r (TaskSchedule status turns prior next None))
     ≡ (codes "{\"cb\":\"task_schedule\",\"next\":" ++ compact_text (number_or_null next))
     ++ ((codes ",\"prior\":" ++ decimal prior)
     ++ ((codes ",\"seen\":" ++ decimal r.seen)
@@ -104,7 +104,7 @@ pub line-switching : (r : Record) (status : Status) (prior : ℕ) (next : Option
 unfolding with_member escape_byte
 line-switching r status prior next = refl
 
-pub line-finishing : (r : Record) (status : Status) (prior : ℕ) (next : Option ℕ) (c : Claim) → line_of (with_body r (TaskSchedule status prior next (Some c)))
+pub line-finishing : (r : Record) (status : Status) (prior : ℕ) (next : Option ℕ) (c : Claim) → line_of (with_body r (TaskSchedule status turns prior next (Some c)))
     ≡ (codes "{\"cb\":\"task_schedule\",\"kept\":" ++ decimal c.kept)
     ++ ((codes ",\"next\":" ++ compact_text (number_or_null next))
     ++ ((codes ",\"path\":" ++ compact_text (array (items_of (map whole_number c.path))))

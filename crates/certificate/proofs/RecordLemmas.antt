@@ -85,7 +85,7 @@ record-read d thread seq seen t q s b is_thread is_seq is_seen is_body fits_thre
 -- ---- callbacks
 
 pub task_schedule-share : (d : Data) (st : Status) (prior : ℕ) (nx : Option ℕ) → Ok st ≡ ok_or (status member.status d) Field → Ok prior ≡ ok_or (whole member.prior d) Field → Ok nx ≡ ok_or (next st member.next d) Field
-    → task_schedule d ≡ option_and_then (λ sh. Some (TaskSchedule st prior nx sh)) (share (is_some (status_part st)) d)
+    → task_schedule d ≡ option_and_then (λ sh. Some (TaskSchedule st turns prior nx sh)) (share (is_some (status_part st)) d)
 unfolding task_schedule
 task_schedule-share d st prior nx s p n = rw (ok_or-some _ st s, ok_or-some _ prior p, ok_or-some _ nx n)
 
@@ -93,12 +93,12 @@ task_schedule-share d st prior nx s p n = rw (ok_or-some _ st s, ok_or-some _ pr
 pub schedule-err : (d : Data) (st : Status) (prior : ℕ) (nx : Option ℕ) (e : ReadCause) → Ok st ≡ ok_or (status member.status d) Field → Ok prior ≡ ok_or (whole member.prior d) Field → Ok nx ≡ ok_or (next st member.next d) Field
     → Err e ≡ bounded share_fits (share (is_some (status_part st)) d) → Err e ≡ bounded body_fits (task_schedule d)
 schedule-err d st prior nx e s p n err =
-    rw (task_schedule-share d st prior nx s p n) (bounded-err share_fits body_fits (TaskSchedule st prior nx) (share (is_some (status_part st)) d) e (λ sh no. no) err)
+    rw (task_schedule-share d st prior nx s p n) (bounded-err share_fits body_fits (TaskSchedule st turns prior nx) (share (is_some (status_part st)) d) e (λ sh no. no) err)
 
 pub schedule-ok : (d : Data) (st : Status) (prior : ℕ) (nx : Option ℕ) (sh : Option Claim) → Ok st ≡ ok_or (status member.status d) Field → Ok prior ≡ ok_or (whole member.prior d) Field → Ok nx ≡ ok_or (next st member.next d) Field
-    → Ok sh ≡ bounded share_fits (share (is_some (status_part st)) d) → Ok (TaskSchedule st prior nx sh) ≡ bounded body_fits (task_schedule d)
+    → Ok sh ≡ bounded share_fits (share (is_some (status_part st)) d) → Ok (TaskSchedule st turns prior nx sh) ≡ bounded body_fits (task_schedule d)
 schedule-ok d st prior nx sh s p n read =
-    rw (task_schedule-share d st prior nx s p n) (bounded-in share_fits body_fits (TaskSchedule st prior nx) (share (is_some (status_part st)) d) sh (λ fits. fits) read)
+    rw (task_schedule-share d st prior nx s p n) (bounded-in share_fits body_fits (TaskSchedule st turns prior nx) (share (is_some (status_part st)) d) sh (λ fits. fits) read)
 
 -- no callback has the name
 bytes_eq-other : (a b : List ℕ) → a ≢ b → bytes_eq a b ≡ false

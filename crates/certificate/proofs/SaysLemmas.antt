@@ -139,13 +139,13 @@ unfolding with_member unbounded body_named dependences
 says-dependences thread seq seen task list = rw (deps-read list) refl
 
 says-finishing : (thread seq seen : ℕ) (status : Status) (prior : ℕ) (next : Option ℕ) (c : Claim) → is_some next ≡ demands_next status → is_some (status_part status) ≡ true
-    → Says (of_body thread seq seen (TaskSchedule status prior next (Some c)))
+    → Says (of_body thread seq seen (TaskSchedule status turns prior next (Some c)))
 unfolding with_member unbounded body_named task_schedule share claim
 says-finishing thread seq seen status prior next c follows finishes =
     rw (named-status status, nullable-number_or_null next, next-read (demands_next status) next follows, finishes, wholes-items_of c.path) refl
 
 says-switching : (thread seq seen : ℕ) (status : Status) (prior : ℕ) (next : Option ℕ) → is_some next ≡ demands_next status → is_some (status_part status) ≡ false
-    → Says (of_body thread seq seen (TaskSchedule status prior next None))
+    → Says (of_body thread seq seen (TaskSchedule status turns prior next None))
 unfolding with_member unbounded body_named task_schedule share
 says-switching thread seq seen status prior next follows goes_on =
     rw (named-status status, nullable-number_or_null next, next-read (demands_next status) next follows, goes_on) refl
@@ -175,9 +175,9 @@ says-body thread seq seen (ImplicitTask End actual index flags parallel task) so
 says-body thread seq seen (ImplicitTask BeginEnd actual index flags parallel task) sound = absurd sound.begins_or_ends
 says-body thread seq seen (TaskCreate deps flags task child) sound = says-task_create thread seq seen deps flags task child sound.named_flags
 says-body thread seq seen (Dependences task list) sound = says-dependences thread seq seen task list
-says-body thread seq seen (TaskSchedule status prior next (Some c)) sound =
+says-body thread seq seen (TaskSchedule status turns prior next (Some c)) sound =
     says-finishing thread seq seen status prior next c sound.next (sym (is_some-map (λ (part : Part). (prior, part)) (status_part status)) ∙ sym sound.claimed)
-says-body thread seq seen (TaskSchedule status prior next None) sound =
+says-body thread seq seen (TaskSchedule status turns prior next None) sound =
     says-switching thread seq seen status prior next sound.next (sym (is_some-map (λ (part : Part). (prior, part)) (status_part status)) ∙ sym sound.claimed)
 says-body thread seq seen (SyncRegion kind endpoint parallel task) sound = says-sync_region thread seq seen kind endpoint parallel task
 says-body thread seq seen (body.Cancel flags task (Some c)) sound =

@@ -196,7 +196,7 @@ unfolding task_schedule
 task_schedule-sound d b e fits =
     option_and_then_some _ (status member.status d) b e (λ st _ e1. option_and_then_some _ (whole member.prior d) b e1 (λ prior _ e2.
     option_and_then_some _ (next st member.next d) b e2 (λ nx follows e3. option_and_then_some _ (share (is_some (status_part st)) d) b e3 (λ sh shared same.
-    let is : TaskSchedule st prior nx sh ≡ b = cc in
+    let is : TaskSchedule st turns prior nx sh ≡ b = cc in
     let claimed = share-sound (is_some (status_part st)) d sh shared ∙ sym (is_some-map (λ (part : Part). (prior, part)) (status_part st)) in
     subst IsSound is (record { named_flags = tt; named_cancellation = tt; begins_or_ends = tt; claimed = claimed; short_path = share-short sh (ap body_fits is ∙ fits); few_dependences = tt; next = next-sound st member.next d nx follows })))))
 

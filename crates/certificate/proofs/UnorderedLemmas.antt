@@ -121,7 +121,7 @@ makes-task_create f thread seq seen child deps flags task is_callback is_thread 
     rw (g_thread, g_seq, g_seen, g_callback, g_deps, g_flags, g_task, g_child, task_flags-read flags.0 sound.named_flags) refl
 
 pub makes-switching : (f : Found) (thread : ℕ) (seq : ℕ) (seen : ℕ) (status : Status) (prior : ℕ) (next : Option ℕ) → f.callback ≡ Some TaskSchedule → f.thread ≡ Some thread → f.seq ≡ Some seq → f.seen ≡ Some seen → f.status ≡ Some status → f.prior ≡ Some prior → f.next ≡ Some next
-    → Makes (rows f) (record { thread = thread; seq = seq; seen = seen; body = body.TaskSchedule status prior next None })
+    → Makes (rows f) (record { thread = thread; seq = seq; seen = seen; body = body.TaskSchedule status turns prior next None })
 unfolding unbounded body_named task_schedule share
 makes-switching f thread seq seen status prior next is_callback is_thread is_seq is_seen is_status is_prior is_next = λ ms are sound.
     let g_thread : get_member name.thread ms ≡ Some (whole_number thread) = are.1.0 ∙ ap (option_map whole_number) is_thread in
@@ -134,7 +134,7 @@ makes-switching f thread seq seen status prior next is_callback is_thread is_seq
     rw (g_thread, g_seq, g_seen, g_callback, g_status, g_prior, g_next, named-status status, nullable-number_or_null next, next-read (demands_next status) next sound.next, sym (is_some-map (λ (part : Part). (prior, part)) (status_part status)) ∙ sym sound.claimed) refl
 
 pub makes-finishing : (f : Found) (thread : ℕ) (seq : ℕ) (seen : ℕ) (status : Status) (prior : ℕ) (next : Option ℕ) (kept : ℕ) (root : ℕ) (path : List ℕ) → f.callback ≡ Some TaskSchedule → f.thread ≡ Some thread → f.seq ≡ Some seq → f.seen ≡ Some seen → f.status ≡ Some status → f.prior ≡ Some prior → f.next ≡ Some next → f.kept ≡ Some kept → f.root ≡ Some root → f.path ≡ Some path
-    → Makes (rows f) (record { thread = thread; seq = seq; seen = seen; body = body.TaskSchedule status prior next (Some (record { kept = kept; root = root; path = path })) })
+    → Makes (rows f) (record { thread = thread; seq = seq; seen = seen; body = body.TaskSchedule status turns prior next (Some (record { kept = kept; root = root; path = path })) })
 unfolding unbounded body_named task_schedule share claim
 makes-finishing f thread seq seen status prior next kept root path is_callback is_thread is_seq is_seen is_status is_prior is_next is_kept is_root is_path = λ ms are sound.
     let g_thread : get_member name.thread ms ≡ Some (whole_number thread) = are.1.0 ∙ ap (option_map whole_number) is_thread in

@@ -97,7 +97,7 @@ task_schedule d = do
   prior ← whole member.prior d
   next ← next status member.next d
   share ← share (is_some (status_part status)) d
-  Some (TaskSchedule status prior next share)
+  Some (TaskSchedule status turns prior next share)
 
 -- a region of synchronisation begins or ends
 unfoldable pub sync_region : Data → Option Body
@@ -164,7 +164,7 @@ abbrev pub body_fits : Body → Bool
 body_fits (ParallelBegin requested task parallel) = is_short requested
 body_fits (ImplicitTask endpoint actual index bits parallel task) = is_short actual && is_short index
 body_fits (Dependences task list) = deps_fit list
-body_fits (TaskSchedule status prior next share) = share_fits share
+body_fits (TaskSchedule status turns prior next share) = share_fits share
 body_fits (Cancel bits task share) = share_fits share
 body_fits _ = true
 

@@ -77,7 +77,7 @@ body_members (TaskCreate deps flags task child) =
     (member.child, whole_number child) ∷ []
 body_members (Dependences task list) = (member.cb, string callback.dependences) ∷
     (member.task, whole_number task) ∷ (member.list, array (items_of (map dep_data list))) ∷ []
-body_members (TaskSchedule status prior next share) =
+body_members (TaskSchedule status turns prior next share) =
     (member.cb, string callback.task_schedule) ∷ (member.status, string (status_name status)) ∷
     (member.prior, whole_number prior) ∷ (member.next, number_or_null next) ∷ claim_members share
 body_members (SyncRegion kind endpoint parallel task) =

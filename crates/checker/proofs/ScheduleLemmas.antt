@@ -132,8 +132,8 @@ awaits_before rs i c at_home (task, waits, creates) = elim (awaited_at rs i task
 -- ---- from a trace
 
 sound_apart : (b : Body) → HasItsNext b → (task other : ℕ) → fulfilled b ≡ Some task → started b ≡ Some other → ⊥
-sound_apart (TaskSchedule status.EarlyFulfill prior next share) sound task other fulfils starts = false≢true (sym sound ∙ ap is_some starts)
-sound_apart (TaskSchedule status.LateFulfill prior next share) sound task other fulfils starts = false≢true (sym sound ∙ ap is_some starts)
+sound_apart (TaskSchedule status.EarlyFulfill turns prior next share) sound task other fulfils starts = false≢true (sym sound ∙ ap is_some starts)
+sound_apart (TaskSchedule status.LateFulfill turns prior next share) sound task other fulfils starts = false≢true (sym sound ∙ ap is_some starts)
 sound_apart _ sound task other fulfils starts = none-some task fulfils
 
 pub trace_apart : (rs : List Record) → IsTrace rs → StartsOrFulfils rs
@@ -198,8 +198,8 @@ awaits_task rs tasks i c slot apart calls (task, waits, creates) =
 -- ---- by the family
 
 fulfilled_awaited : (b : Body) → is_some (fulfilled b) ≡ true → awaited b ≡ subject b
-fulfilled_awaited (TaskSchedule status.EarlyFulfill prior next share) is = refl
-fulfilled_awaited (TaskSchedule status.LateFulfill prior next share) is = refl
+fulfilled_awaited (TaskSchedule status.EarlyFulfill turns prior next share) is = refl
+fulfilled_awaited (TaskSchedule status.LateFulfill turns prior next share) is = refl
 fulfilled_awaited _ is = absurd (false≢true is)
 
 discarded_awaited : (b : Body) → is_some (discarded b) ≡ true → awaited b ≡ subject b
@@ -211,7 +211,7 @@ discarded_awaited (Cancel flags own share) is = flagged (has_flag flags.0 flag.d
 discarded_awaited _ is = absurd (false≢true is)
 
 started_awaited : (b : Body) → is_some (started b) ≡ true → started b ≡ object b
-started_awaited (TaskSchedule status prior next share) is = refl
+started_awaited (TaskSchedule status turns prior next share) is = refl
 started_awaited _ is = absurd (false≢true is)
 
 none_of : {X : Type 0} (o : Option X) → is_some o ≡ false → o ≡ None

@@ -125,7 +125,7 @@ called_task tasks (Some task) slot index calls is = (task, refl, ap (slice_get t
 
 -- what a record names beside its subject it starts, if it starts a task
 object_starts : (task : ℕ) (b : RecordBody) → is_some (started b) ≡ true → object b ≡ Some task → started b ≡ Some task
-object_starts task (TaskSchedule status prior next share) starts is = is
+object_starts task (TaskSchedule status turns prior next share) starts is = is
 object_starts task _ starts is = absurd (false≢true starts)
 
 pub started_there : (rs : List Record) (i task : ℕ) → is_some (at started rs i) ≡ true → at object rs i ≡ Some task → at started rs i ≡ Some task

@@ -9,9 +9,9 @@ use Rattle.std.proofs.lemmas.Map.Steps.{length-le_from_distinct_below}
 use Rattle.std.specs.List.{IsDistinct, AllByRecursion, list_any}
 use Rattle.std.specs.Prelude.{is_some, slice_index, Contains, ◌||◌}
 use Rattle.ompt_events.specs.declared.records.Record.{Record}
-use Rattle.ompt_events.specs.Records.{created, started, discarded, fulfilled, finish}
+use Rattle.ompt_events.specs.Records.{created, begun_turn, suspended_turn, discarded, fulfilled, finish}
 use Rattle.ompt_events.specs.Places.{at, thread_at, seen_at}
-use Rattle.ompt_events.specs.HappensBefore.{IsStart, thread_order, creation, discard, fulfilment, IsProgramStep, IsStep, program, ledger, HappensBefore, step, chain}
+use Rattle.ompt_events.specs.HappensBefore.{IsStart, IsResumption, thread_order, creation, resumption, discard, fulfilment, IsProgramStep, IsStep, program, ledger, HappensBefore, step, chain}
 use Rattle.ompt_events.specs.Linearization.{IsGrounded, IsDue}
 use Rattle.ompt_events.specs.Causes.{HasNoOrder}
 use Rattle.ompt_events.proofs.HappensBeforeLemmas.{step_from}
@@ -28,21 +28,33 @@ same_option (Some x) (Some y) = elim (cases_eq x y) [
   | inr apart ↦ inr (λ e. apart (same_Some x y e))
 ]
 
-started_below : (rs : List Record) (task n : ℕ) → ((k : ℕ) → k < n → at started rs k ≢ Some task) ⊎ ((k : ℕ) × (k < n) × (at started rs k ≡ Some task))
+same_turn : (a b : Option (ℕ × ℕ)) → (a ≡ b) ⊎ (a ≡ b → ⊥)
+same_turn None None = inl refl
+same_turn None (Some y) = inr (none-some y)
+same_turn (Some x) None = inr (λ e. none-some x (sym e))
+same_turn (Some (task, turn)) (Some (other, later)) = elim (cases_eq task other) [
+  | inr apart ↦ inr (λ e. apart (ap (λ (p : ℕ × ℕ). p.0) (same_Some (task, turn) (other, later) e)))
+  | inl same ↦ elim (cases_eq turn later) [
+    | inr apart ↦ inr (λ e. apart (ap (λ (p : ℕ × ℕ). p.1) (same_Some (task, turn) (other, later) e)))
+    | inl equal ↦ inl (ap (λ t. Some (t, turn)) same ∙ ap (λ t. Some (other, t)) equal)
+  ]
+]
+
+started_below : (rs : List Record) (task n : ℕ) → ((k : ℕ) → k < n → at begun_turn rs k ≢ Some (task, 0)) ⊎ ((k : ℕ) × (k < n) × (at begun_turn rs k ≡ Some (task, 0)))
 started_below rs task zero = inl (λ k below. absurd (omega arith))
 started_below rs task (suc n) = elim (started_below rs task n) [
   | inr (k, below, starts) ↦ inr (k, omega arith, starts)
-  | inl none ↦ elim (same_option (at started rs n) (Some task)) [
+  | inl none ↦ elim (same_turn (at begun_turn rs n) (Some (task, 0))) [
     | inl starts ↦ inr (n, omega arith, starts)
     | inr other ↦ inl (λ k below. elim (cases_eq k n) [
-      | inl same ↦ λ starts. other (ap (at started rs) (sym same) ∙ starts)
+      | inl same ↦ λ starts. other (ap (at begun_turn rs) (sym same) ∙ starts)
       | inr apart ↦ none k (omega arith)
     ])
   ]
 ]
 
 is_start : (rs : List Record) (i task : ℕ) → IsStart rs i task ⊎ (IsStart rs i task → ⊥)
-is_start rs i task = elim (same_option (at started rs i) (Some task)) [
+is_start rs i task = elim (same_turn (at begun_turn rs i) (Some (task, 0))) [
   | inr other ↦ inr (λ start. other start.starts)
   | inl starts ↦ elim (started_below rs task i) [
     | inl first ↦ inl (record { starts = starts; first = first })
@@ -75,6 +87,22 @@ by_any_creation rs a b = there (at created rs a) refl
     there None e = inr (λ other creates. absurd (none-some other (sym e ∙ creates)))
     there (Some task) e = by_creation rs a b task e
 
+-- a record that suspends a task comes before the one at which the task runs on
+by_resumption : (rs : List Record) (a b : ℕ) → IsResumption rs a b ⊎ (IsResumption rs a b → ⊥)
+by_resumption rs a b = there (at suspended_turn rs a) refl
+  where
+    there : (o : Option (ℕ × ℕ)) → at suspended_turn rs a ≡ o → IsResumption rs a b ⊎ (IsResumption rs a b → ⊥)
+    there None e = inr (λ again. none-some (again.task, again.turn) (sym e ∙ again.suspends))
+    there (Some (task, turn)) e = elim (same_turn (at begun_turn rs b) (Some (task, turn + 1))) [
+      | inr other ↦ inr (λ again.
+          let same : (task, turn) ≡ (again.task, again.turn) = same_Some (task, turn) (again.task, again.turn) (sym e ∙ again.suspends) in
+          other (again.resumes ∙ ap (λ (t : ℕ × ℕ). Some (t.0, t.1 + 1)) (sym same)))
+      | inl resumes ↦ elim (cases_eq a b) [
+        | inl same ↦ inr (λ again. again.another same)
+        | inr apart ↦ inl (record { task = task; turn = turn; suspends = e; resumes = resumes; another = apart })
+      ]
+    ]
+
 by_thread : (rs : List Record) (a b : ℕ) → IsProgramStep rs a b ⊎ (a < b → b < length rs → thread_at rs a ≡ thread_at rs b → ⊥)
 by_thread rs a b = elim (cases_lt a b) [
   | inr later ↦ inr (λ below. absurd (omega arith))
@@ -102,19 +130,23 @@ is_step rs a b = elim (by_thread rs a b) [
   | inl is ↦ inl (program is)
   | inr no_thread ↦ elim (by_any_creation rs a b) [
     | inl is ↦ inl (program is)
-    | inr no_creation ↦ elim (by_ledger rs a b) [
-      | inl is ↦ inl is
-      | inr no_ledger ↦ inr (none no_thread no_creation no_ledger)
+    | inr no_creation ↦ elim (by_resumption rs a b) [
+      | inl is ↦ inl (program (resumption is))
+      | inr no_resumption ↦ elim (by_ledger rs a b) [
+        | inl is ↦ inl is
+        | inr no_ledger ↦ inr (none no_thread no_creation no_resumption no_ledger)
+      ]
     ]
   ]
 ]
   where
-    none : (a < b → b < length rs → thread_at rs a ≡ thread_at rs b → ⊥) → ((other : ℕ) → at created rs a ≡ Some other → (IsStart rs b other ⊎ ((at discarded rs b ≡ Some other) ⊎ (at fulfilled rs b ≡ Some other))) → ⊥) → (is_some (at finish rs a) ≡ true → seen_at rs a < seen_at rs b → ⊥) → IsStep rs a b → ⊥
-    none no_thread no_creation no_ledger (program (thread_order below within same)) = no_thread below within same
-    none no_thread no_creation no_ledger (program (creation task creates starts)) = no_creation task creates (inl starts)
-    none no_thread no_creation no_ledger (program (discard task creates gone)) = no_creation task creates (inr (inl gone))
-    none no_thread no_creation no_ledger (program (fulfilment task creates done)) = no_creation task creates (inr (inr done))
-    none no_thread no_creation no_ledger (ledger finishes less) = no_ledger finishes less
+    none : (a < b → b < length rs → thread_at rs a ≡ thread_at rs b → ⊥) → ((other : ℕ) → at created rs a ≡ Some other → (IsStart rs b other ⊎ ((at discarded rs b ≡ Some other) ⊎ (at fulfilled rs b ≡ Some other))) → ⊥) → (IsResumption rs a b → ⊥) → (is_some (at finish rs a) ≡ true → seen_at rs a < seen_at rs b → ⊥) → IsStep rs a b → ⊥
+    none no_thread no_creation no_resumption no_ledger (program (thread_order below within same)) = no_thread below within same
+    none no_thread no_creation no_resumption no_ledger (program (creation task creates starts)) = no_creation task creates (inl starts)
+    none no_thread no_creation no_resumption no_ledger (program (resumption again)) = no_resumption again
+    none no_thread no_creation no_resumption no_ledger (program (discard task creates gone)) = no_creation task creates (inr (inl gone))
+    none no_thread no_creation no_resumption no_ledger (program (fulfilment task creates done)) = no_creation task creates (inr (inr done))
+    none no_thread no_creation no_resumption no_ledger (ledger finishes less) = no_ledger finishes less
 
 -- ---- a list in which each record has all that happens before it earlier, and how it grows
 

@@ -5,13 +5,13 @@ use Rattle.std.proofs.lemmas.Option.{none-some, same_Some, slice_get-get_or, sli
 use Rattle.std.proofs.lemmas.List.{append-nil}
 use Rattle.std.proofs.lemmas.List.Elements.{All-nil, All-cons, All-drop, All-same, All-weaker, All-get_or}
 use Rattle.std.proofs.lemmas.List.Sums.{fold_push}
-use Rattle.std.specs.Prelude.{◌==◌, slice_get, fold, All, option_and_then}
+use Rattle.std.specs.Prelude.{◌==◌, slice_get, fold, All, option_and_then, option_map}
 use Rattle.std.specs.Option.{option_map_or}
 use Rattle.ompt_events.specs.declared.records.Record.{Record}
 use Rattle.ompt_events.specs.declared.names.Endpoint.{Endpoint}
 use Rattle.ompt_events.specs.declared.names.Endpoint.TheVariants.{Begin, End, BeginEnd}
 use Rattle.ompt_events.specs.declared.names.SyncKind.{SyncKind}
-use Rattle.ompt_events.specs.Records.{region, running, started}
+use Rattle.ompt_events.specs.Records.{region, running, next_turn, begun_turn}
 use Rattle.ompt_events.specs.Places.{at, is_own, own_before}
 use Rattle.ompt_events.specs.Regions.{after_region, open_regions, EndsRegion}
 use Rattle.ompt_events.specs.Completion.{StartsTask}
@@ -20,11 +20,11 @@ use Rattle.ompt_events.proofs.PlaceLemmas.{own_more}
 
 -- nor does its place
 pub region_starts_none : (rs : List Record) (i task : ℕ) (kind : SyncKind) (endpoint : Endpoint) → at region rs i ≡ Some (task, kind, endpoint) → StartsTask rs i → ⊥
-region_starts_none rs i task kind endpoint says (next, explicit, start) = none-some next (sym (there (slice_get rs i) says) ∙ start.starts)
+region_starts_none rs i task kind endpoint says (next, explicit, start) = none-some (next, 0) (sym (there (slice_get rs i) says) ∙ start.starts)
   where
-    there : (o : Option Record) → option_and_then (λ (r : Record). region r.body) o ≡ Some (task, kind, endpoint) → option_and_then (λ (r : Record). started r.body) o ≡ None
+    there : (o : Option Record) → option_and_then (λ (r : Record). region r.body) o ≡ Some (task, kind, endpoint) → option_and_then (λ (r : Record). begun_turn r.body) o ≡ None
     there None says' = refl
-    there (Some r) says' = region_starts task kind endpoint r.body says'
+    there (Some r) says' = ap (option_map {U = ℕ × ℕ} (λ next. (next, next_turn r.body))) (region_starts task kind endpoint r.body says')
 
 -- what the open regions become by one more place of the task
 open_more : (rs : List Record) (task n : ℕ) (own : Bool) → is_own rs task n ≡ own → open_regions rs task (n + 1) ≡ cond own (after_region (open_regions rs task n) n (at region rs n)) (open_regions rs task n)

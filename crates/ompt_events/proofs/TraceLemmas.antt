@@ -7,7 +7,7 @@ use Rattle.std.proofs.lemmas.List.Elements.{All-more}
 use Rattle.ompt_events.specs.declared.records.Record.{Record}
 use Rattle.ompt_events.specs.Records.{made}
 use Rattle.ompt_events.specs.Limits.{max_records, max_tasks}
-use Rattle.ompt_events.specs.Traces.{IsSound, IsInRange, IsTrace, tasks_in}
+use Rattle.ompt_events.specs.Traces.{IsSound, IsSoundIn, HasItsTurns, IsInRange, IsTrace, IsTraceOf, tasks_in}
 
 -- one more sound record, where there is room
 pub IsTrace-more : (rs : List Record) (i : ℕ) (r : Record) → i < length rs → r ≡ get_or rs i r → IsTrace (take i rs) → i < max_records → IsSound r.body → IsInRange r → tasks_in (take (i + 1) rs) ≤ max_tasks → IsTrace (take (i + 1) rs)
@@ -28,8 +28,17 @@ pub tasks_in-other : (rs : List Record) (i : ℕ) (r : Record) → i < length rs
 tasks_in-other rs i r within read makes =
     count_by_more_no (λ x. is_some (made x.body)) rs i r within (rw (← read) makes)
 
+-- the same of a trace of this version
+pub IsTraceOf-more : (version : ℕ) (rs : List Record) (i : ℕ) (r : Record) → i < length rs → r ≡ get_or rs i r → IsTraceOf version (take i rs) → i < max_records → IsSoundIn version r.body → IsInRange r → tasks_in (take (i + 1) rs) ≤ max_tasks → IsTraceOf version (take (i + 1) rs)
+IsTraceOf-more version rs i r within read before room sound in_range few = record {
+  known = before.known;
+  is_trace = IsTrace-more rs i r within read before.is_trace room sound.0 in_range few;
+  turns = let P : Record → Type 0 = λ x. HasItsTurns version x.body in All-more P rs i r within before.turns (rw (← read) sound.1);
+}
+
 -- with a record that isn't sound they are no trace
-pub IsTrace-unsound : (rs : List Record) (i : ℕ) (r : Record) → i < length rs → r ≡ get_or rs i r → (IsSound r.body → ⊥) → IsTrace (take (i + 1) rs) → ⊥
-IsTrace-unsound rs i r within read unsound trace =
-    let last : IsSound (get_or (take (i + 1) rs) i r).body = trace.sound i r (omega (arith, length-take (i + 1) rs)) in
-    unsound (subst (λ (x : Record). IsSound x.body) (get_or-take (i + 1) rs i r (omega arith) ∙ sym read) last)
+pub IsTraceOf-unsound : (version : ℕ) (rs : List Record) (i : ℕ) (r : Record) → i < length rs → r ≡ get_or rs i r → (IsSoundIn version r.body → ⊥) → IsTraceOf version (take (i + 1) rs) → ⊥
+IsTraceOf-unsound version rs i r within read unsound trace =
+    let last : IsSoundIn version (get_or (take (i + 1) rs) i r).body =
+    (trace.is_trace.sound i r (omega (arith, length-take (i + 1) rs)), trace.turns i r (omega (arith, length-take (i + 1) rs))) in
+    unsound (subst (λ (x : Record). IsSoundIn version x.body) (get_or-take (i + 1) rs i r (omega arith) ∙ sym read) last)

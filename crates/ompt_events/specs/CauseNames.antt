@@ -1,15 +1,17 @@
 -- The order of the causes, and what each is called in a report.
 use Rattle.std.specs.Prelude.{ℕ, List, [], ◌∷◌, filter, ltb, codes}
 use Rattle.ompt_events.specs.declared.cause.Cause.{Cause}
-use Rattle.ompt_events.specs.declared.cause.Cause.TheVariants.{SeqGap, CreatedTwice, Rootless, NotCurrent, Moved, StatusOrder, RegionOrder, TeamShort, NestedParallel, DepsPlace, ShareWrong, EntryTwice, LengthAhead, LengthBack, NoOrder, TargetTask}
+use Rattle.ompt_events.specs.declared.cause.Cause.TheVariants.{SeqGap, CreatedTwice, Rootless, NotCurrent, Moved, TurnGap, StatusOrder, RegionOrder, TeamShort, NestedParallel, DepsPlace, ShareWrong, EntryTwice, LengthAhead, LengthBack, NoOrder, TargetTask}
 
--- the cause's place in the order in which causes are reported
+-- the cause's place in the order in which causes are reported; Moved and TurnGap have one number, since each
+-- occurs only in one version of the file
 abbrev pub cause_number : Cause → ℕ
 cause_number SeqGap = 1
 cause_number CreatedTwice = 2
 cause_number Rootless = 3
 cause_number NotCurrent = 4
 cause_number Moved = 5
+cause_number TurnGap = 5
 cause_number StatusOrder = 6
 cause_number RegionOrder = 7
 cause_number TeamShort = 8
@@ -25,9 +27,9 @@ cause_number TargetTask = 16
 -- all causes in the order of their numbers
 abbrev pub all_causes : List Cause
 all_causes =
-    SeqGap ∷ CreatedTwice ∷ Rootless ∷ NotCurrent ∷ Moved ∷ StatusOrder ∷ RegionOrder ∷ TeamShort
-    ∷ NestedParallel ∷ DepsPlace ∷ ShareWrong ∷ EntryTwice ∷ LengthAhead ∷ LengthBack ∷ NoOrder ∷ TargetTask
-    ∷ []
+    SeqGap ∷ CreatedTwice ∷ Rootless ∷ NotCurrent ∷ Moved ∷ TurnGap ∷ StatusOrder ∷ RegionOrder
+    ∷ TeamShort ∷ NestedParallel ∷ DepsPlace ∷ ShareWrong ∷ EntryTwice ∷ LengthAhead ∷ LengthBack ∷ NoOrder
+    ∷ TargetTask ∷ []
 
 -- the causes with smaller numbers than this one
 abbrev pub before : Cause → List Cause
@@ -39,6 +41,7 @@ cause_name CreatedTwice = codes "CreatedTwice"
 cause_name Rootless = codes "Rootless"
 cause_name NotCurrent = codes "NotCurrent"
 cause_name Moved = codes "Moved"
+cause_name TurnGap = codes "TurnGap"
 cause_name StatusOrder = codes "StatusOrder"
 cause_name RegionOrder = codes "RegionOrder"
 cause_name TeamShort = codes "TeamShort"

@@ -1,11 +1,12 @@
 -- Why no run within the model gives a list of records. Each cause is a fact about the list alone,
 -- and assumes that no lower-numbered cause occurs.
-use Rattle.std.specs.Prelude.{true, ℕ, ◌≡◌, ◌≢◌, ◌<◌, ◌≤◌, ◌+◌, ◌==◌, List, [], length, take, Some, None, Contains, count_by, slice_get, is_some, if◌then◌else◌}
+use Rattle.std.specs.Prelude.{true, None, ℕ, ◌≡◌, ◌≢◌, ◌<◌, ◌≤◌, ◌+◌, ◌==◌, List, [], length, take, Some, Contains, count_by, slice_get, is_some, if◌then◌else◌}
 use Rattle.ompt_events.specs.declared.records.Record.{Record}
 use Rattle.ompt_events.specs.declared.records.Claim.{Claim}
+use Rattle.ompt_events.specs.declared.records.Turns.{Turns}
 use Rattle.ompt_events.specs.declared.records.Part.{Part}
 use Rattle.ompt_events.specs.declared.cause.Cause.{Cause}
-use Rattle.ompt_events.specs.declared.cause.Cause.TheVariants.{SeqGap, CreatedTwice, Rootless, NotCurrent, Moved, StatusOrder, RegionOrder, TeamShort, NestedParallel, DepsPlace, ShareWrong, EntryTwice, LengthAhead, LengthBack, NoOrder, TargetTask}
+use Rattle.ompt_events.specs.declared.cause.Cause.TheVariants.{SeqGap, CreatedTwice, Rootless, NotCurrent, Moved, TurnGap, StatusOrder, RegionOrder, TeamShort, NestedParallel, DepsPlace, ShareWrong, EntryTwice, LengthAhead, LengthBack, NoOrder, TargetTask}
 use Rattle.ompt_events.specs.declared.names.SyncKind.{SyncKind}
 use Rattle.ompt_events.specs.declared.names.Endpoint.{Endpoint}
 use Rattle.ompt_events.specs.declared.deps.Dep.{Dep}
@@ -13,11 +14,12 @@ use Rattle.ompt_events.specs.CauseNames.{cause_number}
 use Rattle.ompt_events.specs.Flags as flag
 use Rattle.ompt_events.specs.Flags.{has_flag}
 use Rattle.ompt_events.specs.declared.records.Membership.{Membership}
-use Rattle.ompt_events.specs.Records.{made, created, created_with_deps, dependences, started, finish, claim, flags, named, forked, region_named, joined, begun_initial, region}
+use Rattle.ompt_events.specs.Records.{made, created, created_with_deps, dependences, started, told_turns, begun_turn, begun_root, finish, claim, flags, named, forked, region_named, joined, begun_initial, region}
 use Rattle.ompt_events.specs.Places.{at, thread_at, seen_at}
-use Rattle.ompt_events.specs.Tree.{IsExplicit, IsRooted, HasPath, children}
+use Rattle.ompt_events.specs.Tree.{IsRoot, IsExplicit, IsRooted, HasPath, children}
+use Rattle.ompt_events.specs.Turns.{turn_at, in_own_order, own_place}
 use Rattle.ompt_events.specs.Threads.{Walk, walk_of, MisfitsAt}
-use Rattle.ompt_events.specs.States.{Move, moves_of, nature_of, state_of}
+use Rattle.ompt_events.specs.States.{Move, all_moves_of, nature_of, state_of}
 use Rattle.ompt_events.specs.Regions.{EndsNoRegion, IsRegion, IsBarrierBegin, is_barrier, is_called_barrier}
 use Rattle.ompt_events.specs.Teams.{IsMember, IsInitial, IsTeammate, members, members_before}
 use Rattle.ompt_events.specs.HappensBefore.{IsProgramStep, IsFinishing}
@@ -65,20 +67,45 @@ pub record IsNotCurrent (rs : List Record) (i : ℕ) : Type 0 where
   pub misfits : MisfitsAt rs i
   pub first : (k : ℕ) → k < i → thread_at rs k ≡ thread_at rs i → MisfitsAt rs k → ⊥
 
--- an explicit task runs next that ran next earlier in file order on another thread
+-- an explicit task runs next that ran next earlier in file order on another thread, and no turns are told
 abbrev pub IsMoved : List Record → ℕ → Type 0
 IsMoved rs i =
     (task k : ℕ) × IsExplicit rs task × (at started rs i ≡ Some task) × (k < i)
-    × (at started rs k ≡ Some task) × (thread_at rs k ≢ thread_at rs i)
+    × (at started rs k ≡ Some task) × (thread_at rs k ≢ thread_at rs i) × (at told_turns rs i ≡ None)
+
+-- the record begins this turn of the task; turn 0 of a root begins where the root does
+pub data BeginsTurn (rs : List Record) (i task : ℕ) : ℕ → Type 0 where
+  runs : {turn : ℕ} → at begun_turn rs i ≡ Some (task, turn) → BeginsTurn rs i task turn
+  is_root : at begun_root rs i ≡ Some task → BeginsTurn rs i task 0
+
+-- turns are told at the record, and the task runs next in this turn
+abbrev pub TellsStart : List Record → ℕ → ℕ → ℕ → Type 0
+TellsStart rs i task turn = (at told_turns rs i ≢ None) × (at begun_turn rs i ≡ Some (task, turn))
+
+-- the turns that the record tells are not those of its tasks
+pub data HasTurnGap (rs : List Record) (i : ℕ) : Type 0 where
+  -- the prior task is in another turn
+  other_turn : (told : Turns) → at told_turns rs i ≡ Some told → told.prior ≢ turn_at rs i → HasTurnGap rs i
+  -- a record earlier in file order began the same turn of the next task
+  begun_again : (task turn k : ℕ) → TellsStart rs i task turn → k < i → at begun_turn rs k ≡ Some (task, turn)
+      → HasTurnGap rs i
+  -- an earlier record of the thread began a later turn of it
+  falling : (task turn k later : ℕ) → TellsStart rs i task turn → k < i → thread_at rs k ≡ thread_at rs i
+      → at begun_turn rs k ≡ Some (task, later) → turn < later → HasTurnGap rs i
+  -- turn 0 of a root begins where the root does, and nowhere else
+  of_root : (task : ℕ) → TellsStart rs i task 0 → IsRoot rs task → HasTurnGap rs i
+  -- no record begins the turn before
+  missing : (task turn : ℕ) → TellsStart rs i task (turn + 1) → ((k : ℕ) → BeginsTurn rs k task turn → ⊥)
+      → HasTurnGap rs i
 
 -- of a task's moves this record makes the first that its state does not allow
 pub record HasNoState (rs : List Record) (i : ℕ) : Type 0 where
   pub task : ℕ
   pub number : ℕ
   pub move : Move
-  pub made_there : slice_get (moves_of rs task) number ≡ Some (i, move)
-  pub allowed : is_some (state_of (nature_of rs task) (take number (moves_of rs task))) ≡ true
-  pub not_allowed : state_of (nature_of rs task) (take (number + 1) (moves_of rs task)) ≡ None
+  pub made_there : slice_get (all_moves_of rs task) number ≡ Some (i, move)
+  pub allowed : is_some (state_of (nature_of rs task) (take number (all_moves_of rs task))) ≡ true
+  pub not_allowed : state_of (nature_of rs task) (take (number + 1) (all_moves_of rs task)) ≡ None
 
 -- a region ends that isn't open
 abbrev pub HasNoBegin : List Record → ℕ → Type 0
@@ -197,6 +224,7 @@ pub data HasCause (rs : List Record) (i : ℕ) : Cause → Type 0 where
   rootless : HasNoRoot rs i → HasCause rs i Rootless
   not_current : IsNotCurrent rs i → HasCause rs i NotCurrent
   moved : IsMoved rs i → HasCause rs i Moved
+  turn_gap : HasTurnGap rs i → HasCause rs i TurnGap
   status_order : HasNoState rs i → HasCause rs i StatusOrder
   region_order : HasNoBegin rs i → HasCause rs i RegionOrder
   barrier_order : HasBarrier rs i → HasCause rs i RegionOrder
@@ -209,6 +237,14 @@ pub data HasCause (rs : List Record) (i : ℕ) : Cause → Type 0 where
   length_back : IsBehind rs i → HasCause rs i LengthBack
   no_order : HasNoOrder rs i → HasCause rs i NoOrder
   target_task : MakesTarget rs i → HasCause rs i TargetTask
+
+-- The trace shows the cause at the record. Three causes are read in the tasks' own order: those of regions,
+-- of the barriers of a team, and of the tree that claims speak of. All others are read in file order.
+abbrev pub Shows : List Record → ℕ → Cause → Type 0
+Shows rs i RegionOrder = HasCause (in_own_order rs) (own_place rs i) RegionOrder
+Shows rs i TeamShort = HasCause (in_own_order rs) (own_place rs i) TeamShort
+Shows rs i ShareWrong = HasCause (in_own_order rs) (own_place rs i) ShareWrong
+Shows rs i cause = HasCause rs i cause
 
 -- no record has the cause
 abbrev pub IsFreeOf : List Record → Cause → Type 0

@@ -1,13 +1,21 @@
 -- What the records themselves say of their order.
-use Rattle.std.specs.Prelude.{ℕ, ◌≡◌, ◌≢◌, ◌<◌, List, length, Some, true, is_some}
+use Rattle.std.specs.Prelude.{ℕ, ◌≡◌, ◌≢◌, ◌<◌, ◌+◌, List, length, Some, true, is_some}
 use Rattle.ompt_events.specs.declared.records.Record.{Record}
-use Rattle.ompt_events.specs.Records.{created, started, discarded, fulfilled, finish}
+use Rattle.ompt_events.specs.Records.{created, begun_turn, suspended_turn, discarded, fulfilled, finish}
 use Rattle.ompt_events.specs.Places.{at, thread_at, seen_at}
 
--- the first record in file order after which the task runs
+-- the first record in file order after which the task runs, in its first turn
 pub record IsStart (rs : List Record) (i task : ℕ) : Type 0 where
-  pub starts : at started rs i ≡ Some task
-  pub first : (k : ℕ) → k < i → at started rs k ≢ Some task
+  pub starts : at begun_turn rs i ≡ Some (task, 0)
+  pub first : (k : ℕ) → k < i → at begun_turn rs k ≢ Some (task, 0)
+
+-- the task is suspended at a, and at b, another record, it runs on: its next turn begins
+pub record IsResumption (rs : List Record) (a b : ℕ) : Type 0 where
+  pub task : ℕ
+  pub turn : ℕ
+  pub suspends : at suspended_turn rs a ≡ Some (task, turn)
+  pub resumes : at begun_turn rs b ≡ Some (task, turn + 1)
+  pub another : a ≢ b
 
 -- the record makes an entry of the ledger of finished tasks
 abbrev pub IsFinishing : List Record → ℕ → Type 0
@@ -19,6 +27,8 @@ pub data IsProgramStep (rs : List Record) (a b : ℕ) : Type 0 where
   thread_order : a < b → b < length rs → thread_at rs a ≡ thread_at rs b → IsProgramStep rs a b
   -- the creation of a task, and its start
   creation : (task : ℕ) → at created rs a ≡ Some task → IsStart rs b task → IsProgramStep rs a b
+  -- the suspension of a task, and the record at which it runs on
+  resumption : IsResumption rs a b → IsProgramStep rs a b
   -- the creation of a task, and a discard of it
   discard : (task : ℕ) → at created rs a ≡ Some task → at discarded rs b ≡ Some task → IsProgramStep rs a b
   -- the creation of a task, and a fulfilment of its event

@@ -7,6 +7,7 @@ pub mod Records
 pub mod Places
 pub mod Limits
 pub mod Traces
+pub mod Turns
 pub mod Tree
 pub mod Threads
 pub mod Regions

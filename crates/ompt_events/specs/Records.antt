@@ -1,14 +1,16 @@
 -- What single records say.
 use Rattle.std.specs.Prelude.{ℕ, List, [], ◌∷◌, Option, Some, None, option_to_list, option_map, ◌++◌, if◌then◌else◌}
+use Rattle.std.specs.Option.{option_map_or}
 use Rattle.ompt_events.specs.declared.deps.Dep.{Dep}
 use Rattle.ompt_events.specs.declared.records.Body.{Body}
 use Rattle.ompt_events.specs.declared.records.Body.TheVariants.{ParallelBegin, ParallelEnd, ImplicitTask, TaskCreate, Dependences, TaskSchedule, SyncRegion, Cancel}
 use Rattle.ompt_events.specs.declared.records.Claim.{Claim}
 use Rattle.ompt_events.specs.declared.records.Membership.{Membership}
+use Rattle.ompt_events.specs.declared.records.Turns.{Turns}
 use Rattle.ompt_events.specs.declared.records.Part.{Part}
 use Rattle.ompt_events.specs.declared.records.Part.TheVariants.{Whole}
 use Rattle.ompt_events.specs.declared.names.Status.{Status}
-use Rattle.ompt_events.specs.declared.names.Status.TheVariants.{EarlyFulfill, LateFulfill, TaskwaitComplete}
+use Rattle.ompt_events.specs.declared.names.Status.TheVariants.{Yield, EarlyFulfill, LateFulfill, Switch, TaskwaitComplete}
 use Rattle.ompt_events.specs.declared.names.Endpoint.{Endpoint}
 use Rattle.ompt_events.specs.declared.names.Endpoint.TheVariants.{Begin, End}
 use Rattle.ompt_events.specs.declared.names.SyncKind.{SyncKind}
@@ -78,23 +80,48 @@ made _ = None
 
 -- the status of a task_schedule event, its prior task and its next one (19.5.2.10)
 abbrev pub schedule : Body → Option (Status × ℕ × Option ℕ)
-schedule (TaskSchedule status prior next share) = Some (status, prior, next)
+schedule (TaskSchedule status turns prior next share) = Some (status, prior, next)
 schedule _ = None
 
 -- the task that runs from here on (19.5.2.10)
 abbrev pub started : Body → Option ℕ
-started (TaskSchedule status prior next share) = next
+started (TaskSchedule status turns prior next share) = next
 started _ = None
+
+-- the turns that the record tells: which one of the prior task ends, and which one of the next task begins
+abbrev pub told_turns : Body → Option Turns
+told_turns (TaskSchedule status turns prior next share) = turns
+told_turns _ = None
+
+-- the same numbers; where the record tells no turns, it is turn 0
+abbrev pub prior_turn : Body → ℕ
+prior_turn body = option_map_or (λ (t : Turns). t.prior) (told_turns body) 0
+
+abbrev pub next_turn : Body → ℕ
+next_turn body = option_map_or (λ (t : Turns). t.next) (told_turns body) 0
+
+-- the task that runs from here on, and the turn that it begins
+abbrev pub begun_turn : Body → Option (ℕ × ℕ)
+begun_turn body = option_map (λ task. (task, next_turn body)) (started body)
+
+-- the task that is suspended, and the turn that it ends (19.5.2.10: ompt_task_yield and ompt_task_switch)
+abbrev pub suspended : Body → Option ℕ
+suspended (TaskSchedule Yield turns prior next share) = Some prior
+suspended (TaskSchedule Switch turns prior next share) = Some prior
+suspended _ = None
+
+abbrev pub suspended_turn : Body → Option (ℕ × ℕ)
+suspended_turn body = option_map (λ task. (task, prior_turn body)) (suspended body)
 
 -- the task whose event is fulfilled, early or late (12.5.2: the detach clause)
 abbrev pub fulfilled : Body → Option ℕ
-fulfilled (TaskSchedule EarlyFulfill prior next share) = Some prior
-fulfilled (TaskSchedule LateFulfill prior next share) = Some prior
+fulfilled (TaskSchedule EarlyFulfill turns prior next share) = Some prior
+fulfilled (TaskSchedule LateFulfill turns prior next share) = Some prior
 fulfilled _ = None
 
 -- the taskwait with dependences that is complete (15.5: it acts as an empty task with them)
 abbrev pub wait_completed : Body → Option ℕ
-wait_completed (TaskSchedule TaskwaitComplete prior next share) = Some prior
+wait_completed (TaskSchedule TaskwaitComplete turns prior next share) = Some prior
 wait_completed _ = None
 
 -- the task that is discarded before it began (11.5: cancellation of a taskgroup)
@@ -104,13 +131,13 @@ discarded _ = None
 
 -- the task that is finished, and its part
 abbrev pub finish : Body → Option (ℕ × Part)
-finish (TaskSchedule status prior next share) = option_map (λ part. (prior, part)) (status_part status)
+finish (TaskSchedule status turns prior next share) = option_map (λ part. (prior, part)) (status_part status)
 finish (Cancel flags task share) = if has_flag flags.0 flag.discarded_task then Some (task, Whole) else None
 finish _ = None
 
 -- what the record claims of the place of the task that it finishes
 abbrev pub claim : Body → Option Claim
-claim (TaskSchedule status prior next share) = share
+claim (TaskSchedule status turns prior next share) = share
 claim (Cancel flags task share) = share
 claim _ = None
 
@@ -136,10 +163,19 @@ running (ParallelBegin requested task parallel) = Some task
 running (ParallelEnd task parallel) = Some task
 running (ImplicitTask End actual index given parallel task) = Some task
 running (TaskCreate deps given task child) = Some task
-running (TaskSchedule status prior next share) = if demands_next status then Some prior else None
+running (TaskSchedule status turns prior next share) = if demands_next status then Some prior else None
 running (SyncRegion kind endpoint parallel task) = Some task
 running (Cancel given task share) = if has_flag given.0 flag.discarded_task then None else Some task
 running _ = None
+
+-- the task that stops running, whether or not it runs again
+abbrev pub stopped : Body → Option ℕ
+stopped (TaskSchedule status turns prior next share) = if demands_next status then Some prior else None
+stopped _ = None
+
+-- the same task, and the turn that it ends
+abbrev pub ended_turn : Body → Option (ℕ × ℕ)
+ended_turn body = option_map (λ task. (task, prior_turn body)) (stopped body)
 
 -- each member that is a task
 abbrev pub named : Body → List ℕ
@@ -148,7 +184,7 @@ named (ParallelEnd task parallel) = task ∷ []
 named (ImplicitTask endpoint actual index given parallel task) = task ∷ []
 named (TaskCreate deps given task child) = task ∷ child ∷ []
 named (Dependences task list) = task ∷ []
-named (TaskSchedule status prior next share) =
+named (TaskSchedule status turns prior next share) =
     prior ∷ option_to_list next ++ option_to_list (option_map (λ (c : Claim). c.root) share)
 named (SyncRegion kind endpoint parallel task) = task ∷ []
 named (Cancel given task share) = task ∷ option_to_list (option_map (λ (c : Claim). c.root) share)

@@ -1,6 +1,6 @@
 -- How a task comes from its creation to its completion.
 use Rattle.std.specs.Prelude.{ℕ, ◌==◌, ◌&&◌, Bool, true, false, not, List, [], ◌∷◌, ◌++◌, Option, Some, None, is_some, if◌then◌else◌, filter, fold, find, map, slice_get, option_and_then}
-use Rattle.std.specs.List.{flat_map}
+use Rattle.std.specs.List.{flat_map, range_with_len}
 use Rattle.std.specs.Option.{option_map_or}
 use Rattle.ompt_events.specs.declared.records.Record.{Record}
 use Rattle.ompt_events.specs.declared.records.Body.{Body}
@@ -11,8 +11,9 @@ use Rattle.ompt_events.specs.declared.state.State.{State}
 use Rattle.ompt_events.specs.declared.state.State.TheVariants.{Created, Running, Suspended, EarlyRunning, EarlyWaiting, Detached, Done}
 use Rattle.ompt_events.specs.Flags as flag
 use Rattle.ompt_events.specs.Flags.{has_flag}
-use Rattle.ompt_events.specs.Records.{begun_root, started, discarded}
+use Rattle.ompt_events.specs.Records.{begun_root, started, running, told_turns, begun_turn, ended_turn, discarded}
 use Rattle.ompt_events.specs.Places.{at, thread_at, places}
+use Rattle.ompt_events.specs.Turns.{is_turn, turns_in}
 
 -- the state of a task after a schedule event with this status, where its state allows one: the table of the
 -- format
@@ -56,7 +57,7 @@ is_task task found = option_map_or (λ t. t == task) found false
 
 -- the moves of the task that the record makes: as the prior task before as the next one
 abbrev pub stops : ℕ → Body → List Move
-stops task (TaskSchedule status prior next share) = if prior == task then Stopped status ∷ [] else []
+stops task (TaskSchedule status turns prior next share) = if prior == task then Stopped status ∷ [] else []
 stops task _ = []
 
 abbrev pub moves_by : ℕ → Body → List Move
@@ -88,7 +89,7 @@ abbrev pub is_early : List Record → ℕ → ℕ → Bool
 is_early rs task i = option_map_or (λ (r : Record). early r.body) (slice_get rs i) false
   where
     early : Body → Bool
-    early (TaskSchedule status.EarlyFulfill prior next share) = prior == task
+    early (TaskSchedule status.EarlyFulfill turns prior next share) = prior == task
     early _ = false
 
 -- the places at which a task moves, in the order in which its moves are read: fulfilments ahead of its
@@ -102,6 +103,45 @@ places_of rs task =
 -- all moves of the task in that order
 abbrev pub moves_of : List Record → ℕ → List (ℕ × Move)
 moves_of rs task = flat_map (moves_at rs task) (places_of rs task)
+
+-- whether the task runs on another thread than its home, as turns tell
+abbrev pub has_moved : List Record → ℕ → Bool
+has_moved rs task = is_some (find (λ i. is_told_start i && not (is_on rs (home_of rs task) i)) (places rs))
+  where
+    is_told_start : ℕ → Bool
+    is_told_start i = is_task task (at started rs i) && is_some (at told_turns rs i)
+
+-- the move by which the task begins the turn there, and that by which it ends it
+abbrev pub turn_starts_at : List Record → ℕ → ℕ → ℕ → List (ℕ × Move)
+turn_starts_at rs task turn i = if is_turn task turn (at begun_turn rs i) then (i, Started) ∷ [] else []
+
+abbrev pub turn_ends_at : List Record → ℕ → ℕ → ℕ → List (ℕ × Move)
+turn_ends_at rs task turn i =
+    if is_turn task turn (at ended_turn rs i) then map (λ move. (i, move)) stopped_there else []
+  where
+    stopped_there : List Move
+    stopped_there = option_map_or (λ (r : Record). stops task r.body) (slice_get rs i) []
+
+-- whether the record neither begins nor ends a turn of the task, nor fulfils its event early
+abbrev pub is_apart : List Record → ℕ → ℕ → Bool
+is_apart rs task i =
+    not (is_early rs task i) && not (is_task task (at running rs i)) && not (is_task task (at started rs i))
+
+-- the moves by which it begins the turn, then those by which it ends it
+abbrev pub turn_moves : List Record → ℕ → ℕ → List (ℕ × Move)
+turn_moves rs task turn =
+    flat_map (turn_starts_at rs task turn) (places rs) ++ flat_map (turn_ends_at rs task turn) (places rs)
+
+-- the moves of a task that moved: early fulfilments, then turn by turn its start and its end, then all others
+abbrev pub moved_moves : List Record → ℕ → List (ℕ × Move)
+moved_moves rs task =
+    flat_map (moves_at rs task) (filter (is_early rs task) (places rs))
+    ++ flat_map (turn_moves rs task) (range_with_len 0 (turns_in rs))
+    ++ flat_map (moves_at rs task) (filter (is_apart rs task) (places rs))
+
+-- all moves of any task
+abbrev pub all_moves_of : List Record → ℕ → List (ℕ × Move)
+all_moves_of rs task = if has_moved rs task then moved_moves rs task else moves_of rs task
 
 -- what a task is: a root, a taskwait with dependences (a task that is created with the flag `taskwait`), or
 -- any other

@@ -1,20 +1,22 @@
 -- What a list of records must be to be a trace.
-use Rattle.std.specs.Prelude.{ℕ, ◌≡◌, ◌≤◌, ◌<◌, ◌+◌, ◌^◌, ⊤, List, length, take, All, count_by, is_some, IfSome}
+use Rattle.std.specs.Prelude.{ℕ, ◌≡◌, ◌==◌, ◌≤◌, ◌<◌, ◌+◌, ◌^◌, ◌⊎◌, ◌&&◌, ⊤, List, length, take, All, count_by, is_some, IfSome}
 use Rattle.std.specs.Int.RustNames.{bit_and}
 use Rattle.bitflags.specs.Sets.{known_bits}
 use Rattle.ompt_events.specs.declared.records.Record.{Record}
 use Rattle.ompt_events.specs.declared.records.Body.{Body}
 use Rattle.ompt_events.specs.declared.records.Claim.{Claim}
+use Rattle.ompt_events.specs.declared.records.Turns.{Turns}
 use Rattle.ompt_events.specs.declared.records.Body.TheVariants.{ThreadBegin, ThreadEnd, ParallelBegin, ParallelEnd, ImplicitTask, TaskCreate, Dependences, TaskSchedule, SyncRegion, Cancel}
 use Rattle.ompt_events.specs.declared.names.Endpoint.TheVariants.{BeginEnd}
 use Rattle.ompt_events.specs.declared.deps.Dep.{Dep}
 use Rattle.ompt_events.specs.Names.{demands_next}
-use Rattle.ompt_events.specs.Records.{made, claim, finish, flags, cancellation, dependences}
+use Rattle.ompt_events.specs.Records.{made, started, claim, finish, flags, cancellation, dependences, told_turns}
 use Rattle.ompt_events.specs.Flags.{task_flags, cancel_flags}
 use Rattle.ompt_events.specs.Limits.{max_records, max_tasks, max_threads, max_depth, max_dependences}
 
--- what clauses see of a trace: its records in file order
+-- what clauses see of a trace: the version of its file, and its records in file order
 pub record TraceView : Type 0 where
+  pub version : ℕ
   pub records : List Record
 
 -- each bit has a name in the table
@@ -23,7 +25,7 @@ AreNamed table bits = bit_and bits (known_bits table) ≡ bits
 
 -- there is a next task exactly where the status demands one
 abbrev pub HasItsNext : Body → Type 0
-HasItsNext (TaskSchedule status prior next share) = is_some next ≡ demands_next status
+HasItsNext (TaskSchedule status turns prior next share) = is_some next ≡ demands_next status
 HasItsNext _ = ⊤
 
 -- an initial or implicit task begins or ends, but not both at once
@@ -47,6 +49,9 @@ pub record IsSound (body : Body) : Type 0 where
 abbrev pub ClaimInRange : Claim → Type 0
 ClaimInRange c = (c.kept < 2 ^ 32) × (c.root < 2 ^ 64) × All (λ n. n < 2 ^ 32) c.path
 
+abbrev pub TurnsInRange : Turns → Type 0
+TurnsInRange t = (t.prior < 2 ^ 32) × (t.next < 2 ^ 32)
+
 abbrev pub BodyInRange : Body → Type 0
 BodyInRange (ThreadBegin kind) = ⊤
 BodyInRange ThreadEnd = ⊤
@@ -57,8 +62,8 @@ BodyInRange (ImplicitTask endpoint actual index given parallel task) =
     (actual < 2 ^ 32) × (index < 2 ^ 32) × (parallel < 2 ^ 64) × (task < 2 ^ 64)
 BodyInRange (TaskCreate deps given task child) = (task < 2 ^ 64) × (child < 2 ^ 64)
 BodyInRange (Dependences task list) = (task < 2 ^ 64) × All (λ d. d.var < 2 ^ 64) list
-BodyInRange (TaskSchedule status prior next share) =
-    (prior < 2 ^ 64) × IfSome next (λ n. n < 2 ^ 64) × IfSome share ClaimInRange
+BodyInRange (TaskSchedule status turns prior next share) =
+    IfSome turns TurnsInRange × (prior < 2 ^ 64) × IfSome next (λ n. n < 2 ^ 64) × IfSome share ClaimInRange
 BodyInRange (SyncRegion kind endpoint parallel task) = IfSome parallel (λ n. n < 2 ^ 64) × (task < 2 ^ 64)
 BodyInRange (Cancel given task share) = (task < 2 ^ 64) × IfSome share ClaimInRange
 
@@ -81,8 +86,22 @@ pub record IsTrace (rs : List Record) : Type 0 where
   pub sound : All (λ r. IsSound r.body) rs
   pub in_range : All IsInRange rs
 
--- the records before i are a trace, and with the one at i they are none
-pub record IsFirstRefused (rs : List Record) (i : ℕ) : Type 0 where
+-- turns are told in version 2, and there where a task runs next
+abbrev pub HasItsTurns : ℕ → Body → Type 0
+HasItsTurns version body = is_some (told_turns body) ≡ ((version == 2) && is_some (started body))
+
+-- a record that can stand in a trace of this version, as far as it alone shows
+abbrev pub IsSoundIn : ℕ → Body → Type 0
+IsSoundIn version body = IsSound body × HasItsTurns version body
+
+-- the records are a trace of this version
+pub record IsTraceOf (version : ℕ) (rs : List Record) : Type 0 where
+  pub known : (version ≡ 1) ⊎ (version ≡ 2)
+  pub is_trace : IsTrace rs
+  pub turns : All (λ r. HasItsTurns version r.body) rs
+
+-- the records before i are a trace of this version, and with the one at i they are none
+pub record IsFirstRefused (version : ℕ) (rs : List Record) (i : ℕ) : Type 0 where
   pub within : i < length rs
-  pub before : IsTrace (take i rs)
-  pub refused : IsTrace (take (i + 1) rs) → ⊥
+  pub before : IsTraceOf version (take i rs)
+  pub refused : IsTraceOf version (take (i + 1) rs) → ⊥

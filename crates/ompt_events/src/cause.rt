@@ -14,8 +14,10 @@ pub enum Cause {
     Rootless,
     /// A record speaks for a task that its thread is not running.
     NotCurrent,
-    /// An explicit task runs on a second thread.
+    /// An explicit task runs on a second thread, in a file of version 1, which cannot tell its turns.
     Moved,
+    /// The turns that a record tells are not those of its tasks, in a file of version 2.
+    TurnGap,
     /// A status that the task's state does not allow.
     StatusOrder,
     /// A region's end without its begin, or a barrier of an explicit task.
@@ -50,6 +52,7 @@ macro_rules! causes {
             Rootless = 3 "Rootless",
             NotCurrent = 4 "NotCurrent",
             Moved = 5 "Moved",
+            TurnGap = 5 "TurnGap",
             StatusOrder = 6 "StatusOrder",
             RegionOrder = 7 "RegionOrder",
             TeamShort = 8 "TeamShort",
@@ -91,7 +94,8 @@ macro_rules! value_of {
 }
 
 impl Cause {
-    /// The number, from 1 to 16. Of the causes that occur the lowest-numbered one is reported.
+    /// The number, from 1 to 16. Of the causes that occur the lowest-numbered one is reported. Moved and
+    /// TurnGap share the number 5, since each occurs in one version of the file alone.
     pub fn number(self) -> u8
         ensures { result ≡ cause_number self }
     {

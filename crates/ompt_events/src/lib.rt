@@ -24,6 +24,6 @@ pub use flags::{CancelFlags, TaskFlags};
 pub use named::NamedTasks;
 pub use names::{DepKind, Endpoint, Status, SyncKind, ThreadKind, WaitKind, conflicts};
 pub use path::Path;
-pub use records::{Body, Claim, Membership, Part, Record, finish};
+pub use records::{Body, Claim, Membership, Part, Record, Turns, finish};
 pub use state::State;
 pub use trace::{MAX_DEPENDENCES, MAX_DEPTH, MAX_RECORDS, MAX_TASKS, Trace};

@@ -2,7 +2,7 @@
 ghost use Rattle.std.specs.Prelude.{◌≡◌, option_map, option_copied};
 ghost use Rattle.ompt_events.specs.Flags as flag;
 ghost use Rattle.ompt_events.specs.Flags.{has_flag};
-ghost use Rattle.ompt_events.specs.Records.{begun_root, ended_root, joined, begun_initial, forked, region_named, creation, created, created_with_deps, dependences, made, schedule, started, fulfilled, wait_completed, discarded, running, region, flags, cancellation, claim, named, finish};
+ghost use Rattle.ompt_events.specs.Records.{begun_root, ended_root, joined, begun_initial, forked, region_named, creation, created, created_with_deps, dependences, made, schedule, started, told_turns, begun_turn, suspended_turn, ended_turn, fulfilled, wait_completed, discarded, running, region, flags, cancellation, claim, named, finish};
 ghost use Rattle.ompt_events.specs.Regions.{ends_wait};
 
 use crate::deps::{Dep, Deps};
@@ -30,6 +30,16 @@ pub struct Claim {
     pub root: u64,
     /// The numbers of the children from the root down to the task, at most 1,024 of them.
     pub path: Path,
+}
+
+/// Which turns a task_schedule event ends and begins, in files that tell it. A task runs in turns: it starts
+/// in turn 0, and each time that it runs on after a suspension its turn is one more. A root begins in turn 0.
+#[derive(Clone, Copy, Debug, PartialEq, Eq)]
+pub struct Turns {
+    /// The turn of the prior task, which ends.
+    pub prior: u32,
+    /// The turn of the next task, which begins.
+    pub next: u32,
 }
 
 /// A task's place in the team of a parallel region (OpenMP 5.2, 10.1 and 19.5.2.11).
@@ -90,9 +100,11 @@ pub enum Body {
         list: Deps,
     },
     /// `prior` stops running or is fulfilled with this status (19.5.2.10), and `next`, where there is one,
-    /// runs from here on. A finishing record has a `share`.
+    /// runs from here on. A finishing record has a `share`. In a trace of version 2 one with a `next` has
+    /// `turns`.
     TaskSchedule {
         status: Status,
+        turns: Option<Turns>,
         prior: u64,
         next: Option<u64>,
         share: Option<Claim>,
@@ -271,6 +283,60 @@ impl Body {
     {
         match self {
             Body::TaskSchedule { next, .. } => *next,
+            _ => None,
+        }
+    }
+
+    /// The turns that the record tells: which one of the prior task ends, and which one of the next begins.
+    pub fn told_turns(&self) -> Option<Turns>
+        ensures { result ≡ told_turns self.now }
+    {
+        match self {
+            Body::TaskSchedule { turns, .. } => *turns,
+            _ => None,
+        }
+    }
+
+    /// The task that runs next, and the turn that it begins; turn 0 where the record tells none.
+    pub fn begun_turn(&self) -> Option<(u64, u32)>
+        ensures { result ≡ begun_turn self.now }
+    {
+        match self {
+            Body::TaskSchedule {
+                turns,
+                next: Some(next),
+                ..
+            } => Some((*next, turns.map_or(0, |told| told.next))),
+            _ => None,
+        }
+    }
+
+    /// The task that is suspended, and the turn that it ends; turn 0 where the record tells none.
+    pub fn suspended_turn(&self) -> Option<(u64, u32)>
+        ensures { result ≡ suspended_turn self.now }
+    {
+        match self {
+            Body::TaskSchedule {
+                status: Status::Yield | Status::Switch,
+                turns,
+                prior,
+                ..
+            } => Some((*prior, turns.map_or(0, |told| told.prior))),
+            _ => None,
+        }
+    }
+
+    /// The task that stops running, and the turn that it ends; turn 0 where the record tells none.
+    pub fn ended_turn(&self) -> Option<(u64, u32)>
+        ensures { result ≡ ended_turn self.now }
+    {
+        match self {
+            Body::TaskSchedule {
+                status,
+                turns,
+                prior,
+                ..
+            } if status.demands_next() => Some((*prior, turns.map_or(0, |told| told.prior))),
             _ => None,
         }
     }
@@ -457,5 +523,5 @@ fn discards(flags: CancelFlags) -> bool
     flags.contains(CancelFlags::DISCARDED_TASK)
 }
 
-// A record takes at most 96 bytes beside its lists.
-const _: () = prove!(std::mem::size_of::<Record>() <= 96);
+// A record takes at most 104 bytes beside its lists.
+const _: () = prove!(std::mem::size_of::<Record>() <= 104);

@@ -1,11 +1,11 @@
 //! A list of records that keeps within the limits of a file.
-ghost use Rattle.std.specs.Prelude.{◌≡◌, ◌↔◌, IsTrue, IfOk, IfErr, MatchOption, is_some, IfSome, length, ◌≤◌, ◌<◌, ◌^◌};
+ghost use Rattle.std.specs.Prelude.{◌≡◌, ◌↔◌, IsTrue, IfOk, IfErr, MatchOption, is_some, IfSome, length, ◌≤◌, ◌<◌, ◌^◌, ◌⊎◌};
 ghost use Rattle.ompt_events.specs.Flags.{task_flags, cancel_flags};
-ghost use Rattle.ompt_events.specs.Traces.{AreNamed, IsSound, IsTrace, IsFirstRefused, IsInRange, BodyInRange, ClaimInRange};
+ghost use Rattle.ompt_events.specs.Traces.{AreNamed, IsSound, IsTrace, IsTraceOf, IsSoundIn, HasItsTurns, IsFirstRefused, IsInRange, BodyInRange, ClaimInRange, TurnsInRange};
 
 use crate::flags::{CancelFlags, TaskFlags};
 use crate::names::Endpoint;
-use crate::records::{Body, Claim, Record};
+use crate::records::{Body, Claim, Record, Turns};
 use bitflags::Flags;
 use std::marker::Model;
 
@@ -21,58 +21,90 @@ pub const MAX_DEPENDENCES: usize = 64;
 /// The most numbers that a path has: how deep below its root a finished task may stand.
 pub const MAX_DEPTH: usize = 1024;
 
-/// Records in file order, each sound by itself, within the limits on their number.
+/// Records in file order, each sound by itself, within the limits on their number. In a trace of version 2
+/// each record after which a task runs next tells turns, in one of version 1 none does.
 #[derive(Debug, Drop)]
 pub struct Trace {
+    version: u32,
     records: Vec<Record>,
 }
 
 impl Model for Trace {
-    ghost use Rattle.ompt_events.specs.Traces.{TraceView, IsTrace};
+    ghost use Rattle.ompt_events.specs.Traces.{TraceView, IsTraceOf};
 
     ghost Value = { TraceView };
 
-    ghost view = { λ trace. record { records = trace.records.items } };
+    ghost view = { λ trace. record { version = trace.version; records = trace.records.items } };
 
-    ghost invariant = { λ trace. IsTrace trace.records.items };
+    ghost invariant = { λ trace. IsTraceOf trace.version trace.records.items };
 }
 
 impl Trace {
-    /// The trace of these records. Refused are the records, given back, and the place of the first one
-    /// that cannot stand in a trace: one past the limit on records or tasks, with a flag bit that has no
-    /// name, with a claim though it does not finish a task or with none though it does, with a next task
-    /// that its status forbids or without one that it demands, an implicit task's begin and end in one, or
-    /// with a path or a list of dependences that is too long. Takes no memory.
+    /// The trace of version 1 of these records. Refused are the records, given back, and the place of the
+    /// first one that cannot stand in such a trace: one past the limit on records or tasks, with a flag bit
+    /// that has no name, with a claim though it does not finish a task or with none though it does, with a
+    /// next task that its status forbids or without one that it demands, an implicit task's begin and end in
+    /// one, with a path or a list of dependences that is too long, or one that tells turns. Takes no memory.
     pub fn from_records(records: Vec<Record>) -> Result<Trace, (Vec<Record>, usize)>
-        ensures accepted { IfOk result (λ trace. (trace.records ≡ records.items) × IsTrace records.items) }
+        ensures accepted { IfOk result (λ trace. trace ≡ record { version = 1; records = records.items }) }
         ensures refused { IfErr result (λ refusal. (refusal.0.items ≡ records.items)
-            × IsFirstRefused records.items refusal.1) }
+            × IsFirstRefused 1 records.items refusal.1) }
     {
-        match first_refused(records.as_slice()) {
-            Some(at) => Err((records, at)),
-            None => Ok(Trace { records }),
-        }
+        trace_of(1, records)
+    }
+
+    /// The trace of version 2 of these records. Refused are the same records as by [`Trace::from_records`],
+    /// but for turns: a record after which a task runs next is refused without them, any other record with
+    /// them. Takes no memory.
+    pub fn from_turns(records: Vec<Record>) -> Result<Trace, (Vec<Record>, usize)>
+        ensures accepted { IfOk result (λ trace. trace ≡ record { version = 2; records = records.items }) }
+        ensures refused { IfErr result (λ refusal. (refusal.0.items ≡ records.items)
+            × IsFirstRefused 2 records.items refusal.1) }
+    {
+        trace_of(2, records)
+    }
+
+    /// The version of the file format that the trace is of: 1, or 2 where its records tell turns. Takes no
+    /// memory.
+    pub fn version(&self) -> u32
+        ensures { result ≡ self.now.version }
+    {
+        self.version
     }
 
     /// The records in file order. Takes no memory.
     pub fn records(&self) -> &[Record]
         ensures value { result.now ≡ self.now.records }
-        ensures is_trace { IsTrace result.now }
+        ensures is_trace { IsTraceOf self.now.version result.now }
     {
         self.records.as_slice()
     }
 }
 
+/// The trace of this version of the records, or the place of the first one that cannot stand there.
+fn trace_of(version: u32, records: Vec<Record>) -> Result<Trace, (Vec<Record>, usize)>
+    requires { (version ≡ 1) ⊎ (version ≡ 2) }
+    ensures accepted { IfOk result (λ trace. trace ≡ record { version = version; records = records.items }) }
+    ensures refused { IfErr result (λ refusal. (refusal.0.items ≡ records.items)
+        × IsFirstRefused version records.items refusal.1) }
+{
+    match first_refused(version, records.as_slice()) {
+        Some(at) => Err((records, at)),
+        None => Ok(Trace { version, records }),
+    }
+}
+
 /// The first record that cannot stand where it does.
-fn first_refused(records: &[Record]) -> Option<usize>
-    ensures { MatchOption result (IsTrace records.now) (IsFirstRefused records.now) }
+fn first_refused(version: u32, records: &[Record]) -> Option<usize>
+    requires { (version ≡ 1) ⊎ (version ≡ 2) }
+    ensures { MatchOption result (IsTraceOf version records.now) (IsFirstRefused version records.now) }
 {
     let mut tasks: usize = 0;
     for (at, event) in records.iter().enumerate() {
         if at >= MAX_RECORDS {
             return Some(at);
         }
-        if !event.body.is_sound() {
+        if !event.body.is_sound_in(version) {
             return Some(at);
         }
         event.read_numbers();
@@ -116,6 +148,24 @@ impl Body {
             }
             _ => true,
         }
+    }
+}
+
+impl Body {
+    /// Whether a record with this body can stand in a trace of the version, as far as it alone shows. Takes
+    /// no memory.
+    pub fn is_sound_in(&self, version: u32) -> bool
+        ensures { IsTrue result ↔ IsSoundIn version self.now }
+    {
+        self.is_sound() && self.tells_its_turns(version)
+    }
+
+    /// Whether it tells turns exactly where a trace of the version demands it.
+    fn tells_its_turns(&self, version: u32) -> bool
+        ensures { IsTrue result ↔ HasItsTurns version self.now }
+    {
+        let demanded = version == 2 && self.started().is_some();
+        self.told_turns().is_some() == demanded
     }
 }
 
@@ -190,11 +240,13 @@ fn read_arguments(body: &Body)
             list.read_numbers();
         }
         Body::TaskSchedule {
+            turns,
             prior,
             next,
             share,
             ..
         } => {
+            read_turns(*turns);
             let _prior = *prior;
             read_id(*next);
             read_share(share);
@@ -207,6 +259,15 @@ fn read_arguments(body: &Body)
             let _number = *task;
             read_share(share);
         }
+    }
+}
+
+/// Each turn, if there are some, is within the range of its type.
+fn read_turns(turns: Option<Turns>)
+    ensures { IfSome turns TurnsInRange }
+{
+    if let Some(told) = turns {
+        let _numbers = (told.prior, told.next);
     }
 }
 

@@ -153,7 +153,7 @@ roots_after run i walk w (Running index) r stands is are = absurd is
 roots_kept : (w : Walk) (b : Body) → begun_root b ≡ None → ended_root b ≡ None → (after_body w b).roots ≡ w.roots
 roots_kept w (ImplicitTask Begin actual index flags parallel own) no_begin no_end = absurd (none-some own (sym no_begin))
 roots_kept w (ImplicitTask End actual index flags parallel own) no_begin no_end = absurd (none-some own (sym no_end))
-roots_kept w (TaskSchedule status prior next share) no_begin no_end = by (demands_next status)
+roots_kept w (TaskSchedule status turns prior next share) no_begin no_end = by (demands_next status)
   where
     by : (b : Bool) → (cond b (record { roots = w.roots; current = next }) w).roots ≡ w.roots
     by true = refl

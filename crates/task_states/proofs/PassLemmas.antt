@@ -51,7 +51,7 @@ said_there f rs i r stands = ap (option_and_then (λ (q : Record). f q.body)) st
 
 -- whether the body fulfils the task's event early
 abbrev early_for : ℕ → Body → Bool
-early_for task (TaskSchedule EarlyFulfill prior next share) = prior == task
+early_for task (TaskSchedule EarlyFulfill turns prior next share) = prior == task
 early_for task _ = false
 
 early_there : (rs : List Record) (i task : ℕ) (r : Record) → slice_get rs i ≡ Some r → is_early rs task i ≡ early_for task r.body
@@ -63,12 +63,12 @@ stop_early rs i task status next says =
     let (r, stands, is) = record_there schedule rs i (status, task, next) says in
     early_there rs i task r stands ∙ of r.body is
   where
-    by : (s : Status) (prior : ℕ) (follower : Option ℕ) (share : _) → prior ≡ task → early_for task (TaskSchedule s prior follower share) ≡ is_early_status s
+    by : (s : Status) (prior : ℕ) (follower : Option ℕ) (share : _) → prior ≡ task → early_for task (TaskSchedule s turns prior follower share) ≡ is_early_status s
     by EarlyFulfill prior follower share same = eq-eqb prior task same
     by _ prior follower share same = refl
 
     of : (b : Body) → schedule b ≡ Some (status, task, next) → early_for task b ≡ is_early_status status
-    of (TaskSchedule s p n share) is =
+    of (TaskSchedule s turns p n share) is =
         let same : (s, p, n) ≡ (status, task, next) = same_Some (s, p, n) (status, task, next) is in
         by s p n share (ap (λ (t : Status × ℕ × Option ℕ). t.1) same) ∙ ap (λ (t : Status × ℕ × Option ℕ). is_early_status t.0) same
     of _ is = absurd (none-some (status, task, next) is)
@@ -82,7 +82,7 @@ start_early rs i task is_trace says =
     early_there rs i task r stands ∙ of r.body sound is
   where
     of : (b : Body) → HasItsNext b → started b ≡ Some task → early_for task b ≡ false
-    of (TaskSchedule EarlyFulfill prior next share) sound is = absurd (false≢true (sym sound ∙ ap is_some is))
+    of (TaskSchedule EarlyFulfill turns prior next share) sound is = absurd (false≢true (sym sound ∙ ap is_some is))
     of _ sound is = refl
 
 discard_early : (rs : List Record) (i task : ℕ) → at discarded rs i ≡ Some task → is_early rs task i ≡ false
@@ -119,7 +119,7 @@ scheduled_next rs i status task next says =
     said_there started rs i r stands ∙ of r.body is
   where
     of : (b : Body) → schedule b ≡ Some (status, task, next) → started b ≡ next
-    of (TaskSchedule s p n share) is = ap (λ (t : Status × ℕ × Option ℕ). t.2) (same_Some (s, p, n) (status, task, next) is)
+    of (TaskSchedule s turns p n share) is = ap (λ (t : Status × ℕ × Option ℕ). t.2) (same_Some (s, p, n) (status, task, next) is)
     of _ is = absurd (none-some (status, task, next) is)
 
 pub next_calls : (run : RunView) (i index : ℕ) (status : Status) (next : Option ℕ) → IsSchedule run i status index next → IsIndexOf run started i next
@@ -189,7 +189,7 @@ schedule_moves pass rs i r status prior next moves stands says task = ap (λ l. 
     reads = is_read pass rs task i
 
     of : (b : Body) → schedule b ≡ Some (status, prior, next) → moves task ++ cond reads (map (λ move. (i, move)) (moves_by task b)) [] ≡ and_move pass rs i next step.Started (and_move pass rs i (Some prior) (step.Stopped status) moves) task
-    of (TaskSchedule s p n share) is =
+    of (TaskSchedule s turns p n share) is =
         let same : (s, p, n) ≡ (status, prior, next) = same_Some (s, p, n) (status, prior, next) is in
         two (moves task) i (Stopped s) Started reads (p == task) (is_task task n)
         ∙ ap (λ (t : Status × ℕ × Option ℕ). and_move pass rs i t.2 step.Started (and_move pass rs i (Some t.1) (step.Stopped t.0) moves) task) same
@@ -215,7 +215,7 @@ no_moves pass rs i r moves stands no_schedule no_discard task = ap (λ l. moves 
     reads = is_read pass rs task i
 
     of : (b : Body) → schedule b ≡ None → discarded b ≡ None → moves task ++ cond reads (map (λ move. (i, move)) (moves_by task b)) [] ≡ moves task
-    of (TaskSchedule s p n share) is missing = absurd (none-some (s, p, n) (sym is))
+    of (TaskSchedule s turns p n share) is missing = absurd (none-some (s, p, n) (sym is))
     of (Cancel flags t share) is missing = ap (λ (o : Option ℕ). moves task ++ cond reads (map (λ move. (i, move)) (cond (is_task task o) (Discarded ∷ []) [])) []) missing ∙ none (moves task) reads
     of _ is missing = none (moves task) reads
 
@@ -242,7 +242,7 @@ schedule_whole pass rs i r status prior next stands says first second task off =
     none_of s false false first second = refl
 
     of : (b : Body) → schedule b ≡ Some (status, prior, next) → map {B = ℕ × Move} (λ move. (i, move)) (moves_by task b) ≡ []
-    of (TaskSchedule s p n share) is =
+    of (TaskSchedule s turns p n share) is =
         let same : (s, p, n) ≡ (status, prior, next) = same_Some (s, p, n) (status, prior, next) is in
         none_of s (p == task) (is_task task n)
         (ap (λ (t : Status × ℕ × Option ℕ). is_task task (Some t.1)) same ∙ read_apart reads (Some prior) task first off)
@@ -267,7 +267,7 @@ still_whole : (pass : Pass) (rs : List Record) (i : ℕ) (r : Record) → slice_
 still_whole pass rs i r stands no_schedule no_discard task off = moves_there rs i task r stands ∙ of r.body no_schedule no_discard
   where
     of : (b : Body) → schedule b ≡ None → discarded b ≡ None → map {B = ℕ × Move} (λ move. (i, move)) (moves_by task b) ≡ []
-    of (TaskSchedule s p n share) is missing = absurd (none-some (s, p, n) (sym is))
+    of (TaskSchedule s turns p n share) is missing = absurd (none-some (s, p, n) (sym is))
     of (Cancel flags t share) is missing = ap (λ (o : Option ℕ). map {B = ℕ × Move} (λ move. (i, move)) (cond (is_task task o) (Discarded ∷ []) [])) missing
     of _ is missing = refl
 
@@ -323,7 +323,7 @@ pub not_early : (rs : List Record) (i : ℕ) → fulfils_early rs i ≡ false �
 not_early rs i says task = there (slice_get rs i) says
   where
     of : (b : Body) → option_map_or is_early_status (says_status b) false ≡ false → early_for task b ≡ false
-    of (TaskSchedule EarlyFulfill prior next share) is = absurd (false≢true (sym is))
+    of (TaskSchedule EarlyFulfill turns prior next share) is = absurd (false≢true (sym is))
     of _ is = refl
 
     there : (o : Option Record) → option_map_or is_early_status (option_and_then (λ (r : Record). says_status r.body) o) false ≡ false → option_map_or (λ (r : Record). early_for task r.body) o false ≡ false

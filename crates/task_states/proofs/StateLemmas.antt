@@ -40,7 +40,7 @@ use Rattle.task_states.proofs.OriginLemmas.{is_the_task}
 
 -- what a record moves it names
 named_by : (task : ℕ) (b : Body) (move : Move) → Contains (moves_by task b) move → (subject b ≡ Some task) ⊎ (object b ≡ Some task)
-named_by task (TaskSchedule status prior next share) move has = of (prior == task) refl (is_task task next) refl has
+named_by task (TaskSchedule status turns prior next share) move has = of (prior == task) refl (is_task task next) refl has
   where
     of : (a : Bool) → prior == task ≡ a → (b : Bool) → is_task task next ≡ b → Contains ((cond a (Stopped status ∷ []) [] ++ cond b (Started ∷ []) []) ++ []) move → (Some prior ≡ Some task) ⊎ (next ≡ Some task)
     of true e b e' has' = inl (ap Some (eqb-true prior task e))

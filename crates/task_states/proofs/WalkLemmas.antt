@@ -91,7 +91,7 @@ nothing_there run i r stands (none, no_begin, no_end, no_run) = (
 -- ---- how a walk goes on
 
 schedule_after : (w : Walk) (b : Body) (status : Status) (prior : ℕ) (next : Option ℕ) → schedule b ≡ Some (status, prior, next) → after_body w b ≡ (if demands_next status then record { roots = w.roots; current = next } else w)
-schedule_after w (TaskSchedule s p n share) status prior next is = ap (λ (t : Status × ℕ × Option ℕ). if demands_next t.0 then record { roots = w.roots; current = t.2 } else w) (same_Some (s, p, n) (status, prior, next) is)
+schedule_after w (TaskSchedule s turns p n share) status prior next is = ap (λ (t : Status × ℕ × Option ℕ). if demands_next t.0 then record { roots = w.roots; current = t.2 } else w) (same_Some (s, p, n) (status, prior, next) is)
 schedule_after w _ status prior next is = absurd (none-some (status, prior, next) is)
 
 pub begin_after : (w : Walk) (b : Body) (task : ℕ) → begun_root b ≡ Some task → after_body w b ≡ record { roots = task ∷ w.roots; current = Some task }
@@ -105,7 +105,7 @@ end_after w _ task is = absurd (none-some task is)
 quiet_after : (w : Walk) (b : Body) → schedule b ≡ None → begun_root b ≡ None → ended_root b ≡ None → after_body w b ≡ w
 quiet_after w (ImplicitTask Begin actual index flags parallel own) none no_begin no_end = absurd (none-some own (sym no_begin))
 quiet_after w (ImplicitTask End actual index flags parallel own) none no_begin no_end = absurd (none-some own (sym no_end))
-quiet_after w (TaskSchedule s p n share) none no_begin no_end = absurd (none-some (s, p, n) (sym none))
+quiet_after w (TaskSchedule s turns p n share) none no_begin no_end = absurd (none-some (s, p, n) (sym none))
 quiet_after w _ none no_begin no_end = refl
 
 indexed_after : (tasks : List ℕ) (walk w : Walk) (event : ThreadEvent) (b : Body) → Tells tasks b event → IsIndexed tasks walk w → IsIndexed tasks (after_event walk event) (after_body w b)

@@ -69,16 +69,16 @@ dependences_subject task items (Dependences own list) is = ap (λ (p : ℕ × Li
 dependences_subject task items _ is = absurd (none-some (task, items) is)
 
 pub schedule_subject : (status : Status) (prior : ℕ) (next : Option ℕ) (b : Body) → schedule b ≡ Some (status, prior, next) → subject b ≡ Some prior
-schedule_subject status prior next (TaskSchedule own_status own own_next share) is = ap (λ (p : Status × ℕ × Option ℕ). Some p.1) (same_Some (own_status, own, own_next) (status, prior, next) is)
+schedule_subject status prior next (TaskSchedule own_status turns own own_next share) is = ap (λ (p : Status × ℕ × Option ℕ). Some p.1) (same_Some (own_status, own, own_next) (status, prior, next) is)
 schedule_subject status prior next _ is = absurd (none-some (status, prior, next) is)
 
 pub fulfilled_subject : (task : ℕ) (b : Body) → fulfilled b ≡ Some task → subject b ≡ Some task
-fulfilled_subject task (TaskSchedule EarlyFulfill prior next share) is = is
-fulfilled_subject task (TaskSchedule LateFulfill prior next share) is = is
+fulfilled_subject task (TaskSchedule EarlyFulfill turns prior next share) is = is
+fulfilled_subject task (TaskSchedule LateFulfill turns prior next share) is = is
 fulfilled_subject task _ is = absurd (none-some task is)
 
 pub wait_completed_subject : (task : ℕ) (b : Body) → wait_completed b ≡ Some task → subject b ≡ Some task
-wait_completed_subject task (TaskSchedule TaskwaitComplete prior next share) is = is
+wait_completed_subject task (TaskSchedule TaskwaitComplete turns prior next share) is = is
 wait_completed_subject task _ is = absurd (none-some task is)
 
 pub discarded_subject : (task : ℕ) (b : Body) → discarded b ≡ Some task → subject b ≡ Some task
@@ -86,7 +86,7 @@ discarded_subject task (Cancel flags own share) is = ap Some (if_some (has_flag 
 discarded_subject task _ is = absurd (none-some task is)
 
 pub finish_subject : (task : ℕ) (part : Part) (b : Body) → finish b ≡ Some (task, part) → subject b ≡ Some task
-finish_subject task part (TaskSchedule status prior next share) is = with_part (status_part status) is
+finish_subject task part (TaskSchedule status turns prior next share) is = with_part (status_part status) is
   where
     with_part : (o : Option Part) → option_map {U = ℕ × Part} (λ (p : Part). (prior, p)) o ≡ Some (task, part) → Some prior ≡ Some task
     with_part None is' = absurd (none-some (task, part) is')
@@ -103,7 +103,7 @@ running_subject task (ParallelBegin requested own parallel) is = is
 running_subject task (ParallelEnd own parallel) is = is
 running_subject task (ImplicitTask End actual number flags parallel own) is = is
 running_subject task (TaskCreate deps flags own child) is = is
-running_subject task (TaskSchedule status prior next share) is = ap Some (if_some (demands_next status) prior task is)
+running_subject task (TaskSchedule status turns prior next share) is = ap Some (if_some (demands_next status) prior task is)
 running_subject task (SyncRegion kind endpoint parallel own) is = is
 running_subject task (Cancel flags own share) is = ap Some (if_none (has_flag flags.0 flag.discarded_task) own task is)
 running_subject task _ is = absurd (none-some task is)
@@ -119,5 +119,5 @@ created_object task (TaskCreate deps flags own child) is = is
 created_object task _ is = absurd (none-some task is)
 
 pub started_object : (task : ℕ) (b : Body) → started b ≡ Some task → object b ≡ Some task
-started_object task (TaskSchedule status prior next share) is = is
+started_object task (TaskSchedule status turns prior next share) is = is
 started_object task _ is = absurd (none-some task is)

@@ -42,9 +42,9 @@ abbrev Finishes : List Move → Part → Type 0
 Finishes moves part = (k : ℕ) × (move : Move) × (slice_get moves k ≡ Some move) × (part_of move ≡ Some part)
 
 body_finishes : (task : ℕ) (part : Part) (b : RecordBody) → finish b ≡ Some (task, part) → Finishes (moves_by task b) part
-body_finishes task part (TaskSchedule status prior next share) is = of (status_part status) refl is
+body_finishes task part (TaskSchedule status turns prior next share) is = of (status_part status) refl is
   where
-    of : (found : Option Part) → status_part status ≡ found → option_map {U = ℕ × Part} (λ (p : Part). (prior, p)) found ≡ Some (task, part) → Finishes (moves_by task (TaskSchedule status prior next share)) part
+    of : (found : Option Part) → status_part status ≡ found → option_map {U = ℕ × Part} (λ (p : Part). (prior, p)) found ≡ Some (task, part) → Finishes (moves_by task (TaskSchedule status turns prior next share)) part
     of None told is = absurd (none-some (task, part) is)
     of (Some own) told is =
         let same = same_Some (prior, own) (task, part) is in

@@ -1,0 +1,104 @@
+-- The start of a task by turns, and what holds where no record tells a turn.
+use Rattle.std.proofs.Common.{◌≡◌, ◌≢◌, ◌∙◌, ℕ, ◌<◌, ◌+◌, List, [], ◌∷◌, Option, Some, None, true, false, Bool, cond, refl, sym, ap, subst, arith, get_or, length}
+use Rattle.std.proofs.lemmas.Option.{none-some, same_Some, slice_get-get_or, slice_get_within}
+use Rattle.std.specs.Prelude.{◌&&◌, not, slice_get, option_and_then, option_map, is_some, find}
+use Rattle.std.specs.Option.{option_map_or}
+use Rattle.ompt_events.specs.declared.records.Record.{Record}
+use Rattle.ompt_events.specs.declared.records.Turns.{Turns}
+use Rattle.ompt_events.specs.Records.{started, told_turns, begun_turn, next_turn}
+use Rattle.ompt_events.specs.Places.{at, places}
+use Rattle.ompt_events.specs.Turns.{TellsNoTurns}
+use Rattle.ompt_events.specs.Traces.{IsTraceOf, HasItsTurns}
+use Rattle.ompt_events.specs.States.{is_task, is_on, home_of, has_moved, all_moves_of, moves_of}
+use Rattle.ompt_events.specs.HappensBefore.{IsStart, IsResumption}
+use Rattle.ompt_events.specs.Causes.{HasTurnGap, other_turn, begun_again, falling, of_root, missing}
+
+-- ---- the task that begins a turn runs next
+
+begun_there : (o : Option Record) (task turn : ℕ) → option_and_then (λ (r : Record). begun_turn r.body) o ≡ Some (task, turn) → option_and_then (λ (r : Record). started r.body) o ≡ Some task
+begun_there None task turn begins = absurd (none-some (task, turn) begins)
+begun_there (Some r) task turn begins = by (started r.body) refl begins
+  where
+    by : (s : Option ℕ) → started r.body ≡ s → option_map {U = ℕ × ℕ} (λ t. (t, next_turn r.body)) s ≡ Some (task, turn) → started r.body ≡ Some task
+    by None e is = absurd (none-some (task, turn) is)
+    by (Some t) e is = e ∙ ap (λ (p : ℕ × ℕ). Some p.0) (same_Some (t, next_turn r.body) (task, turn) is)
+
+pub begun_started : (rs : List Record) (i task turn : ℕ) → at begun_turn rs i ≡ Some (task, turn) → at started rs i ≡ Some task
+begun_started rs i task turn begins = begun_there (slice_get rs i) task turn begins
+
+pub start_starts : (rs : List Record) (i task : ℕ) → IsStart rs i task → at started rs i ≡ Some task
+start_starts rs i task start = begun_started rs i task 0 start.starts
+
+-- ---- where no record tells a turn
+
+told_there : (o : Option Record) (task : ℕ) → option_and_then (λ (r : Record). told_turns r.body) o ≡ None → option_and_then (λ (r : Record). started r.body) o ≡ Some task → option_and_then (λ (r : Record). begun_turn r.body) o ≡ Some (task, 0)
+told_there None task none starts = absurd (none-some task starts)
+told_there (Some r) task none starts = ap (option_map {U = ℕ × ℕ} (λ t. (t, next_turn r.body))) starts ∙ ap (λ (t : Option Turns). Some (task, option_map_or (λ (u : Turns). u.next) t 0)) none
+
+pub starts_begun : (rs : List Record) (i task : ℕ) → TellsNoTurns rs → at started rs i ≡ Some task → at begun_turn rs i ≡ Some (task, 0)
+starts_begun rs i task none starts = told_there (slice_get rs i) task (none i) starts
+
+-- each turn that begins is turn 0
+pub begun_zero : (rs : List Record) (i task turn : ℕ) → TellsNoTurns rs → at begun_turn rs i ≡ Some (task, turn) → turn ≡ 0
+begun_zero rs i task turn none begins =
+    ap (λ (p : ℕ × ℕ). p.1) (same_Some (task, turn) (task, 0) (sym begins ∙ starts_begun rs i task none (begun_started rs i task turn begins)))
+
+-- the start of a task is the first record after which it runs
+pub start_first : (rs : List Record) (i task : ℕ) → TellsNoTurns rs → IsStart rs i task → (k : ℕ) → k < i → at started rs k ≢ Some task
+start_first rs i task none start k below starts = start.first k below (starts_begun rs k task none starts)
+
+pub is_start_untold : (rs : List Record) (i task : ℕ) → TellsNoTurns rs → at started rs i ≡ Some task → ((k : ℕ) → k < i → at started rs k ≢ Some task) → IsStart rs i task
+is_start_untold rs i task none starts first = record {
+  starts = starts_begun rs i task none starts;
+  first = λ k below begins. first k below (begun_started rs k task 0 begins);
+}
+
+-- no task runs on in a later turn
+pub no_resumption : (rs : List Record) (a b : ℕ) → TellsNoTurns rs → IsResumption rs a b → ⊥
+no_resumption rs a b none again = absurd (omega (arith, begun_zero rs b again.task (again.turn + 1) none again.resumes))
+
+-- and no record has a gap
+pub no_turn_gap : (rs : List Record) (i : ℕ) → TellsNoTurns rs → HasTurnGap rs i → ⊥
+no_turn_gap rs i none (other_turn told tells other) = none-some told (sym (none i) ∙ tells)
+no_turn_gap rs i none (begun_again task turn k tells below begins) = tells.0 (none i)
+no_turn_gap rs i none (falling task turn k later tells below same begins less) = tells.0 (none i)
+no_turn_gap rs i none (of_root task tells root) = tells.0 (none i)
+no_turn_gap rs i none (missing task turn tells never) = tells.0 (none i)
+
+find_none : {X : Type 0} (p : X → Bool) → ((x : X) → p x ≡ false) → (xs : List X) → is_some (find p xs) ≡ false
+find_none p never [] = refl
+find_none p never (x ∷ xs) = rw (never x) (find_none p never xs)
+
+pub never_moved : (rs : List Record) (task : ℕ) → TellsNoTurns rs → has_moved rs task ≡ false
+never_moved rs task none = find_none (λ i. is_task task (at started rs i) && is_some (at told_turns rs i) && not (is_on rs (home_of rs task) i)) never (places rs)
+  where
+    second : (a b c : Bool) → b ≡ false → (a && b && c) ≡ false
+    second true false c e = refl
+    second false b c e = refl
+    second true true c e = cc
+
+    never : (i : ℕ) → (is_task task (at started rs i) && is_some (at told_turns rs i) && not (is_on rs (home_of rs task) i)) ≡ false
+    never i = second (is_task task (at started rs i)) (is_some (at told_turns rs i)) (not (is_on rs (home_of rs task) i)) (ap is_some (none i))
+
+pub moves_untold : (rs : List Record) (task : ℕ) → TellsNoTurns rs → all_moves_of rs task ≡ moves_of rs task
+moves_untold rs task none = by (has_moved rs task) (never_moved rs task none)
+  where
+    by : (b : Bool) → b ≡ false → cond b (Rattle.ompt_events.specs.States.moved_moves rs task) (moves_of rs task) ≡ moves_of rs task
+    by false e = refl
+    by true e = cc
+
+-- a trace of version 1 tells none
+pub first_version_tells_none : (rs : List Record) → IsTraceOf 1 rs → TellsNoTurns rs
+first_version_tells_none rs trace i = there (slice_get rs i) refl
+  where
+    none_of : {X : Type 0} (o : Option X) → is_some o ≡ false → o ≡ None
+    none_of None e = refl
+    none_of (Some x) e = cc
+
+    there : (o : Option Record) → slice_get rs i ≡ o → option_and_then (λ (r : Record). told_turns r.body) o ≡ None
+    there None e = refl
+    there (Some r) e =
+        let within : i < length rs = slice_get_within rs i r e in
+        let same : get_or rs i r ≡ r = same_Some (get_or rs i r) r (sym (slice_get-get_or rs i r within) ∙ e) in
+        let P : Record → Type 0 = λ q. HasItsTurns 1 q.body in
+        none_of (told_turns r.body) (subst P same (trace.turns i r within))

@@ -1,0 +1,18 @@
+-- The same records in another order of lines, in which nothing changes that a task can tell.
+use Rattle.std.specs.Prelude.{ℕ, ◌≡◌, ◌<◌, ◌≤◌, true, List, length, slice_get, is_some}
+use Rattle.ompt_events.specs.declared.records.Record.{Record}
+use Rattle.ompt_events.specs.Records.{joined}
+use Rattle.ompt_events.specs.Places.{at, is_own}
+
+-- the record at each place i of rs stands at the place `to i` of ss, and that at j of ss at `back j` of rs; the
+-- records of each task stand in the same order, and so do those at which members of teams begin
+pub record IsRenaming (rs ss : List Record) (to back : ℕ → ℕ) : Type 0 where
+  pub to_within : (i : ℕ) → i < length rs → to i < length ss
+  pub to_past : (i : ℕ) → length rs ≤ i → length ss ≤ to i
+  pub back_within : (j : ℕ) → j < length ss → back j < length rs
+  pub back_to : (i : ℕ) → i < length rs → back (to i) ≡ i
+  pub to_back : (j : ℕ) → j < length ss → to (back j) ≡ j
+  pub alike : (i : ℕ) → i < length rs → slice_get ss (to i) ≡ slice_get rs i
+  pub own_rise : (task i k : ℕ) → is_own rs task i ≡ true → is_own rs task k ≡ true → i < k → to i < to k
+  pub members_rise : (i k : ℕ) → is_some (at joined rs i) ≡ true → is_some (at joined rs k) ≡ true → i < k
+      → to i < to k

@@ -1,0 +1,6 @@
+//! The turns of tasks, and the order in which the tasks' own records stand.
+//!
+//! Read `laws` first: what follows from the definitions alone.
+#![tactic(auto)]
+
+pub mod laws;
