@@ -28,6 +28,7 @@ pub(crate) fn ask<Q: Question>(
     trace: &Trace,
     question: &Q,
 ) -> Result<Q::Answer, Fault>
+    requires { trace.now.version ≡ 1 }
     ensures right { IfOk result (Q.is_right question.now trace.now.records) }
     ensures malformed { IfErr result (IsLeastFound trace.now.records) }
 {

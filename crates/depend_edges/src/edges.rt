@@ -37,10 +37,11 @@ impl<'a> Model for Edges<'a> {
 }
 
 impl<'a> Edges<'a> {
-    /// The edges between the tasks of the trace. The tree must be that of its tasks. Refused is a list of
-    /// dependences that does not follow its creation, or is missing there, at its first record.
+    /// The edges between the tasks of a trace of version 1. The tree must be that of its tasks. Refused is a
+    /// list of dependences that does not follow its creation, or is missing there, at its first record.
     pub fn build(alloc: Global, trace: &'a Trace, tree: &'a Tree) -> Result<Edges<'a>, EdgeFault>
-        requires { IsTreeOf trace.now.records tree.now }
+        requires version { trace.now.version ≡ 1 }
+        requires tree { IsTreeOf trace.now.records tree.now }
         ensures records { IfOk result (λ edges. edges.run.records ≡ trace.now.records) }
         ensures family { IfOk result (λ edges. edges.run.family ≡ tree.now.family) }
         ensures placed { OnOk result (IsFreeOf trace.now.records DepsPlace) }

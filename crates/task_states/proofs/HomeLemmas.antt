@@ -10,6 +10,7 @@ use Rattle.ompt_events.specs.Records.{made, started}
 use Rattle.ompt_events.specs.Places.{at, thread_at, places}
 use Rattle.ompt_events.specs.Tree.{IsExplicit}
 use Rattle.ompt_events.specs.States.{is_task, home_of}
+use Rattle.ompt_events.specs.Turns.{TellsNoTurns}
 use Rattle.ompt_events.specs.Causes.{IsMoved, HasCause, moved, IsFirstWith, IsFreeOf}
 use Rattle.ompt_events.proofs.PlaceLemmas.{at_within, thread_none, contains_place, place_below}
 use Rattle.ompt_events.proofs.RecordLemmas.{created_at_made}
@@ -156,20 +157,20 @@ homes_end rs n tasks homes once all are index task is explicit = of (first_start
     of (Some i) e = ran i e (thread_at rs i) refl
 
 -- a start on another thread is a move
-pub moves_here : (rs : List Record) (i index thread : ℕ) (before : Option ℕ) (tasks : List ℕ) (homes : List (Option ℕ)) → ((k : ℕ) → k < i → IsMoved rs k → ⊥) → AreHomes rs i tasks homes → IsExplicitStart rs tasks i index → thread_at rs i ≡ Some thread → slice_get homes index ≡ Some before → IsSomeAnd before (λ b. b ≢ thread) → IsFirstWith rs Moved i
-moves_here rs i index thread None tasks homes free are start runs old other = absurd other
-moves_here rs i index thread (Some b) tasks homes free are start runs old other =
+pub moves_here : (rs : List Record) (i index thread : ℕ) (before : Option ℕ) (tasks : List ℕ) (homes : List (Option ℕ)) → TellsNoTurns rs → ((k : ℕ) → k < i → IsMoved rs k → ⊥) → AreHomes rs i tasks homes → IsExplicitStart rs tasks i index → thread_at rs i ≡ Some thread → slice_get homes index ≡ Some before → IsSomeAnd before (λ b. b ≢ thread) → IsFirstWith rs Moved i
+moves_here rs i index thread None tasks homes untold free are start runs old other = absurd other
+moves_here rs i index thread (Some b) tasks homes untold free are start runs old other =
     let there = are.only index b old in
     let same : there.0 ≡ start.task = same_Some there.0 start.task (sym there.2 ∙ start.indexed) in
     record {
       within = at_within started rs i start.task start.starts;
-      has = moved (start.task, there.1, start.explicit, start.starts, there.3, there.4 ∙ ap Some same, λ one. other (same_Some b thread (sym there.5 ∙ one ∙ runs)));
+      has = moved (start.task, there.1, start.explicit, start.starts, there.3, there.4 ∙ ap Some same, λ one. other (same_Some b thread (sym there.5 ∙ one ∙ runs)), untold i);
       first = λ k below has. free k below (is_moved rs k has);
     }
 
 -- a start on the task's own thread, or its first, is none
 pub moves_not : (rs : List Record) (i index thread : ℕ) (before : Option ℕ) (tasks : List ℕ) (homes : List (Option ℕ)) → AreHomes rs i tasks homes → IsExplicitStart rs tasks i index → thread_at rs i ≡ Some thread → slice_get homes index ≡ Some before → (IsSomeAnd before (λ b. b ≢ thread) → ⊥) → IsMoved rs i → ⊥
-moves_not rs i index thread before tasks homes are start runs old at_home (other, k, explicit, starts_here, below, starts_there, elsewhere) =
+moves_not rs i index thread before tasks homes are start runs old at_home (other, k, explicit, starts_here, below, starts_there, elsewhere, told) =
     moved_from (thread_at rs k) refl
   where
     is_task : start.task ≡ other

@@ -63,14 +63,14 @@ stop_early rs i task status next says =
     let (r, stands, is) = record_there schedule rs i (status, task, next) says in
     early_there rs i task r stands ∙ of r.body is
   where
-    by : (s : Status) (prior : ℕ) (follower : Option ℕ) (share : _) → prior ≡ task → early_for task (TaskSchedule s turns prior follower share) ≡ is_early_status s
-    by EarlyFulfill prior follower share same = eq-eqb prior task same
-    by _ prior follower share same = refl
+    by : (s : Status) (turns : _) (prior : ℕ) (follower : Option ℕ) (share : _) → prior ≡ task → early_for task (TaskSchedule s turns prior follower share) ≡ is_early_status s
+    by EarlyFulfill turns prior follower share same = eq-eqb prior task same
+    by _ turns prior follower share same = refl
 
     of : (b : Body) → schedule b ≡ Some (status, task, next) → early_for task b ≡ is_early_status status
     of (TaskSchedule s turns p n share) is =
         let same : (s, p, n) ≡ (status, task, next) = same_Some (s, p, n) (status, task, next) is in
-        by s p n share (ap (λ (t : Status × ℕ × Option ℕ). t.1) same) ∙ ap (λ (t : Status × ℕ × Option ℕ). is_early_status t.0) same
+        by s turns p n share (ap (λ (t : Status × ℕ × Option ℕ). t.1) same) ∙ ap (λ (t : Status × ℕ × Option ℕ). is_early_status t.0) same
     of _ is = absurd (none-some (status, task, next) is)
 
 -- no start is: a trace has no next task where an event is fulfilled

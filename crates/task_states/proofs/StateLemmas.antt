@@ -11,15 +11,17 @@ use Rattle.ompt_events.specs.declared.records.Body.{Body}
 use Rattle.ompt_events.specs.declared.records.Body.TheVariants.{TaskSchedule, Cancel}
 use Rattle.ompt_events.specs.declared.state.State.{State}
 use Rattle.ompt_events.specs.declared.cause.Cause.{Cause}
-use Rattle.ompt_events.specs.declared.cause.Cause.TheVariants.{NotCurrent, Moved, StatusOrder, RegionOrder}
+use Rattle.ompt_events.specs.declared.cause.Cause.TheVariants.{NotCurrent, Moved, TurnGap, StatusOrder, RegionOrder}
 use Rattle.ompt_events.specs.CauseNames.{cause_number}
-use Rattle.ompt_events.specs.Causes.{HasCause, status_order, HasNoState, IsFirstWith, IsFreeOf}
+use Rattle.ompt_events.specs.Causes.{HasCause, status_order, turn_gap, HasNoState, IsFirstWith, IsFreeOf}
+use Rattle.ompt_events.specs.Turns.{TellsNoTurns}
 use Rattle.ompt_events.specs.Flags as flag
 use Rattle.ompt_events.specs.Flags.{has_flag}
 use Rattle.ompt_events.specs.Records.{made, region}
 use Rattle.ompt_events.specs.Places.{at}
 use Rattle.ompt_events.specs.States.{Move, Stopped, Started, Discarded, is_task, moves_by, moves_at, moves_of, nature_of, state_of}
 use Rattle.ompt_events.proofs.PlaceLemmas.{at_within}
+use Rattle.ompt_events.proofs.TurnLemmas.{moves_untold, no_turn_gap}
 use Rattle.ompt_events.proofs.ListLemmas.{get_contains, contains_get}
 use Rattle.task_tree.specs.Family.{FamilyView, IsFamilyOf}
 use Rattle.task_tree.specs.Subjects.{subject, object}
@@ -101,33 +103,42 @@ refused_there rs family task i are refused =
 state_of_cause : (rs : List Record) (i : ℕ) → HasCause rs i StatusOrder → HasNoState rs i
 state_of_cause rs i (status_order h) = h
 
-refused_of : (rs : List Record) (i : ℕ) (h : HasNoState rs i) → IsRefused (nature_of rs h.task) (moves_of rs h.task) i
-refused_of rs i h = record { number = h.number; move = h.move; made_there = h.made_there; allowed = h.allowed; not_allowed = h.not_allowed }
+-- where no turns are told, all moves of a task are those that are read by its home
+refused_of : (rs : List Record) (i : ℕ) → TellsNoTurns rs → (h : HasNoState rs i) → IsRefused (nature_of rs h.task) (moves_of rs h.task) i
+refused_of rs i untold h =
+    let P : List (ℕ × Move) → Type 0 = λ moves. IsRefused (nature_of rs h.task) moves i in
+    subst P (moves_untold rs h.task untold) (record { number = h.number; move = h.move; made_there = h.made_there; allowed = h.allowed; not_allowed = h.not_allowed })
 
-none_refused : (rs : List Record) (family : FamilyView) (progress : ProgressView) → IsFamilyOf rs family → HasCome rs family.tasks (moves_of rs) progress → progress.refused ≡ None → IsFreeOf rs StatusOrder
-none_refused rs family progress are come none i has =
+no_state_of : (rs : List Record) (task i : ℕ) → TellsNoTurns rs → IsRefused (nature_of rs task) (moves_of rs task) i → HasNoState rs i
+no_state_of rs task i untold refused =
+    let P : List (ℕ × Move) → Type 0 = λ moves. IsRefused (nature_of rs task) moves i in
+    let all = subst P (sym (moves_untold rs task untold)) refused in
+    record { task = task; number = all.number; move = all.move; made_there = all.made_there; allowed = all.allowed; not_allowed = all.not_allowed }
+
+none_refused : (rs : List Record) (family : FamilyView) (progress : ProgressView) → TellsNoTurns rs → IsFamilyOf rs family → HasCome rs family.tasks (moves_of rs) progress → progress.refused ≡ None → IsFreeOf rs StatusOrder
+none_refused rs family progress untold are come none i has =
     let h = state_of_cause rs i has in
-    let refused = refused_of rs i h in
+    let refused = refused_of rs i untold h in
     let P : Option ℕ → Type 0 = λ o. IsSomeAnd o (λ first. first ≤ i) in
     subst P none (come.least h.task i (refused_there rs family h.task i are refused).1 refused)
 
-first_refused : (rs : List Record) (family : FamilyView) (progress : ProgressView) (i : ℕ) → IsFamilyOf rs family → HasCome rs family.tasks (moves_of rs) progress → progress.refused ≡ Some i → IsFirstWith rs StatusOrder i
-first_refused rs family progress i are come some =
+first_refused : (rs : List Record) (family : FamilyView) (progress : ProgressView) (i : ℕ) → TellsNoTurns rs → IsFamilyOf rs family → HasCome rs family.tasks (moves_of rs) progress → progress.refused ≡ Some i → IsFirstWith rs StatusOrder i
+first_refused rs family progress i untold are come some =
     let (task, refused) = come.found i some in
     record {
       within = (refused_there rs family task i are refused).0;
-      has = status_order (record { task = task; number = refused.number; move = refused.move; made_there = refused.made_there; allowed = refused.allowed; not_allowed = refused.not_allowed });
+      has = status_order (no_state_of rs task i untold refused);
       first = λ k below has.
           let h = state_of_cause rs k has in
-          let before = refused_of rs k h in
+          let before = refused_of rs k untold h in
           let P : Option ℕ → Type 0 = λ o. IsSomeAnd o (λ first. first ≤ k) in
           let less : i ≤ k = subst P some (come.least h.task k (refused_there rs family h.task k are before).1 before) in
           absurd (omega (arith, less, below));
     }
 
-pub refused_first : (rs : List Record) (family : FamilyView) (progress : ProgressView) (found : Option ℕ) → IsFamilyOf rs family → HasCome rs family.tasks (moves_of rs) progress → found ≡ progress.refused → FindsFirst rs StatusOrder found
-refused_first rs family progress None are come same = none_refused rs family progress are come (sym same)
-refused_first rs family progress (Some i) are come same = first_refused rs family progress i are come (sym same)
+pub refused_first : (rs : List Record) (family : FamilyView) (progress : ProgressView) (found : Option ℕ) → TellsNoTurns rs → IsFamilyOf rs family → HasCome rs family.tasks (moves_of rs) progress → found ≡ progress.refused → FindsFirst rs StatusOrder found
+refused_first rs family progress None untold are come same = none_refused rs family progress untold are come (sym same)
+refused_first rs family progress (Some i) untold are come same = first_refused rs family progress i untold are come (sym same)
 
 -- ---- the least of the four
 
@@ -135,31 +146,44 @@ after_status : (other : Cause) → Contains (RegionOrder ∷ []) other → cause
 after_status other (zero, below, is) less = let number = ap cause_number is in omega (arith, number, less)
 after_status other (suc k, below, is) less = omega arith
 
-after_moved : (other : Cause) → Contains (StatusOrder ∷ RegionOrder ∷ []) other → cause_number other < 5 → ⊥
-after_moved other (zero, below, is) less = let number = ap cause_number is in omega (arith, number, less)
-after_moved other (suc k, below, is) less = after_status other (k, omega arith, is) (omega arith)
+after_gap : (other : Cause) → Contains (StatusOrder ∷ RegionOrder ∷ []) other → cause_number other < 5 → ⊥
+after_gap other (zero, below, is) less = let number = ap cause_number is in omega (arith, number, less)
+after_gap other (suc k, below, is) less = after_status other (k, omega arith, is) (omega arith)
 
-after_current : (other : Cause) → Contains (Moved ∷ StatusOrder ∷ RegionOrder ∷ []) other → cause_number other < 4 → ⊥
+after_moved : (other : Cause) → Contains (TurnGap ∷ StatusOrder ∷ RegionOrder ∷ []) other → cause_number other < 5 → ⊥
+after_moved other (zero, below, is) less = let number = ap cause_number is in omega (arith, number, less)
+after_moved other (suc k, below, is) less = after_gap other (k, omega arith, is) less
+
+after_current : (other : Cause) → Contains (Moved ∷ TurnGap ∷ StatusOrder ∷ RegionOrder ∷ []) other → cause_number other < 4 → ⊥
 after_current other (zero, below, is) less = let number = ap cause_number is in omega (arith, number, less)
 after_current other (suc k, below, is) less = after_moved other (k, omega arith, is) (omega arith)
 
-pub fault_current : (rs : List Record) (fault : Fault) → IsFault rs (NotCurrent ∷ []) fault → IsFault rs (NotCurrent ∷ Moved ∷ StatusOrder ∷ RegionOrder ∷ []) fault
-fault_current rs fault found = fault_first rs NotCurrent (Moved ∷ StatusOrder ∷ RegionOrder ∷ []) fault after_current found
+-- where no turns are told, no record has a gap
+pub free_of_gaps : (rs : List Record) → TellsNoTurns rs → IsFreeOf rs TurnGap
+free_of_gaps rs untold i (turn_gap gap) = no_turn_gap rs i untold gap
 
-pub fault_moved : (rs : List Record) (fault : Fault) → IsFreeOf rs NotCurrent → IsFault rs (Moved ∷ []) fault → IsFault rs (NotCurrent ∷ Moved ∷ StatusOrder ∷ RegionOrder ∷ []) fault
+pub fault_current : (rs : List Record) (fault : Fault) → IsFault rs (NotCurrent ∷ []) fault → IsFault rs (NotCurrent ∷ Moved ∷ TurnGap ∷ StatusOrder ∷ RegionOrder ∷ []) fault
+fault_current rs fault found = fault_first rs NotCurrent (Moved ∷ TurnGap ∷ StatusOrder ∷ RegionOrder ∷ []) fault after_current found
+
+pub fault_moved : (rs : List Record) (fault : Fault) → IsFreeOf rs NotCurrent → IsFault rs (Moved ∷ []) fault → IsFault rs (NotCurrent ∷ Moved ∷ TurnGap ∷ StatusOrder ∷ RegionOrder ∷ []) fault
 fault_moved rs fault current found =
-    fault_next rs NotCurrent (Moved ∷ StatusOrder ∷ RegionOrder ∷ []) fault current
-    (fault_first rs Moved (StatusOrder ∷ RegionOrder ∷ []) fault after_moved found)
+    fault_next rs NotCurrent (Moved ∷ TurnGap ∷ StatusOrder ∷ RegionOrder ∷ []) fault current
+    (fault_first rs Moved (TurnGap ∷ StatusOrder ∷ RegionOrder ∷ []) fault after_moved found)
 
-pub fault_status : (rs : List Record) (fault : Fault) → IsFreeOf rs NotCurrent → IsFreeOf rs Moved → IsFault rs (StatusOrder ∷ []) fault → IsFault rs (NotCurrent ∷ Moved ∷ StatusOrder ∷ RegionOrder ∷ []) fault
-fault_status rs fault current stay found =
-    fault_next rs NotCurrent (Moved ∷ StatusOrder ∷ RegionOrder ∷ []) fault current
-    (fault_next rs Moved (StatusOrder ∷ RegionOrder ∷ []) fault stay (fault_first rs StatusOrder (RegionOrder ∷ []) fault after_status found))
+-- a fault behind the first three causes
+behind_gap : (rs : List Record) (fault : Fault) → IsFreeOf rs NotCurrent → IsFreeOf rs Moved → IsFreeOf rs TurnGap → IsFault rs (StatusOrder ∷ RegionOrder ∷ []) fault → IsFault rs (NotCurrent ∷ Moved ∷ TurnGap ∷ StatusOrder ∷ RegionOrder ∷ []) fault
+behind_gap rs fault current stay gapless found =
+    fault_next rs NotCurrent (Moved ∷ TurnGap ∷ StatusOrder ∷ RegionOrder ∷ []) fault current
+    (fault_next rs Moved (TurnGap ∷ StatusOrder ∷ RegionOrder ∷ []) fault stay
+    (fault_next rs TurnGap (StatusOrder ∷ RegionOrder ∷ []) fault gapless found))
 
-pub fault_region : (rs : List Record) (fault : Fault) → IsFreeOf rs NotCurrent → IsFreeOf rs Moved → IsFreeOf rs StatusOrder → IsFault rs (RegionOrder ∷ []) fault → IsFault rs (NotCurrent ∷ Moved ∷ StatusOrder ∷ RegionOrder ∷ []) fault
-fault_region rs fault current stay ordered found =
-    fault_next rs NotCurrent (Moved ∷ StatusOrder ∷ RegionOrder ∷ []) fault current
-    (fault_next rs Moved (StatusOrder ∷ RegionOrder ∷ []) fault stay (fault_next rs StatusOrder (RegionOrder ∷ []) fault ordered found))
+pub fault_status : (rs : List Record) (fault : Fault) → IsFreeOf rs NotCurrent → IsFreeOf rs Moved → IsFreeOf rs TurnGap → IsFault rs (StatusOrder ∷ []) fault → IsFault rs (NotCurrent ∷ Moved ∷ TurnGap ∷ StatusOrder ∷ RegionOrder ∷ []) fault
+fault_status rs fault current stay gapless found =
+    behind_gap rs fault current stay gapless (fault_first rs StatusOrder (RegionOrder ∷ []) fault after_status found)
+
+pub fault_region : (rs : List Record) (fault : Fault) → IsFreeOf rs NotCurrent → IsFreeOf rs Moved → IsFreeOf rs TurnGap → IsFreeOf rs StatusOrder → IsFault rs (RegionOrder ∷ []) fault → IsFault rs (NotCurrent ∷ Moved ∷ TurnGap ∷ StatusOrder ∷ RegionOrder ∷ []) fault
+fault_region rs fault current stay gapless ordered found =
+    behind_gap rs fault current stay gapless (fault_next rs StatusOrder (RegionOrder ∷ []) fault ordered found)
 
 -- ---- the states after all records
 

@@ -1,6 +1,6 @@
 //! Which thread each explicit task runs on.
 ghost use Rattle.std.specs.Prelude.{ℕ, ◌≡◌, ◌≢◌, ◌<◌, ◌↔◌, ◌∷◌, [], Some, None, false, IsTrue, IsSomeAnd, IfOk, IfErr, OnOk, length, replicate, slice_get};
-ghost use Rattle.ompt_events.specs.declared.cause.Cause.TheVariants.{Moved};
+ghost use Rattle.ompt_events.specs.declared.cause.Cause.TheVariants.{Moved, TurnGap};
 ghost use Rattle.ompt_events.specs.Causes.{IsFreeOf};
 ghost use Rattle.ompt_events.specs.Faults.{IsFault};
 ghost use Rattle.ompt_events.specs.States.{home_of};
@@ -66,6 +66,7 @@ impl<'a> Schedules<'a> {
 pub(crate) fn find_moved<'a>(alloc: Global, run: &Run<'a>) -> Result<Schedules<'a>, Fault>
     ensures run { IfOk result (λ schedules. schedules ≡ run.now) }
     ensures free { OnOk result (IsFreeOf run.now.records Moved) }
+    ensures gapless { OnOk result (IsFreeOf run.now.records TurnGap) }
     ensures fault { IfErr result (IsFault run.now.records (Moved ∷ [])) }
 {
     let mut homes = no_homes(alloc, run.task_count())?;

@@ -1,7 +1,7 @@
 //! The states of all tasks after all records.
 ghost use Rattle.std.specs.Prelude.{ℕ, ◌≡◌, ◌<◌, [], ◌∷◌, Some, MatchOption, IfOk, IfErr, OnOk, length};
 ghost use Rattle.ompt_events.specs.declared.names.SyncKind.{SyncKind};
-ghost use Rattle.ompt_events.specs.declared.cause.Cause.TheVariants.{NotCurrent, Moved, StatusOrder, RegionOrder};
+ghost use Rattle.ompt_events.specs.declared.cause.Cause.TheVariants.{NotCurrent, Moved, TurnGap, StatusOrder, RegionOrder};
 ghost use Rattle.ompt_events.specs.Causes.{IsFreeOf};
 ghost use Rattle.ompt_events.specs.Faults.{IsFault};
 ghost use Rattle.ompt_events.specs.Regions.{IsRegion};
@@ -53,10 +53,11 @@ impl<'a> States<'a> {
         ensures states { IfOk result IsStates }
         ensures current { OnOk result (IsFreeOf run.now.records NotCurrent) }
         ensures stay { OnOk result (IsFreeOf run.now.records Moved) }
+        ensures gapless { OnOk result (IsFreeOf run.now.records TurnGap) }
         ensures ordered { OnOk result (IsFreeOf run.now.records StatusOrder) }
         ensures closed { OnOk result (IsFreeOf run.now.records RegionOrder) }
         ensures fault { IfErr result
-            (IsFault run.now.records (NotCurrent ∷ Moved ∷ StatusOrder ∷ RegionOrder ∷ [])) }
+            (IsFault run.now.records (NotCurrent ∷ Moved ∷ TurnGap ∷ StatusOrder ∷ RegionOrder ∷ [])) }
     {
         find_misfit(alloc, run)?;
         let schedules = find_moved(alloc, run)?;

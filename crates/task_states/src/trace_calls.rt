@@ -1,6 +1,6 @@
 //! The calls that take a trace with its tree, for callers that have no run.
 ghost use Rattle.std.specs.Prelude.{◌≡◌, [], ◌∷◌, IfOk, IfErr, OnOk, MatchOption};
-ghost use Rattle.ompt_events.specs.declared.cause.Cause.TheVariants.{NotCurrent, Moved, StatusOrder, RegionOrder, NestedParallel};
+ghost use Rattle.ompt_events.specs.declared.cause.Cause.TheVariants.{NotCurrent, Moved, TurnGap, StatusOrder, RegionOrder, NestedParallel};
 ghost use Rattle.ompt_events.specs.declared.fault.Fault.TheVariants.{Memory};
 ghost use Rattle.ompt_events.specs.Causes.{IsFreeOf, IsFirstWith};
 ghost use Rattle.ompt_events.specs.Faults.{IsFault};
@@ -14,31 +14,34 @@ use std::alloc::Global;
 use task_tree::Tree;
 
 /// Why the states of tasks have no answer: memory, or the first that occurs of `NotCurrent`, `Moved`,
-/// `StatusOrder` and `RegionOrder`.
+/// `TurnGap`, `StatusOrder` and `RegionOrder`.
 pub type StateFault = Fault;
 
-/// Takes each task of the trace through its states, as `States::in_run` does. The tree must be that of the
-/// trace's tasks.
+/// Takes each task of a trace of version 1 through its states, as `States::in_run` does. The tree must be that
+/// of the trace's tasks.
 pub fn run<'a>(alloc: Global, trace: &'a Trace, tree: &'a Tree) -> Result<States<'a>, StateFault>
-    requires { IsTreeOf trace.now.records tree.now }
+    requires version { trace.now.version ≡ 1 }
+    requires tree { IsTreeOf trace.now.records tree.now }
     ensures records { IfOk result (λ states. states.run.records ≡ trace.now.records) }
     ensures family { IfOk result (λ states. states.run.family ≡ tree.now.family) }
     ensures states { IfOk result IsStates }
     ensures current { OnOk result (IsFreeOf trace.now.records NotCurrent) }
     ensures stay { OnOk result (IsFreeOf trace.now.records Moved) }
+    ensures gapless { OnOk result (IsFreeOf trace.now.records TurnGap) }
     ensures ordered { OnOk result (IsFreeOf trace.now.records StatusOrder) }
     ensures closed { OnOk result (IsFreeOf trace.now.records RegionOrder) }
     ensures fault { IfErr result
-        (IsFault trace.now.records (NotCurrent ∷ Moved ∷ StatusOrder ∷ RegionOrder ∷ [])) }
+        (IsFault trace.now.records (NotCurrent ∷ Moved ∷ TurnGap ∷ StatusOrder ∷ RegionOrder ∷ [])) }
 {
     let tasks = task_tree::Run::of(trace, tree.family());
     States::in_run(alloc, &tasks)
 }
 
-/// The first record at which a parallel region lies inside another (OpenMP 5.2, 10.1), as `find_nested`
-/// finds it. The tree must be that of the trace's tasks.
+/// The first record of a trace of version 1 at which a parallel region lies inside another (OpenMP 5.2, 10.1),
+/// as `find_nested` finds it. The tree must be that of the trace's tasks.
 pub fn nested(alloc: Global, trace: &Trace, tree: &Tree) -> Result<Option<usize>, StateFault>
-    requires { IsTreeOf trace.now.records tree.now }
+    requires version { trace.now.version ≡ 1 }
+    requires tree { IsTreeOf trace.now.records tree.now }
     ensures found { IfOk result (λ found. MatchOption found
         (IsFreeOf trace.now.records NestedParallel) (IsFirstWith trace.now.records NestedParallel)) }
     ensures memory_alone { IfErr result (λ fault. fault ≡ Memory) }

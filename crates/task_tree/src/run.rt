@@ -99,9 +99,10 @@ pub struct WaitEvent {
 }
 
 impl<'a> Run<'a> {
-    /// The run of the trace's records. The family must be that of its tasks. Takes no memory.
+    /// The run of the records of a trace of version 1. The family must be that of its tasks. Takes no memory.
     pub fn of(trace: &'a Trace, family: &'a Family) -> Run<'a>
-        requires { IsFamilyOf trace.now.records family.now }
+        requires version { trace.now.version ≡ 1 }
+        requires family { IsFamilyOf trace.now.records family.now }
         ensures records { result.records ≡ trace.now.records }
         ensures family { result.family ≡ family.now }
     {

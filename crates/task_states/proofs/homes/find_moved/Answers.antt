@@ -9,6 +9,7 @@ use Rattle.ompt_events.specs.Places.{at}
 use Rattle.ompt_events.specs.Tree.{IsExplicit}
 use Rattle.task_states.proofs.PassLemmas.{not_early, never_more}
 use Rattle.task_states.proofs.HomeLemmas.{explicit_index, homes_end, free_of_moved, moves_here, moves_not, homes_more, homes_other, stays_put}
+use Rattle.task_states.proofs.StateLemmas.{free_of_gaps}
 use Rattle.task_states.proofs.homes.find_moved.Goals as goal
 use Rattle.task_states.proofs.homes.find_moved.Goals.{in-Some+else-is_other, in_default}
 
@@ -39,7 +40,7 @@ returns-then-is_other-clause-fault c =
     let all = c.loop-at.invariant.homes.all in
     let runs = c.thread-thread.ensures in
     let old : slice_get homes index ≡ Some c.index.result.now = slice_get_read homes (length homes) index c.index.result.now refl (omega (arith, inside, all)) c.index.ensures in
-    malformed_alone rs Moved i (moves_here rs i index c.thread-thread.result c.index.result.now c.args.run.now.family.tasks homes c.loop-at.invariant.free c.loop-at.invariant.homes start runs old (c.is_other.ensures.0 c.if-is_other.true))
+    malformed_alone rs Moved i (moves_here rs i index c.thread-thread.result c.index.result.now c.args.run.now.family.tasks homes c.task_count.ensures.is_run.untold c.loop-at.invariant.free c.loop-at.invariant.homes start runs old (c.is_other.ensures.0 c.if-is_other.true))
 
 pub loop-at-preserved : goal.loop-at-preserved
 loop-at-preserved c =
@@ -87,3 +88,6 @@ invariant_of-result c =
       run_on = homes_end run.records c.loop-at.at run.family.tasks c.loop-at.homes.items c.task_count.ensures.is_run.family.once past c.loop-at.invariant.homes;
       early = λ none i task below. c.loop-at.invariant.early none i task (omega (arith, below, past));
     })
+
+pub returns-clause-gapless : goal.returns-clause-gapless
+returns-clause-gapless c = free_of_gaps c.args.run.now.records c.task_count.ensures.is_run.untold

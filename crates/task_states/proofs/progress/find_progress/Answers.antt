@@ -48,4 +48,4 @@ returns-clause-refused c =
     let progress = c.read_rest.new.self in
     let is : IsRun run = subst IsRun c.origins.view_is c.origins.invariant.of_run in
     let P : RunView → Type 0 = λ r. FindsFirst r.records StatusOrder progress.refused in
-    subst P c.in_ok-origins.ensures (refused_first run.records run.family progress progress.refused is.family (come_same run.records run.family.tasks (moves_before Rest run.records (length run.records)) _ progress (rest_end run.records) c.read_rest.ensures) refl)
+    subst P c.in_ok-origins.ensures (refused_first run.records run.family progress progress.refused is.untold is.family (come_same run.records run.family.tasks (moves_before Rest run.records (length run.records)) _ progress (rest_end run.records) c.read_rest.ensures) refl)

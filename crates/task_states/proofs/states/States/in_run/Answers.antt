@@ -12,12 +12,12 @@ returns-in_err-schedules-clause-fault c =
 pub returns-in_err-states-clause-fault : goal.returns-in_err-states-clause-fault
 returns-in_err-states-clause-fault c =
     let p = err_from_is_err_and c.from_residual-in_err-states.result c.from_residual-in_err-states.ensures.1 in
-    rw (p.1, p.2) (fault_status c.args.run.now.records c.in_err-states.field-0.0 c.in_ok-find_misfit.ensures.free c.in_ok-schedules.ensures.free (rw c.in_ok-schedules.ensures.run at c.in_err-states.ensures.fault))
+    rw (p.1, p.2) (fault_status c.args.run.now.records c.in_err-states.field-0.0 c.in_ok-find_misfit.ensures.free c.in_ok-schedules.ensures.free c.in_ok-schedules.ensures.gapless (rw c.in_ok-schedules.ensures.run at c.in_err-states.ensures.fault))
 
 pub returns-in_err-begins-clause-fault : goal.returns-in_err-begins-clause-fault
 returns-in_err-begins-clause-fault c =
     let p = err_from_is_err_and c.from_residual-in_err-begins.result c.from_residual-in_err-begins.ensures.1 in
-    rw (p.1, p.2) (fault_region c.args.run.now.records c.in_err-begins.field-0.0 c.in_ok-find_misfit.ensures.free c.in_ok-schedules.ensures.free (rw c.in_ok-schedules.ensures.run at c.in_ok-states.ensures.ordered) c.in_err-begins.ensures.fault)
+    rw (p.1, p.2) (fault_region c.args.run.now.records c.in_err-begins.field-0.0 c.in_ok-find_misfit.ensures.free c.in_ok-schedules.ensures.free c.in_ok-schedules.ensures.gapless (rw c.in_ok-schedules.ensures.run at c.in_ok-states.ensures.ordered) c.in_err-begins.ensures.fault)
 
 pub invariant_of-result : goal.invariant_of-result
 invariant_of-result c = rw (c.again.ensures, c.run.ensures.value, c.in_ok-schedules.ensures.run) (record {
