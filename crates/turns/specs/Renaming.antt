@@ -4,8 +4,8 @@ use Rattle.ompt_events.specs.declared.records.Record.{Record}
 use Rattle.ompt_events.specs.Records.{joined}
 use Rattle.ompt_events.specs.Places.{at, is_own}
 
--- the record at each place i of rs stands at the place `to i` of ss, and that at j of ss at `back j` of rs; the
--- records of each task stand in the same order, and so do those at which members of teams begin
+-- the record at each place i of rs stands at the place `to i` of ss, and that at j of ss at `back j` of rs;
+-- the records of each task stand in the same order, and so do those at which members of teams begin
 pub record IsRenaming (rs ss : List Record) (to back : ℕ → ℕ) : Type 0 where
   pub to_within : (i : ℕ) → i < length rs → to i < length ss
   pub to_past : (i : ℕ) → length rs ≤ i → length ss ≤ to i
