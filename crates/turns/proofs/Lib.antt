@@ -1,0 +1,3 @@
+mod RankedLemmas
+mod OwnOrderLemmas
+mod RisingLemmas
