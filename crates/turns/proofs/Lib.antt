@@ -1,3 +1,4 @@
 mod RankedLemmas
 mod OwnOrderLemmas
 mod RisingLemmas
+mod SuspendedLemmas

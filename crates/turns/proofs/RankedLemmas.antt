@@ -101,7 +101,7 @@ module _ (key : ℕ → ℕ) where
       let f : ℕ → List ℕ = λ turn. filter (λ i. key i == turn) xs in
       ap (flat_map f) (range_more n) ∙ flat_map-append f (range_with_len 0 n) (n ∷ []) ∙ ap (λ l. flat_map f (range_with_len 0 n) ++ l) (append-nil (f n))
 
-  -- a list is a permutation of two parts of it
+  -- one element more: it goes to one of the two parts, or to none
   join : (b c : Bool) (x : ℕ) (whole one other : List ℕ) → b && c ≡ false → IsPermutation whole (one ++ other) → IsPermutation (cond (b || c) (x ∷ whole) whole) (cond b (x ∷ one) one ++ cond c (x ∷ other) other)
   join true true x whole one other both parts = cc
   join true false x whole one other both parts = IsPermutation-cons x whole (one ++ other) parts
@@ -122,7 +122,7 @@ module _ (key : ℕ → ℕ) where
       let one = filter (λ i. ltb (key i) n) xs in
       let other = filter (λ i. eqb (key i) n) xs in
       subst (λ b. IsPermutation (cond b (x ∷ whole) whole) (cond (ltb (key x) n) (x ∷ one) one ++ cond (eqb (key x) n) (x ∷ other) other)) (sym (next_key (key x) n).0)
-          (join (ltb (key x) n) (eqb (key x) n) x whole one other (next_key (key x) n).1 (one_more n xs))
+      (join (ltb (key x) n) (eqb (key x) n) x whole one other (next_key (key x) n).1 (one_more n xs))
 
   none_below : (xs : List ℕ) → filter (λ i. ltb (key i) 0) xs ≡ []
   none_below [] = refl
@@ -136,7 +136,7 @@ module _ (key : ℕ → ℕ) where
       let same = filter (λ i. eqb (key i) n) xs in
       let below = filter (λ i. ltb (key i) n) xs in
       subst P (sym next) (subst (IsPermutation (filter (λ i. ltb (key i) (n + 1)) xs)) (sym (by_key_more n xs))
-          (IsPermutation-trans (filter (λ i. ltb (key i) (n + 1)) xs) (below ++ same) (by_key n xs ++ same) (one_more n xs) (IsPermutation-append_left same below (by_key n xs) (part_permuted n xs))))
+      (IsPermutation-trans (filter (λ i. ltb (key i) (n + 1)) xs) (below ++ same) (by_key n xs ++ same) (one_more n xs) (IsPermutation-append_left same below (by_key n xs) (part_permuted n xs))))
 
   all_below : (n : ℕ) (xs : List ℕ) → Every (λ i. key i < n) xs → filter (λ i. ltb (key i) n) xs ≡ xs
   all_below n [] each = refl
@@ -145,16 +145,16 @@ module _ (key : ℕ → ℕ) where
   pub by_key_permuted : (n : ℕ) (xs : List ℕ) → Every (λ i. key i < n) xs → IsPermutation xs (by_key n xs)
   by_key_permuted n xs each = subst (λ l. IsPermutation l (by_key n xs)) (all_below n xs each) (part_permuted n xs)
 
-  -- what is the same of all with one key is the same of all
+  -- each key is below n
   keyed_below : (n : ℕ) (xs : List ℕ) → Every (λ i. key i < n) (by_key n xs)
   keyed_below zero xs = tt
   keyed_below (suc n) xs =
       let next : suc n ≡ n + 1 = omega arith in
       let P : ℕ → Type 0 = λ m. Every (λ i. key i < m) (by_key m xs) in
       subst P (sym next) (subst (Every (λ i. key i < n + 1)) (sym (by_key_more n xs))
-          (every_append (λ i. key i < n + 1) (by_key n xs) (filter (λ i. key i == n) xs)
-              (every_weaker (λ i. key i < n) (λ i. key i < n + 1) (λ i less. omega arith) (by_key n xs) (keyed_below n xs))
-              (every_weaker (λ i. (key i == n) ≡ true) (λ i. key i < n + 1) (λ i same. let is = eqb-true (key i) n same in omega arith) (filter (λ i. key i == n) xs) (every_passes (λ i. key i == n) xs))))
+      (every_append (λ i. key i < n + 1) (by_key n xs) (filter (λ i. key i == n) xs)
+      (every_weaker (λ i. key i < n) (λ i. key i < n + 1) (λ i less. omega arith) (by_key n xs) (keyed_below n xs))
+      (every_weaker (λ i. (key i == n) ≡ true) (λ i. key i < n + 1) (λ i same. let is = eqb-true (key i) n same in omega arith) (filter (λ i. key i == n) xs) (every_passes (λ i. key i == n) xs))))
 
   -- by key, and then by size
   abbrev pub Comes : ℕ → ℕ → Type 0
@@ -176,8 +176,8 @@ module _ (key : ℕ → ℕ) where
       let same = filter (λ i. key i == n) xs in
       let of_key : Every (λ i. key i ≡ n) same = every_weaker (λ i. (key i == n) ≡ true) (λ i. key i ≡ n) (λ i is. eqb-true (key i) n is) same (every_passes (λ i. key i == n) xs) in
       subst P (sym next) (subst (Ranked Comes) (sym (by_key_more n xs))
-          (ranked_append Comes (by_key n xs) same (by_key_ranked n xs ranked) (same_key n same (ranked_filter (λ i k. i < k) (λ i. key i == n) xs ranked) of_key)
-              (every_weaker (λ i. key i < n) (λ i. Every (Comes i) same) (λ i less. every_weaker (λ k. key k ≡ n) (Comes i) (λ k is. inl (omega arith)) same of_key) (by_key n xs) (keyed_below n xs))))
+      (ranked_append Comes (by_key n xs) same (by_key_ranked n xs ranked) (same_key n same (ranked_filter (λ i k. i < k) (λ i. key i == n) xs ranked) of_key)
+      (every_weaker (λ i. key i < n) (λ i. Every (Comes i) same) (λ i less. every_weaker (λ k. key k ≡ n) (Comes i) (λ k is. inl (omega arith)) same of_key) (by_key n xs) (keyed_below n xs))))
 
 -- ---- where a number stands
 

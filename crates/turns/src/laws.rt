@@ -3,8 +3,15 @@
 ghost use Rattle.std.specs.Prelude.{◌≡◌, ◌↔◌, ◌⊎◌, ◌<◌, ℕ, List, length, slice_get, slice_index, Some};
 ghost use Rattle.std.specs.List.Sorted.{IsPermutation};
 ghost use Rattle.ompt_events.specs.declared.records.Record.{Record};
-ghost use Rattle.ompt_events.specs.Places.{places};
+ghost use Rattle.ompt_events.specs.declared.cause.Cause.TheVariants.{CreatedTwice, NotCurrent, TurnGap};
+ghost use Rattle.ompt_events.specs.Records.{started, suspended_turn};
+ghost use Rattle.ompt_events.specs.Places.{at, places};
+ghost use Rattle.ompt_events.specs.Traces.{IsTraceOf};
 ghost use Rattle.ompt_events.specs.Turns.{TellsNoTurns, turn_at, own_places, own_place, in_own_order};
+ghost use Rattle.ompt_events.specs.Tree.{IsExplicit};
+ghost use Rattle.ompt_events.specs.Threads.{MisfitsAt};
+ghost use Rattle.ompt_events.specs.HappensBefore.{IsResumption};
+ghost use Rattle.ompt_events.specs.Causes.{IsFreeOf};
 ghost use Rattle.turns.specs.Renaming.{IsRenaming};
 ghost use Rattle.turns.specs.Rising.{TurnsRise};
 
@@ -26,8 +33,8 @@ pub fn own_order_is_by_turn()
         ↔ ((turn_at records i < turn_at records k) ⊎ ((turn_at records i ≡ turn_at records k) × (i < k))) }
 {}
 
-/// Where no task's turns fall along the file, the tasks' own order keeps the order of each task's records, and
-/// of the records at which members of teams begin.
+/// Where no task's turns fall along the file, the tasks' own order keeps the order of each task's records,
+/// and that of the records at which members of teams begin.
 pub fn rising_turns_are_a_renaming()
     ensures { (records : List Record) → TurnsRise records
         → IsRenaming records (in_own_order records) (own_place records) (slice_index (own_places records)) }
@@ -36,4 +43,26 @@ pub fn rising_turns_are_a_renaming()
 /// Where no record tells a turn, no task's turns fall along the file.
 pub fn without_turns_all_rise()
     ensures { (records : List Record) → TellsNoTurns records → TurnsRise records }
+{}
+
+/// Where no record is the first of its thread that speaks for a task which the thread does not run, no
+/// record at all speaks for such a task.
+pub fn without_not_current_none_misfits()
+    ensures { (records : List Record) → IsFreeOf records NotCurrent → (i : ℕ) → MisfitsAt records i → ⊥ }
+{}
+
+/// In version 2 a created task is suspended at most once in each of its turns, so that a record at which it
+/// runs on awaits at most one record at which it was suspended. It is assumed that no record shows causes
+/// 2, 4 and 5: no task is made twice, each record is of the task that its thread runs, and the turns that
+/// are told are those of the tasks.
+pub fn suspended_once_in_a_turn()
+    ensures suspended { (records : List Record) → IsTraceOf 2 records → IsFreeOf records CreatedTwice
+        → IsFreeOf records NotCurrent → IsFreeOf records TurnGap
+        → (task turn a b : ℕ) → IsExplicit records task
+        → at suspended_turn records a ≡ Some (task, turn) → at suspended_turn records b ≡ Some (task, turn)
+        → a ≡ b }
+    ensures awaited { (records : List Record) → IsTraceOf 2 records → IsFreeOf records CreatedTwice
+        → IsFreeOf records NotCurrent → IsFreeOf records TurnGap
+        → (task a b i : ℕ) → IsExplicit records task
+        → at started records i ≡ Some task → IsResumption records a i → IsResumption records b i → a ≡ b }
 {}
