@@ -4,3 +4,8 @@ pub mod RenamedTreeLemmas
 pub mod RenamedRegionLemmas
 pub mod RenamedCauseLemmas
 pub mod RenamingLemmas
+pub mod RankedLemmas
+pub mod OwnOrderLemmas
+pub mod RisingLemmas
+pub mod SuspendedLemmas
+pub mod SayingLemmas
