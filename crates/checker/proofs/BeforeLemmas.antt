@@ -9,13 +9,14 @@ use Rattle.ompt_events.specs.declared.records.Record.{Record}
 use Rattle.ompt_events.specs.declared.cause.Cause.TheVariants.{Moved, LengthBack}
 use Rattle.ompt_events.specs.Places.{thread_at, seen_at, places}
 use Rattle.ompt_events.specs.Traces.{IsTrace}
-use Rattle.ompt_events.specs.HappensBefore.{IsFinishing, thread_order, creation, discard, fulfilment, IsStep, program, ledger, HappensBefore, step, chain}
+use Rattle.ompt_events.specs.HappensBefore.{IsFinishing, thread_order, creation, resumption, discard, fulfilment, IsStep, program, ledger, HappensBefore, step, chain}
 use Rattle.ompt_events.specs.Linearization.{IsLinearization}
 use Rattle.ompt_events.specs.Causes.{IsFreeOf}
+use Rattle.ompt_events.proofs.TurnLemmas.{start_starts, no_resumption}
 use Rattle.ompt_events.proofs.PlaceLemmas.{contains_place}
 use Rattle.ompt_events.proofs.HappensBeforeLemmas.{before_from, finishing_within}
 use Rattle.checker.specs.Entries.{AreMakers}
-use Rattle.checker.specs.Merge.{Awaits, StartsOrFulfils}
+use Rattle.checker.specs.Merge.{Awaits, StartsOrFulfils, StaysAtHome}
 use Rattle.checker.specs.Counter.{OrderedView, IsOrdered, AreBounds, HaveAllThreads, IsBelow, AreAllBefore, AreEarlierInThread, MakesBelow, AreRaisedTo}
 use Rattle.checker.proofs.EarlierLemmas.{order_apart}
 use Rattle.checker.proofs.LengthLemmas.{known_least}
@@ -179,7 +180,7 @@ stands_before rs order p q linear p_in q_in before =
     omega (arith, low, first, second)
 
 -- what comes below by the next record stands before it, and so is not among those that were passed
-pub passed_more : (rs : List Record) (order : List ℕ) (passed p : ℕ) (old new : List ℕ) → IsFreeOf rs Moved → IsLinearization rs order → p + 1 + passed ≡ length order → AreRaisedTo rs (Awaits rs (slice_index order p)) old new → HavePassed rs order passed old → HavePassed rs order (passed + 1) new
+pub passed_more : (rs : List Record) (order : List ℕ) (passed p : ℕ) (old new : List ℕ) → StaysAtHome rs → IsLinearization rs order → p + 1 + passed ≡ length order → AreRaisedTo rs (Awaits rs (slice_index order p)) old new → HavePassed rs order passed old → HavePassed rs order (passed + 1) new
 passed_more rs order passed p old new at_home linear here are was q c end inside is awaits = elim (cases_eq q p) [
   | inl same ↦
       let P : ℕ → Type 0 = λ k. Awaits rs (slice_index order k) c in
@@ -251,7 +252,8 @@ maker_below rs i a b bounds rise are there finishes less =
 
 step_below : (rs : List Record) (i a b : ℕ) (bounds : List ℕ) → StartsOrFulfils rs → IsFreeOf rs LengthBack → AreClosedAt rs i bounds → (b ≡ i) ⊎ IsBelow rs bounds b → IsStep rs a b → IsBelow rs bounds a
 step_below rs i a b bounds apart rise are there (program (thread_order less within same)) = thread_below rs i a b bounds are there less same
-step_below rs i a b bounds apart rise are there (program (creation task creates start)) = creation_below rs i b a bounds are there (step_awaits rs apart a b (inr (inl (task, creates, start.starts))))
+step_below rs i a b bounds apart rise are there (program (creation task creates start)) = creation_below rs i b a bounds are there (step_awaits rs apart a b (inr (inl (task, creates, start_starts rs b task start))))
+step_below rs i a b bounds apart rise are there (program (resumption again)) = absurd (no_resumption rs a b apart.untold again)
 step_below rs i a b bounds apart rise are there (program (discard task creates gone)) = creation_below rs i b a bounds are there (step_awaits rs apart a b (inr (inr (task, creates, gone))))
 step_below rs i a b bounds apart rise are there (program (fulfilment task creates done)) = creation_below rs i b a bounds are there (step_awaits rs apart a b (inl (task, creates, done)))
 step_below rs i a b bounds apart rise are there (ledger finishes less) = maker_below rs i a b bounds rise are there finishes less
@@ -277,7 +279,7 @@ closed_bounds rs i bounds apart rise all are = record {
 -- ---- the steps together
 
 -- what a record awaits happens before it, and so do the makers of the entries that it sees
-here_before : (rs : List Record) (i : ℕ) (own makers here : List ℕ) → i < length rs → IsFreeOf rs Moved → AreEarlierInThread rs i own → AreRaisedTo rs (MakesBelow rs (seen_at rs i)) own makers → AreRaisedTo rs (Awaits rs i) makers here → AreAllBefore rs i here
+here_before : (rs : List Record) (i : ℕ) (own makers here : List ℕ) → i < length rs → StaysAtHome rs → AreEarlierInThread rs i own → AreRaisedTo rs (MakesBelow rs (seen_at rs i)) own makers → AreRaisedTo rs (Awaits rs i) makers here → AreAllBefore rs i here
 here_before rs i own makers here within at_home earlier to_makers to_creation =
     before_raised rs (Awaits rs i) i makers here (λ c waits. awaits_before rs i c at_home waits) to_creation
     (before_raised rs (MakesBelow rs (seen_at rs i)) i own makers (λ c (finishes, low). step (ledger finishes low)) to_makers
@@ -288,9 +290,9 @@ here_before rs i own makers here within at_home earlier to_makers to_creation =
 pub found_bounds : (ordered : OrderedView) (i : ℕ) (own makers here all : List ℕ) → IsOrdered ordered → i < length ordered.ledger.run.records → HaveAllThreads ordered.ledger.run.records all → AreEarlierInThread ordered.ledger.run.records i own → AreRaisedTo ordered.ledger.run.records (MakesBelow ordered.ledger.run.records (seen_at ordered.ledger.run.records i)) own makers → AreRaisedTo ordered.ledger.run.records (Awaits ordered.ledger.run.records i) makers here → ((a : ℕ) → IsBelow ordered.ledger.run.records here a → IsBelow ordered.ledger.run.records all a) → ((b c : ℕ) → IsBelow ordered.ledger.run.records all b → Awaits ordered.ledger.run.records b c → IsBelow ordered.ledger.run.records all c) → ((j : ℕ) → AreAllBefore ordered.ledger.run.records j here → AreAllBefore ordered.ledger.run.records j all) → AreBounds ordered.ledger.run.records i all
 found_bounds ordered i own makers here all is within threads earlier to_makers to_creation kept closed before =
     let rs = ordered.ledger.run.records in
-    let at_home : IsFreeOf rs Moved = is.well_formed Moved (4, omega arith, refl) in
-    let rise : IsFreeOf rs LengthBack = is.well_formed LengthBack (13, omega arith, refl) in
-    closed_bounds rs i all (trace_apart rs is.ledger.run.trace) rise threads (record {
+    let at_home : StaysAtHome rs = record { still = is.well_formed Moved (4, omega arith, refl); untold = is.ledger.run.untold } in
+    let rise : IsFreeOf rs LengthBack = is.well_formed LengthBack (14, omega arith, refl) in
+    closed_bounds rs i all (trace_apart rs is.ledger.run.trace is.ledger.run.untold) rise threads (record {
       before = before i (here_before rs i own makers here within at_home earlier to_makers to_creation);
       own = λ a less same. kept a (to_creation.kept a (to_makers.kept a (earlier.earlier a less same)));
       makers = λ c makes. kept c (to_creation.kept c (to_makers.raised c makes));

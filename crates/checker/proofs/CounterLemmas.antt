@@ -212,6 +212,6 @@ counter_by rs i task order clear linear is unfinished = record {
   well_formed = clear;
   required = unfinished.required;
   linearization = linear;
-  incomplete = λ complete. unfinished.incomplete (complete_earliest rs i task order (clear LengthBack (13, omega arith, refl)) linear.all_once is complete);
+  incomplete = λ complete. unfinished.incomplete (complete_earliest rs i task order (clear LengthBack (14, omega arith, refl)) linear.all_once is complete);
   earliest = is;
 }

@@ -198,10 +198,11 @@ ready_first rs placed none ready empty more all = record {
 pub front_of : (ledger : MakersView) (run : RunView) (makers : List ℕ) (placed : List Bool) (heads links order : List ℕ) (low : ℕ) → IsLedger ledger → run ≡ ledger.run → makers ≡ ledger.places → IsFreeOf ledger.run.records Moved → AreStanding run.records placed heads links order → low ≤ length makers → ((k : ℕ) → k < low → slice_index makers k < length placed → Stands placed (slice_index makers k)) → (low < length makers → IsUnplaced placed (slice_index makers low)) → IsFront run.records run.family placed heads low
 front_of ledger run makers placed heads links order low is same_run same_places at_home standing within passed missing =
     let trace = rw (← same_run) at is.run.trace in
+    let untold = rw (← same_run) at is.run.untold in
     record {
       family_of = rw (← same_run) at is.run.family;
-      apart = trace_apart run.records trace;
-      at_home = rw (← same_run) at at_home;
+      apart = trace_apart run.records trace untold;
+      at_home = record { still = rw (← same_run) at at_home; untold = untold };
       closed = standing_closed run.records placed heads links order standing;
       are_heads = standing.are_heads;
       is_low = low_reached run.records placed makers low (rw (← same_run, ← same_places) at is.makers) (rw (← same_run, ← same_places) at is.entries) (rw (← same_run) at is.reached) standing.all within passed missing;

@@ -17,6 +17,7 @@ use Rattle.ompt_events.specs.HappensBefore.{IsStart}
 use Rattle.ompt_events.specs.Completion.{IsCompleteAt}
 use Rattle.ompt_events.specs.Dependences.{IsPredecessor}
 use Rattle.ompt_events.specs.Causes.{IsFreeOf}
+use Rattle.ompt_events.proofs.TurnLemmas.{start_starts}
 use Rattle.ompt_events.proofs.ListLemmas.{get_contains, contains_get}
 use Rattle.ompt_events.proofs.PlaceLemmas.{at_within}
 use Rattle.ompt_events.proofs.RecordLemmas.{creation_at_created, created_at_made}
@@ -258,8 +259,8 @@ wait_starts_none rs i task other trace completes starts = there (slice_get rs i)
 preceded_at_start : (rs : List Record) (i task : ℕ) → IsTrace rs → IsExplicit rs task → IsStart rs i task → (p : ℕ) → IsPreceded rs i p ↔ IsPredecessor rs task p
 preceded_at_start rs i task trace explicit start p = (
   (λ preceded. elim preceded [
-    | inl (other, is_explicit, starts, is) ↦ subst (λ t. IsPredecessor rs t p) (same_Some other task (sym starts.starts ∙ start.starts)) is
-    | inr (other, completes, is) ↦ absurd (wait_starts_none rs i other task trace completes start.starts)
+    | inl (other, is_explicit, starts, is) ↦ subst (λ t. IsPredecessor rs t p) (same_Some other task (sym (start_starts rs i other starts) ∙ start_starts rs i task start)) is
+    | inr (other, completes, is) ↦ absurd (wait_starts_none rs i other task trace completes (start_starts rs i task start))
   ]),
   (λ is. inl (task, explicit, start, is)),
 )
@@ -267,7 +268,7 @@ preceded_at_start rs i task trace explicit start p = (
 preceded_at_wait : (rs : List Record) (i task : ℕ) → IsTrace rs → at wait_completed rs i ≡ Some task → (p : ℕ) → IsPreceded rs i p ↔ IsPredecessor rs task p
 preceded_at_wait rs i task trace completes p = (
   (λ preceded. elim preceded [
-    | inl (other, is_explicit, starts, is) ↦ absurd (wait_starts_none rs i task other trace completes starts.starts)
+    | inl (other, is_explicit, starts, is) ↦ absurd (wait_starts_none rs i task other trace completes (start_starts rs i other starts))
     | inr (other, also, is) ↦ subst (λ t. IsPredecessor rs t p) (same_Some other task (sym also ∙ completes)) is
   ]),
   (λ is. inr (task, completes, is)),
@@ -282,7 +283,7 @@ dependent_wait rs tasks i index task trace there completes = record {
   dependent = task;
   there = there;
   same = preceded_at_wait rs i task trace completes;
-  bounds = bound_still rs i (λ (other, explicit, start). wait_starts_none rs i task other trace completes start.starts);
+  bounds = bound_still rs i (λ (other, explicit, start). wait_starts_none rs i task other trace completes (start_starts rs i other start));
 }
 
 pub preceded_by_none : (rs : List Record) (i : ℕ) → StartsNoneAt rs i → ((task : ℕ) → at wait_completed rs i ≡ Some task → ⊥) → IsPrecededByNone rs i
@@ -293,7 +294,7 @@ preceded_by_none rs i starts completes task preceded = elim preceded [
 
 pub ready_past : (rs : List Record) (i : ℕ) → length rs ≤ i → AreReady rs i
 ready_past rs i past task preceded = absurd (preceded_by_none rs i
-    (λ other explicit start. let inside = at_within started rs i other start.starts in omega (arith, inside, past))
+    (λ other explicit start. let inside = at_within started rs i other (start_starts rs i other start) in omega (arith, inside, past))
     (λ other completes. let inside = at_within wait_completed rs i other completes in omega (arith, inside, past))
     task preceded)
 

@@ -10,11 +10,12 @@ use Rattle.ompt_events.specs.declared.records.Body.TheVariants.{TaskCreate}
 use Rattle.ompt_events.specs.declared.cause.Cause.TheVariants.{Moved, LengthBack}
 use Rattle.ompt_events.specs.Records.{created, finish}
 use Rattle.ompt_events.specs.Places.{at, thread_at, seen_at}
-use Rattle.ompt_events.specs.HappensBefore.{IsStart, IsProgramStep, thread_order, creation, discard, fulfilment}
+use Rattle.ompt_events.specs.HappensBefore.{IsStart, IsProgramStep, thread_order, creation, resumption, discard, fulfilment}
 use Rattle.ompt_events.specs.Causes.{HasCause, IsBehind, known_after, moved, length_back, IsFreeOf, IsFirstWith}
+use Rattle.ompt_events.proofs.TurnLemmas.{start_starts, is_start_untold, no_resumption}
 use Rattle.ompt_events.proofs.PlaceLemmas.{at_within}
 use Rattle.checker.specs.Lengths.{PrecedesCreation, AreKnown}
-use Rattle.checker.specs.Merge.{Awaits, StartsOrFulfils}
+use Rattle.checker.specs.Merge.{Awaits, StartsOrFulfils, StaysAtHome}
 use Rattle.checker.proofs.ScheduleLemmas.{awaited_at, step_awaits, starts_below, same_option}
 
 -- ---- what a record knows
@@ -109,19 +110,19 @@ behind_known rs n thread known within own less are =
 creation_behind : (rs : List Record) (c i : ℕ) → IsProgramStep rs c i → seen_at rs i < seen_at rs c → IsBehind rs i
 creation_behind rs c i step less = (c, step, let least = known_least rs c in omega (arith, least, less))
 
-pub behind_creation : (rs : List Record) (n : ℕ) → IsFreeOf rs Moved → ((k : ℕ) → k < n → IsBehind rs k → ⊥) → PrecedesCreation rs n → IsBehind rs n
+pub behind_creation : (rs : List Record) (n : ℕ) → StaysAtHome rs → ((k : ℕ) → k < n → IsBehind rs k → ⊥) → PrecedesCreation rs n → IsBehind rs n
 behind_creation rs n at_home free (c, (task, awaits, creates), less) = elim (awaited_at rs n task awaits) [
   | inl fulfils ↦ creation_behind rs c n (fulfilment task creates fulfils) less
-  | inr (inr starts) ↦ started starts (starts_below rs task n)
+  | inr (inr starts) ↦ started starts (starts_below rs task n at_home.untold)
   | inr (inl gone) ↦ creation_behind rs c n (discard task creates gone) less
 ]
   where
     started : at Rattle.ompt_events.specs.Records.started rs n ≡ Some task → ((s : ℕ) × (s < n) × IsStart rs s task) ⊎ ((k : ℕ) → k < n → at Rattle.ompt_events.specs.Records.started rs k ≢ Some task) → IsBehind rs n
-    started starts (inr none) = creation_behind rs c n (creation task creates (record { starts = starts; first = none })) less
+    started starts (inr none) = creation_behind rs c n (creation task creates (is_start_untold rs n task at_home.untold starts none)) less
     started starts (inl (s, below, first)) = elim (cases_lt (seen_at rs s) (seen_at rs c)) [
       | inl back ↦ absurd (free s below (creation_behind rs c s (creation task creates first) back))
       | inr on ↦
-          let same = same_option (thread_at rs s) (thread_at rs n) (λ other. at_home n (moved (task, s, (c, creates), starts, below, first.starts, other))) in
+          let same = same_option (thread_at rs s) (thread_at rs n) (λ other. at_home.still n (moved (task, s, (c, creates), starts, below, start_starts rs s task first, other, at_home.untold n))) in
           let least = known_least rs s in
           (s, thread_order below (at_within Rattle.ompt_events.specs.Records.started rs n task starts) same, omega (arith, least, on, less))
     ]
@@ -132,7 +133,8 @@ not_behind rs n thread known apart own more none are (k, thread_order below with
     omega (arith, most, more, less)
 not_behind rs n thread known apart own more none are (k, creation task creates start, less) =
     let knows = known_created rs k task creates in
-    none (k, step_awaits rs apart k n (inr (inl (task, creates, start.starts))), omega (arith, knows, less))
+    none (k, step_awaits rs apart k n (inr (inl (task, creates, start_starts rs n task start))), omega (arith, knows, less))
+not_behind rs n thread known apart own more none are (k, resumption again, less) = absurd (no_resumption rs k n apart.untold again)
 not_behind rs n thread known apart own more none are (k, discard task creates gone, less) =
     let knows = known_created rs k task creates in
     none (k, step_awaits rs apart k n (inr (inr (task, creates, gone))), omega (arith, knows, less))
@@ -149,7 +151,8 @@ first_back rs n within is free = record {
 
 step_within : (rs : List Record) (a b : ℕ) → IsProgramStep rs a b → b < length rs
 step_within rs a b (thread_order below within same) = within
-step_within rs a b (creation task creates start) = at_within Rattle.ompt_events.specs.Records.started rs b task start.starts
+step_within rs a b (creation task creates start) = at_within Rattle.ompt_events.specs.Records.started rs b task (start_starts rs b task start)
+step_within rs a b (resumption again) = at_within Rattle.ompt_events.specs.Records.begun_turn rs b (again.task, again.turn + 1) again.resumes
 step_within rs a b (discard task creates gone) = at_within Rattle.ompt_events.specs.Records.discarded rs b task gone
 step_within rs a b (fulfilment task creates fulfils) = at_within Rattle.ompt_events.specs.Records.fulfilled rs b task fulfils
 

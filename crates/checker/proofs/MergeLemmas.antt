@@ -7,9 +7,10 @@ use Rattle.ompt_events.specs.declared.records.Record.{Record}
 use Rattle.ompt_events.specs.Places.{thread_at, seen_at}
 use Rattle.ompt_events.specs.declared.cause.Cause.TheVariants.{Moved}
 use Rattle.ompt_events.specs.Causes.{IsFreeOf}
-use Rattle.ompt_events.specs.HappensBefore.{thread_order, creation, discard, fulfilment, IsStep, program, ledger, HappensBefore, step, chain}
+use Rattle.ompt_events.specs.HappensBefore.{thread_order, creation, resumption, discard, fulfilment, IsStep, program, ledger, HappensBefore, step, chain}
+use Rattle.ompt_events.proofs.TurnLemmas.{start_starts, no_resumption}
 use Rattle.checker.proofs.ScheduleLemmas.{step_awaits, awaits_before}
-use Rattle.checker.specs.Merge.{AreClosed, StartsOrFulfils, Stands, MayFollow, AreHeads, IsLow, IsReadyHead}
+use Rattle.checker.specs.Merge.{AreClosed, StartsOrFulfils, StaysAtHome, Stands, MayFollow, AreHeads, IsLow, IsReadyHead}
 
 pub stands_same : (placed : List Bool) (a b : ℕ) → a ≡ b → Stands placed a → Stands placed b
 stands_same placed a b same stands = ap (slice_get placed) (sym same) ∙ stands
@@ -36,7 +37,8 @@ may_follow rs apart placed heads low thread head are is_low inside is ready = re
 
     stands_before : (a : ℕ) → IsStep rs a head → Stands placed a
     stands_before a (program (thread_order earlier within same)) = are.below thread a (same ∙ runs) (rw is earlier)
-    stands_before a (program (creation task creates starts)) = ready.is_created a (step_awaits rs apart a head (inr (inl (task, creates, starts.starts))))
+    stands_before a (program (creation task creates starts)) = ready.is_created a (step_awaits rs apart a head (inr (inl (task, creates, start_starts rs head task starts))))
+    stands_before a (program (resumption again)) = absurd (no_resumption rs a head apart.untold again)
     stands_before a (program (discard task creates gone)) = ready.is_created a (step_awaits rs apart a head (inr (inr (task, creates, gone))))
     stands_before a (program (fulfilment task creates done)) = ready.is_created a (step_awaits rs apart a head (inl (task, creates, done)))
     stands_before a (ledger finishes less) = is_low.below a finishes (let bound = ready.is_entered in omega (arith, bound, less))
@@ -47,7 +49,7 @@ all_before rs placed a i closed steps (step s) = steps a s
 all_before rs placed a i closed steps (chain {b = mid} first second) = closed a mid first (all_before rs placed mid i closed steps second)
 
 -- a record that may stand next passes the test
-pub ready_head : (rs : List Record) (placed : List Bool) (low : ℕ) (i : ℕ) → IsFreeOf rs Moved → AreClosed rs placed → IsLow rs placed low → MayFollow rs placed i → IsReadyHead rs placed low i
+pub ready_head : (rs : List Record) (placed : List Bool) (low : ℕ) (i : ℕ) → StaysAtHome rs → AreClosed rs placed → IsLow rs placed low → MayFollow rs placed i → IsReadyHead rs placed low i
 ready_head rs placed low i at_home closed is_low may = record {
   within = may.within;
   is_created = λ c awaits. all_before rs placed c i closed may.steps (awaits_before rs i c at_home awaits);

@@ -223,6 +223,6 @@ pub rejected : (view : ClearView) (i : ℕ) (why : Why) → IsClearView view →
 rejected view i why clear found = record {
   well_formed = clear.well_formed;
   unfinished = found.unfinished;
-  missed = first_missed view.run.records view.order i (task_of why) (clear.well_formed LengthBack (13, omega arith, refl)) clear.linearization found.unfinished;
+  missed = first_missed view.run.records view.order i (task_of why) (clear.well_formed LengthBack (14, omega arith, refl)) clear.linearization found.unfinished;
   reason = found.reason;
 }

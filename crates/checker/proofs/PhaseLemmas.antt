@@ -8,7 +8,7 @@ use Rattle.ompt_events.specs.declared.records.Record.{Record}
 use Rattle.ompt_events.specs.declared.cause.Cause.{Cause}
 use Rattle.ompt_events.specs.declared.fault.Fault.{Fault}
 use Rattle.ompt_events.specs.declared.fault.Fault.TheVariants.{Memory, Malformed}
-use Rattle.ompt_events.specs.declared.cause.Cause.TheVariants.{NotCurrent, Moved, StatusOrder, RegionOrder, TeamShort, NestedParallel, DepsPlace, ShareWrong, EntryTwice}
+use Rattle.ompt_events.specs.declared.cause.Cause.TheVariants.{NotCurrent, Moved, TurnGap, StatusOrder, RegionOrder, TeamShort, NestedParallel, DepsPlace, ShareWrong, EntryTwice}
 use Rattle.ompt_events.specs.CauseNames.{cause_number, all_causes, before}
 use Rattle.ompt_events.specs.Causes.{IsFreeOf}
 use Rattle.ompt_events.specs.Faults.{IsFault}
@@ -90,8 +90,8 @@ pub only_clear : (rs : List Record) (cause : Cause) → IsFreeOf rs cause → Is
 only_clear rs cause free = one_clear rs cause [] free (none_clear rs)
 
 -- what is clear after each phase over a run
-pub states_clear : (rs : List Record) → IsClear rs (before NotCurrent) → IsFreeOf rs NotCurrent → IsFreeOf rs Moved → IsFreeOf rs StatusOrder → IsFreeOf rs RegionOrder → IsClear rs (before TeamShort)
-states_clear rs clear current stay ordered closed = clear_more rs (before NotCurrent) (NotCurrent ∷ Moved ∷ StatusOrder ∷ RegionOrder ∷ []) clear (one_clear rs NotCurrent (Moved ∷ StatusOrder ∷ RegionOrder ∷ []) current (one_clear rs Moved (StatusOrder ∷ RegionOrder ∷ []) stay (one_clear rs StatusOrder (RegionOrder ∷ []) ordered (only_clear rs RegionOrder closed))))
+pub states_clear : (rs : List Record) → IsClear rs (before NotCurrent) → IsFreeOf rs NotCurrent → IsFreeOf rs Moved → IsFreeOf rs TurnGap → IsFreeOf rs StatusOrder → IsFreeOf rs RegionOrder → IsClear rs (before TeamShort)
+states_clear rs clear current stay gapless ordered closed = clear_more rs (before NotCurrent) (NotCurrent ∷ Moved ∷ TurnGap ∷ StatusOrder ∷ RegionOrder ∷ []) clear (one_clear rs NotCurrent (Moved ∷ TurnGap ∷ StatusOrder ∷ RegionOrder ∷ []) current (one_clear rs Moved (TurnGap ∷ StatusOrder ∷ RegionOrder ∷ []) stay (one_clear rs TurnGap (StatusOrder ∷ RegionOrder ∷ []) gapless (one_clear rs StatusOrder (RegionOrder ∷ []) ordered (only_clear rs RegionOrder closed)))))
 
 pub teams_clear : (rs : List Record) → IsClear rs (before TeamShort) → IsFreeOf rs TeamShort → IsClear rs (before NestedParallel)
 teams_clear rs clear whole = clear_more rs (before TeamShort) (TeamShort ∷ []) clear (only_clear rs TeamShort whole)

@@ -17,8 +17,9 @@ use Rattle.ompt_events.specs.Records.{made, created, started, discarded, fulfill
 use Rattle.ompt_events.specs.Places.{at, thread_at, seen_at}
 use Rattle.ompt_events.specs.Traces.{IsTrace, IsSound, HasItsNext}
 use Rattle.ompt_events.specs.Tree.{IsExplicit}
-use Rattle.ompt_events.specs.HappensBefore.{IsStart, IsFinishing, thread_order, creation, discard, fulfilment, IsStep, program, ledger, HappensBefore, step, chain}
+use Rattle.ompt_events.specs.HappensBefore.{IsStart, IsFinishing, thread_order, creation, resumption, discard, fulfilment, IsStep, program, ledger, HappensBefore, step, chain}
 use Rattle.ompt_events.specs.Causes.{IsFreeOf, moved}
+use Rattle.ompt_events.proofs.TurnLemmas.{start_starts, is_start_untold, no_resumption}
 use Rattle.ompt_events.proofs.PlaceLemmas.{at_within, at_read}
 use Rattle.ompt_events.proofs.RecordLemmas.{created_at_made}
 use Rattle.task_tree.specs.Numbering.{AreApart}
@@ -26,7 +27,8 @@ use Rattle.task_tree.specs.Subjects.{subject, object, Calls}
 use Rattle.task_tree.specs.Family.{FamilyView, IsFamilyOf}
 use Rattle.task_tree.proofs.SubjectLemmas.{call_task, call_none}
 use Rattle.task_tree.proofs.OnceLemmas.{made_once}
-use Rattle.checker.specs.Merge.{awaited, Awaits, StartsOrFulfils, task_of}
+use Rattle.ompt_events.specs.Turns.{TellsNoTurns}
+use Rattle.checker.specs.Merge.{awaited, Awaits, StartsOrFulfils, StaysAtHome, task_of}
 
 -- ---- what a record awaits
 
@@ -71,7 +73,7 @@ step_awaits rs apart c i (inl (task, creates, fulfils)) = (task, there (slice_ge
     there : (o : Option Record) → option_and_then (λ (r : Record). fulfilled r.body) o ≡ Some task → option_and_then (λ (r : Record). awaited r.body) o ≡ Some task
     there None is = absurd (none-some task is)
     there (Some r) is = ap (λ o. option_or o (option_or (discarded r.body) (started r.body))) is
-step_awaits rs apart c i (inr (inl (task, creates, starts))) = (task, there (slice_get rs i) (apart i) starts, creates)
+step_awaits rs apart c i (inr (inl (task, creates, starts))) = (task, there (slice_get rs i) (apart.apart i) starts, creates)
   where
     there : (o : Option Record) → ((t other : ℕ) → option_and_then (λ (r : Record). fulfilled r.body) o ≡ Some t → option_and_then (λ (r : Record). started r.body) o ≡ Some other → ⊥) → option_and_then (λ (r : Record). started r.body) o ≡ Some task → option_and_then (λ (r : Record). awaited r.body) o ≡ Some task
     there None none is = absurd (none-some task is)
@@ -84,9 +86,9 @@ step_awaits rs apart c i (inr (inr (task, creates, gone))) = (task, there (slice
 
 -- ---- what is awaited happens before
 
-pub starts_below : (rs : List Record) (task n : ℕ) → ((s : ℕ) × (s < n) × IsStart rs s task) ⊎ ((k : ℕ) → k < n → at started rs k ≢ Some task)
-starts_below rs task zero = inr (λ k below. absurd (omega arith))
-starts_below rs task (suc n) = elim (starts_below rs task n) [
+pub starts_below : (rs : List Record) (task n : ℕ) → TellsNoTurns rs → ((s : ℕ) × (s < n) × IsStart rs s task) ⊎ ((k : ℕ) → k < n → at started rs k ≢ Some task)
+starts_below rs task zero untold = inr (λ k below. absurd (omega arith))
+starts_below rs task (suc n) untold = elim (starts_below rs task n untold) [
   | inl found ↦ inl (found.0, omega (arith, found.1), found.2)
   | inr none ↦ here (at started rs n) refl none
 ]
@@ -97,7 +99,7 @@ starts_below rs task (suc n) = elim (starts_below rs task n) [
       | inr apart ↦ none k (omega arith) starts
     ])
     here (Some other) e none = elim (cases_eq other task) [
-      | inl same ↦ inl (n, omega arith, record { starts = e ∙ ap Some same; first = none })
+      | inl same ↦ inl (n, omega arith, is_start_untold rs n task untold (e ∙ ap Some same) none)
       | inr different ↦ inr (λ k below starts. elim (cases_eq k n) [
         | inl is ↦ different (same_Some other task (sym e ∙ ap (at started rs) (sym is) ∙ starts))
         | inr apart ↦ none k (omega arith) starts
@@ -114,15 +116,15 @@ same_option (Some x) (Some y) both = elim (cases_eq x y) [
 ]
 
 -- a task starts on one thread, so each of its starts is behind its creation
-start_before : (rs : List Record) (task c i : ℕ) → IsFreeOf rs Moved → at created rs c ≡ Some task → at started rs i ≡ Some task → HappensBefore rs c i
-start_before rs task c i at_home creates starts = elim (starts_below rs task i) [
-  | inr none ↦ step (program (creation task creates (record { starts = starts; first = none })))
+start_before : (rs : List Record) (task c i : ℕ) → StaysAtHome rs → at created rs c ≡ Some task → at started rs i ≡ Some task → HappensBefore rs c i
+start_before rs task c i at_home creates starts = elim (starts_below rs task i at_home.untold) [
+  | inr none ↦ step (program (creation task creates (is_start_untold rs i task at_home.untold starts none)))
   | inl (s, below, first) ↦
-      let same = same_option (thread_at rs s) (thread_at rs i) (λ other. at_home i (moved (task, s, (c, creates), starts, below, first.starts, other))) in
+      let same = same_option (thread_at rs s) (thread_at rs i) (λ other. at_home.still i (moved (task, s, (c, creates), starts, below, start_starts rs s task first, other, at_home.untold i))) in
       chain (step (program (creation task creates first))) (step (program (thread_order below (at_within started rs i task starts) same)))
 ]
 
-pub awaits_before : (rs : List Record) (i c : ℕ) → IsFreeOf rs Moved → Awaits rs i c → HappensBefore rs c i
+pub awaits_before : (rs : List Record) (i c : ℕ) → StaysAtHome rs → Awaits rs i c → HappensBefore rs c i
 awaits_before rs i c at_home (task, waits, creates) = elim (awaited_at rs i task waits) [
   | inl fulfils ↦ step (program (fulfilment task creates fulfils))
   | inr (inl gone) ↦ step (program (discard task creates gone))
@@ -136,18 +138,21 @@ sound_apart (TaskSchedule status.EarlyFulfill turns prior next share) sound task
 sound_apart (TaskSchedule status.LateFulfill turns prior next share) sound task other fulfils starts = false≢true (sym sound ∙ ap is_some starts)
 sound_apart _ sound task other fulfils starts = none-some task fulfils
 
-pub trace_apart : (rs : List Record) → IsTrace rs → StartsOrFulfils rs
-trace_apart rs trace i task other fulfils starts = there (slice_get rs i) refl fulfils starts
+pub trace_apart : (rs : List Record) → IsTrace rs → TellsNoTurns rs → StartsOrFulfils rs
+trace_apart rs trace untold = record {
+  apart = λ i task other fulfils starts. there i task other (slice_get rs i) refl fulfils starts;
+  untold = untold;
+}
   where
-    sound_at : (r : Record) → slice_get rs i ≡ Some r → IsSound r.body
-    sound_at r e =
+    sound_at : (i : ℕ) (r : Record) → slice_get rs i ≡ Some r → IsSound r.body
+    sound_at i r e =
         let within = slice_get_within rs i r e in
         let P : Record → Type 0 = λ q. IsSound q.body in
         subst P (same_Some (get_or rs i r) r (sym (slice_get-get_or rs i r within) ∙ e)) (trace.sound i r within)
 
-    there : (o : Option Record) → slice_get rs i ≡ o → option_and_then (λ (r : Record). fulfilled r.body) o ≡ Some task → option_and_then (λ (r : Record). started r.body) o ≡ Some other → ⊥
-    there None e fulfils' starts' = none-some task fulfils'
-    there (Some r) e fulfils' starts' = sound_apart r.body (sound_at r e).next task other fulfils' starts'
+    there : (i task other : ℕ) (o : Option Record) → slice_get rs i ≡ o → option_and_then (λ (r : Record). fulfilled r.body) o ≡ Some task → option_and_then (λ (r : Record). started r.body) o ≡ Some other → ⊥
+    there i task other None e fulfils' starts' = none-some task fulfils'
+    there i task other (Some r) e fulfils' starts' = sound_apart r.body (sound_at i r e).next task other fulfils' starts'
 
 -- a record awaits the creation or not
 pub awaits_or_not : (rs : List Record) (i c : ℕ) → Awaits rs i c ⊎ (Awaits rs i c → ⊥)
@@ -270,7 +275,8 @@ before_less rs steps a b (chain {b = mid} first second) =
 -- each kind of step, as the two tests have it
 pub steps_less : (rs : List Record) → StartsOrFulfils rs → ((i c : ℕ) → Awaits rs i c → c < i) → ((a b : ℕ) → IsFinishing rs a → seen_at rs a < seen_at rs b → a < b) → (a b : ℕ) → IsStep rs a b → a < b
 steps_less rs apart by_creation by_entry a b (program (thread_order earlier within same)) = earlier
-steps_less rs apart by_creation by_entry a b (program (creation task creates start)) = by_creation b a (step_awaits rs apart a b (inr (inl (task, creates, start.starts))))
+steps_less rs apart by_creation by_entry a b (program (creation task creates start)) = by_creation b a (step_awaits rs apart a b (inr (inl (task, creates, start_starts rs b task start))))
+steps_less rs apart by_creation by_entry a b (program (resumption again)) = absurd (no_resumption rs a b apart.untold again)
 steps_less rs apart by_creation by_entry a b (program (discard task creates gone)) = by_creation b a (step_awaits rs apart a b (inr (inr (task, creates, gone))))
 steps_less rs apart by_creation by_entry a b (program (fulfilment task creates done)) = by_creation b a (step_awaits rs apart a b (inl (task, creates, done)))
 steps_less rs apart by_creation by_entry a b (ledger finishes less) = by_entry a b finishes less

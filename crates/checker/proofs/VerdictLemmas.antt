@@ -7,7 +7,7 @@ use Rattle.ompt_events.specs.declared.records.Record.{Record}
 use Rattle.ompt_events.specs.declared.records.Part.{Part}
 use Rattle.ompt_events.specs.declared.records.Part.TheVariants as part
 use Rattle.ompt_events.specs.declared.cause.Cause.{Cause}
-use Rattle.ompt_events.specs.declared.cause.Cause.TheVariants.{SeqGap, CreatedTwice, Rootless, NotCurrent, Moved, StatusOrder, RegionOrder, TeamShort, NestedParallel, DepsPlace, ShareWrong, EntryTwice, LengthAhead, LengthBack, NoOrder, TargetTask}
+use Rattle.ompt_events.specs.declared.cause.Cause.TheVariants.{SeqGap, CreatedTwice, Rootless, NotCurrent, Moved, TurnGap, StatusOrder, RegionOrder, TeamShort, NestedParallel, DepsPlace, ShareWrong, EntryTwice, LengthAhead, LengthBack, NoOrder, TargetTask}
 use Rattle.trace_ledger.specs.Entries.{IsFreeUpTo}
 use Rattle.ompt_events.specs.Records.{finish, region, started, wait_completed}
 use Rattle.ompt_events.specs.Places.{at, places}
@@ -35,6 +35,7 @@ use Rattle.checker.specs.declared.verdict.Why.TheVariants.{Unfinished, Predecess
 use Rattle.std.proofs.lemmas.List.{length-take, get_or-take}
 use Rattle.std.proofs.lemmas.List.FromFn.{length-range_with_len, get_or-range_with_len}
 use Rattle.std.proofs.lemmas.List.Sorted.{IsPermutation-refl}
+use Rattle.ompt_events.proofs.TurnLemmas.{start_starts}
 use Rattle.ompt_events.proofs.PlaceLemmas.{contains_place}
 use Rattle.ompt_events.proofs.HappensBeforeLemmas.{before_to}
 use Rattle.ompt_events.proofs.LinearizationLemmas.{greedy_grounded}
@@ -145,7 +146,7 @@ cover_ends rs i task (coverage.grouped {parent = parent} {begin = begin} is foun
 cover_ends rs i task (coverage.synchronised {own = own} {begin = begin} {kind = kind} number is barrier begins mate other found of) = region_ends rs i own begin kind is
 
 pub preceded_starts : (rs : List Record) (i task : ℕ) → IsPreceded rs i task → (own : ℕ) × ((at started rs i ≡ Some own) ⊎ (at wait_completed rs i ≡ Some own))
-preceded_starts rs i task (inl (dependent, explicit, start, before)) = (dependent, inl start.starts)
+preceded_starts rs i task (inl (dependent, explicit, start, before)) = (dependent, inl (start_starts rs i dependent start))
 preceded_starts rs i task (inr (dependent, completes, before)) = (dependent, inr completes)
 
 not_both : (rs : List Record) (i task other : ℕ) → Covers rs i task → IsPreceded rs i other → ⊥
@@ -239,17 +240,18 @@ listed CreatedTwice = (1, omega arith, refl)
 listed Rootless = (2, omega arith, refl)
 listed NotCurrent = (3, omega arith, refl)
 listed Moved = (4, omega arith, refl)
-listed StatusOrder = (5, omega arith, refl)
-listed RegionOrder = (6, omega arith, refl)
-listed TeamShort = (7, omega arith, refl)
-listed NestedParallel = (8, omega arith, refl)
-listed DepsPlace = (9, omega arith, refl)
-listed ShareWrong = (10, omega arith, refl)
-listed EntryTwice = (11, omega arith, refl)
-listed LengthAhead = (12, omega arith, refl)
-listed LengthBack = (13, omega arith, refl)
-listed NoOrder = (14, omega arith, refl)
-listed TargetTask = (15, omega arith, refl)
+listed TurnGap = (5, omega arith, refl)
+listed StatusOrder = (6, omega arith, refl)
+listed RegionOrder = (7, omega arith, refl)
+listed TeamShort = (8, omega arith, refl)
+listed NestedParallel = (9, omega arith, refl)
+listed DepsPlace = (10, omega arith, refl)
+listed ShareWrong = (11, omega arith, refl)
+listed EntryTwice = (12, omega arith, refl)
+listed LengthAhead = (13, omega arith, refl)
+listed LengthBack = (14, omega arith, refl)
+listed NoOrder = (15, omega arith, refl)
+listed TargetTask = (16, omega arith, refl)
 
 -- where no cause occurs, none with a low number does
 pub free_up_to : (rs : List Record) (number : ℕ) → IsClear rs all_causes → IsFreeUpTo rs number

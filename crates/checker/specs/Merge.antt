@@ -12,6 +12,7 @@ use Rattle.ompt_events.specs.Linearization.{IsReady, IsGreedyAfter}
 use Rattle.ompt_events.specs.declared.cause.Cause.TheVariants.{Moved}
 use Rattle.ompt_events.specs.Causes.{entries_in, IsFreeOf}
 use Rattle.task_tree.specs.Family.{FamilyView, IsFamilyOf}
+use Rattle.ompt_events.specs.Turns.{TellsNoTurns}
 use Rattle.checker.specs.Lists.{AreLists, IsNextWith, IsRising}
 use Rattle.checker.specs.declared.waiting.Waiting.{Waiting}
 
@@ -23,10 +24,15 @@ awaited body = option_or (fulfilled body) (option_or (discarded body) (started b
 abbrev pub Awaits : List Record → ℕ → ℕ → Type 0
 Awaits rs i c = (task : ℕ) × (at awaited rs i ≡ Some task) × (at created rs c ≡ Some task)
 
--- no record fulfils one task and starts another
-abbrev pub StartsOrFulfils : List Record → Type 0
-StartsOrFulfils rs =
-    (i task other : ℕ) → at fulfilled rs i ≡ Some task → at started rs i ≡ Some other → ⊥
+-- no record fulfils one task and starts another, and none tells a turn
+pub record StartsOrFulfils (rs : List Record) : Type 0 where
+  pub apart : (i task other : ℕ) → at fulfilled rs i ≡ Some task → at started rs i ≡ Some other → ⊥
+  pub untold : TellsNoTurns rs
+
+-- each explicit task runs on one thread, and no record tells a turn
+pub record StaysAtHome (rs : List Record) : Type 0 where
+  pub still : IsFreeOf rs Moved
+  pub untold : TellsNoTurns rs
 
 -- the record stands in the order already
 abbrev pub Stands : List Bool → ℕ → Type 0
@@ -106,7 +112,7 @@ pub record IsFront (rs : List Record) (family : FamilyView) (placed : List Bool)
     (low : ℕ) : Type 0 where
   pub family_of : IsFamilyOf rs family
   pub apart : StartsOrFulfils rs
-  pub at_home : IsFreeOf rs Moved
+  pub at_home : StaysAtHome rs
   pub closed : AreClosed rs placed
   pub are_heads : AreHeads rs placed heads
   pub is_low : IsLow rs placed low

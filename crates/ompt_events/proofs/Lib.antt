@@ -1,6 +1,7 @@
 mod TraceLemmas
 pub mod PlaceLemmas
 pub mod RecordLemmas
+pub mod EveryLemmas
 pub mod TurnLemmas
 pub mod TreeLemmas
 pub mod ThreadLemmas

@@ -141,7 +141,7 @@ nothing_left rs order (i ∷ rest) permutation all =
 -- ---- a task's own records
 
 -- an element at which the test holds is kept
-pub Contains-filter : (p : ℕ → Bool) (xs : List ℕ) (x : ℕ) → Contains xs x → p x ≡ true → Contains (filter p xs) x
+pub Contains-filter : {X : Type 0} (p : X → Bool) (xs : List X) (x : X) → Contains xs x → p x ≡ true → Contains (filter p xs) x
 Contains-filter p [] x (k, below, is) holds = absurd (omega arith)
 Contains-filter p (y ∷ ys) x (zero, below, is) holds = rw (ap p is ∙ holds) (0, omega arith, is)
 Contains-filter p (y ∷ ys) x (suc k, below, is) holds = after (p y) (Contains-filter p ys x (k, omega arith, is) holds)

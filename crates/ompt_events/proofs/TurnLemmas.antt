@@ -1,17 +1,20 @@
 -- The start of a task by turns, and what holds where no record tells a turn.
-use Rattle.std.proofs.Common.{◌≡◌, ◌≢◌, ◌∙◌, ℕ, ◌<◌, ◌+◌, List, [], ◌∷◌, Option, Some, None, true, false, Bool, cond, refl, sym, ap, subst, arith, get_or, length}
+use Rattle.std.proofs.Common.{◌≡◌, ◌≢◌, ◌∙◌, ℕ, ◌<◌, ◌≤◌, ◌+◌, max, if◌then◌else◌, List, [], ◌∷◌, Option, Some, None, true, false, Bool, cond, refl, sym, ap, subst, arith, get_or, length, inl, inr}
+use Rattle.std.proofs.lemmas.Bool.{cases_eq}
 use Rattle.std.proofs.lemmas.Option.{none-some, same_Some, slice_get-get_or, slice_get_within}
-use Rattle.std.specs.Prelude.{◌&&◌, not, slice_get, option_and_then, option_map, is_some, find}
+use Rattle.std.specs.Prelude.{◌==◌, ◌&&◌, not, slice_get, option_and_then, option_map, is_some, find, filter, fold, take}
 use Rattle.std.specs.Option.{option_map_or}
 use Rattle.ompt_events.specs.declared.records.Record.{Record}
 use Rattle.ompt_events.specs.declared.records.Turns.{Turns}
-use Rattle.ompt_events.specs.Records.{started, told_turns, begun_turn, next_turn}
+use Rattle.ompt_events.specs.Records.{running, started, told_turns, begun_turn, next_turn, prior_turn}
 use Rattle.ompt_events.specs.Places.{at, places}
-use Rattle.ompt_events.specs.Turns.{TellsNoTurns}
+use Rattle.ompt_events.specs.Turns.{TellsNoTurns, turn_after, turn_in, turn_of, turn_at, turns_in}
 use Rattle.ompt_events.specs.Traces.{IsTraceOf, HasItsTurns}
 use Rattle.ompt_events.specs.States.{is_task, is_on, home_of, has_moved, all_moves_of, moves_of}
+use Rattle.ompt_events.specs.declared.cause.Cause.TheVariants.{TurnGap}
+use Rattle.ompt_events.proofs.EveryLemmas.{Every, every_filter, every_take, fold_most}
 use Rattle.ompt_events.specs.HappensBefore.{IsStart, IsResumption}
-use Rattle.ompt_events.specs.Causes.{HasTurnGap, other_turn, begun_again, falling, of_root, missing}
+use Rattle.ompt_events.specs.Causes.{HasTurnGap, turn_gap, IsFreeOf, other_turn, begun_again, falling, of_root, missing}
 
 -- ---- the task that begins a turn runs next
 
@@ -28,6 +31,45 @@ begun_started rs i task turn begins = begun_there (slice_get rs i) task turn beg
 
 pub start_starts : (rs : List Record) (i task : ℕ) → IsStart rs i task → at started rs i ≡ Some task
 start_starts rs i task start = begun_started rs i task 0 start.starts
+
+-- ---- each record's turn is one of the turns
+
+-- the turn that a record begins, and 0 where it begins none
+abbrev pub new_turn : Record → ℕ
+new_turn r = option_map_or (λ (b : ℕ × ℕ). b.1) (begun_turn r.body) 0
+
+abbrev most_turn : List Record → ℕ
+most_turn rs = fold (λ most (r : Record). max most (new_turn r)) 0 rs
+
+after_most : (task turn most : ℕ) (r : Record) → turn ≤ most → new_turn r ≤ most → turn_after task turn r ≤ most
+after_most task turn most r low new = by (begun_turn r.body) new
+  where
+    pick : (b : Bool) (one other : ℕ) → one ≤ most → other ≤ most → cond b one other ≤ most
+    pick true one other p q = p
+    pick false one other p q = q
+
+    by : (o : Option (ℕ × ℕ)) → option_map_or (λ (b : ℕ × ℕ). b.1) o 0 ≤ most → option_map_or (λ (b : ℕ × ℕ). if b.0 == task then b.1 else turn) o turn ≤ most
+    by None new' = low
+    by (Some b) new' = pick (b.0 == task) b.1 turn new' low
+
+fold_low : (task most : ℕ) (qs : List Record) (turn : ℕ) → turn ≤ most → Every (λ r. new_turn r ≤ most) qs → fold (turn_after task) turn qs ≤ most
+fold_low task most [] turn low each = low
+fold_low task most (q ∷ qs) turn low each = fold_low task most qs (turn_after task turn q) (after_most task turn most q low each.0) each.1
+
+-- where no record begins a turn beyond most, no record is in one
+pub turn_most : (rs : List Record) (most i : ℕ) → Every (λ r. new_turn r ≤ most) rs → turn_at rs i ≤ most
+turn_most rs most i each = by (slice_get rs i)
+  where
+    of_task : (r : Record) (o : Option ℕ) → option_map_or (λ task. turn_in task (filter (λ q. q.thread == r.thread) (take i rs))) o 0 ≤ most
+    of_task r None = omega arith
+    of_task r (Some task) = fold_low task most (filter (λ q. q.thread == r.thread) (take i rs)) 0 (omega arith) (every_filter (λ r'. new_turn r' ≤ most) (λ q. q.thread == r.thread) (take i rs) (every_take (λ r'. new_turn r' ≤ most) i rs each))
+
+    by : (o : Option Record) → option_map_or (λ (r : Record). turn_of rs r i) o 0 ≤ most
+    by None = omega arith
+    by (Some r) = of_task r (running r.body)
+
+pub turn_low : (rs : List Record) (i : ℕ) → turn_at rs i < turns_in rs
+turn_low rs i = let low = turn_most rs (most_turn rs) i (fold_most new_turn rs 0).1 in omega arith
 
 -- ---- where no record tells a turn
 
@@ -64,6 +106,9 @@ no_turn_gap rs i none (begun_again task turn k tells below begins) = tells.0 (no
 no_turn_gap rs i none (falling task turn k later tells below same begins less) = tells.0 (none i)
 no_turn_gap rs i none (of_root task tells root) = tells.0 (none i)
 no_turn_gap rs i none (missing task turn tells never) = tells.0 (none i)
+
+pub free_of_gaps : (rs : List Record) → TellsNoTurns rs → IsFreeOf rs TurnGap
+free_of_gaps rs untold i (turn_gap gap) = no_turn_gap rs i untold gap
 
 find_none : {X : Type 0} (p : X → Bool) → ((x : X) → p x ≡ false) → (xs : List X) → is_some (find p xs) ≡ false
 find_none p never [] = refl
@@ -102,3 +147,14 @@ first_version_tells_none rs trace i = there (slice_get rs i) refl
         let same : get_or rs i r ≡ r = same_Some (get_or rs i r) r (sym (slice_get-get_or rs i r within) ∙ e) in
         let P : Record → Type 0 = λ q. HasItsTurns 1 q.body in
         none_of (told_turns r.body) (subst P same (trace.turns i r within))
+
+-- where no record has a gap, the turn that a record ends is one of the turns
+pub ended_low : (rs : List Record) (i : ℕ) (r : Record) → IsFreeOf rs TurnGap → slice_get rs i ≡ Some r → prior_turn r.body < turns_in rs
+ended_low rs i r free here = by (told_turns r.body) refl
+  where
+    by : (o : Option Turns) → told_turns r.body ≡ o → option_map_or (λ (t : Turns). t.prior) o 0 < turns_in rs
+    by None e = omega arith
+    by (Some told) e = elim (cases_eq told.prior (turn_at rs i)) [
+      | inl same ↦ let low = turn_low rs i in omega (arith, same, low)
+      | inr apart ↦ absurd (free i (turn_gap (other_turn told (ap (option_and_then (λ (q : Record). told_turns q.body)) here ∙ e) apart)))
+    ]

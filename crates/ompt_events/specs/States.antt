@@ -9,9 +9,10 @@ use Rattle.ompt_events.specs.declared.names.Status.{Status}
 use Rattle.ompt_events.specs.declared.names.Status.TheVariants as status
 use Rattle.ompt_events.specs.declared.state.State.{State}
 use Rattle.ompt_events.specs.declared.state.State.TheVariants.{Created, Running, Suspended, EarlyRunning, EarlyWaiting, Detached, Done}
+use Rattle.ompt_events.specs.Names.{demands_next}
 use Rattle.ompt_events.specs.Flags as flag
 use Rattle.ompt_events.specs.Flags.{has_flag}
-use Rattle.ompt_events.specs.Records.{begun_root, started, running, told_turns, begun_turn, ended_turn, discarded}
+use Rattle.ompt_events.specs.Records.{begun_root, started, told_turns, begun_turn, ended_turn, discarded}
 use Rattle.ompt_events.specs.Places.{at, thread_at, places}
 use Rattle.ompt_events.specs.Turns.{is_turn, turns_in}
 
@@ -122,10 +123,23 @@ turn_ends_at rs task turn i =
     stopped_there : List Move
     stopped_there = option_map_or (λ (r : Record). stops task r.body) (slice_get rs i) []
 
--- whether the record neither begins nor ends a turn of the task, nor fulfils its event early
-abbrev pub is_apart : List Record → ℕ → ℕ → Bool
-is_apart rs task i =
-    not (is_early rs task i) && not (is_task task (at running rs i)) && not (is_task task (at started rs i))
+-- whether the move fulfils the task's event before its body has ended; begins or ends a turn; or does neither
+abbrev pub is_early_move : Move → Bool
+is_early_move (Stopped status.EarlyFulfill) = true
+is_early_move _ = false
+
+abbrev pub is_turn_move : Move → Bool
+is_turn_move (Stopped status) = demands_next status
+is_turn_move Started = true
+is_turn_move Discarded = false
+
+abbrev pub is_apart : Move → Bool
+is_apart move = not (is_early_move move) && not (is_turn_move move)
+
+-- all moves of the task that pass, in file order
+abbrev pub moves_by_file : List Record → ℕ → (Move → Bool) → List (ℕ × Move)
+moves_by_file rs task passes =
+    filter (λ (step : ℕ × Move). passes step.1) (flat_map (moves_at rs task) (places rs))
 
 -- the moves by which it begins the turn, then those by which it ends it
 abbrev pub turn_moves : List Record → ℕ → ℕ → List (ℕ × Move)
@@ -135,9 +149,9 @@ turn_moves rs task turn =
 -- the moves of a task that moved: early fulfilments, then turn by turn its start and its end, then all others
 abbrev pub moved_moves : List Record → ℕ → List (ℕ × Move)
 moved_moves rs task =
-    flat_map (moves_at rs task) (filter (is_early rs task) (places rs))
+    moves_by_file rs task is_early_move
     ++ flat_map (turn_moves rs task) (range_with_len 0 (turns_in rs))
-    ++ flat_map (moves_at rs task) (filter (is_apart rs task) (places rs))
+    ++ moves_by_file rs task is_apart
 
 -- all moves of any task
 abbrev pub all_moves_of : List Record → ℕ → List (ℕ × Move)

@@ -21,7 +21,7 @@ use Rattle.ompt_events.specs.Records.{made, region}
 use Rattle.ompt_events.specs.Places.{at}
 use Rattle.ompt_events.specs.States.{Move, Stopped, Started, Discarded, is_task, moves_by, moves_at, moves_of, nature_of, state_of}
 use Rattle.ompt_events.proofs.PlaceLemmas.{at_within}
-use Rattle.ompt_events.proofs.TurnLemmas.{moves_untold, no_turn_gap}
+use Rattle.ompt_events.proofs.TurnLemmas.{moves_untold}
 use Rattle.ompt_events.proofs.ListLemmas.{get_contains, contains_get}
 use Rattle.task_tree.specs.Family.{FamilyView, IsFamilyOf}
 use Rattle.task_tree.specs.Subjects.{subject, object}
@@ -157,10 +157,6 @@ after_moved other (suc k, below, is) less = after_gap other (k, omega arith, is)
 after_current : (other : Cause) → Contains (Moved ∷ TurnGap ∷ StatusOrder ∷ RegionOrder ∷ []) other → cause_number other < 4 → ⊥
 after_current other (zero, below, is) less = let number = ap cause_number is in omega (arith, number, less)
 after_current other (suc k, below, is) less = after_moved other (k, omega arith, is) (omega arith)
-
--- where no turns are told, no record has a gap
-pub free_of_gaps : (rs : List Record) → TellsNoTurns rs → IsFreeOf rs TurnGap
-free_of_gaps rs untold i (turn_gap gap) = no_turn_gap rs i untold gap
 
 pub fault_current : (rs : List Record) (fault : Fault) → IsFault rs (NotCurrent ∷ []) fault → IsFault rs (NotCurrent ∷ Moved ∷ TurnGap ∷ StatusOrder ∷ RegionOrder ∷ []) fault
 fault_current rs fault found = fault_first rs NotCurrent (Moved ∷ TurnGap ∷ StatusOrder ∷ RegionOrder ∷ []) fault after_current found

@@ -4,7 +4,7 @@ use Rattle.std.specs.Prelude.{◌==◌, ◌||◌}
 use Rattle.std.proofs.lemmas.Bool.{cases_Bool, and_parts, or_cases, or_left, or_right, eqb-true, false≢true, false_from_ne_true}
 use Rattle.std.proofs.lemmas.List.{append_assoc}
 use Rattle.ompt_events.specs.declared.records.Record.{Record}
-use Rattle.ompt_events.specs.declared.cause.Cause.TheVariants.{StatusOrder, ShareWrong}
+use Rattle.ompt_events.specs.declared.cause.Cause.TheVariants.{TurnGap, StatusOrder, ShareWrong}
 use Rattle.ompt_events.specs.Tree.{children, HasPath}
 use Rattle.credit.specs.declared.share.Half.{Half}
 use Rattle.credit.specs.declared.share.Half.TheVariants.{Keep}
@@ -97,5 +97,5 @@ entries_apart rs i j index other e f free apart made also =
     entry_right rs j f (free ShareWrong (omega arith)) from_other (λ right_other.
     let one = of_overlap rs e f right right_other on in
     let finishes = from.finishes ∙ ap (λ t. Some (t, e.part)) one.task_is in
-    let off = parts_apart rs i j f.task e.part f.part (free StatusOrder (omega arith)) apart finishes from_other.finishes in
+    let off = parts_apart rs i j f.task e.part f.part (free TurnGap (omega arith)) (free StatusOrder (omega arith)) apart finishes from_other.finishes in
     false≢true (sym off ∙ one.parts))))

@@ -2,7 +2,8 @@
 -- one task finish different halves of it.
 use Rattle.std.proofs.Common.{◌≡◌, ◌≢◌, ◌∙◌, ℕ, zero, suc, ◌<◌, ◌+◌, Bool, true, false, cond, List, [], ◌∷◌, ◌++◌, length, get_or, take, Option, Some, None, refl, sym, ap, subst, arith, inl, inr, ◌⊎◌, add-one}
 use Rattle.std.specs.Prelude.{◌==◌, ◌&&◌, not, is_some, slice_get, filter, fold, map, Contains}
-use Rattle.std.specs.List.{flat_map}
+use Rattle.std.specs.List.{flat_map, range_with_len}
+use Rattle.std.proofs.lemmas.List.FromFn.{length-range_with_len, get_or-range_with_len}
 use Rattle.std.specs.Option.{option_map, option_map_or, option_and_then}
 use Rattle.std.proofs.lemmas.Bool.{cases_lt, cases_order, eq-eqb, false≢true}
 use Rattle.std.proofs.lemmas.Option.{none-some, same_Some, slice_get-map, slice_get-get_or}
@@ -13,18 +14,21 @@ use Rattle.ompt_events.specs.declared.records.Body.{Body as RecordBody}
 use Rattle.ompt_events.specs.declared.records.Body.TheVariants.{TaskSchedule, Cancel}
 use Rattle.ompt_events.specs.declared.records.Part.{Part}
 use Rattle.ompt_events.specs.declared.records.Part.TheVariants.{Whole, Body, Event}
+use Rattle.ompt_events.specs.declared.names.Status.{Status}
 use Rattle.ompt_events.specs.declared.names.Status.TheVariants as status
 use Rattle.ompt_events.specs.declared.state.State.{State}
 use Rattle.ompt_events.specs.declared.state.State.TheVariants.{Created, Running, EarlyRunning, Detached, Done}
-use Rattle.ompt_events.specs.declared.cause.Cause.TheVariants.{StatusOrder}
+use Rattle.ompt_events.specs.declared.cause.Cause.TheVariants.{TurnGap, StatusOrder}
 use Rattle.ompt_events.specs.Flags as flag
 use Rattle.ompt_events.specs.Flags.{has_flag}
-use Rattle.ompt_events.specs.Names.{status_part}
-use Rattle.ompt_events.specs.Records.{finish}
+use Rattle.ompt_events.specs.Names.{status_part, demands_next}
+use Rattle.ompt_events.specs.Records.{finish, stopped, ended_turn, prior_turn}
 use Rattle.ompt_events.specs.Places.{at, places}
-use Rattle.ompt_events.specs.States.{Move, Stopped, Started, Discarded, Nature, is_task, moves_by, moves_at, moves_of, home_of, is_on, is_early, places_of, nature_of, may, next_state_of, move_state, state_after, first_state, state_of}
+use Rattle.ompt_events.specs.States.{Move, Stopped, Started, Discarded, Nature, is_task, stops, moves_by, moves_at, moves_of, has_moved, is_early_move, is_apart, moves_by_file, turn_starts_at, turn_ends_at, turn_moves, moved_moves, all_moves_of, home_of, is_on, is_early, places_of, nature_of, may, next_state_of, move_state, state_after, first_state, state_of}
+use Rattle.ompt_events.specs.Turns.{is_turn, turns_in}
 use Rattle.ompt_events.specs.Causes.{status_order, IsFreeOf}
 use Rattle.ompt_events.proofs.ListLemmas.{get_contains, contains_get}
+use Rattle.ompt_events.proofs.TurnLemmas.{ended_low}
 use Rattle.ompt_events.proofs.PlaceLemmas.{at_within, contains_place, Contains-filter}
 use Rattle.credit.specs.Shares.{overlaps}
 use Rattle.credit_ledger.specs.Entries.{part_halves}
@@ -95,22 +99,124 @@ contains_from f (z ∷ xs) (suc k) x y is has = Contains-append_right (f z) (fla
 record IsMoved (rs : List Record) (i task : ℕ) (part : Part) : Type 0 where
   number : ℕ
   move : Move
-  there : slice_get (moves_of rs task) number ≡ Some (i, move)
+  there : slice_get (all_moves_of rs task) number ≡ Some (i, move)
   ends : part_of move ≡ Some part
 
-finishing_move : (rs : List Record) (i task : ℕ) (part : Part) → at finish rs i ≡ Some (task, part) → IsMoved rs i task part
-finishing_move rs i task part finishes = of (slice_get rs i) refl finishes
+-- what is among the moves of the task stands there
+among : (rs : List Record) (i task : ℕ) (part : Part) (move : Move) → part_of move ≡ Some part → Contains (all_moves_of rs task) (i, move) → IsMoved rs i task part
+among rs i task part move ends has =
+    let (number, there) = contains_get (all_moves_of rs task) (i, move) has in
+    record { number = number; move = move; there = there; ends = ends }
+
+-- among the moves that are read by the task's home
+home_move : (rs : List Record) (i task : ℕ) (part : Part) → at finish rs i ≡ Some (task, part) → (move : Move) × (part_of move ≡ Some part) × Contains (moves_of rs task) (i, move)
+home_move rs i task part finishes = of (slice_get rs i) refl finishes
   where
-    of : (o : Option Record) → slice_get rs i ≡ o → option_and_then (λ (r : Record). finish r.body) o ≡ Some (task, part) → IsMoved rs i task part
+    of : (o : Option Record) → slice_get rs i ≡ o → option_and_then (λ (r : Record). finish r.body) o ≡ Some (task, part) → (move : Move) × (part_of move ≡ Some part) × Contains (moves_of rs task) (i, move)
     of None here is = absurd (none-some (task, part) is)
     of (Some r) here is =
         let (k, move, first, ends) = body_finishes task part r.body is in
         let moves : moves_at rs task i ≡ map (λ m. (i, m)) (moves_by task r.body) = ap (λ (o : Option Record). map (λ (m : Move). (i, m)) (option_map_or (λ (q : Record). moves_by task q.body) o [])) here in
         let found : slice_get (moves_at rs task i) k ≡ Some (i, move) = ap (λ l. slice_get l k) moves ∙ slice_get-map (λ (m : Move). (i, m)) (moves_by task r.body) k ∙ ap (option_map (λ (m : Move). (i, m))) first in
         let (place, own) = contains_get (places_of rs task) i (place_there rs task i (at_within finish rs i (task, part) finishes)) in
-        let all = contains_from (moves_at rs task) (places_of rs task) place i (i, move) own (get_contains (moves_at rs task i) (i, move) k found) in
-        let (number, there) = contains_get (moves_of rs task) (i, move) all in
-        record { number = number; move = move; there = there; ends = ends }
+        (move, ends, contains_from (moves_at rs task) (places_of rs task) place i (i, move) own (get_contains (moves_at rs task i) (i, move) k found))
+
+-- a finishing record ends the task's turn, or its move does not belong to a turn
+data Finish (task : ℕ) (part : Part) (b : RecordBody) : Type 0 where
+  in_turn : (status : Status) → stopped b ≡ Some task → stops task b ≡ Stopped status ∷ [] → part_of (Stopped status) ≡ Some part → Finish task part b
+  aside : (move : Move) (k : ℕ) → slice_get (moves_by task b) k ≡ Some move → is_apart move ≡ true → part_of move ≡ Some part → Finish task part b
+
+none_apart : (st : Status) (own : Part) → status_part st ≡ Some own → demands_next st ≡ false → is_apart (Stopped st) ≡ true
+none_apart status.LateFulfill own told e = refl
+none_apart status.TaskwaitComplete own told e = refl
+none_apart status.EarlyFulfill own told e = absurd (none-some own told)
+none_apart _ own told e = cc
+
+body_ends : (task : ℕ) (part : Part) (b : RecordBody) → finish b ≡ Some (task, part) → Finish task part b
+body_ends task part (TaskSchedule status turns prior next share) is = of (status_part status) refl is
+  where
+    by : (b : Bool) → demands_next status ≡ b → prior ≡ task → status_part status ≡ Some part → cond (prior == task) (Stopped status ∷ []) [] ≡ Stopped status ∷ [] → Finish task part (TaskSchedule status turns prior next share)
+    by true e its ends here = in_turn status (ap (λ b. cond b (Some prior) None) e ∙ ap Some its) here ends
+    by false e its ends here = aside (Stopped status) 0 (ap (λ l. slice_get ((l ++ cond (is_task task next) (Started ∷ []) []) ++ []) 0) here) (none_apart status part ends e) ends
+
+    of : (found : Option Part) → status_part status ≡ found → option_map {U = ℕ × Part} (λ (p : Part). (prior, p)) found ≡ Some (task, part) → Finish task part (TaskSchedule status turns prior next share)
+    of None told is = absurd (none-some (task, part) is)
+    of (Some own) told is =
+        let same = same_Some (prior, own) (task, part) is in
+        let its : prior ≡ task = ap (λ (f : ℕ × Part). f.0) same in
+        by (demands_next status) refl its (told ∙ ap (λ (f : ℕ × Part). Some f.1) same) (ap (λ b. cond b (Stopped status ∷ []) []) (eq-eqb prior task its))
+body_ends task part (Cancel flags own share) is =
+    let there = of (has_flag flags.0 flag.discarded_task) is in
+    aside Discarded 0 there.0 refl there.1
+  where
+    of : (b : Bool) → cond {A = Option (ℕ × Part)} b (Some (own, Whole)) None ≡ Some (task, part) → (slice_get (cond (is_task task (cond b (Some own) None)) (Discarded ∷ []) []) 0 ≡ Some Discarded) × (Some Whole ≡ Some part)
+    of false is = absurd (none-some (task, part) is)
+    of true is =
+        let same = same_Some (own, Whole) (task, part) is in
+        (ap (λ b. slice_get (cond b (Discarded ∷ []) []) 0) (eq-eqb own task (ap (λ (f : ℕ × Part). f.0) same)), ap (λ (f : ℕ × Part). Some f.1) same)
+body_ends task part _ is = absurd (none-some (task, part) is)
+
+contains_range : (n i : ℕ) → i < n → Contains (range_with_len 0 n) i
+contains_range n i below = (i, rw (length-range_with_len 0 n) below, get_or-range_with_len 0 n i i below ∙ omega arith)
+
+-- of a record that stands there the moves are these
+moves_there : (rs : List Record) (task i : ℕ) (r : Record) → slice_get rs i ≡ Some r → moves_at rs task i ≡ map (λ m. (i, m)) (moves_by task r.body)
+moves_there rs task i r here = ap (λ (o : Option Record). map (λ (m : Move). (i, m)) (option_map_or (λ (q : Record). moves_by task q.body) o [])) here
+
+-- where it ends a turn, so does its move
+ends_there : (rs : List Record) (task turn i : ℕ) (r : Record) (status : Status) → slice_get rs i ≡ Some r → stopped r.body ≡ Some task → prior_turn r.body ≡ turn → stops task r.body ≡ Stopped status ∷ [] → turn_ends_at rs task turn i ≡ (i, Stopped status) ∷ []
+ends_there rs task turn i r status here runs is stop =
+    let ended : at ended_turn rs i ≡ Some (task, turn) = ap (option_and_then (λ (q : Record). ended_turn q.body)) here ∙ ap (option_map {U = ℕ × ℕ} (λ t. (t, prior_turn r.body))) runs ∙ ap (λ n. Some (task, n)) is in
+    let found : is_turn task turn (at ended_turn rs i) ≡ true = ap (is_turn task turn) ended ∙ ap (λ b. b && (turn == turn)) (eq-eqb task task refl) ∙ eq-eqb turn turn refl in
+    ap (λ b. cond b (map (λ (m : Move). (i, m)) (option_map_or (λ (q : Record). stops task q.body) (slice_get rs i) [])) []) found
+    ∙ ap (λ (o : Option Record). map (λ (m : Move). (i, m)) (option_map_or (λ (q : Record). stops task q.body) o [])) here
+    ∙ ap (map (λ (m : Move). (i, m))) stop
+
+-- among the moves of a task that moved
+moved_move : (rs : List Record) (i task : ℕ) (part : Part) → IsFreeOf rs TurnGap → at finish rs i ≡ Some (task, part) → (move : Move) × (part_of move ≡ Some part) × Contains (moved_moves rs task) (i, move)
+moved_move rs i task part free finishes = of (slice_get rs i) refl finishes
+  where
+    early : List (ℕ × Move)
+    early = moves_by_file rs task is_early_move
+
+    turned : List (ℕ × Move)
+    turned = flat_map (turn_moves rs task) (range_with_len 0 (turns_in rs))
+
+    rest : List (ℕ × Move)
+    rest = moves_by_file rs task is_apart
+
+    own : (n : ℕ) × (slice_get (places rs) n ≡ Some i)
+    own = contains_get (places rs) i (contains_place rs i (at_within finish rs i (task, part) finishes))
+
+    by : (r : Record) → slice_get rs i ≡ Some r → Finish task part r.body → (move : Move) × (part_of move ≡ Some part) × Contains ((early ++ turned) ++ rest) (i, move)
+    by r here (aside move k first apart ends) =
+        let found : slice_get (moves_at rs task i) k ≡ Some (i, move) = ap (λ l. slice_get l k) (moves_there rs task i r here) ∙ slice_get-map (λ (m : Move). (i, m)) (moves_by task r.body) k ∙ ap (option_map (λ (m : Move). (i, m))) first in
+        let all = contains_from (moves_at rs task) (places rs) own.0 i (i, move) own.1 (get_contains (moves_at rs task i) (i, move) k found) in
+        (move, ends, Contains-append_right (early ++ turned) rest (i, move) (Contains-filter (λ (step : ℕ × Move). is_apart step.1) (flat_map (moves_at rs task) (places rs)) (i, move) all apart))
+    by r here (in_turn status runs stop ends) =
+        let turn : ℕ = prior_turn r.body in
+        let there = contains_get (range_with_len 0 (turns_in rs)) turn (contains_range (turns_in rs) turn (ended_low rs i r free here)) in
+        let last : Contains (turn_ends_at rs task turn i) (i, Stopped status) = rw (ends_there rs task turn i r status here runs refl stop) (0, omega arith, refl) in
+        let in_turns : Contains (turn_moves rs task turn) (i, Stopped status) =
+            Contains-append_right (flat_map (turn_starts_at rs task turn) (places rs)) (flat_map (turn_ends_at rs task turn) (places rs)) (i, Stopped status)
+            (contains_from (turn_ends_at rs task turn) (places rs) own.0 i (i, Stopped status) own.1 last) in
+        (Stopped status, ends, Contains-append_left (early ++ turned) rest (i, Stopped status) (Contains-append_right early turned (i, Stopped status)
+        (contains_from (turn_moves rs task) (range_with_len 0 (turns_in rs)) there.0 turn (i, Stopped status) there.1 in_turns)))
+
+    of : (o : Option Record) → slice_get rs i ≡ o → option_and_then (λ (r : Record). finish r.body) o ≡ Some (task, part) → (move : Move) × (part_of move ≡ Some part) × Contains (moved_moves rs task) (i, move)
+    of None here is = absurd (none-some (task, part) is)
+    of (Some r) here is = by r here (body_ends task part r.body is)
+
+finishing_move : (rs : List Record) (i task : ℕ) (part : Part) → IsFreeOf rs TurnGap → at finish rs i ≡ Some (task, part) → IsMoved rs i task part
+finishing_move rs i task part free finishes = by (has_moved rs task) refl
+  where
+    by : (b : Bool) → has_moved rs task ≡ b → IsMoved rs i task part
+    by true e =
+        let (move, ends, has) = moved_move rs i task part free finishes in
+        among rs i task part move ends (rw e has)
+    by false e =
+        let (move, ends, has) = home_move rs i task part finishes in
+        among rs i task part move ends (rw e has)
 
 -- ---- what a finished task may do
 
@@ -228,16 +334,16 @@ twice nature state (first ∷ moves) (suc a) (suc b) x y p q is less here there 
 
 -- ---- a trace in which each move is allowed
 
-first_allowed : (rs : List Record) (task n : ℕ) → IsFreeOf rs StatusOrder → is_some (state_of (nature_of rs task) (take n (moves_of rs task))) ≡ true
+first_allowed : (rs : List Record) (task n : ℕ) → IsFreeOf rs StatusOrder → is_some (state_of (nature_of rs task) (take n (all_moves_of rs task))) ≡ true
 first_allowed rs task zero free = refl
 first_allowed rs task (suc n) free =
-    let P : ℕ → Type 0 = λ m. is_some (state_of (nature_of rs task) (take m (moves_of rs task))) ≡ true in
-    subst P (add-one n) (elim (cases_lt n (length (moves_of rs task))) [
-      | inl within ↦ more (get_or (moves_of rs task) n (0, Started)) (slice_get-get_or (moves_of rs task) n (0, Started) within) (first_allowed rs task n free) (state_of (nature_of rs task) (take (n + 1) (moves_of rs task))) refl
-      | inr past ↦ ap (λ l. is_some (state_of (nature_of rs task) l)) (take_all (n + 1) (moves_of rs task) (omega (arith, past)) ∙ sym (take_all n (moves_of rs task) past)) ∙ first_allowed rs task n free
+    let P : ℕ → Type 0 = λ m. is_some (state_of (nature_of rs task) (take m (all_moves_of rs task))) ≡ true in
+    subst P (add-one n) (elim (cases_lt n (length (all_moves_of rs task))) [
+      | inl within ↦ more (get_or (all_moves_of rs task) n (0, Started)) (slice_get-get_or (all_moves_of rs task) n (0, Started) within) (first_allowed rs task n free) (state_of (nature_of rs task) (take (n + 1) (all_moves_of rs task))) refl
+      | inr past ↦ ap (λ l. is_some (state_of (nature_of rs task) l)) (take_all (n + 1) (all_moves_of rs task) (omega (arith, past)) ∙ sym (take_all n (all_moves_of rs task) past)) ∙ first_allowed rs task n free
     ])
   where
-    more : (step : ℕ × Move) → slice_get (moves_of rs task) n ≡ Some step → is_some (state_of (nature_of rs task) (take n (moves_of rs task))) ≡ true → (o : Option State) → state_of (nature_of rs task) (take (n + 1) (moves_of rs task)) ≡ o → is_some (state_of (nature_of rs task) (take (n + 1) (moves_of rs task))) ≡ true
+    more : (step : ℕ × Move) → slice_get (all_moves_of rs task) n ≡ Some step → is_some (state_of (nature_of rs task) (take n (all_moves_of rs task))) ≡ true → (o : Option State) → state_of (nature_of rs task) (take (n + 1) (all_moves_of rs task)) ≡ o → is_some (state_of (nature_of rs task) (take (n + 1) (all_moves_of rs task))) ≡ true
     more step there before None is = absurd (free step.0 (status_order (record {
       task = task;
       number = n;
@@ -248,10 +354,10 @@ first_allowed rs task (suc n) free =
     })))
     more step there before (Some state) is = ap is_some is
 
-all_allowed : (rs : List Record) (task : ℕ) → IsFreeOf rs StatusOrder → AreAllowed (nature_of rs task) (Some (first_state (nature_of rs task))) (moves_of rs task)
+all_allowed : (rs : List Record) (task : ℕ) → IsFreeOf rs StatusOrder → AreAllowed (nature_of rs task) (Some (first_state (nature_of rs task))) (all_moves_of rs task)
 all_allowed rs task free =
-    let all = take_all (length (moves_of rs task)) (moves_of rs task) (omega arith) in
-    ap (λ l. is_some (state_of (nature_of rs task) l)) (sym all) ∙ first_allowed rs task (length (moves_of rs task)) free
+    let all = take_all (length (all_moves_of rs task)) (all_moves_of rs task) (omega arith) in
+    ap (λ l. is_some (state_of (nature_of rs task) l)) (sym all) ∙ first_allowed rs task (length (all_moves_of rs task)) free
 
 halves_apart : (p q : Part) → p ≡ Body → q ≡ Event → overlaps (part_halves p) (part_halves q) ≡ false
 halves_apart p q body event = ap (λ a. overlaps (part_halves a) (part_halves q)) body ∙ ap (λ b. overlaps (part_halves Body) (part_halves b)) event
@@ -260,18 +366,18 @@ halves_apart_too : (p q : Part) → p ≡ Body → q ≡ Event → overlaps (par
 halves_apart_too p q body event = ap (λ a. overlaps (part_halves q) (part_halves a)) body ∙ ap (λ b. overlaps (part_halves b) (part_halves Body)) event
 
 -- two records that finish one task finish different halves of it
-pub parts_apart : (rs : List Record) (i j task : ℕ) (p q : Part) → IsFreeOf rs StatusOrder → i ≢ j → at finish rs i ≡ Some (task, p) → at finish rs j ≡ Some (task, q) → overlaps (part_halves p) (part_halves q) ≡ false
-parts_apart rs i j task p q free apart finishes also =
-    let a = finishing_move rs i task p finishes in
-    let b = finishing_move rs j task q also in
+pub parts_apart : (rs : List Record) (i j task : ℕ) (p q : Part) → IsFreeOf rs TurnGap → IsFreeOf rs StatusOrder → i ≢ j → at finish rs i ≡ Some (task, p) → at finish rs j ≡ Some (task, q) → overlaps (part_halves p) (part_halves q) ≡ false
+parts_apart rs i j task p q gapless free apart finishes also =
+    let a = finishing_move rs i task p gapless finishes in
+    let b = finishing_move rs j task q gapless also in
     let all = all_allowed rs task free in
     let nature : Nature = nature_of rs task in
     elim (cases_order a.number b.number) [
-      | inl same ↦ absurd (apart (ap (λ (s : ℕ × Move). s.0) (same_Some (i, a.move) (j, b.move) (sym a.there ∙ ap (slice_get (moves_of rs task)) same ∙ b.there))))
+      | inl same ↦ absurd (apart (ap (λ (s : ℕ × Move). s.0) (same_Some (i, a.move) (j, b.move) (sym a.there ∙ ap (slice_get (all_moves_of rs task)) same ∙ b.there))))
       | inr (inl before) ↦
-          let parts = twice nature (first_state nature) (moves_of rs task) a.number b.number (i, a.move) (j, b.move) p q all before a.there b.there a.ends b.ends in
+          let parts = twice nature (first_state nature) (all_moves_of rs task) a.number b.number (i, a.move) (j, b.move) p q all before a.there b.there a.ends b.ends in
           halves_apart p q parts.0 parts.1
       | inr (inr behind) ↦
-          let parts = twice nature (first_state nature) (moves_of rs task) b.number a.number (j, b.move) (i, a.move) q p all behind b.there a.there b.ends a.ends in
+          let parts = twice nature (first_state nature) (all_moves_of rs task) b.number a.number (j, b.move) (i, a.move) q p all behind b.there a.there b.ends a.ends in
           halves_apart_too q p parts.0 parts.1
     ]

@@ -12,47 +12,9 @@ use Rattle.ompt_events.specs.Records.{running, begun_turn}
 use Rattle.ompt_events.specs.Places.{places}
 use Rattle.ompt_events.specs.Turns.{turn_after, turn_in, turn_of, turn_at, turns_in, own_places, in_own_order, own_place}
 use Rattle.ompt_events.proofs.ListLemmas.{get_contains, contains_get}
+pub use Rattle.ompt_events.proofs.TurnLemmas.{new_turn, turn_most, turn_low}
 use Rattle.ompt_events.proofs.PlaceLemmas.{contains_place, place_below}
 use Rattle.turns.proofs.RankedLemmas.{Every, every_filter, every_take, every_weaker, Ranked, ranked_get, row_rises, row_below, by_key_permuted, by_key_ranked, Comes, stands_at, stands_below, not_standing, map_get, map_length, fold_most}
-
--- ---- each record's turn is one of the turns
-
--- the turn that a record begins, and 0 where it begins none
-abbrev pub new_turn : Record → ℕ
-new_turn r = option_map_or (λ (b : ℕ × ℕ). b.1) (begun_turn r.body) 0
-
-abbrev most_turn : List Record → ℕ
-most_turn rs = fold (λ most (r : Record). max most (new_turn r)) 0 rs
-
-after_most : (task turn most : ℕ) (r : Record) → turn ≤ most → new_turn r ≤ most → turn_after task turn r ≤ most
-after_most task turn most r low new = by (begun_turn r.body) new
-  where
-    pick : (b : Bool) (one other : ℕ) → one ≤ most → other ≤ most → cond b one other ≤ most
-    pick true one other p q = p
-    pick false one other p q = q
-
-    by : (o : Option (ℕ × ℕ)) → option_map_or (λ (b : ℕ × ℕ). b.1) o 0 ≤ most → option_map_or (λ (b : ℕ × ℕ). if b.0 == task then b.1 else turn) o turn ≤ most
-    by None new' = low
-    by (Some b) new' = pick (b.0 == task) b.1 turn new' low
-
-fold_low : (task most : ℕ) (qs : List Record) (turn : ℕ) → turn ≤ most → Every (λ r. new_turn r ≤ most) qs → fold (turn_after task) turn qs ≤ most
-fold_low task most [] turn low each = low
-fold_low task most (q ∷ qs) turn low each = fold_low task most qs (turn_after task turn q) (after_most task turn most q low each.0) each.1
-
--- where no record begins a turn beyond most, no record is in one
-pub turn_most : (rs : List Record) (most i : ℕ) → Every (λ r. new_turn r ≤ most) rs → turn_at rs i ≤ most
-turn_most rs most i each = by (slice_get rs i)
-  where
-    of_task : (r : Record) (o : Option ℕ) → option_map_or (λ task. turn_in task (filter (λ q. q.thread == r.thread) (take i rs))) o 0 ≤ most
-    of_task r None = omega arith
-    of_task r (Some task) = fold_low task most (filter (λ q. q.thread == r.thread) (take i rs)) 0 (omega arith) (every_filter (λ r'. new_turn r' ≤ most) (λ q. q.thread == r.thread) (take i rs) (every_take (λ r'. new_turn r' ≤ most) i rs each))
-
-    by : (o : Option Record) → option_map_or (λ (r : Record). turn_of rs r i) o 0 ≤ most
-    by None = omega arith
-    by (Some r) = of_task r (running r.body)
-
-pub turn_low : (rs : List Record) (i : ℕ) → turn_at rs i < turns_in rs
-turn_low rs i = let low = turn_most rs (most_turn rs) i (fold_most new_turn rs 0).1 in omega arith
 
 -- ---- each place stands there once
 

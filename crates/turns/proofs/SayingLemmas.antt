@@ -8,7 +8,6 @@ use Rattle.ompt_events.specs.Turns.{TellsNoTurns}
 use Rattle.ompt_events.specs.Violations.{IsRequired, covered, preceding, awaited, MustBeComplete, wait_ends, dependent_starts, taskwait_completes}
 use Rattle.ompt_events.specs.Causes.{HasCause, turn_gap, Shows, IsFreeOf}
 use Rattle.turns.specs.Rising.{TurnsRise}
-use Rattle.ompt_events.proofs.TurnLemmas.{no_turn_gap}
 use Rattle.turns.proofs.RenamingLemmas.{renamed_covers, renamed_predecessor, renamed_order, renamed_short, renamed_share}
 use Rattle.turns.proofs.RisingLemmas.{own_renaming}
 
@@ -33,7 +32,3 @@ required_owed rs rise i task = (there, back)
     back (covered c) = wait_ends ((renamed_covers (own_renaming rs rise) i task).0 c)
     back (preceding {dependent = d} explicit start before) = dependent_starts explicit start ((renamed_predecessor (own_renaming rs rise) d task).0 before)
     back (awaited {dependent = d} completes before) = taskwait_completes completes ((renamed_predecessor (own_renaming rs rise) d task).0 before)
-
--- where no turns are told, no record has a gap
-pub free_of_gaps : (rs : List Record) → TellsNoTurns rs → IsFreeOf rs TurnGap
-free_of_gaps rs untold i (turn_gap gap) = no_turn_gap rs i untold gap

@@ -5,7 +5,7 @@ use Rattle.std.specs.Prelude.{slice_get, slice_index}
 use Rattle.ompt_events.specs.declared.cause.Cause.TheVariants.{Moved}
 use Rattle.ompt_events.specs.HappensBefore.{chain}
 use Rattle.ompt_events.specs.Causes.{IsFreeOf}
-use Rattle.checker.specs.Merge.{Awaits}
+use Rattle.checker.specs.Merge.{Awaits, StaysAtHome}
 use Rattle.checker.specs.Counter.{OrderedView, IsBelow, AreRaisedTo}
 use Rattle.checker.proofs.BeforeLemmas.{passed_more, passed_other, passed_all, before_raised}
 use Rattle.checker.proofs.ScheduleLemmas.{awaits_before}
@@ -22,7 +22,7 @@ loop-step-preserved c =
     let x = c.unwrap-place.result in
     let old = c.loop-step.bounds in
     let was = c.loop-step.invariant in
-    let at_home : IsFreeOf rs Moved = is.well_formed Moved (4, omega arith, refl) in
+    let at_home : StaysAtHome rs = record { still = is.well_formed Moved (4, omega arith, refl); untold = is.ledger.run.untold } in
     let same : c.ordered.inside.order.now ≡ order = ap (λ (o : OrderedView). o.order) c.ordered.view_is in
     let count : c.len-count.result ≡ length order = c.len-count.ensures ∙ ap length same in
     let inside : p < length order = let test = c.loop-step-test.true in omega (arith, test, count) in

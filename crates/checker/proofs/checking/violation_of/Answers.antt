@@ -11,11 +11,11 @@ use Rattle.checker.proofs.checking.violation_of.Goals as goal
 
 pub of-requires-clause-once : goal.of-requires-clause-once
 of-requires-clause-once c =
-    rw (c.sound.invariant.1.1, c.sound.view_is, c.sound-sound.ensures.value) (c.sound-sound.ensures.is_clear.well_formed EntryTwice (11, omega arith, refl))
+    rw (c.sound.invariant.1.1, c.sound.view_is, c.sound-sound.ensures.value) (c.sound-sound.ensures.is_clear.well_formed EntryTwice (12, omega arith, refl))
 
 pub of-requires-clause-reached : goal.of-requires-clause-reached
 of-requires-clause-reached c =
-    rw (c.sound.invariant.1.1, c.sound.view_is, c.sound-sound.ensures.value) (c.sound-sound.ensures.is_clear.well_formed LengthAhead (12, omega arith, refl))
+    rw (c.sound.invariant.1.1, c.sound.view_is, c.sound-sound.ensures.value) (c.sound-sound.ensures.is_clear.well_formed LengthAhead (13, omega arith, refl))
 
 -- what the search finds by the credit that the trace's ledger holds
 pub returns-clause-found : goal.returns-clause-found

@@ -26,7 +26,7 @@ pub returns-in_err-find_order-clause-memory_alone : goal.returns-in_err-find_ord
 returns-in_err-find_order-clause-memory_alone c =
     let rs = c.args.ordered.now.ledger.run.records in
     let p = err_from_is_err_and c.from_residual-in_err-find_order.result c.from_residual-in_err-find_order.ensures.1 in
-    rw (p.1, p.2) (memory_alone rs (NoOrder ∷ []) c.in_err-find_order.field-0.0 (only_clear rs NoOrder (c.makers-makers.ensures.is_ordered.well_formed NoOrder (14, omega arith, refl))) (rw c.makers-makers.ensures.value at c.in_err-find_order.ensures.fault))
+    rw (p.1, p.2) (memory_alone rs (NoOrder ∷ []) c.in_err-find_order.field-0.0 (only_clear rs NoOrder (c.makers-makers.ensures.is_ordered.well_formed NoOrder (15, omega arith, refl))) (rw c.makers-makers.ensures.value at c.in_err-find_order.ensures.fault))
 
 pub overflow_cast-at : goal.overflow_cast-at
 overflow_cast-at c =

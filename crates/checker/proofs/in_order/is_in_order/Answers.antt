@@ -30,7 +30,7 @@ loop-at-preserved c =
     let own : thread_at rs i ≡ Some c.from-thread.result = c.thread.ensures ∙ ap Some (sym c.from-thread.ensures) in
     let seen : seen_at rs i ≡ c.from-seen.result = sym c.seen.ensures ∙ sym c.from-seen.ensures in
     let more = c.if-seen-known.false in
-    let apart = trace_apart rs c.len-at-end.ensures.is_run.trace in
+    let apart = trace_apart rs c.len-at-end.ensures.is_run.trace c.len-at-end.ensures.is_run.untold in
     let fits : FitsBehind rs i c.loop-at.entries =
     c.fits_behind.ensures c.if-not-fits_behind.false rs i (sym seen) c.known_after-after.ensures in
     let behind = entries_by_known rs i c.known_after-after.result c.loop-at.entries c.known_after-after.ensures fits in
@@ -55,7 +55,7 @@ pub returns-clause-steps : goal.returns-clause-steps
 returns-clause-steps c = λ _.
     let rs = c.args.run.now.records in
     let fit = all_fit rs c.loop-at.at c.loop-at.entries c.loop-at.known (let end = rw c.len-at-end.ensures.value at c.loop-at-test.false in omega (arith, end)) c.loop-at.invariant in
-    steps_less rs (trace_apart rs c.len-at-end.ensures.is_run.trace)
+    steps_less rs (trace_apart rs c.len-at-end.ensures.is_run.trace c.len-at-end.ensures.is_run.untold)
     (λ i place waits. c.loop-at.invariant.created i place (let within = at_within awaited rs i waits.0 waits.1 in let end = rw c.len-at-end.ensures.value at c.loop-at-test.false in omega (arith, within, end)) waits)
     (fit_entered rs fit)
 

@@ -19,7 +19,7 @@ returns-then-precedes_creation c =
     let seen : seen_at rs i ≡ c.from-seen.result = sym c.seen.ensures ∙ sym c.from-seen.ensures in
     let behind : IsBehind rs i = elim c.then-precedes_creation.branch [
       | then-precedes_creation-via-then-precedes_creation w ↦
-          behind_creation rs i c.requires c.loop-at.invariant.free (c.precedes_creation.ensures.0 w.if-precedes_creation.true)
+          behind_creation rs i (record { still = c.requires; untold = c.len-at-test.ensures.is_run.untold }) c.loop-at.invariant.free (c.precedes_creation.ensures.0 w.if-precedes_creation.true)
       | then-precedes_creation-via-else-precedes_creation+then-seen-known w ↦
           let less = w.if-seen-known.true in
           behind_known rs i c.from-thread.result c.loop-at.known within own (omega (arith, less, seen)) c.loop-at.invariant.known
@@ -33,7 +33,7 @@ loop-at-preserved c =
     let own : thread_at rs i ≡ Some c.from-thread.result = c.thread.ensures ∙ ap Some (sym c.from-thread.ensures) in
     let seen : seen_at rs i ≡ c.from-seen.result = sym c.seen.ensures ∙ sym c.from-seen.ensures in
     let more = c.if-seen-known.false in
-    let apart = trace_apart rs c.len-at-end.ensures.is_run.trace in
+    let apart = trace_apart rs c.len-at-end.ensures.is_run.trace c.len-at-end.ensures.is_run.untold in
     record {
       known = known_more rs i c.from-thread.result c.known_after-after.result c.loop-at.known own (let low = c.from-thread.ensures in omega (arith, low)) c.known_after-after.ensures (omega (arith, more, seen)) c.loop-at.invariant.known;
       free = below_more _ _ c.loop-at.invariant.free (not_behind rs i c.from-thread.result c.loop-at.known apart own (omega (arith, more, seen))

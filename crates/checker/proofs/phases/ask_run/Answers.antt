@@ -1,6 +1,6 @@
 use Rattle.std.proofs.Common.{[], ◌∷◌, refl}
 use Rattle.std.proofs.lemmas.Result.{err_from_is_err_and}
-use Rattle.ompt_events.specs.declared.cause.Cause.TheVariants.{NotCurrent, Moved, StatusOrder, RegionOrder, TeamShort, NestedParallel, DepsPlace, ShareWrong, EntryTwice}
+use Rattle.ompt_events.specs.declared.cause.Cause.TheVariants.{NotCurrent, Moved, TurnGap, StatusOrder, RegionOrder, TeamShort, NestedParallel, DepsPlace, ShareWrong, EntryTwice}
 use Rattle.ompt_events.specs.CauseNames.{before}
 use Rattle.ompt_events.specs.Causes.{IsFreeOf}
 use Rattle.checker.specs.Search.{IsClear}
@@ -11,13 +11,13 @@ pub returns-in_err-states-clause-malformed : goal.returns-in_err-states-clause-m
 returns-in_err-states-clause-malformed g c =
     let rs = c.args.trace.now.records in
     let p = err_from_is_err_and c.from_residual.result c.from_residual.ensures.1 in
-    rw (p.1, p.2) (least_more rs (before NotCurrent) (NotCurrent ∷ Moved ∷ StatusOrder ∷ RegionOrder ∷ []) (beyond RegionOrder) c.in_err-states.field-0.0 refl c.requires.clear (rw c.requires.records at c.in_err-states.ensures.fault))
+    rw (p.1, p.2) (least_more rs (before NotCurrent) (NotCurrent ∷ Moved ∷ TurnGap ∷ StatusOrder ∷ RegionOrder ∷ []) (beyond RegionOrder) c.in_err-states.field-0.0 refl c.requires.clear (rw c.requires.records at c.in_err-states.ensures.fault))
 
 pub returns-in_err-teams-clause-malformed : goal.returns-in_err-teams-clause-malformed
 returns-in_err-teams-clause-malformed g c =
     let rs = c.args.trace.now.records in
     let states = c.in_ok-states.ensures in
-    let clear : IsClear rs (before TeamShort) = states_clear rs c.requires.clear (rw c.requires.records at states.current) (rw c.requires.records at states.stay) (rw c.requires.records at states.ordered) (rw c.requires.records at states.closed) in
+    let clear : IsClear rs (before TeamShort) = states_clear rs c.requires.clear (rw c.requires.records at states.current) (rw c.requires.records at states.stay) (rw c.requires.records at states.gapless) (rw c.requires.records at states.ordered) (rw c.requires.records at states.closed) in
     let p = err_from_is_err_and c.from_residual-in_err-teams.result c.from_residual-in_err-teams.ensures.1 in
     rw (p.1, p.2) (least_more rs (before TeamShort) (TeamShort ∷ []) (beyond TeamShort) c.in_err-teams.field-0.0 refl clear (rw (states.run, c.requires.records) at c.in_err-teams.ensures.fault))
 
@@ -26,7 +26,7 @@ returns-in_err-exclude-clause-malformed g c =
     let rs = c.args.trace.now.records in
     let states = c.in_ok-states.ensures in
     let whole : IsFreeOf rs TeamShort = rw (c.in_ok-teams.ensures.run, states.run, c.requires.records) at c.in_ok-teams.ensures.teams.whole in
-    let clear : IsClear rs (before NestedParallel) = teams_clear rs (states_clear rs c.requires.clear (rw c.requires.records at states.current) (rw c.requires.records at states.stay) (rw c.requires.records at states.ordered) (rw c.requires.records at states.closed)) whole in
+    let clear : IsClear rs (before NestedParallel) = teams_clear rs (states_clear rs c.requires.clear (rw c.requires.records at states.current) (rw c.requires.records at states.stay) (rw c.requires.records at states.gapless) (rw c.requires.records at states.ordered) (rw c.requires.records at states.closed)) whole in
     let p = err_from_is_err_and c.from_residual-in_err-exclude.result c.from_residual-in_err-exclude.ensures.1 in
     rw (p.1, p.2) (least_more rs (before NestedParallel) (NestedParallel ∷ []) (beyond NestedParallel) c.in_err-exclude.field-0.0 refl clear (c.in_err-exclude.ensures.fault rs (rw c.requires.records at c.in_ok-find_nested.ensures)))
 
@@ -36,7 +36,7 @@ returns-in_err-edges-clause-malformed g c =
     let states = c.in_ok-states.ensures in
     let whole : IsFreeOf rs TeamShort = rw (c.in_ok-teams.ensures.run, states.run, c.requires.records) at c.in_ok-teams.ensures.teams.whole in
     let flat : IsFreeOf rs NestedParallel = c.in_ok-exclude.ensures.free rs (rw c.requires.records at c.in_ok-find_nested.ensures) in
-    let clear : IsClear rs (before DepsPlace) = nesting_clear rs (teams_clear rs (states_clear rs c.requires.clear (rw c.requires.records at states.current) (rw c.requires.records at states.stay) (rw c.requires.records at states.ordered) (rw c.requires.records at states.closed)) whole) flat in
+    let clear : IsClear rs (before DepsPlace) = nesting_clear rs (teams_clear rs (states_clear rs c.requires.clear (rw c.requires.records at states.current) (rw c.requires.records at states.stay) (rw c.requires.records at states.gapless) (rw c.requires.records at states.ordered) (rw c.requires.records at states.closed)) whole) flat in
     let p = err_from_is_err_and c.from_residual-in_err-edges.result c.from_residual-in_err-edges.ensures.1 in
     rw (p.1, p.2) (least_more rs (before DepsPlace) (DepsPlace ∷ []) (beyond DepsPlace) c.in_err-edges.field-0.0 refl clear (rw c.requires.records at c.in_err-edges.ensures.fault))
 
@@ -47,7 +47,7 @@ returns-in_err-exclude-2-clause-malformed g c =
     let whole : IsFreeOf rs TeamShort = rw (c.in_ok-teams.ensures.run, states.run, c.requires.records) at c.in_ok-teams.ensures.teams.whole in
     let flat : IsFreeOf rs NestedParallel = c.in_ok-exclude.ensures.free rs (rw c.requires.records at c.in_ok-find_nested.ensures) in
     let placed : IsFreeOf rs DepsPlace = rw c.requires.records at c.in_ok-edges.ensures.placed in
-    let clear : IsClear rs (before ShareWrong) = edges_clear rs (nesting_clear rs (teams_clear rs (states_clear rs c.requires.clear (rw c.requires.records at states.current) (rw c.requires.records at states.stay) (rw c.requires.records at states.ordered) (rw c.requires.records at states.closed)) whole) flat) placed in
+    let clear : IsClear rs (before ShareWrong) = edges_clear rs (nesting_clear rs (teams_clear rs (states_clear rs c.requires.clear (rw c.requires.records at states.current) (rw c.requires.records at states.stay) (rw c.requires.records at states.gapless) (rw c.requires.records at states.ordered) (rw c.requires.records at states.closed)) whole) flat) placed in
     let p = err_from_is_err_and c.from_residual-in_err-exclude-2.result c.from_residual-in_err-exclude-2.ensures.1 in
     rw (p.1, p.2) (least_more rs (before ShareWrong) (ShareWrong ∷ []) (beyond ShareWrong) c.in_err-exclude-2.field-0.0 refl clear (c.in_err-exclude-2.ensures.fault rs (rw c.requires.records at c.find_wrong_claim.ensures)))
 
@@ -59,5 +59,5 @@ invariant_of-sound g c =
     let flat : IsFreeOf rs NestedParallel = c.in_ok-exclude.ensures.free rs (rw c.requires.records at c.in_ok-find_nested.ensures) in
     let placed : IsFreeOf rs DepsPlace = rw c.requires.records at c.in_ok-edges.ensures.placed in
     let claims : IsFreeOf rs ShareWrong = c.in_ok-exclude-2.ensures.free rs (rw c.requires.records at c.find_wrong_claim.ensures) in
-    let clear : IsClear rs (before EntryTwice) = claims_clear rs (edges_clear rs (nesting_clear rs (teams_clear rs (states_clear rs c.requires.clear (rw c.requires.records at states.current) (rw c.requires.records at states.stay) (rw c.requires.records at states.ordered) (rw c.requires.records at states.closed)) whole) flat) placed) claims in
+    let clear : IsClear rs (before EntryTwice) = claims_clear rs (edges_clear rs (nesting_clear rs (teams_clear rs (states_clear rs c.requires.clear (rw c.requires.records at states.current) (rw c.requires.records at states.stay) (rw c.requires.records at states.gapless) (rw c.requires.records at states.ordered) (rw c.requires.records at states.closed)) whole) flat) placed) claims in
     (record { is_run = c.in_ok-teams.ensures.teams.run; clear = rw (c.in_ok-teams.ensures.run, states.run, c.requires.records) clear }, (rw (c.in_ok-teams.ensures.run, states.run) c.requires.records, rw (c.in_ok-teams.ensures.run, states.run) c.in_ok-edges.ensures.run))

@@ -3,13 +3,13 @@ use Rattle.std.proofs.lemmas.Bool.{false≢true, or_parts}
 use Rattle.std.specs.Prelude.{◌||◌, IsSomeAnd, slice_get}
 use Rattle.std.proofs.lemmas.Option.{none-some, slice_get_within, slice_get_read}
 use Rattle.ompt_events.specs.declared.cause.Cause.TheVariants.{Moved}
+use Rattle.ompt_events.proofs.TurnLemmas.{free_of_gaps}
 use Rattle.ompt_events.proofs.FaultLemmas.{malformed_alone}
 use Rattle.ompt_events.specs.Records.{started}
 use Rattle.ompt_events.specs.Places.{at}
 use Rattle.ompt_events.specs.Tree.{IsExplicit}
 use Rattle.task_states.proofs.PassLemmas.{not_early, never_more}
 use Rattle.task_states.proofs.HomeLemmas.{explicit_index, homes_end, free_of_moved, moves_here, moves_not, homes_more, homes_other, stays_put}
-use Rattle.task_states.proofs.StateLemmas.{free_of_gaps}
 use Rattle.task_states.proofs.homes.find_moved.Goals as goal
 use Rattle.task_states.proofs.homes.find_moved.Goals.{in-Some+else-is_other, in_default}
 

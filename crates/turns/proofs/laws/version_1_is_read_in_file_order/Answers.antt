@@ -1,6 +1,6 @@
-use Rattle.ompt_events.proofs.TurnLemmas.{first_version_tells_none}
+use Rattle.ompt_events.proofs.TurnLemmas.{first_version_tells_none, free_of_gaps}
 use Rattle.turns.proofs.RisingLemmas.{untold_rise}
-use Rattle.turns.proofs.SayingLemmas.{shows_has, required_owed, free_of_gaps}
+use Rattle.turns.proofs.SayingLemmas.{shows_has, required_owed}
 use Rattle.turns.proofs.laws.version_1_is_read_in_file_order.Goals as goal
 
 pub returns-clause-causes : goal.returns-clause-causes
