@@ -1,7 +1,7 @@
 -- How each phase of a check hands on that no cause so far occurs.
-use Rattle.std.proofs.Common.{◌≡◌, ℕ, zero, suc, ◌<◌, ◌&&◌, List, [], ◌∷◌, ◌++◌, Bool, true, false, refl, sym, subst, arith, inl, inr}
-use Rattle.std.proofs.Math.Dec.{ltb}
-use Rattle.std.proofs.lemmas.Bool.{ltb-true}
+use Rattle.std.proofs.Common.{◌≡◌, ℕ, zero, suc, ◌<◌, ◌≤◌, ◌&&◌, List, [], ◌∷◌, ◌++◌, Bool, true, false, refl, sym, subst, arith, inl, inr}
+use Rattle.std.proofs.Math.Dec.{ltb, leb}
+use Rattle.std.proofs.lemmas.Bool.{leb-true}
 use Rattle.std.proofs.lemmas.List.Elements.{Contains-append_left, Contains-append_right, Contains-append_cases}
 use Rattle.std.specs.Prelude.{Contains, filter}
 use Rattle.ompt_events.specs.declared.records.Record.{Record}
@@ -18,10 +18,10 @@ use Rattle.checker.specs.Search.{IsClear, IsLeastFound}
 abbrev pub beyond : Cause → List Cause
 beyond cause = filter (λ other. ltb (cause_number cause) (cause_number other)) all_causes
 
--- each cause has a greater number than the one before it, and the first one than this number
+-- no cause has a smaller number than the one before it, and the first one none than this number
 abbrev rises : ℕ → List Cause → Bool
 rises low [] = true
-rises low (c ∷ rest) = ltb low (cause_number c) && rises (cause_number c) rest
+rises low (c ∷ rest) = leb low (cause_number c) && rises (cause_number c) rest
 
 left : (a b : Bool) → (a && b) ≡ true → a ≡ true
 left true b h = refl
@@ -31,21 +31,21 @@ right : (a b : Bool) → (a && b) ≡ true → b ≡ true
 right true b h = h
 right false b h = absurd (cc)
 
-rising_above : (low : ℕ) (xs : List Cause) (other : Cause) → rises low xs ≡ true → Contains xs other → low < cause_number other
+rising_above : (low : ℕ) (xs : List Cause) (other : Cause) → rises low xs ≡ true → Contains xs other → low ≤ cause_number other
 rising_above low [] other rising (j, below, is) = absurd (omega arith)
-rising_above low (c ∷ rest) other rising (zero, below, is) = let P : Cause → Type 0 = λ x. low < cause_number x in subst P is (ltb-true low (cause_number c) (left (ltb low (cause_number c)) (rises (cause_number c) rest) rising))
+rising_above low (c ∷ rest) other rising (zero, below, is) = let P : Cause → Type 0 = λ x. low ≤ cause_number x in subst P is (leb-true low (cause_number c) (left (leb low (cause_number c)) (rises (cause_number c) rest) rising))
 rising_above low (c ∷ rest) other rising (suc j, below, is) =
-    let first = ltb-true low (cause_number c) (left (ltb low (cause_number c)) (rises (cause_number c) rest) rising) in
-    let above = rising_above (cause_number c) rest other (right (ltb low (cause_number c)) (rises (cause_number c) rest) rising) (j, omega arith, is) in
+    let first = leb-true low (cause_number c) (left (leb low (cause_number c)) (rises (cause_number c) rest) rising) in
+    let above = rising_above (cause_number c) rest other (right (leb low (cause_number c)) (rises (cause_number c) rest) rising) (j, omega arith, is) in
     omega (arith, first, above)
 
--- a cause behind others has a greater number than each of them
-rising_behind : (low : ℕ) (xs rest : List Cause) (cause other : Cause) → rises low (xs ++ rest) ≡ true → Contains xs cause → Contains rest other → cause_number cause < cause_number other
+-- a cause behind others has no smaller number than any of them
+rising_behind : (low : ℕ) (xs rest : List Cause) (cause other : Cause) → rises low (xs ++ rest) ≡ true → Contains xs cause → Contains rest other → cause_number cause ≤ cause_number other
 rising_behind low [] rest cause other rising (j, below, is) has = absurd (omega arith)
 rising_behind low (c ∷ xs) rest cause other rising (zero, below, is) has =
-    let P : Cause → Type 0 = λ x. cause_number x < cause_number other in
-    subst P is (rising_above (cause_number c) (xs ++ rest) other (right (ltb low (cause_number c)) (rises (cause_number c) (xs ++ rest)) rising) (Contains-append_right xs rest other has))
-rising_behind low (c ∷ xs) rest cause other rising (suc j, below, is) has = rising_behind (cause_number c) xs rest cause other (right (ltb low (cause_number c)) (rises (cause_number c) (xs ++ rest)) rising) (j, omega arith, is) has
+    let P : Cause → Type 0 = λ x. cause_number x ≤ cause_number other in
+    subst P is (rising_above (cause_number c) (xs ++ rest) other (right (leb low (cause_number c)) (rises (cause_number c) (xs ++ rest)) rising) (Contains-append_right xs rest other has))
+rising_behind low (c ∷ xs) rest cause other rising (suc j, below, is) has = rising_behind (cause_number c) xs rest cause other (right (leb low (cause_number c)) (rises (cause_number c) (xs ++ rest)) rising) (j, omega arith, is) has
 
 -- a phase that looks for some causes, once those before them do not occur: it finds the least of all
 pub least_more : (rs : List Record) (cleared sought rest : List Cause) (fault : Fault) → all_causes ≡ (cleared ++ sought) ++ rest → IsClear rs cleared → IsFault rs sought fault → IsLeastFound rs fault

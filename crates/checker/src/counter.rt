@@ -18,7 +18,7 @@ use ompt_events::{Fault, Trace};
 use std::alloc::Global;
 use wait_coverage::{find_known, is_open};
 
-/// An order of all records, allowed by them, in which the task is not complete at the place, although it must be:
+/// An order of all records of a trace of version 1, allowed by them, in which the task is not complete at the place, although it must be:
 /// a wait ends there that covers it, or what starts or is complete there depends on it. It is the order in
 /// which the record at the place stands as early as it can: those that happen before it, each time the first
 /// in file order of which all that happens before it stands; then the record; then the others in the same
@@ -30,6 +30,7 @@ pub fn counter_order(
     at: usize,
     task: u64,
 ) -> Result<Option<Order>, CheckFault>
+    requires { trace.now.version ≡ 1 }
     ensures { IfOk result (λ found. MatchOption found (HasNoCounterOrder trace.now.records at task)
         (IsCounterOrder trace.now.records at task)) }
 {
@@ -46,6 +47,7 @@ pub fn check_with_counter(
     alloc: Global,
     trace: &Trace,
 ) -> Result<(Verdict, Option<Order>), CheckFault>
+    requires { trace.now.version ≡ 1 }
     ensures verdict { IfOk result (λ answer. IsVerdict trace.now.records answer.0) }
     ensures counter { IfOk result (λ answer. IsShownBy trace.now.records answer.0 answer.1) }
 {
