@@ -7,7 +7,7 @@ use Rattle.std.proofs.lemmas.List.{length-set, length-replicate, get_or-replicat
 use Rattle.ompt_events.specs.declared.records.Record.{Record}
 use Rattle.ompt_events.specs.declared.records.Body.{Body}
 use Rattle.ompt_events.specs.declared.records.Body.TheVariants.{TaskCreate}
-use Rattle.ompt_events.specs.declared.cause.Cause.TheVariants.{Moved, LengthBack}
+use Rattle.ompt_events.specs.declared.cause.Cause.TheVariants.{LengthBack}
 use Rattle.ompt_events.specs.Records.{created, finish}
 use Rattle.ompt_events.specs.Places.{at, thread_at, seen_at}
 use Rattle.ompt_events.specs.HappensBefore.{IsStart, IsProgramStep, thread_order, creation, resumption, discard, fulfilment}

@@ -5,8 +5,6 @@ use Rattle.std.proofs.lemmas.Option.{none-some, same_Some}
 use Rattle.std.specs.Prelude.{slice_get, slice_index, option_map}
 use Rattle.ompt_events.specs.declared.records.Record.{Record}
 use Rattle.ompt_events.specs.Places.{thread_at, seen_at}
-use Rattle.ompt_events.specs.declared.cause.Cause.TheVariants.{Moved}
-use Rattle.ompt_events.specs.Causes.{IsFreeOf}
 use Rattle.ompt_events.specs.HappensBefore.{thread_order, creation, resumption, discard, fulfilment, IsStep, program, ledger, HappensBefore, step, chain}
 use Rattle.ompt_events.proofs.TurnLemmas.{start_starts, no_resumption}
 use Rattle.checker.proofs.ScheduleLemmas.{step_awaits, awaits_before}

@@ -10,7 +10,6 @@ use Rattle.ompt_events.specs.declared.records.Record.{Record}
 use Rattle.ompt_events.specs.declared.records.Body.{Body}
 use Rattle.ompt_events.specs.declared.records.Body.TheVariants.{TaskSchedule, Cancel}
 use Rattle.ompt_events.specs.declared.names.Status.TheVariants as status
-use Rattle.ompt_events.specs.declared.cause.Cause.TheVariants.{Moved}
 use Rattle.ompt_events.specs.Flags as flag
 use Rattle.ompt_events.specs.Flags.{has_flag}
 use Rattle.ompt_events.specs.Records.{made, created, started, discarded, fulfilled}
@@ -18,7 +17,7 @@ use Rattle.ompt_events.specs.Places.{at, thread_at, seen_at}
 use Rattle.ompt_events.specs.Traces.{IsTrace, IsSound, HasItsNext}
 use Rattle.ompt_events.specs.Tree.{IsExplicit}
 use Rattle.ompt_events.specs.HappensBefore.{IsStart, IsFinishing, thread_order, creation, resumption, discard, fulfilment, IsStep, program, ledger, HappensBefore, step, chain}
-use Rattle.ompt_events.specs.Causes.{IsFreeOf, moved}
+use Rattle.ompt_events.specs.Causes.{moved}
 use Rattle.ompt_events.proofs.TurnLemmas.{start_starts, is_start_untold, no_resumption}
 use Rattle.ompt_events.proofs.PlaceLemmas.{at_within, at_read}
 use Rattle.ompt_events.proofs.RecordLemmas.{created_at_made}

@@ -7,6 +7,7 @@ ghost use Rattle.ompt_events.specs.Causes.{IsFreeOf};
 ghost use Rattle.depend_edges.specs.Edges.{ArePredecessors};
 ghost use Rattle.wait_coverage.specs.Done.{AreOwn};
 ghost use Rattle.trace_ledger.specs.Entries.{IsDone};
+ghost use Rattle.task_tree.specs.Runs.{IsRun};
 ghost use Rattle.checker.specs.Starts.{IsLate, AreReady, IsPrecededByNone, IsDependentAt, IsFirstLateAt, IsFirstLateStart, IsBound, AreStarted, StartsAt, StartsNoneAt, IsBehind, AreDoneBefore, IsFirstBehind};
 
 use depend_edges::Edges;
@@ -133,6 +134,7 @@ fn no_starts(alloc: Global, tasks: usize) -> Result<Vec<bool>, AllocError>
 
 /// The index of the explicit task that starts at the place.
 fn start_at(run: &Run, started: &[bool], at: usize) -> Option<usize>
+    requires is_run { IsRun run.now }
     requires within { at < length run.now.records }
     requires started { AreStarted run.now.records at run.now.family.tasks started.now }
     ensures { MatchOption result (StartsNoneAt run.now.records at)

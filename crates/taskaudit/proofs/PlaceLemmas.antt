@@ -7,6 +7,7 @@ use Rattle.ompt_events.specs.Records.{region, started, wait_completed}
 use Rattle.ompt_events.specs.Regions.{IsRegion, ended, at_once}
 use Rattle.ompt_events.specs.Coverage.{waited, grouped, synchronised}
 use Rattle.ompt_events.specs.Violations.{IsRequired, covered, preceding, awaited}
+use Rattle.ompt_events.proofs.TurnLemmas.{start_starts}
 use Rattle.ompt_events.proofs.PlaceLemmas.{at_within}
 use Rattle.checker.specs.declared.verdict.Verdict.TheVariants.{No}
 use Rattle.checker.specs.declared.verdict.Why.{Why}
@@ -21,7 +22,7 @@ required_within : (rs : List Record) (i task : ℕ) → IsRequired rs i task →
 required_within rs i task (covered (waited {parent = own} {begin = begin} ends child)) = region_within rs i own begin _ ends
 required_within rs i task (covered (grouped {parent = own} {begin = begin} ends child family)) = region_within rs i own begin _ ends
 required_within rs i task (covered (synchronised {own = own} {begin = begin} {kind = kind} number ends barrier begins team starts child family)) = region_within rs i own begin kind ends
-required_within rs i task (preceding {dependent = dependent} explicit start before) = at_within started rs i dependent start.starts
+required_within rs i task (preceding {dependent = dependent} explicit start before) = at_within started rs i dependent (start_starts rs i dependent start)
 required_within rs i task (awaited {dependent = dependent} completes before) = at_within wait_completed rs i dependent completes
 
 -- so is the record of a no

@@ -86,6 +86,7 @@ fn audit_for<I: Source, O: Sink>(
 
 /// The verdict on the trace, and what the job prints of it.
 fn answer(alloc: Global, job: Job, trace: &Trace) -> Result<(Verdict, Vec<u8>), AuditFault>
+    requires { trace.now.version ≡ 1 }
     ensures verdict { IfOk result (λ answer. IsVerdict trace.now.records answer.0) }
     ensures text { IfOk result (λ answer. Prints job trace.now.records answer.0 answer.1.items) }
     ensures no_device { IfErr result IsOfNoDevice }

@@ -198,10 +198,13 @@ moved_move rs i task part free finishes = of (slice_get rs i) refl finishes
         let there = contains_get (range_with_len 0 (turns_in rs)) turn (contains_range (turns_in rs) turn (ended_low rs i r free here)) in
         let last : Contains (turn_ends_at rs task turn i) (i, Stopped status) = rw (ends_there rs task turn i r status here runs refl stop) (0, omega arith, refl) in
         let in_turns : Contains (turn_moves rs task turn) (i, Stopped status) =
-            Contains-append_right (flat_map (turn_starts_at rs task turn) (places rs)) (flat_map (turn_ends_at rs task turn) (places rs)) (i, Stopped status)
-            (contains_from (turn_ends_at rs task turn) (places rs) own.0 i (i, Stopped status) own.1 last) in
-        (Stopped status, ends, Contains-append_left (early ++ turned) rest (i, Stopped status) (Contains-append_right early turned (i, Stopped status)
-        (contains_from (turn_moves rs task) (range_with_len 0 (turns_in rs)) there.0 turn (i, Stopped status) there.1 in_turns)))
+        Contains-append_right (flat_map (turn_starts_at rs task turn) (places rs)) (flat_map (turn_ends_at rs task turn) (places rs)) (i, Stopped status)
+        (contains_from (turn_ends_at rs task turn) (places rs) own.0 i (i, Stopped status) own.1 last) in (
+          Stopped status,
+          ends,
+          Contains-append_left (early ++ turned) rest (i, Stopped status) (Contains-append_right early turned (i, Stopped status)
+              (contains_from (turn_moves rs task) (range_with_len 0 (turns_in rs)) there.0 turn (i, Stopped status) there.1 in_turns)),
+        )
 
     of : (o : Option Record) → slice_get rs i ≡ o → option_and_then (λ (r : Record). finish r.body) o ≡ Some (task, part) → (move : Move) × (part_of move ≡ Some part) × Contains (moved_moves rs task) (i, move)
     of None here is = absurd (none-some (task, part) is)

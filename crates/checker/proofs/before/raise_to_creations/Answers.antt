@@ -4,7 +4,6 @@ use Rattle.std.proofs.lemmas.Option.{same_Some, slice_get-get_or}
 use Rattle.std.specs.Prelude.{slice_get, slice_index}
 use Rattle.ompt_events.specs.declared.cause.Cause.TheVariants.{Moved}
 use Rattle.ompt_events.specs.HappensBefore.{chain}
-use Rattle.ompt_events.specs.Causes.{IsFreeOf}
 use Rattle.checker.specs.Merge.{Awaits, StaysAtHome}
 use Rattle.checker.specs.Counter.{OrderedView, IsBelow, AreRaisedTo}
 use Rattle.checker.proofs.BeforeLemmas.{passed_more, passed_other, passed_all, before_raised}

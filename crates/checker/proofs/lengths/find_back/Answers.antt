@@ -19,7 +19,7 @@ returns-then-precedes_creation c =
     let seen : seen_at rs i ≡ c.from-seen.result = sym c.seen.ensures ∙ sym c.from-seen.ensures in
     let behind : IsBehind rs i = elim c.then-precedes_creation.branch [
       | then-precedes_creation-via-then-precedes_creation w ↦
-          behind_creation rs i (record { still = c.requires; untold = c.len-at-test.ensures.is_run.untold }) c.loop-at.invariant.free (c.precedes_creation.ensures.0 w.if-precedes_creation.true)
+          behind_creation rs i (record { still = c.requires; untold = c.len-at-end.ensures.is_run.untold }) c.loop-at.invariant.free (c.precedes_creation.ensures.0 w.if-precedes_creation.true)
       | then-precedes_creation-via-else-precedes_creation+then-seen-known w ↦
           let less = w.if-seen-known.true in
           behind_known rs i c.from-thread.result c.loop-at.known within own (omega (arith, less, seen)) c.loop-at.invariant.known
