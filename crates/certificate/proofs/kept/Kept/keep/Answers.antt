@@ -18,7 +18,7 @@ invariant_of-self-then-makes-2 c =
     let room : length c.self.inside.records.items < max_records = omega (arith, c.if-len-ge-MAX_RECORDS.false, c.len.ensures) in
     let grown : c.push.new.self.items ≡ c.self.inside.records.items ++ c.args.event ∷ [] = c.push.ensures.items ∙ (let ok : is_ok c.push.result ≡ true = c.is_err.ensures.negation ∙ ap not c.if-is_err.false in rw ok refl) in
     let counted : c.self.inside.tasks + 1 ≡ c.self.inside.tasks + cond (is_some (made c.args.event.body)) 1 0 = rw makes refl in
-    rw grown (IsKept-more c.self.inside.records.items c.args.event c.self.inside.tasks (c.self.inside.tasks + 1) c.self.invariant c.requires c.read_numbers.ensures room counted few)
+    rw grown (IsKept-more c.self.inside.version c.self.inside.records.items c.args.event c.self.inside.tasks (c.self.inside.tasks + 1) c.self.invariant c.requires c.read_numbers.ensures room counted few)
 
 pub invariant_of-self-else-makes-2 : goal.invariant_of-self-else-makes-2
 invariant_of-self-else-makes-2 c =
@@ -26,5 +26,5 @@ invariant_of-self-else-makes-2 c =
     let room : length c.self.inside.records.items < max_records = omega (arith, c.if-len-ge-MAX_RECORDS.false, c.len.ensures) in
     let grown : c.push.new.self.items ≡ c.self.inside.records.items ++ c.args.event ∷ [] = c.push.ensures.items ∙ (let ok : is_ok c.push.result ≡ true = c.is_err.ensures.negation ∙ ap not c.if-is_err.false in rw ok refl) in
     let counted : c.self.inside.tasks ≡ c.self.inside.tasks + cond (is_some (made c.args.event.body)) 1 0 = rw none (omega arith) in
-    let few : c.self.inside.tasks ≤ max_tasks = omega (arith, c.self.invariant.counted, c.self.invariant.trace.few_tasks) in
-    rw grown (IsKept-more c.self.inside.records.items c.args.event c.self.inside.tasks c.self.inside.tasks c.self.invariant c.requires c.read_numbers.ensures room counted few)
+    let few : c.self.inside.tasks ≤ max_tasks = omega (arith, c.self.invariant.counted, c.self.invariant.trace.is_trace.few_tasks) in
+    rw grown (IsKept-more c.self.inside.version c.self.inside.records.items c.args.event c.self.inside.tasks c.self.inside.tasks c.self.invariant c.requires c.read_numbers.ensures room counted few)
