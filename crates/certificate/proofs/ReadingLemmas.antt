@@ -1,5 +1,5 @@
 -- How the state of a reader goes from line to line.
-use Rattle.std.proofs.Common.{◌≡◌, ◌≢◌, ℕ, ◌+◌, ◌*◌, ◌-◌, ◌<◌, ◌≤◌, ◌⊎◌, ◌&&◌, none-some, List, [], ◌∷◌, ◌++◌, length, take, drop, get_or, Option, Some, None, Result, Ok, Err, true, false, cond, arith, refl, sym, ap, ◌∙◌, subst, inl, inr, eqb-true, eq-eqb, append_assoc, append-nil, zero-add, add-zero, length-append, length-take}
+use Rattle.std.proofs.Common.{◌≡◌, ◌≢◌, ℕ, ◌+◌, ◌*◌, ◌-◌, ◌<◌, ◌≤◌, ◌⊎◌, ◌&&◌, List, [], ◌∷◌, ◌++◌, length, take, drop, get_or, Option, Some, None, Result, Ok, Err, true, false, cond, arith, refl, sym, ap, ◌∙◌, subst, inl, inr, eqb-true, eq-eqb, append_assoc, append-nil, zero-add, length-append, length-take}
 use Rattle.std.specs.Prelude.{nat_lt, nat_le, ◌==◌, IfSome, ok_or, option_and_then}
 use Rattle.std.specs.Io.KnownBytes.{Keeps, IsAtEnd, prepend_known}
 use Rattle.ompt_events.specs.declared.records.Record.{Record}
@@ -16,7 +16,7 @@ use Rattle.certificate.specs.Limits.{max_line}
 use Rattle.certificate.specs.Windows.{LineFeedAt, ShowsFault, ShowsLine}
 use Rattle.certificate.specs.Files.{file_says_to, trace_said, rest_says, no_trace, IsFaultlessBefore, go_on, fault_in, text_adds, with_record, begun, has_room, is_long, line_feeds}
 use Rattle.std.proofs.lemmas.Bool.{ltb-true, leb-true, cases_lt}
-use Rattle.std.proofs.lemmas.Option.{option_and_then_some}
+use Rattle.std.proofs.lemmas.Option.{none-some, option_and_then_some}
 use Rattle.certificate.specs.Members.{whole}
 use Rattle.certificate.specs.MemberNames as member
 use Rattle.certificate.specs.Counts.{breaks_told}
@@ -339,8 +339,8 @@ header_says-known newest line version few says = by_value (value_of line) says
         elim (nat_le 1 n && nat_le n newest) as (λ b. nat_le 1 n && nat_le n newest ≡ b → cond b (Some n) None ≡ Some version → (version ≡ 1) ⊎ (version ≡ 2)) [
           | true ↦ λ range same.
               let is : n ≡ version = cc in
-              let low : 1 ≤ n = leb-true _ _ (both-first _ _ range) in
-              let high : n ≤ newest = leb-true _ _ (both-second _ _ range) in
+              let low : 1 ≤ n = leb-true 1 n (both-first (nat_le 1 n) (nat_le n newest) range) in
+              let high : n ≤ newest = leb-true n newest (both-second (nat_le 1 n) (nat_le n newest) range) in
               elim (cases_lt 1 version) [
                 | inl more ↦ inr (omega arith)
                 | inr one ↦ inl (omega arith)

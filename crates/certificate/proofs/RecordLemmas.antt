@@ -13,7 +13,7 @@ use Rattle.ompt_events.specs.Names.{status_part}
 use Rattle.certificate.specs.declared.faults.ReadCause.{ReadCause}
 use Rattle.certificate.specs.declared.faults.ReadCause.TheVariants.{Field, Limit}
 use Rattle.certificate.specs.Members.{whole, status, next}
-use Rattle.certificate.specs.RecordLines.{bounded, body, body_named, body_fits, share, share_fits, turns, turns_fit, as_turns, tells_turns, task_schedule, unbounded, record_fits}
+use Rattle.certificate.specs.RecordLines.{bounded, body, body_named, body_fits, share, share_fits, turns, turns_fit, tells_turns, task_schedule, unbounded, record_fits}
 use Rattle.certificate.proofs.MemberLemmas.{ok_or-some}
 use Rattle.certificate.specs.MemberNames as member
 use Rattle.certificate.specs.CallbackNames as callback
@@ -108,7 +108,7 @@ unfolding task_schedule
 schedule-no_turns version d st prior nx e s p n err = rw (ok_or-some _ st s, ok_or-some _ prior p, ok_or-some _ nx n) (by_turns (turns (tells_turns version st) d) err)
   where
     by_turns : (o : Option (Option Turns)) → Err e ≡ ok_or o Field → Err e ≡ bounded body_fits (option_and_then (λ told. option_and_then (λ sh. Some (TaskSchedule st told prior nx sh)) (share (is_some (status_part st)) d)) o)
-    by_turns None h = h
+    by_turns None h = let same : e ≡ Field = cc in ap Err same
     by_turns (Some told) h = absurd (ok_not_err told e (sym h))
 
 -- so does the claim, or it does not

@@ -15,7 +15,7 @@ use Rattle.ompt_events.specs.Flags as table
 use Rattle.ompt_events.specs.Flags.{has_flag}
 use Rattle.ompt_events.specs.Names.{status_part, demands_next}
 use Rattle.ompt_events.specs.Limits.{max_depth, max_dependences}
-use Rattle.ompt_events.specs.Traces.{AreNamed, BeginsOrEnds, HasItsTurns, IsSound, IsSoundIn}
+use Rattle.ompt_events.specs.Traces.{AreNamed, BeginsOrEnds, IsSound, IsSoundIn}
 use Rattle.ompt_events.specs.declared.records.Record.{Record}
 use Rattle.ompt_events.specs.declared.records.Claim.{Claim}
 use Rattle.ompt_events.specs.declared.records.Turns.{Turns}
@@ -257,7 +257,7 @@ body_named-sound version name d b e fits =
     chosen (bytes_eq name callback.implicit_task) (implicit_task d) _ b e4 (implicit_task-sound version d b) (λ e5.
     chosen (bytes_eq name callback.task_create) (task_create d) _ b e5 (task_create-sound version d b) (λ e6.
     chosen (bytes_eq name callback.dependences) (dependences d) _ b e6 (λ is. dependences-sound version d b is fits) (λ e7.
-    chosen (bytes_eq name callback.task_schedule) (task_schedule d) _ b e7 (λ is. task_schedule-sound d b is fits) (λ e8.
+    chosen (bytes_eq name callback.task_schedule) (task_schedule version d) _ b e7 (λ is. task_schedule-sound version d b is fits) (λ e8.
     chosen (bytes_eq name callback.sync_region) (sync_region d) _ b e8 (sync_region-sound version d b) (λ e9.
     chosen (bytes_eq name callback.cancel) (cancel d) None b e9 (λ is. cancel-sound version d b is fits) (λ none. absurd (let h : None ≡ Some b = none in cc)))))))))))
 

@@ -311,11 +311,7 @@ fn dependences(alloc: Global, _version: u32, value: &Element<'_, '_>) -> Result<
 
 /// A task stops running or is fulfilled.
 #[tactic(auto, unfolding(crate::specs::RecordLines::task_schedule))]
-fn task_schedule(
-    alloc: Global,
-    version: u32,
-    value: &Element<'_, '_>,
-) -> Result<Body, ReadCause>
+fn task_schedule(alloc: Global, version: u32, value: &Element<'_, '_>) -> Result<Body, ReadCause>
     requires { HasValue value.now }
     ensures { IsSaid result (bounded spec.body_fits (spec.task_schedule version (meant_at value.now))) }
 {

@@ -122,7 +122,11 @@ pub(crate) fn put_record(out: &mut Vec<u8>, event: &Record) -> Result<(), AllocE
 pub(crate) fn put_header(out: &mut Vec<u8>, version: u32) -> Result<(), AllocError>
     ensures { OnOk result (Puts out.old.items out.new.items (header_line version)) }
 {
-    put_short(out, "{\"format\":\"task-credit-audit\",\"version\":", version)?;
+    put_short(
+        out,
+        "{\"format\":\"task-credit-audit\",\"version\":",
+        version,
+    )?;
     put(out, "}")
 }
 

@@ -15,7 +15,7 @@ pub records-init : goal.records-init
 records-init g c = record {
   sent = [];
   out = Appends-none _;
-  text = c.in_ok-block.ensures.line ∙ sym (append-nil (header_line c.args.trace.now.version ++ 10 ∷ []));
+  text = (rw c.version.ensures at c.in_ok-block.ensures.line) ∙ sym (append-nil (header_line c.args.trace.now.version ++ 10 ∷ []));
   few = omega arith;
   counted = count_more-zero _;
   breaks = refl;
