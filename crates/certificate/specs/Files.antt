@@ -117,8 +117,10 @@ records_of version lines = filter_map (λ line. result_ok (line_says version lin
 
 -- a header, and records in the lines after it
 abbrev pub trace_of : ℕ → List (List ℕ) → TraceView
-trace_of newest lines =
-    record { version = version_of newest lines; records = records_of (version_of newest lines) (drop 1 lines) }
+trace_of newest lines = record {
+  version = version_of newest lines;
+  records = records_of (version_of newest lines) (drop 1 lines);
+}
 
 -- the trace of the lines before the one at place k, counted from 0
 abbrev pub trace_before : ℕ → List (List ℕ) → ℕ → TraceView

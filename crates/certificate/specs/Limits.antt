@@ -1,4 +1,5 @@
--- How long a line is, how often a device may ask for another turn, and which versions of the format are read.
+-- How long a line is, how often a device may ask for another turn, and which versions of the format the
+-- program reads.
 use Rattle.std.specs.Prelude.{ℕ}
 
 -- bytes of a line, its line feed not counted

@@ -69,7 +69,8 @@ abbrev pub IsBetween : ℕ → Option (List ℕ) → ℕ → TraceView → List 
 IsBetween newest None n kept window left = Unit {0}
 IsBetween newest (Some bytes) n kept window None = ⊥
 IsBetween newest (Some bytes) n kept window (Some left) =
-    (trace_said newest bytes ≡ rest_says newest n kept (window ++ left)) × IsFromLine n bytes (window ++ left)
+    (trace_said newest bytes ≡ rest_says newest n kept (window ++ left))
+    × IsFromLine n bytes (window ++ left)
 
 -- after the line of number n was read: there was one, there was none, or it has a fault
 abbrev pub IsAfter : ℕ → Result Bool ReadCause → Option (List ℕ) → ℕ → TraceView → List ℕ

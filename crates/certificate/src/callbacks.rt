@@ -117,8 +117,8 @@ macro_rules! members {
 
 // The line of each record as it is written, part by part: a text that is the same for all, and then a
 // value. The members stand in the order of their names (`finishing` and `discarding` have a claim,
-// `switching_in_turn` and `finishing_in_turn` tell turns). What follows the parts is the end of the line, or a
-// tail that several lines share. Reading and writing share it.
+// `switching_in_turn` and `finishing_in_turn` tell turns). What follows the parts is the end of the line, or
+// a tail that several lines share. Reading and writing share it.
 macro_rules! lines {
     (thread_begin $shape:ident $given:tt $kind:tt $seen:tt $seq:tt $thread:tt) => {
         $shape! {

@@ -41,7 +41,8 @@ pub fn lines_are_sound()
 /// The text of a trace of either version is a file that stands for it, and for no other trace, wherever its
 /// version is read.
 pub fn text_stands_for_its_trace()
-    ensures { (newest : ℕ) (trace : TraceView) → trace.version ≤ newest → IsTraceOf trace.version trace.records
+    ensures { (newest : ℕ) (trace : TraceView) → trace.version ≤ newest
+        → IsTraceOf trace.version trace.records
         → StandsFor newest (trace_text trace) trace
         × ((other : TraceView) → StandsFor newest (trace_text trace) other → other ≡ trace) }
 {}

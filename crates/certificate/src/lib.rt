@@ -1,8 +1,8 @@
-//! The trace file, of version 1 or 2 of its format: what its lines stand for, a reader of it from any source,
-//! and traces and plain bytes written to any sink. Read `device`, `faults`, `reading` and `writing` for what a
-//! caller sees, and `laws` for what follows of a file; `lines` is how a line is read (`canonical` as it is
-//! written, `unordered` and `making` with its members in another order, by `parts`), `texts` how it is written,
-//! and `callbacks` has the tables.
+//! The trace file, of version 1 or 2 of its format: what its lines stand for, a reader of it from any
+//! source, and traces and plain bytes written to any sink. Read `device`, `faults`, `reading` and `writing`
+//! for what a caller sees, and `laws` for what follows of a file; `lines` is how a line is read (`canonical`
+//! as it is written, `unordered` and `making` with its members in another order, both by `parts`), `texts`
+//! how it is written, and `callbacks` has the tables.
 #![tactic(auto)]
 
 mod callbacks;

@@ -66,7 +66,10 @@ macro_rules! read_header {
 
 // A record, whose callback says the rest.
 macro_rules! read_record {
-    (($value:ident $alloc:ident $version:ident) Record { $($field:ident: $kind:ident $name:literal),* }) => {{
+    (
+        ($value:ident $alloc:ident $version:ident)
+        Record { $($field:ident: $kind:ident $name:literal),* }
+    ) => {{
         $(let $field = look_up!($kind $name ($value $alloc));)*
         let body = body($alloc, $version, $value)?;
         Ok(Record { $($field: bring_within!($kind $field),)* body })
@@ -148,8 +151,8 @@ macro_rules! read_claim {
     }};
 }
 
-/// The version that a header line names, if it is at most the newest one. `scratch` is room that is kept from
-/// line to line.
+/// The version that a header line names, if it is at most the newest one. `scratch` is room that is kept
+/// from line to line.
 pub(crate) fn header(
     alloc: Global,
     newest: u32,

@@ -23,9 +23,9 @@ const LAST_LINE: u32 = 2 + MAX_RECORDS as u32;
 /// The newest version of the format that [`read`] takes.
 pub const NEWEST_VERSION: u32 = 1;
 
-/// Reads a trace file to its end, of a version up to [`NEWEST_VERSION`]. At most 131,074 bytes wait at a time,
-/// two of the longest lines with their line feeds, and the source is asked for no more than there is room for.
-/// After a refusal nothing is said of how far the source was read.
+/// Reads a trace file of a version up to [`NEWEST_VERSION`] to its end. At most 131,074 bytes wait at a
+/// time, two of the longest lines with their line feeds, and the source is asked for no more than there is
+/// room for. After a refusal nothing is said of how far the source was read.
 pub fn read<S: Source>(alloc: Global, source: &mut S) -> Result<Trace, ReadFault>
     // The trace that the bytes stand for, their first fault, or a fault of the device or of memory.
     ensures file { IfSome (S.remaining source.old)

@@ -53,4 +53,4 @@ pub returns-in_err-take_text-in-Some-clause-breaks : goal.returns-in_err-take_te
 returns-in_err-take_text-in-Some-clause-breaks g c =
     let p = err_from_is_err_and c.from_residual-in_err-take_text-in-Some.result c.from_residual-in_err-take_text-in-Some.ensures.1 in
     let is = IsOfText-from c.args.newest c.args.line c.args.kept.now c.front.result.now c.in_err-take_text-in-Some.field-0.0 c.in_err-take_text-in-Some.ensures in
-    rw (p.1, p.2) (c.in_ok-len.ensures.breaks ∙ sym (breaks_told-text _ (g.S.Source.breaks c.args.source.now) is))
+    rw (p.1, p.2) (◌∙◌ {b = g.S.Source.breaks c.args.source.now} c.in_ok-len.ensures.breaks (sym (breaks_told-text _ (g.S.Source.breaks c.args.source.now) is)))
