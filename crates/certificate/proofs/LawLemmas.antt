@@ -14,7 +14,7 @@ use Rattle.certificate.specs.declared.faults.ReadCause.{ReadCause}
 use Rattle.certificate.specs.declared.faults.ReadCause.TheVariants.{LineTooLong, Unended, Header, Limit}
 use Rattle.certificate.specs.declared.faults.ReadFault.{ReadFault}
 use Rattle.certificate.specs.RecordLines.{line_says, header_says}
-use Rattle.certificate.specs.Files.{cut, with_byte, rest_says, is_long, has_room, no_trace, with_record, begun, text_adds, line_adds, end_adds, from_line, go_on, fault_in, fault_of, file_says_to, trace_said, records_of, version_of, cause_in, line_feeds, trace_of, StandsFor, IsFaultlessBefore, IsFirstFault}
+use Rattle.certificate.specs.Files.{cut, with_byte, rest_says, is_long, has_room, no_trace, with_record, with_header, text_adds, line_adds, end_adds, from_line, go_on, fault_in, fault_of, file_says_to, trace_said, records_of, version_of, cause_in, line_feeds, trace_of, StandsFor, IsFaultlessBefore, IsFirstFault}
 use Rattle.certificate.proofs.RecordLemmas.{ok_not_err}
 
 -- what is said from place k on
@@ -84,7 +84,7 @@ records_of-more newest done before after line is h =
           | false ↦ λ e. absurd (ok_not_err after Limit (sym e))
         ] h
 
-    by_header : (o : Result ℕ ReadCause) → begun o ≡ Ok after → after ≡ record { version = result_unwrap_or o no_trace.version; records = [] }
+    by_header : (o : Result ℕ ReadCause) → with_header o ≡ Ok after → after ≡ record { version = result_unwrap_or o no_trace.version; records = [] }
     by_header (Err e) h = absurd (ok_not_err after e (sym h))
     by_header (Ok version) h = cc
 

@@ -11,10 +11,10 @@ use Rattle.certificate.specs.declared.faults.ReadCause.TheVariants.{Device, Memo
 use Rattle.certificate.specs.declared.faults.ReadFault.{ReadFault}
 use Rattle.std.proofs.lemmas.List.{take-append-drop}
 use Rattle.std.proofs.lemmas.List.Sums.{sum_by-append, sum_by-cons}
-use Rattle.certificate.specs.RecordLines.{line_says, header_says, said_of, value_of, names_format, taken, version_in, bounded, record_fits, unbounded}
+use Rattle.certificate.specs.RecordLines.{line_says, header_says, said_of, value_of, names_format, version_read, version_in, bounded, record_fits, unbounded}
 use Rattle.certificate.specs.Limits.{max_line}
 use Rattle.certificate.specs.Windows.{LineFeedAt, ShowsFault, ShowsLine}
-use Rattle.certificate.specs.Files.{file_says_to, trace_said, rest_says, no_trace, IsFaultlessBefore, go_on, fault_in, text_adds, with_record, begun, has_room, is_long, line_feeds}
+use Rattle.certificate.specs.Files.{file_says_to, trace_said, rest_says, no_trace, IsFaultlessBefore, go_on, fault_in, text_adds, with_record, with_header, has_room, is_long, line_feeds}
 use Rattle.std.proofs.lemmas.Bool.{ltb-true, leb-true, cases_lt}
 use Rattle.std.proofs.lemmas.Option.{none-some, option_and_then_some}
 use Rattle.certificate.specs.Members.{whole}
@@ -72,14 +72,14 @@ with_record-cause version before (Some d) e h = by_members (unbounded version d)
           | false ↦ λ past. same_cause e Limit past tt
         ] h
 
-begun-cause : (o : Option ℕ) (e : ReadCause) → Err e ≡ begun (ok_or o Header) → IsFileText e
-begun-cause None e h = same_cause e Header h tt
-begun-cause (Some version) e h = absurd (ok_not_err _ e (sym h))
+with_header-cause : (o : Option ℕ) (e : ReadCause) → Err e ≡ with_header (ok_or o Header) → IsFileText e
+with_header-cause None e h = same_cause e Header h tt
+with_header-cause (Some version) e h = absurd (ok_not_err _ e (sym h))
 
 pub text_adds-cause : (newest n : ℕ) (before : TraceView) (line : List ℕ) (e : ReadCause) → Err e ≡ text_adds newest n before line → IsFileText e
 text_adds-cause newest n before line e h =
-    elim (n == 1) as (λ b. Err e ≡ cond b (begun (header_says newest line)) (with_record before (line_says before.version line)) → IsFileText e) [
-      | true ↦ λ first. begun-cause (option_and_then (version_in newest) (value_of line)) e first
+    elim (n == 1) as (λ b. Err e ≡ cond b (with_header (header_says newest line)) (with_record before (line_says before.version line)) → IsFileText e) [
+      | true ↦ λ first. with_header-cause (option_and_then (version_in newest) (value_of line)) e first
       | false ↦ λ later. with_record-cause before.version before (value_of line) e later
     ] h
 
@@ -302,17 +302,17 @@ with_record-grows before after (Ok r) h =
       | false ↦ λ _ full. absurd (ok_not_err _ Limit full)
     ] refl h
 
-begun-empty : (after : TraceView) (o : Result ℕ ReadCause) → Ok after ≡ begun o → length after.records ≡ 0
-begun-empty after (Err e) h = absurd (ok_not_err _ e h)
-begun-empty after (Ok version) h =
+with_header-empty : (after : TraceView) (o : Result ℕ ReadCause) → Ok after ≡ with_header o → length after.records ≡ 0
+with_header-empty after (Err e) h = absurd (ok_not_err _ e h)
+with_header-empty after (Ok version) h =
     let none : TraceView = record { version = version; records = [] } in
     let is : after ≡ none = cc in
     ap (λ (t : TraceView). length t.records) is
 
 pub Grows-text : (newest n : ℕ) (before after : TraceView) (line : List ℕ) → Ok after ≡ text_adds newest n before line → Grows n before.records after.records
 Grows-text newest n before after line h =
-    elim (n == 1) as (λ b. n == 1 ≡ b → Ok after ≡ cond b (begun (header_says newest line)) (with_record before (line_says before.version line)) → Grows n before.records after.records) [
-      | true ↦ λ is first. record { one = rw is (begun-empty after (header_says newest line) first); room = λ other. absurd (other (eqb-true n 1 is)) }
+    elim (n == 1) as (λ b. n == 1 ≡ b → Ok after ≡ cond b (with_header (header_says newest line)) (with_record before (line_says before.version line)) → Grows n before.records after.records) [
+      | true ↦ λ is first. record { one = rw is (with_header-empty after (header_says newest line) first); room = λ other. absurd (other (eqb-true n 1 is)) }
       | false ↦ λ is later.
           let grown = with_record-grows before after (line_says before.version line) later in
           record { one = rw is grown.0; room = λ _. grown.1 }
@@ -334,7 +334,7 @@ Grows-counted n old new low counted room grows =
 pub header_says-known : (newest : ℕ) (line : List ℕ) (version : ℕ) → newest ≤ 2 → Ok version ≡ header_says newest line → (version ≡ 1) ⊎ (version ≡ 2)
 header_says-known newest line version few says = by_value (value_of line) says
   where
-    by_taken : (n : ℕ) → taken newest n ≡ Some version → (version ≡ 1) ⊎ (version ≡ 2)
+    by_taken : (n : ℕ) → version_read newest n ≡ Some version → (version ≡ 1) ⊎ (version ≡ 2)
     by_taken n e =
         elim (nat_le 1 n && nat_le n newest) as (λ b. nat_le 1 n && nat_le n newest ≡ b → cond b (Some n) None ≡ Some version → (version ≡ 1) ⊎ (version ≡ 2)) [
           | true ↦ λ range same.
@@ -350,8 +350,8 @@ header_says-known newest line version few says = by_value (value_of line) says
 
     by_object : (d : Data) → version_in newest d ≡ Some version → (version ≡ 1) ⊎ (version ≡ 2)
     by_object d e =
-        elim (names_format d) as (λ b. cond b (option_and_then (taken newest) (whole member.version d)) None ≡ Some version → (version ≡ 1) ⊎ (version ≡ 2)) [
-          | true ↦ λ named. option_and_then_some (taken newest) (whole member.version d) version named (λ n _ is. by_taken n is)
+        elim (names_format d) as (λ b. cond b (option_and_then (version_read newest) (whole member.version d)) None ≡ Some version → (version ≡ 1) ⊎ (version ≡ 2)) [
+          | true ↦ λ named. option_and_then_some (version_read newest) (whole member.version d) version named (λ n _ is. by_taken n is)
           | false ↦ λ other. absurd (none-some version other)
         ] e
 

@@ -28,7 +28,7 @@ use Rattle.ompt_events.specs.Flags as table
 use Rattle.ompt_events.specs.Traces.{AreNamed, IsSoundIn}
 use Rattle.serde_json.specs.View.{items_of}
 use Rattle.certificate.specs.Members.{named, nullable, not_both, no_id, each, dep_of}
-use Rattle.certificate.specs.RecordLines.{unbounded, body_named, thread_begin, thread_end, parallel_begin, parallel_end, implicit_task, task_create, dependences, claim, share, turns, told_turns, tells_turns, task_schedule, sync_region, cancel}
+use Rattle.certificate.specs.RecordLines.{unbounded, body_named, thread_begin, thread_end, parallel_begin, parallel_end, implicit_task, task_create, dependences, claim, share, turns, both_turns, tells_turns, task_schedule, sync_region, cancel}
 use Rattle.certificate.specs.Texts.{with_member, data_of, dep_data, number_or_null}
 use Rattle.certificate.proofs.FlagLemmas.{task_flags-read, cancel_flags-read}
 use Rattle.certificate.proofs.SoundLemmas.{is_some-map, is_some-cond, tells-turns}
@@ -141,7 +141,7 @@ says-dependences version thread seq seen task list = rw (deps-read list) refl
 
 says-finishing : (version thread seq seen : ℕ) (status : Status) (told : Option Turns) (prior : ℕ) (next : Option ℕ) (c : Claim) → is_some next ≡ demands_next status → tells_turns version status ≡ is_some told → is_some (status_part status) ≡ true
     → Says version (of_body thread seq seen (TaskSchedule status told prior next (Some c)))
-unfolding with_member unbounded body_named task_schedule share claim turns told_turns
+unfolding with_member unbounded body_named task_schedule share claim turns both_turns
 says-finishing version thread seq seen status None prior next c follows tells finishes =
     rw (named-status status, nullable-number_or_null next, next-read (demands_next status) next follows, tells, finishes, wholes-items_of c.path) refl
 says-finishing version thread seq seen status (Some t) prior next c follows tells finishes =
@@ -149,7 +149,7 @@ says-finishing version thread seq seen status (Some t) prior next c follows tell
 
 says-switching : (version thread seq seen : ℕ) (status : Status) (told : Option Turns) (prior : ℕ) (next : Option ℕ) → is_some next ≡ demands_next status → tells_turns version status ≡ is_some told → is_some (status_part status) ≡ false
     → Says version (of_body thread seq seen (TaskSchedule status told prior next None))
-unfolding with_member unbounded body_named task_schedule share turns told_turns
+unfolding with_member unbounded body_named task_schedule share turns both_turns
 says-switching version thread seq seen status None prior next follows tells goes_on =
     rw (named-status status, nullable-number_or_null next, next-read (demands_next status) next follows, tells, goes_on) refl
 says-switching version thread seq seen status (Some t) prior next follows tells goes_on =

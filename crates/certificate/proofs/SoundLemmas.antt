@@ -30,7 +30,7 @@ use Rattle.std.specs.Str.{bytes_eq}
 use Rattle.certificate.specs.declared.faults.ReadCause.TheVariants.{NotJson}
 use Rattle.certificate.proofs.RecordLemmas.{bounded-ok, ok_not_err, both-first}
 use Rattle.certificate.specs.Members.{whole, text, whole_or_null, list, truth, status, endpoint, not_both, begin_or_end, sync_kind, thread_kind, flag_of, flags_from, task_flags, cancel_flags, no_id, next, deps}
-use Rattle.certificate.specs.RecordLines.{thread_begin, thread_end, parallel_begin, parallel_end, implicit_task, task_create, dependences, sync_region, turns, told_turns, tells_turns, task_schedule, cancel, share, claim, body_named, body, unbounded, value_of, said_of, line_says, share_fits, body_fits, record_fits}
+use Rattle.certificate.specs.RecordLines.{thread_begin, thread_end, parallel_begin, parallel_end, implicit_task, task_create, dependences, sync_region, turns, both_turns, tells_turns, task_schedule, cancel, share, claim, body_named, body, unbounded, value_of, said_of, line_says, share_fits, body_fits, record_fits}
 use Rattle.certificate.specs.MemberNames as member
 use Rattle.certificate.specs.CallbackNames as callback
 
@@ -139,7 +139,7 @@ discard-sound bits task sh claimed named fits = record { named_flags = tt; named
 -- turns are told exactly where they are read
 turns-sound : (tells : Bool) (d : Data) (told : Option Turns) → turns tells d ≡ Some told → is_some told ≡ tells
 unfolding turns
-turns-sound true d told e = by_turns (told_turns d) e
+turns-sound true d told e = by_turns (both_turns d) e
   where
     by_turns : (o : Option Turns) → option_map Some o ≡ Some told → is_some told ≡ true
     by_turns None h = absurd (let f : None ≡ Some told = h in cc)

@@ -25,7 +25,7 @@ use Rattle.certificate.specs.declared.faults.ReadCause.TheVariants.{Limit}
 use Rattle.certificate.specs.declared.unordered.Callback.{Callback}
 use Rattle.certificate.specs.declared.unordered.Callback.TheVariants.{ParallelBegin, ParallelEnd, ImplicitTask, TaskCreate, Dependences, TaskSchedule, SyncRegion}
 use Rattle.certificate.specs.declared.unordered.Found.{Found}
-use Rattle.certificate.specs.RecordLines.{unbounded, body_named, parallel_begin, parallel_end, implicit_task, dependences, task_create, task_schedule, sync_region, share, claim, turns, told_turns, bounded, record_fits, said_of, line_says, value_of}
+use Rattle.certificate.specs.RecordLines.{unbounded, body_named, parallel_begin, parallel_end, implicit_task, dependences, task_create, task_schedule, sync_region, share, claim, turns, both_turns, bounded, record_fits, said_of, line_says, value_of}
 use Rattle.certificate.specs.MemberNames as name
 use Rattle.certificate.specs.CallbackNames as callback
 use Rattle.certificate.specs.PlainData.{puts, IsPlain, MembersArePlain}
@@ -127,7 +127,7 @@ IsTold f told = IfSome told (λ (t : Turns). (f.prior_turn ≡ Some t.prior) × 
 
 pub makes-switching : (version : ℕ) (f : Found) (thread : ℕ) (seq : ℕ) (seen : ℕ) (status : Status) (told : Option Turns) (prior : ℕ) (next : Option ℕ) → f.callback ≡ Some TaskSchedule → f.thread ≡ Some thread → f.seq ≡ Some seq → f.seen ≡ Some seen → f.status ≡ Some status → f.prior ≡ Some prior → f.next ≡ Some next → IsTold f told
     → Makes version (rows f) (record { thread = thread; seq = seq; seen = seen; body = body.TaskSchedule status told prior next None })
-unfolding unbounded body_named task_schedule share turns told_turns
+unfolding unbounded body_named task_schedule share turns both_turns
 makes-switching version f thread seq seen status None prior next is_callback is_thread is_seq is_seen is_status is_prior is_next is_told = λ ms are sound.
     let g_thread : get_member name.thread ms ≡ Some (whole_number thread) = are.1.0 ∙ ap (option_map whole_number) is_thread in
     let g_seq : get_member name.seq ms ≡ Some (whole_number seq) = are.1.1.0 ∙ ap (option_map whole_number) is_seq in
@@ -151,7 +151,7 @@ makes-switching version f thread seq seen status (Some t) prior next is_callback
 
 pub makes-finishing : (version : ℕ) (f : Found) (thread : ℕ) (seq : ℕ) (seen : ℕ) (status : Status) (told : Option Turns) (prior : ℕ) (next : Option ℕ) (kept : ℕ) (root : ℕ) (path : List ℕ) → f.callback ≡ Some TaskSchedule → f.thread ≡ Some thread → f.seq ≡ Some seq → f.seen ≡ Some seen → f.status ≡ Some status → f.prior ≡ Some prior → f.next ≡ Some next → f.kept ≡ Some kept → f.root ≡ Some root → f.path ≡ Some path → IsTold f told
     → Makes version (rows f) (record { thread = thread; seq = seq; seen = seen; body = body.TaskSchedule status told prior next (Some (record { kept = kept; root = root; path = path })) })
-unfolding unbounded body_named task_schedule share claim turns told_turns
+unfolding unbounded body_named task_schedule share claim turns both_turns
 makes-finishing version f thread seq seen status None prior next kept root path is_callback is_thread is_seq is_seen is_status is_prior is_next is_kept is_root is_path is_told = λ ms are sound.
     let g_thread : get_member name.thread ms ≡ Some (whole_number thread) = are.1.0 ∙ ap (option_map whole_number) is_thread in
     let g_seq : get_member name.seq ms ≡ Some (whole_number seq) = are.1.1.0 ∙ ap (option_map whole_number) is_seq in

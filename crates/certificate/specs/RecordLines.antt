@@ -93,8 +93,8 @@ unfoldable pub share : Bool → Data → Option (Option Claim)
 share finishes d = if finishes then option_map Some (claim d) else Some None
 
 -- which turn of the prior task ends, and which one of the next task begins
-unfoldable pub told_turns : Data → Option Turns
-told_turns d = do
+unfoldable pub both_turns : Data → Option Turns
+both_turns d = do
   prior ← whole member.prior_turn d
   next ← whole member.next_turn d
   Some (record { prior = prior; next = next })
@@ -109,7 +109,7 @@ tells_turns version status = (version == 2) && demands_next status
 
 -- turns are read where the record tells them, and nowhere else
 unfoldable pub turns : Bool → Data → Option (Option Turns)
-turns told d = if told then option_map Some (told_turns d) else Some None
+turns told d = if told then option_map Some (both_turns d) else Some None
 
 -- a task stops running or is fulfilled
 unfoldable pub task_schedule : ℕ → Data → Option Body
@@ -220,13 +220,13 @@ format_name = codes "task-credit-audit"
 abbrev pub names_format : Data → Bool
 names_format d = option_map_or (λ s. bytes_eq s format_name) (text member.format d) false
 
--- a version from 1 to the newest one that is read
-abbrev pub taken : ℕ → ℕ → Option ℕ
-taken newest version = if nat_le 1 version && nat_le version newest then Some version else None
+-- the version, if it is one from 1 to the newest that is read
+abbrev pub version_read : ℕ → ℕ → Option ℕ
+version_read newest version = if nat_le 1 version && nat_le version newest then Some version else None
 
 -- the version that the object of a header names, if it is one that is read
 abbrev pub version_in : ℕ → Data → Option ℕ
-version_in newest d = if names_format d then whole member.version d >>= taken newest else None
+version_in newest d = if names_format d then whole member.version d >>= version_read newest else None
 
 -- the version of a file with this header
 abbrev pub header_says : ℕ → List ℕ → Result ℕ ReadCause

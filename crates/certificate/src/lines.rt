@@ -58,7 +58,7 @@ macro_rules! read_header {
         $format_kind:ident $format:literal = $said:literal, $version_kind:ident $version:literal
     ) => {
         match $format_kind($value, $format) {
-            Ok(found) if found == $said => taken($newest, $version_kind($value, $version)),
+            Ok(found) if found == $said => version_read($newest, $version_kind($value, $version)),
             _ => None,
         }
     };
@@ -177,8 +177,8 @@ fn version_in(newest: u32, value: &Element<'_, '_>) -> Option<u32>
 }
 
 /// The version, if one was found and it is from 1 to the newest one.
-fn taken(newest: u32, found: Result<u64, ReadCause>) -> Option<u32>
-    ensures { result ≡ option_and_then (spec.taken newest) (result_ok found) }
+fn version_read(newest: u32, found: Result<u64, ReadCause>) -> Option<u32>
+    ensures { result ≡ option_and_then (spec.version_read newest) (result_ok found) }
 {
     match found {
         Ok(version) if 1 <= version && version <= u64::from(newest) => Some(version as u32),
@@ -336,18 +336,18 @@ fn turns(value: &Element<'_, '_>, told: bool) -> Result<Option<(u64, u64)>, Read
         ≡ ok_or (spec.turns told (meant_at value.now)) ReadCause.Field }
 {
     if told {
-        Ok(Some(told_turns(value)?))
+        Ok(Some(both_turns(value)?))
     } else {
         Ok(None)
     }
 }
 
 /// Which turn of the prior task ends, and which one of the next task begins.
-#[tactic(auto, unfolding(crate::specs::RecordLines::told_turns))]
-fn told_turns(value: &Element<'_, '_>) -> Result<(u64, u64), ReadCause>
+#[tactic(auto, unfolding(crate::specs::RecordLines::both_turns))]
+fn both_turns(value: &Element<'_, '_>) -> Result<(u64, u64), ReadCause>
     requires { HasValue value.now }
     ensures { result_map_both spec.as_turns (λ e. e) result
-        ≡ ok_or (spec.told_turns (meant_at value.now)) ReadCause.Field }
+        ≡ ok_or (spec.both_turns (meant_at value.now)) ReadCause.Field }
 {
     members!(Turns look_up_turns (value))
 }
