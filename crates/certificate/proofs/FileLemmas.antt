@@ -2,7 +2,7 @@
 use Rattle.std.proofs.Common.{◌≡◌, ◌≢◌, ℕ, ◌+◌, ◌<◌, ◌≤◌, List, [], ◌∷◌, ◌++◌, length, take, drop, get_or, Some, None, Ok, Err, true, false, arith, refl, sym, ap, ◌∙◌, eqb-true, eq-eqb, suc, append-nil, length-append, length-take}
 use Rattle.std.specs.Prelude.{◌==◌}
 use Rattle.std.specs.List.{AllByRecursion}
-use Rattle.ompt_events.specs.declared.records.Record.{Record}
+use Rattle.ompt_events.specs.Traces.{TraceView}
 use Rattle.certificate.specs.declared.faults.ReadCause.TheVariants.{LineTooLong}
 use Rattle.std.proofs.lemmas.List.{take-append-drop, get_or-take, drop_more}
 use Rattle.certificate.specs.Limits.{max_line}
@@ -69,23 +69,23 @@ pub cut-unbroken : (bytes : List ℕ) → IsUnbroken bytes → cut bytes ≡ rec
 unfolding cut
 cut-unbroken bytes all = ap cut (sym (append-nil bytes)) ∙ cut-front bytes [] all ∙ rw (append-nil bytes) refl
 
-pub rest_says-line : (n : ℕ) (before : List Record) (line bytes : List ℕ) → IsUnbroken line → length line ≤ max_line → rest_says n before (line ++ (10 ∷ bytes)) ≡ go_on n (text_adds n before line) (λ records. rest_says (n + 1) records bytes)
+pub rest_says-line : (newest n : ℕ) (before : TraceView) (line bytes : List ℕ) → IsUnbroken line → length line ≤ max_line → rest_says newest n before (line ++ (10 ∷ bytes)) ≡ go_on n (text_adds newest n before line) (λ trace. rest_says newest (n + 1) trace bytes)
 unfolding from_line
-rest_says-line n before line bytes all short =
+rest_says-line newest n before line bytes all short =
     let not_long : is_long line ≡ false = grind arith in
     rw (cut-line line bytes all, not_long) refl
 
-pub rest_says-end : (n : ℕ) (before : List Record) (bytes : List ℕ) → IsUnbroken bytes → rest_says n before bytes ≡ go_on n (end_adds n before bytes) Ok
+pub rest_says-end : (newest n : ℕ) (before : TraceView) (bytes : List ℕ) → IsUnbroken bytes → rest_says newest n before bytes ≡ go_on n (end_adds n before bytes) Ok
 unfolding from_line
-rest_says-end n before bytes all = rw (cut-unbroken bytes all) refl
+rest_says-end newest n before bytes all = rw (cut-unbroken bytes all) refl
 
-pub rest_says-long : (n : ℕ) (before : List Record) (front bytes : List ℕ) → IsUnbroken front → max_line < length front → rest_says n before (front ++ bytes) ≡ Err (fault_in n LineTooLong)
+pub rest_says-long : (newest n : ℕ) (before : TraceView) (front bytes : List ℕ) → IsUnbroken front → max_line < length front → rest_says newest n before (front ++ bytes) ≡ Err (fault_in n LineTooLong)
 unfolding from_line
-rest_says-long n before front bytes all long = rw (cut-front front bytes all) (by_lines (cut bytes).lines (cut bytes).rest)
+rest_says-long newest n before front bytes all long = rw (cut-front front bytes all) (by_lines (cut bytes).lines (cut bytes).rest)
   where
     over : (more : List ℕ) → is_long (front ++ more) ≡ true
     over more = let len = length-append front more in grind arith
 
-    by_lines : (lines : List (List ℕ)) (rest : List ℕ) → from_line n before (with_front front lines rest).lines (with_front front lines rest).rest ≡ Err (fault_in n LineTooLong)
+    by_lines : (lines : List (List ℕ)) (rest : List ℕ) → from_line newest n before (with_front front lines rest).lines (with_front front lines rest).rest ≡ Err (fault_in n LineTooLong)
     by_lines [] rest = rw (over rest) refl
     by_lines (line ∷ lines) rest = rw (over line) refl

@@ -1,5 +1,5 @@
 -- One record more among those that are kept, and the first ones of them.
-use Rattle.std.proofs.Common.{◌≡◌, ℕ, ◌+◌, ◌<◌, ◌≤◌, List, [], ◌∷◌, ◌++◌, length, take, drop, cond, arith, ap, sym, ◌∙◌, length-take}
+use Rattle.std.proofs.Common.{◌≡◌, ℕ, ◌+◌, ◌<◌, ◌≤◌, ◌⊎◌, refl, List, [], ◌∷◌, ◌++◌, length, take, drop, cond, arith, ap, sym, ◌∙◌, length-take}
 use Rattle.std.specs.Prelude.{is_some}
 use Rattle.std.proofs.lemmas.List.{length_push, take-append-drop}
 use Rattle.std.proofs.lemmas.List.Elements.{All-push, All-take}
@@ -7,23 +7,38 @@ use Rattle.std.proofs.lemmas.List.Sums.{sum_by_push, sum_by-append}
 use Rattle.ompt_events.specs.declared.records.Record.{Record}
 use Rattle.ompt_events.specs.Records.{made}
 use Rattle.ompt_events.specs.Limits.{max_records, max_tasks}
-use Rattle.ompt_events.specs.Traces.{IsSound, IsInRange, IsTrace, tasks_in}
+use Rattle.ompt_events.specs.Traces.{IsSoundIn, HasItsTurns, IsInRange, IsSound, IsTrace, IsTraceOf, tasks_in}
 use Rattle.certificate.specs.Keeping.{IsKept}
 
-pub IsKept-more : (rs : List Record) (r : Record) (tasks more : ℕ) → IsKept rs tasks → IsSound r.body → IsInRange r → length rs < max_records → more ≡ tasks + cond (is_some (made r.body)) 1 0 → more ≤ max_tasks → IsKept (rs ++ r ∷ []) more
-IsKept-more rs r tasks more kept sound in_range room counted few =
+pub IsKept-more : (version : ℕ) (rs : List Record) (r : Record) (tasks more : ℕ) → IsKept version rs tasks → IsSoundIn version r.body → IsInRange r → length rs < max_records → more ≡ tasks + cond (is_some (made r.body)) 1 0 → more ≤ max_tasks → IsKept version (rs ++ r ∷ []) more
+IsKept-more version rs r tasks more kept sound in_range room counted few =
     let same : tasks_in (rs ++ r ∷ []) ≡ tasks_in rs + cond (is_some (made r.body)) 1 0 = sum_by_push (λ (x : Record). cond (is_some (made x.body)) 1 0) rs r in
     record {
       trace = record {
-        few_records = omega (arith, length_push rs r, room);
-        few_tasks = omega (arith, same, counted, few, kept.counted);
-        sound = All-push (λ (x : Record). IsSound x.body) rs r kept.trace.sound sound;
-        in_range = All-push IsInRange rs r kept.trace.in_range in_range;
+        known = kept.trace.known;
+        is_trace = record {
+          few_records = omega (arith, length_push rs r, room);
+          few_tasks = omega (arith, same, counted, few, kept.counted);
+          sound = All-push (λ (x : Record). IsSound x.body) rs r kept.trace.is_trace.sound sound.0;
+          in_range = All-push IsInRange rs r kept.trace.is_trace.in_range in_range;
+        };
+        turns = All-push (λ (x : Record). HasItsTurns version x.body) rs r kept.trace.turns sound.1;
       };
       counted = counted ∙ ap (λ n. n + cond (is_some (made r.body)) 1 0) kept.counted ∙ sym same;
     }
 
-pub IsTrace-take : (n : ℕ) (rs : List Record) → IsTrace rs → IsTrace (take n rs)
+-- no record of a trace of a version that is known
+pub IsKept-none : (version : ℕ) → (version ≡ 1) ⊎ (version ≡ 2) → IsKept version [] 0
+IsKept-none version known = record {
+  trace = record {
+    known = known;
+    is_trace = record { few_records = omega arith; few_tasks = omega arith; sound = λ k d h. absurd (omega arith); in_range = λ k d h. absurd (omega arith) };
+    turns = λ k d h. absurd (omega arith);
+  };
+  counted = refl;
+}
+
+IsTrace-take : (n : ℕ) (rs : List Record) → IsTrace rs → IsTrace (take n rs)
 IsTrace-take n rs trace =
     let both : tasks_in (take n rs) + tasks_in (drop n rs) ≡ tasks_in rs = sym (sum_by-append (λ (x : Record). cond (is_some (made x.body)) 1 0) (take n rs) (drop n rs)) ∙ ap (λ (xs : List Record). tasks_in xs) (take-append-drop n rs) in
     record {
@@ -32,3 +47,10 @@ IsTrace-take n rs trace =
       sound = All-take (λ (x : Record). IsSound x.body) n rs trace.sound;
       in_range = All-take IsInRange n rs trace.in_range;
     }
+
+pub IsTraceOf-take : (version n : ℕ) (rs : List Record) → IsTraceOf version rs → IsTraceOf version (take n rs)
+IsTraceOf-take version n rs trace = record {
+  known = trace.known;
+  is_trace = IsTrace-take n rs trace.is_trace;
+  turns = All-take (λ (x : Record). HasItsTurns version x.body) n rs trace.turns;
+}

@@ -1,7 +1,7 @@
 -- Why the lines, one after another, say what each of them says.
-use Rattle.std.proofs.Common.{◌≡◌, ℕ, ◌+◌, ◌<◌, ◌≤◌, inl, inr, List, [], ◌∷◌, ◌++◌, length, take, drop, Some, None, Result, Ok, Err, true, false, cond, arith, refl, sym, ap, ◌∙◌, subst, append_assoc, append-nil, length-append}
+use Rattle.std.proofs.Common.{◌≡◌, ℕ, ◌+◌, ◌<◌, ◌≤◌, inl, inr, List, [], ◌∷◌, ◌++◌, length, take, Option, Some, None, Result, Ok, Err, true, false, cond, arith, refl, sym, ap, ◌∙◌, subst, append_assoc, append-nil, length-append}
 use Rattle.std.specs.Prelude.{nat_lt, ◌==◌, slice_get}
-use Rattle.std.specs.Result.{result_ok, result_err, result_map_both}
+use Rattle.std.specs.Result.{result_ok, result_err, result_unwrap_or}
 use Rattle.std.specs.List.{filter_map}
 use Rattle.std.proofs.Math.Seq.{take-append_seam}
 use Rattle.std.proofs.lemmas.Bool.{cases_lt}
@@ -13,24 +13,24 @@ use Rattle.ompt_events.specs.Traces.{TraceView}
 use Rattle.certificate.specs.declared.faults.ReadCause.{ReadCause}
 use Rattle.certificate.specs.declared.faults.ReadCause.TheVariants.{LineTooLong, Unended, Header, Limit}
 use Rattle.certificate.specs.declared.faults.ReadFault.{ReadFault}
-use Rattle.certificate.specs.RecordLines.{line_says, header_says, is_header}
-use Rattle.certificate.specs.Files.{cut, with_byte, rest_says, is_long, has_room, with_record, with_header, text_adds, line_adds, end_adds, from_line, go_on, fault_in, file_says, records_said, records_of, records_before, cause_in, line_feeds, trace_of, StandsFor, IsFaultlessBefore, IsFirstFault}
+use Rattle.certificate.specs.RecordLines.{line_says, header_says}
+use Rattle.certificate.specs.Files.{cut, with_byte, rest_says, is_long, has_room, no_trace, with_record, with_header, text_adds, line_adds, end_adds, from_line, go_on, fault_in, fault_of, file_says_to, trace_said, records_of, version_of, cause_in, line_feeds, trace_of, StandsFor, IsFaultlessBefore, IsFirstFault}
 use Rattle.certificate.proofs.RecordLemmas.{ok_not_err}
 
 -- what is said from place k on
-abbrev Walked : List (List ℕ) → List ℕ → ℕ → Result (List Record) ReadFault → Type 0
-Walked all rest k (Ok rs) = ((j : ℕ) → k ≤ j → j ≤ length all → cause_in all rest j ≡ None) × (rs ≡ records_of (drop 1 all))
-Walked all rest k (Err f) = (j : ℕ) × (f.line ≡ j + 1) × (k ≤ j) × (j ≤ length all) × (cause_in all rest j ≡ Some f.cause) × ((i : ℕ) → k ≤ i → i < j → cause_in all rest i ≡ None)
+abbrev Walked : ℕ → List (List ℕ) → List ℕ → ℕ → Result TraceView ReadFault → Type 0
+Walked newest all rest k (Ok rs) = ((j : ℕ) → k ≤ j → j ≤ length all → cause_in newest all rest j ≡ None) × (rs ≡ trace_of newest all)
+Walked newest all rest k (Err f) = (j : ℕ) × (f.line ≡ j + 1) × (k ≤ j) × (j ≤ length all) × (cause_in newest all rest j ≡ Some f.cause) × ((i : ℕ) → k ≤ i → i < j → cause_in newest all rest i ≡ None)
 
-Walked-back : (all : List (List ℕ)) (rest : List ℕ) (k : ℕ) (said : Result (List Record) ReadFault) → cause_in all rest k ≡ None → Walked all rest (k + 1) said → Walked all rest k said
-Walked-back all rest k (Ok rs) none walked = (
+Walked-back : (newest : ℕ) (all : List (List ℕ)) (rest : List ℕ) (k : ℕ) (said : Result TraceView ReadFault) → cause_in newest all rest k ≡ None → Walked newest all rest (k + 1) said → Walked newest all rest k said
+Walked-back newest all rest k (Ok rs) none walked = (
   (λ j low high. elim (cases_lt k j) [
     | inl more ↦ walked.0 j (omega arith) high
-    | inr same ↦ let is : j ≡ k = omega arith in ap (cause_in all rest) is ∙ none
+    | inr same ↦ let is : j ≡ k = omega arith in ap (cause_in newest all rest) is ∙ none
   ]),
   walked.1,
 )
-Walked-back all rest k (Err f) none walked = (
+Walked-back newest all rest k (Err f) none walked = (
   walked.0,
   walked.1,
   omega (arith, walked.2),
@@ -38,18 +38,18 @@ Walked-back all rest k (Err f) none walked = (
   walked.4,
   λ i low high. elim (cases_lt k i) [
     | inl more ↦ walked.5 i (omega arith) high
-    | inr same ↦ let is : i ≡ k = omega arith in ap (cause_in all rest) is ∙ none
+    | inr same ↦ let is : i ≡ k = omega arith in ap (cause_in newest all rest) is ∙ none
   ],
 )
 
-Walked-fault : (all : List (List ℕ)) (rest : List ℕ) (k : ℕ) (e : ReadCause) → k ≤ length all → cause_in all rest k ≡ Some e → Walked all rest k (Err (fault_in (k + 1) e))
-Walked-fault all rest k e within has = (k, refl, omega arith, within, has, λ i low high. absurd (omega arith))
+Walked-fault : (newest : ℕ) (all : List (List ℕ)) (rest : List ℕ) (k : ℕ) (e : ReadCause) → k ≤ length all → cause_in newest all rest k ≡ Some e → Walked newest all rest k (Err (fault_in (k + 1) e))
+Walked-fault newest all rest k e within has = (k, refl, omega arith, within, has, λ i low high. absurd (omega arith))
 
 slice_get-seam : (done : List (List ℕ)) (line : List ℕ) (lines : List (List ℕ)) → slice_get (done ++ (line ∷ lines)) (length done) ≡ Some line
 slice_get-seam [] line lines = refl
 slice_get-seam (d ∷ done) line lines = slice_get-seam done line lines
 
-end_adds-ok : (n : ℕ) (before rs : List Record) (rest : List ℕ) → end_adds n before rest ≡ Ok rs → rs ≡ before
+end_adds-ok : (n : ℕ) (before rs : TraceView) (rest : List ℕ) → end_adds n before rest ≡ Ok rs → rs ≡ before
 end_adds-ok n before rs rest h =
     elim (is_long rest) as (λ b. cond b (Err LineTooLong) (cond (nat_lt 0 (length rest)) (Err Unended) (cond (n == 1) (Err Header) (Ok before))) ≡ Ok rs → rs ≡ before) [
       | true ↦ λ e. absurd (ok_not_err rs LineTooLong (sym e))
@@ -65,99 +65,106 @@ end_adds-ok n before rs rest h =
     ] h
 
 -- the records of the lines so far, and of one more
-records_of-more : (done : List (List ℕ)) (before after : List Record) (line : List ℕ) → before ≡ records_of (drop 1 done) → line_adds (length done + 1) before line ≡ Ok after → after ≡ records_of (drop 1 (done ++ (line ∷ [])))
-records_of-more done before after line is h =
-    elim (is_long line) as (λ b. cond b (Err LineTooLong) (text_adds (length done + 1) before line) ≡ Ok after → after ≡ records_of (drop 1 (done ++ (line ∷ [])))) [
+records_of-more : (newest : ℕ) (done : List (List ℕ)) (before after : TraceView) (line : List ℕ) → before ≡ trace_of newest done → line_adds newest (length done + 1) before line ≡ Ok after → after ≡ trace_of newest (done ++ (line ∷ []))
+records_of-more newest done before after line is h =
+    elim (is_long line) as (λ b. cond b (Err LineTooLong) (text_adds newest (length done + 1) before line) ≡ Ok after → after ≡ trace_of newest (done ++ (line ∷ []))) [
       | true ↦ λ e. absurd (ok_not_err after LineTooLong (sym e))
       | false ↦ λ e. by_done done is e
     ] h
   where
-    by_record : (before : List Record) (o : Result Record ReadCause) → with_record before o ≡ Ok after → after ≡ before ++ (filter_map (λ (x : Result Record ReadCause). result_ok x) (o ∷ []))
+    one_more : TraceView → TraceView
+    one_more b = record { version = b.version; records = b.records ++ records_of b.version (line ∷ []) }
+
+    by_record : (before : TraceView) (o : Result Record ReadCause) → with_record before o ≡ Ok after → after ≡ record { version = before.version; records = before.records ++ (filter_map (λ (x : Result Record ReadCause). result_ok x) (o ∷ [])) }
     by_record before (Err e) h = absurd (ok_not_err after e (sym h))
     by_record before (Ok r) h =
-        elim (has_room before r) as (λ b. cond b (Ok (before ++ r ∷ [])) (Err Limit) ≡ Ok after → after ≡ before ++ r ∷ []) [
+        let more : TraceView = record { version = before.version; records = before.records ++ r ∷ [] } in
+        elim (has_room before.records r) as (λ b. cond b (Ok more) (Err Limit) ≡ Ok after → after ≡ more) [
           | true ↦ λ e. cc
           | false ↦ λ e. absurd (ok_not_err after Limit (sym e))
         ] h
 
-    by_header : (before : List Record) → with_header before (header_says line) ≡ Ok after → after ≡ before
-    by_header before h =
-        elim (is_header line) as (λ b. with_header before (cond b (Ok tt) (Err Header)) ≡ Ok after → after ≡ before) [
-          | true ↦ λ e. cc
-          | false ↦ λ e. absurd (ok_not_err after Header (sym e))
-        ] h
+    by_header : (o : Result ℕ ReadCause) → with_header o ≡ Ok after → after ≡ record { version = result_unwrap_or o no_trace.version; records = [] }
+    by_header (Err e) h = absurd (ok_not_err after e (sym h))
+    by_header (Ok version) h = cc
 
-    by_done : (done : List (List ℕ)) → before ≡ records_of (drop 1 done) → text_adds (length done + 1) before line ≡ Ok after → after ≡ records_of (drop 1 (done ++ (line ∷ [])))
-    by_done [] is e = by_header before e ∙ is
+    by_done : (done : List (List ℕ)) → before ≡ trace_of newest done → text_adds newest (length done + 1) before line ≡ Ok after → after ≡ trace_of newest (done ++ (line ∷ []))
+    by_done [] is e = by_header (header_says newest line) e
     by_done (d ∷ done) is e =
         let later : (length (d ∷ done) + 1 == 1) ≡ false = grind arith in
-        by_record before (line_says line) (rw later at e) ∙ ap (λ rs. rs ++ records_of (line ∷ [])) is ∙ sym (filter_map-append (λ l. result_ok (line_says l)) done (line ∷ []))
+        let version = version_of newest (d ∷ done) in
+        by_record before (line_says before.version line) (rw later at e) ∙ ap one_more is
+        ∙ ap (λ (rs : List Record). let grown : TraceView = record { version = version; records = rs } in grown) (sym (filter_map-append (λ l. result_ok (line_says version l)) done (line ∷ [])))
 
 -- the walk goes over each line once
-walk : (all : List (List ℕ)) (rest : List ℕ) (lines done : List (List ℕ)) (before : List Record) → all ≡ done ++ lines → before ≡ records_of (drop 1 done) → Walked all rest (length done) (from_line (length done + 1) before lines rest)
+walk : (newest : ℕ) (all : List (List ℕ)) (rest : List ℕ) (lines done : List (List ℕ)) (before : TraceView) → all ≡ done ++ lines → before ≡ trace_of newest done → Walked newest all rest (length done) (from_line newest (length done + 1) before lines rest)
 unfolding from_line
-walk all rest [] done before whole is = by_end (end_adds (length done + 1) before rest) refl
+walk newest all rest [] done before whole is = by_end (end_adds (length done + 1) before rest) refl
   where
     same : all ≡ done
     same = whole ∙ append-nil done
 
-    at : cause_in all rest (length done) ≡ result_err (end_adds (length done + 1) before rest)
-    at =
-        let past : slice_get all (length done) ≡ None = slice_get_past all (length done) (omega (arith, ap length same)) in
-        let front : records_before all (length done) ≡ before = ap (λ ls. records_of (drop 1 (take (length done) ls))) whole ∙ ap (λ ls. records_of (drop 1 ls)) (take-append_seam done []) ∙ sym is in
-        rw (past, front)
+    front : trace_of newest (take (length done) all) ≡ before
+    front = ap (λ ls. trace_of newest (take (length done) ls)) whole ∙ ap (trace_of newest) (take-append_seam done []) ∙ sym is
 
-    by_end : (r : Result (List Record) ReadCause) → end_adds (length done + 1) before rest ≡ r → Walked all rest (length done) (go_on (length done + 1) r Ok)
-    by_end (Ok rs) e = (
-      (λ j low high. let here : j ≡ length done = omega (arith, ap length same) in ap (cause_in all rest) here ∙ at ∙ ap result_err e),
-      end_adds-ok (length done + 1) before rs rest e ∙ is ∙ ap (λ ls. records_of (drop 1 ls)) (sym same),
-    )
-    by_end (Err cause) e = Walked-fault all rest (length done) cause (omega (arith, ap length same)) (at ∙ ap result_err e)
-walk all rest (line ∷ lines) done before whole is =
-    by_line (line_adds (length done + 1) before line) refl (λ after e. walk all rest lines (done ++ (line ∷ [])) after (whole ∙ sym (append_assoc done (line ∷ []) lines)) (records_of-more done before after line is e))
-  where
-    at : cause_in all rest (length done) ≡ result_err (line_adds (length done + 1) before line)
+    at : cause_in newest all rest (length done) ≡ result_err (end_adds (length done + 1) before rest)
     at =
-        let here : slice_get all (length done) ≡ Some line = ap (λ ls. slice_get ls (length done)) whole ∙ slice_get-seam done line lines in
-        let front : records_before all (length done) ≡ before = ap (λ ls. records_of (drop 1 (take (length done) ls))) whole ∙ ap (λ ls. records_of (drop 1 ls)) (take-append_seam done (line ∷ lines)) ∙ sym is in
-        rw (here, front)
+        ap (λ (t : TraceView). fault_of newest t (length done) rest (slice_get all (length done))) front
+        ∙ ap (λ (o : Option (List ℕ)). fault_of newest before (length done) rest o) (slice_get_past all (length done) (omega (arith, ap length same)))
+
+    by_end : (r : Result TraceView ReadCause) → end_adds (length done + 1) before rest ≡ r → Walked newest all rest (length done) (go_on (length done + 1) r Ok)
+    by_end (Ok rs) e = (
+      (λ j low high. let here : j ≡ length done = omega (arith, ap length same) in ap (cause_in newest all rest) here ∙ at ∙ ap result_err e),
+      end_adds-ok (length done + 1) before rs rest e ∙ is ∙ ap (trace_of newest) (sym same),
+    )
+    by_end (Err cause) e = Walked-fault newest all rest (length done) cause (omega (arith, ap length same)) (at ∙ ap result_err e)
+walk newest all rest (line ∷ lines) done before whole is =
+    by_line (line_adds newest (length done + 1) before line) refl (λ after e. walk newest all rest lines (done ++ (line ∷ [])) after (whole ∙ sym (append_assoc done (line ∷ []) lines)) (records_of-more newest done before after line is e))
+  where
+    front : trace_of newest (take (length done) all) ≡ before
+    front = ap (λ ls. trace_of newest (take (length done) ls)) whole ∙ ap (trace_of newest) (take-append_seam done (line ∷ lines)) ∙ sym is
+
+    at : cause_in newest all rest (length done) ≡ result_err (line_adds newest (length done + 1) before line)
+    at =
+        ap (λ (t : TraceView). fault_of newest t (length done) rest (slice_get all (length done))) front
+        ∙ ap (λ (o : Option (List ℕ)). fault_of newest before (length done) rest o) (ap (λ ls. slice_get ls (length done)) whole ∙ slice_get-seam done line lines)
 
     one_more : length (done ++ (line ∷ [])) ≡ length done + 1
     one_more = length-append done (line ∷ [])
 
-    by_line : (r : Result (List Record) ReadCause) → line_adds (length done + 1) before line ≡ r
-        → ((after : List Record) → line_adds (length done + 1) before line ≡ Ok after → Walked all rest (length (done ++ (line ∷ []))) (from_line (length (done ++ (line ∷ [])) + 1) after lines rest))
-        → Walked all rest (length done) (go_on (length done + 1) r (λ rs. from_line (length done + 1 + 1) rs lines rest))
-    by_line (Err cause) e later = Walked-fault all rest (length done) cause (omega (arith, ap length whole, length-append done (line ∷ lines))) (at ∙ ap result_err e)
+    by_line : (r : Result TraceView ReadCause) → line_adds newest (length done + 1) before line ≡ r
+        → ((after : TraceView) → line_adds newest (length done + 1) before line ≡ Ok after → Walked newest all rest (length (done ++ (line ∷ []))) (from_line newest (length (done ++ (line ∷ [])) + 1) after lines rest))
+        → Walked newest all rest (length done) (go_on (length done + 1) r (λ rs. from_line newest (length done + 1 + 1) rs lines rest))
+    by_line (Err cause) e later = Walked-fault newest all rest (length done) cause (omega (arith, ap length whole, length-append done (line ∷ lines))) (at ∙ ap result_err e)
     by_line (Ok after) e later =
-        Walked-back all rest (length done) _ (at ∙ ap result_err e) (subst (λ (n : ℕ). Walked all rest n (from_line (n + 1) after lines rest)) one_more (later after e))
+        Walked-back newest all rest (length done) _ (at ∙ ap result_err e) (subst (λ (n : ℕ). Walked newest all rest n (from_line newest (n + 1) after lines rest)) one_more (later after e))
 
-walk_file : (bytes : List ℕ) → Walked (cut bytes).lines (cut bytes).rest 0 (records_said bytes)
-walk_file bytes = walk (cut bytes).lines (cut bytes).rest (cut bytes).lines [] [] refl refl
+walk_file : (newest : ℕ) (bytes : List ℕ) → Walked newest (cut bytes).lines (cut bytes).rest 0 (trace_said newest bytes)
+walk_file newest bytes = walk newest (cut bytes).lines (cut bytes).rest (cut bytes).lines [] no_trace refl refl
 
 -- ---- the laws
 
-pub said_stands : (bytes : List ℕ) (rs : List Record) → records_said bytes ≡ Ok rs → StandsFor bytes (trace_of rs)
-said_stands bytes rs e =
-    let walked : Walked (cut bytes).lines (cut bytes).rest 0 (Ok rs) = subst (λ (said : Result (List Record) ReadFault). Walked (cut bytes).lines (cut bytes).rest 0 said) e (walk_file bytes) in
+pub said_stands : (newest : ℕ) (bytes : List ℕ) (trace : TraceView) → trace_said newest bytes ≡ Ok trace → StandsFor newest bytes trace
+said_stands newest bytes trace e =
+    let walked : Walked newest (cut bytes).lines (cut bytes).rest 0 (Ok trace) = subst (λ (said : Result TraceView ReadFault). Walked newest (cut bytes).lines (cut bytes).rest 0 said) e (walk_file newest bytes) in
     record { no_fault = λ k within. walked.0 k (omega arith) within; each = walked.1 }
 
-pub said_first : (bytes : List ℕ) (f : ReadFault) → records_said bytes ≡ Err f → IsFirstFault bytes f
-said_first bytes f e =
-    let walked : Walked (cut bytes).lines (cut bytes).rest 0 (Err f) = subst (λ (said : Result (List Record) ReadFault). Walked (cut bytes).lines (cut bytes).rest 0 said) e (walk_file bytes) in
+pub said_first : (newest : ℕ) (bytes : List ℕ) (f : ReadFault) → trace_said newest bytes ≡ Err f → IsFirstFault newest bytes f
+said_first newest bytes f e =
+    let walked : Walked newest (cut bytes).lines (cut bytes).rest 0 (Err f) = subst (λ (said : Result TraceView ReadFault). Walked newest (cut bytes).lines (cut bytes).rest 0 said) e (walk_file newest bytes) in
     record { place = walked.0; line = walked.1; within = walked.3; has = walked.4; earlier = λ k below. walked.5 k (omega arith) (omega (arith, walked.1)) }
 
 same_fault : (f f' : ReadFault) → f'.line ≡ f.line → f'.cause ≡ f.cause → f' ≡ f
 same_fault f f' line cause = ap (λ n. fault_in n f'.cause) line ∙ ap (λ e. fault_in f.line e) cause
 
-first_said : (bytes : List ℕ) (f : ReadFault) → IsFirstFault bytes f → records_said bytes ≡ Err f
-first_said bytes f fault = by_said (records_said bytes) refl
+first_said : (newest : ℕ) (bytes : List ℕ) (f : ReadFault) → IsFirstFault newest bytes f → trace_said newest bytes ≡ Err f
+first_said newest bytes f fault = by_said (trace_said newest bytes) refl
   where
-    by_said : (said : Result (List Record) ReadFault) → records_said bytes ≡ said → said ≡ Err f
+    by_said : (said : Result TraceView ReadFault) → trace_said newest bytes ≡ said → said ≡ Err f
     by_said (Ok rs) e =
-        absurd (let none : None ≡ Some f.cause = sym ((said_stands bytes rs e).no_fault fault.place fault.within) ∙ fault.has in cc)
+        absurd (let none : None ≡ Some f.cause = sym ((said_stands newest bytes rs e).no_fault fault.place fault.within) ∙ fault.has in cc)
     by_said (Err f') e =
-        let other = said_first bytes f' e in
+        let other = said_first newest bytes f' e in
         elim (cases_lt other.place fault.place) [
           | inl before ↦ absurd (let none : None ≡ Some f'.cause = sym (fault.earlier other.place (omega (arith, before, fault.line))) ∙ other.has in cc)
           | inr not_before ↦ elim (cases_lt fault.place other.place) [
@@ -165,63 +172,55 @@ first_said bytes f fault = by_said (records_said bytes) refl
             | inr not_after ↦
                 let same : other.place ≡ fault.place = omega arith in
                 let line : f'.line ≡ f.line = other.line ∙ ap (λ n. n + 1) same ∙ sym fault.line in
-                let cause : f'.cause ≡ f.cause = (let both : Some f'.cause ≡ Some f.cause = sym other.has ∙ ap (cause_in (cut bytes).lines (cut bytes).rest) same ∙ fault.has in cc) in
+                let cause : f'.cause ≡ f.cause = (let both : Some f'.cause ≡ Some f.cause = sym other.has ∙ ap (cause_in newest (cut bytes).lines (cut bytes).rest) same ∙ fault.has in cc) in
                 ap Err (same_fault f f' line cause)
           ]
         ]
 
-stands_said : (bytes : List ℕ) (trace : TraceView) → StandsFor bytes trace → records_said bytes ≡ Ok trace.records
-stands_said bytes trace stands = by_said (records_said bytes) refl
+stands_said : (newest : ℕ) (bytes : List ℕ) (trace : TraceView) → StandsFor newest bytes trace → trace_said newest bytes ≡ Ok trace
+stands_said newest bytes trace stands = by_said (trace_said newest bytes) refl
   where
-    by_said : (said : Result (List Record) ReadFault) → records_said bytes ≡ said → said ≡ Ok trace.records
-    by_said (Ok rs') e = ap Ok ((said_stands bytes rs' e).each ∙ sym stands.each)
+    by_said : (said : Result TraceView ReadFault) → trace_said newest bytes ≡ said → said ≡ Ok trace
+    by_said (Ok other) e = ap Ok ((said_stands newest bytes other e).each ∙ sym stands.each)
     by_said (Err f) e =
-        let fault = said_first bytes f e in
+        let fault = said_first newest bytes f e in
         absurd (let none : None ≡ Some f.cause = sym (stands.no_fault fault.place fault.within) ∙ fault.has in cc)
 
--- ---- the same of the trace of the records
+-- ---- the same of what a file says
 
 fault_not_ok : {X : Type 0} (x : X) (f : ReadFault) → ◌≡◌ {A = Result X ReadFault} (Ok x) (Err f) → ⊥
 fault_not_ok x f h = cc
 
-said_of_trace : (said : Result (List Record) ReadFault) (trace : TraceView) → result_map_both trace_of (λ fault. fault) said ≡ Ok trace → said ≡ Ok trace.records
-said_of_trace (Ok rs) trace e = let same : trace_of rs ≡ trace = cc in ap (λ (t : TraceView). Ok t.records) same
-said_of_trace (Err f) trace e = absurd (fault_not_ok trace f (sym e))
+pub stands_for : (newest : ℕ) (bytes : List ℕ) (trace : TraceView) → file_says_to newest bytes ≡ Ok trace → StandsFor newest bytes trace
+unfolding file_says_to
+stands_for newest bytes trace e = said_stands newest bytes trace e
 
-said_of_fault : (said : Result (List Record) ReadFault) (f : ReadFault) → result_map_both trace_of (λ fault. fault) said ≡ Err f → said ≡ Err f
-said_of_fault (Ok rs) f e = absurd (fault_not_ok (trace_of rs) f e)
-said_of_fault (Err f') f e = let same : f' ≡ f = cc in ap Err same
+pub said_of_stands : (newest : ℕ) (bytes : List ℕ) (trace : TraceView) → StandsFor newest bytes trace → file_says_to newest bytes ≡ Ok trace
+unfolding file_says_to
+said_of_stands newest bytes trace stands = stands_said newest bytes trace stands
 
-pub stands_for : (bytes : List ℕ) (trace : TraceView) → file_says bytes ≡ Ok trace → StandsFor bytes trace
-unfolding file_says
-stands_for bytes trace e = said_stands bytes trace.records (said_of_trace (records_said bytes) trace e)
+pub first_fault : (newest : ℕ) (bytes : List ℕ) (f : ReadFault) → file_says_to newest bytes ≡ Err f → IsFirstFault newest bytes f
+unfolding file_says_to
+first_fault newest bytes f e = said_first newest bytes f e
 
-pub said_of_stands : (bytes : List ℕ) (trace : TraceView) → StandsFor bytes trace → file_says bytes ≡ Ok trace
-unfolding file_says
-said_of_stands bytes trace stands = ap (result_map_both trace_of (λ fault. fault)) (stands_said bytes trace stands)
-
-pub first_fault : (bytes : List ℕ) (f : ReadFault) → file_says bytes ≡ Err f → IsFirstFault bytes f
-unfolding file_says
-first_fault bytes f e = said_first bytes f (said_of_fault (records_said bytes) f e)
-
-pub said_of_first : (bytes : List ℕ) (f : ReadFault) → IsFirstFault bytes f → file_says bytes ≡ Err f
-unfolding file_says
-said_of_first bytes f fault = ap (result_map_both trace_of (λ fault. fault)) (first_said bytes f fault)
+pub said_of_first : (newest : ℕ) (bytes : List ℕ) (f : ReadFault) → IsFirstFault newest bytes f → file_says_to newest bytes ≡ Err f
+unfolding file_says_to
+said_of_first newest bytes f fault = first_said newest bytes f fault
 
 -- ---- lines that were read before have no fault
 
 -- a fault from line n on is of that line or a later one
-said_later : (n : ℕ) (before : List Record) (lines : List (List ℕ)) (rest : List ℕ) (f : ReadFault) → from_line n before lines rest ≡ Err f → n ≤ f.line
+said_later : (newest : ℕ) (n : ℕ) (before : TraceView) (lines : List (List ℕ)) (rest : List ℕ) (f : ReadFault) → from_line newest n before lines rest ≡ Err f → n ≤ f.line
 unfolding from_line
-said_later n before [] rest f e = by_step (end_adds n before rest) Ok e (λ rs more. absurd (fault_not_ok rs f more))
+said_later newest n before [] rest f e = by_step (end_adds n before rest) Ok e (λ rs more. absurd (fault_not_ok rs f more))
   where
-    by_step : (r : Result (List Record) ReadCause) (next : List Record → Result (List Record) ReadFault) → go_on n r next ≡ Err f → ((rs : List Record) → next rs ≡ Err f → n ≤ f.line) → n ≤ f.line
+    by_step : (r : Result TraceView ReadCause) (next : TraceView → Result TraceView ReadFault) → go_on n r next ≡ Err f → ((rs : TraceView) → next rs ≡ Err f → n ≤ f.line) → n ≤ f.line
     by_step (Err cause) next e later = let same : fault_in n cause ≡ f = cc in omega (arith, ap (λ (g : ReadFault). g.line) same)
     by_step (Ok rs) next e later = later rs e
-said_later n before (line ∷ lines) rest f e =
-    by_step (line_adds n before line) (λ rs. from_line (n + 1) rs lines rest) e (λ rs more. let low = said_later (n + 1) rs lines rest f more in omega arith)
+said_later newest n before (line ∷ lines) rest f e =
+    by_step (line_adds newest n before line) (λ rs. from_line newest (n + 1) rs lines rest) e (λ rs more. let low = said_later newest (n + 1) rs lines rest f more in omega arith)
   where
-    by_step : (r : Result (List Record) ReadCause) (next : List Record → Result (List Record) ReadFault) → go_on n r next ≡ Err f → ((rs : List Record) → next rs ≡ Err f → n ≤ f.line) → n ≤ f.line
+    by_step : (r : Result TraceView ReadCause) (next : TraceView → Result TraceView ReadFault) → go_on n r next ≡ Err f → ((rs : TraceView) → next rs ≡ Err f → n ≤ f.line) → n ≤ f.line
     by_step (Err cause) next e later = let same : fault_in n cause ≡ f = cc in omega (arith, ap (λ (g : ReadFault). g.line) same)
     by_step (Ok rs) next e later = later rs e
 
@@ -239,9 +238,9 @@ line_feeds-lines (b ∷ bytes) =
     by_lines [] rest = refl
     by_lines (line ∷ lines) rest = refl
 
-pub faultless-before : (bytes : List ℕ) (n : ℕ) (kept : List Record) (more : List ℕ) → records_said bytes ≡ rest_says n kept more → n ≤ line_feeds bytes + 1 → IsFaultlessBefore n bytes
-faultless-before bytes n kept more is within = by_said (records_said bytes) refl
+pub faultless-before : (newest : ℕ) (bytes : List ℕ) (n : ℕ) (kept : TraceView) (more : List ℕ) → trace_said newest bytes ≡ rest_says newest n kept more → n ≤ line_feeds bytes + 1 → IsFaultlessBefore newest n bytes
+faultless-before newest bytes n kept more is within = by_said (trace_said newest bytes) refl
   where
-    by_said : (said : Result (List Record) ReadFault) → records_said bytes ≡ said → IsFaultlessBefore n bytes
-    by_said (Ok rs) e = λ k below. (said_stands bytes rs e).no_fault k (omega (arith, below, within, line_feeds-lines bytes))
-    by_said (Err f) e = λ k below. (said_first bytes f e).earlier k (omega (arith, below, said_later n kept (cut more).lines (cut more).rest f (sym is ∙ e)))
+    by_said : (said : Result TraceView ReadFault) → trace_said newest bytes ≡ said → IsFaultlessBefore newest n bytes
+    by_said (Ok rs) e = λ k below. (said_stands newest bytes rs e).no_fault k (omega (arith, below, within, line_feeds-lines bytes))
+    by_said (Err f) e = λ k below. (said_first newest bytes f e).earlier k (omega (arith, below, said_later newest n kept (cut more).lines (cut more).rest f (sym is ∙ e)))

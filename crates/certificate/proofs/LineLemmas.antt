@@ -1,15 +1,16 @@
 -- The line of each record is plain and short, within the reader's bounds, and says the record.
-use Rattle.std.proofs.Common.{◌≡◌, ℕ, get_or, Ok, Err, ◌+◌, ◌≤◌, length, ◌<◌, ◌^◌, Bool, cond, map, arith, Option, Some, None, List, [], ◌∷◌, true, false, refl, ap, ◌∙◌}
-use Rattle.std.specs.Prelude.{IfSome, All}
+use Rattle.std.proofs.Common.{◌≡◌, ℕ, get_or, Ok, Err, ◌+◌, ◌≤◌, length, ◌<◌, ◌^◌, Bool, cond, map, arith, Option, Some, None, List, [], ◌∷◌, ◌++◌, ◌⊎◌, inl, inr, true, false, refl, ap, ◌∙◌}
+use Rattle.std.specs.Prelude.{IfSome, All, ok_or, option_and_then}
 use Rattle.std.specs.List.{AllByRecursion, list_all}
 use Rattle.std.specs.Option.{option_map_or}
 use Rattle.std.proofs.lemmas.Bool.{lt-ltb, le-leb}
 use Rattle.bitflags.specs.Sets.{Row}
-use Rattle.serde_json.specs.Data.{string}
+use Rattle.serde_json.specs.Data.{Data, string}
 use Rattle.serde_json.specs.View.{items_of}
 use Rattle.ompt_events.specs.declared.deps.Dep.{Dep}
 use Rattle.ompt_events.specs.declared.records.Record.{Record}
 use Rattle.ompt_events.specs.declared.records.Claim.{Claim}
+use Rattle.ompt_events.specs.declared.records.Turns.{Turns}
 use Rattle.ompt_events.specs.declared.records.Body.{Body}
 use Rattle.ompt_events.specs.declared.records.Body.TheVariants.{ThreadBegin, ThreadEnd, ParallelBegin, ParallelEnd, ImplicitTask, TaskCreate, Dependences, TaskSchedule, SyncRegion}
 use Rattle.ompt_events.specs.declared.records.Body.TheVariants as body
@@ -26,15 +27,15 @@ use Rattle.ompt_events.specs.declared.names.ThreadKind.TheVariants.{Initial, Wor
 use Rattle.ompt_events.specs.Names.{status_name, endpoint_name, sync_kind_name, dep_kind_name, thread_kind_name}
 use Rattle.ompt_events.specs.Flags.{task_flags, cancel_flags, has_flag}
 use Rattle.ompt_events.specs.Limits.{max_threads, max_depth, max_dependences}
-use Rattle.ompt_events.specs.Traces.{IsTrace, IsSound, ClaimInRange, BodyInRange, IsInRange}
+use Rattle.ompt_events.specs.Traces.{TraceView, IsTraceOf, IsSound, IsSoundIn, ClaimInRange, TurnsInRange, BodyInRange, IsInRange}
 use Rattle.certificate.specs.declared.faults.ReadCause.TheVariants.{Header, Limit}
 use Rattle.certificate.specs.Limits.{max_line}
-use Rattle.certificate.specs.RecordLines.{bounded, is_short, claim_fits, body_fits, record_fits, line_says, header_says, names_format, said_of}
-use Rattle.certificate.specs.Texts.{ended, with_member, whole_number, data_of, number_or_null, flag_names, dep_data, claim_members, body_members, record_members, line_of, header_members, header_data, header_line}
-use Rattle.certificate.specs.Files.{records_said}
+use Rattle.certificate.specs.RecordLines.{bounded, is_short, claim_fits, turns_fit, body_fits, record_fits, line_says, header_says, version_in, said_of}
+use Rattle.certificate.specs.Texts.{with_member, whole_number, data_of, number_or_null, flag_names, dep_data, claim_members, turn_members, body_members, record_members, line_of, header_members, header_data, header_line, trace_text}
+use Rattle.certificate.specs.Files.{trace_said}
 use Rattle.certificate.proofs.JsonLemmas.{is_plain_text, IsPlain, ArePlain, size, items_size, value_of-compact_text, unbroken-compact_text, length-compact_text}
 use Rattle.certificate.proofs.ObjectLemmas.{IsPlainMember, IsPlain-object_of, added_size, size-object_of}
-use Rattle.certificate.proofs.TextLemmas.{AllByRecursion-from, records_said-trace, IsLineOf-plain, items_size-items_of, items_size-wholes, ArePlain-items_of, ArePlain-wholes}
+use Rattle.certificate.proofs.TextLemmas.{AllByRecursion-from, trace_said-trace, IsLineOf-plain, items_size-items_of, items_size-wholes, ArePlain-items_of, ArePlain-wholes}
 use Rattle.certificate.proofs.SaysLemmas.{Says-sound}
 use Rattle.certificate.specs.MemberNames as member
 
@@ -103,6 +104,10 @@ plain-claim : (share : Option Claim) → IfSome share ClaimInRange → AllByRecu
 plain-claim None h = tt
 plain-claim (Some c) h = ((refl, omega (arith, h.0)), ((refl, h.1), ((refl, ArePlain-wholes c.path 1 (AllByRecursion-from _ c.path (λ k d l. omega (arith, h.2 k d l)))), tt)))
 
+plain-turns : (turns : Option Turns) (share : Option Claim) → IfSome turns TurnsInRange → AllByRecursion (IsPlainMember 2) (claim_members share) → AllByRecursion (IsPlainMember 2) (turn_members turns ++ claim_members share)
+plain-turns None share h rest = rest
+plain-turns (Some t) share h rest = ((refl, omega (arith, h.0)), ((refl, omega (arith, h.1)), rest))
+
 plain-dep : (d : Dep) → d.var < 2 ^ 64 → IsPlain (dep_data d) 1
 plain-dep d h = IsPlain-object_of ((member.type, string (dep_kind_name d.kind)) ∷ (member.var, whole_number d.var) ∷ []) 0 ((refl, plain-dep_kind d.kind), ((refl, h), tt))
 
@@ -120,7 +125,7 @@ plain-body (ImplicitTask endpoint actual index flags parallel task) h = (
 )
 plain-body (TaskCreate deps flags task child) h = ((refl, refl), ((refl, tt), ((refl, plain-task_flags flags.0 1), ((refl, h.0), ((refl, h.1), tt)))))
 plain-body (Dependences task list) h = ((refl, refl), ((refl, h.0), ((refl, plain-deps list h.1), tt)))
-plain-body (TaskSchedule status turns prior next share) h = ((refl, refl), ((refl, plain-status status), ((refl, h.0), ((refl, plain-number_or_null next 2 h.1), plain-claim share h.2))))
+plain-body (TaskSchedule status turns prior next share) h = ((refl, refl), ((refl, plain-status status), ((refl, h.1), ((refl, plain-number_or_null next 2 h.2), plain-turns turns share h.0 (plain-claim share h.3)))))
 plain-body (SyncRegion kind endpoint parallel task) h = ((refl, refl), ((refl, plain-sync_kind kind), ((refl, plain-endpoint endpoint), ((refl, plain-number_or_null parallel 2 h.0), ((refl, h.1), tt)))))
 plain-body (body.Cancel flags task share) h = ((refl, refl), ((refl, plain-cancel_flags flags.0 1), ((refl, h.0), plain-claim share h.1)))
 
@@ -197,6 +202,10 @@ size-claim : (share : Option Claim) → IfSome share (λ c. length c.path ≤ ma
 size-claim None h = omega arith
 size-claim (Some c) h = omega (arith, items_size-wholes c.path)
 
+size-turns : (turns : Option Turns) (share : Option Claim) → added_size (claim_members share) ≤ 22000 → added_size (turn_members turns ++ claim_members share) ≤ 22200
+size-turns None share h = omega arith
+size-turns (Some t) share h = omega arith
+
 size-dep : (d : Dep) → size (dep_data d) ≤ 80
 size-dep d = omega (arith, size-object_of ((member.type, string (dep_kind_name d.kind)) ∷ (member.var, whole_number d.var) ∷ []), size-dep_kind d.kind)
 
@@ -211,7 +220,7 @@ size-body (ParallelEnd task parallel) sound = omega arith
 size-body (ImplicitTask endpoint actual index flags parallel task) sound = omega (arith, size-endpoint endpoint, size-task_flags flags.0)
 size-body (TaskCreate deps flags task child) sound = omega (arith, size-task_flags flags.0)
 size-body (Dependences task list) sound = omega (arith, size-deps list sound.few_dependences)
-size-body (TaskSchedule status turns prior next share) sound = omega (arith, size-status status, size-number_or_null next, size-claim share sound.short_path)
+size-body (TaskSchedule status turns prior next share) sound = omega (arith, size-status status, size-number_or_null next, size-turns turns share (size-claim share sound.short_path))
 size-body (SyncRegion kind endpoint parallel task) sound = omega (arith, size-sync_kind kind, size-endpoint endpoint, size-number_or_null parallel)
 size-body (body.Cancel flags task share) sound = omega (arith, size-cancel_flags flags.0, size-claim share sound.short_path)
 
@@ -220,21 +229,23 @@ size-data_of r sound = omega (arith, size-object_of (record_members r), size-bod
 
 -- ---- the text of a trace
 
-header_plain : IsPlain header_data 1
-header_plain = IsPlain-object_of header_members 0 ((refl, refl), ((refl, omega arith), tt))
+header_plain : (version : ℕ) → version ≤ 2 → IsPlain (header_data version) 1
+header_plain version few = IsPlain-object_of (header_members version) 0 ((refl, refl), ((refl, omega (arith, few)), tt))
 
-header_says-header_line : header_says header_line ≡ Ok tt
+header_says-header_line : (newest version : ℕ) → 1 ≤ version → version ≤ 2 → version ≤ newest → header_says newest (header_line version) ≡ Ok version
 unfolding with_member
-header_says-header_line = ap (λ o. cond (option_map_or names_format o false) (Ok tt) (Err Header)) (value_of-compact_text header_data 1 header_plain (omega arith))
+header_says-header_line newest version low few known =
+    ap (λ (o : Option Data). ok_or (option_and_then (version_in newest) o) Header) (value_of-compact_text (header_data version) 1 (header_plain version few) (omega arith))
+    ∙ rw (le-leb 1 version low, le-leb version newest known) refl
 
-header_short : length header_line ≤ max_line
-header_short = omega (arith, length-compact_text header_data 1 header_plain, size-object_of header_members)
+header_short : (version : ℕ) → version ≤ 2 → length (header_line version) ≤ max_line
+header_short version few = omega (arith, length-compact_text (header_data version) 1 (header_plain version few), size-object_of (header_members version))
 
--- the line of the record can be read, and says the record
-pub record IsWritten (r : Record) : Type 0 where
+-- the line of the record can be read, and says the record in a file of this version
+pub record IsWritten (version : ℕ) (r : Record) : Type 0 where
   pub plain : IsPlain (data_of r) 3
   pub short : size (data_of r) ≤ max_line
-  pub says : said_of (Some (data_of r)) ≡ Ok r
+  pub says : said_of version (Some (data_of r)) ≡ Ok r
 
 -- ---- it is within the reader's bounds
 
@@ -249,6 +260,10 @@ fits-claim : (share : Option Claim) → IfSome share ClaimInRange → IfSome sha
 fits-claim None range few = refl
 fits-claim (Some c) range few = rw (le-leb (length c.path) max_depth few, fits-path c.path (AllByRecursion-from _ c.path range.2)) (short c.kept range.0)
 
+fits-turns : (turns : Option Turns) → IfSome turns TurnsInRange → turns_fit turns ≡ true
+fits-turns None range = refl
+fits-turns (Some t) range = rw (short t.prior range.0) (short t.next range.1)
+
 fits-body : (b : Body) → BodyInRange b → IsSound b → body_fits b ≡ true
 fits-body (ThreadBegin kind) range sound = refl
 fits-body ThreadEnd range sound = refl
@@ -257,7 +272,7 @@ fits-body (ParallelEnd task parallel) range sound = refl
 fits-body (ImplicitTask endpoint actual index flags parallel task) range sound = rw (short actual range.0) (short index range.1)
 fits-body (TaskCreate deps flags task child) range sound = refl
 fits-body (Dependences task list) range sound = le-leb (length list) max_dependences sound.few_dependences
-fits-body (TaskSchedule status turns prior next share) range sound = fits-claim share range.2 sound.short_path
+fits-body (TaskSchedule status turns prior next share) range sound = rw (fits-claim share range.3 sound.short_path) (fits-turns turns range.0)
 fits-body (SyncRegion kind endpoint parallel task) range sound = refl
 fits-body (body.Cancel flags task share) range sound = fits-claim share range.1 sound.short_path
 
@@ -265,19 +280,27 @@ pub fits : (r : Record) → IsInRange r → IsSound r.body → record_fits r ≡
 fits r range sound = rw (fits-body r.body range.body sound, lt-ltb r.thread max_threads range.thread, short r.seq range.seq) (short r.seen range.seen)
 
 -- a record of a trace
-pub IsWritten-sound : (r : Record) → IsInRange r → IsSound r.body → IsWritten r
-IsWritten-sound r range sound = record {
+pub IsWritten-sound : (version : ℕ) (r : Record) → IsInRange r → IsSoundIn version r.body → IsWritten version r
+IsWritten-sound version r range sound = record {
   plain = plain-data_of r range;
-  short = size-data_of r sound;
-  says = ap (bounded record_fits) (Says-sound r sound) ∙ ap (λ b. cond b (Ok r) (Err Limit)) (fits r range sound);
+  short = size-data_of r sound.0;
+  says = ap (bounded record_fits) (Says-sound version r sound) ∙ ap (λ b. cond b (Ok r) (Err Limit)) (fits r range sound.0);
 }
 
-pub line_says-line_of : (r : Record) → IsInRange r → IsSound r.body → line_says (line_of r) ≡ Ok r
-line_says-line_of r range sound =
-    let written = IsWritten-sound r range sound in
-    (IsLineOf-plain (data_of r) 3 r written.plain (omega arith) written.short written.says).says
+pub line_says-line_of : (version : ℕ) (r : Record) → IsInRange r → IsSoundIn version r.body → line_says version (line_of r) ≡ Ok r
+line_says-line_of version r range sound =
+    let written = IsWritten-sound version r range sound in
+    (IsLineOf-plain version (data_of r) 3 r written.plain (omega arith) written.short written.says).says
 
-pub records_said-text : (rs : List Record) → IsTrace rs → records_said (ended (header_line ∷ map line_of rs)) ≡ Ok rs
-records_said-text rs trace =
-    records_said-trace header_line line_of rs header_says-header_line header_short (unbroken-compact_text header_data 1 header_plain)
-    (λ k d h. let written = IsWritten-sound (get_or rs k d) (trace.in_range k d h) (trace.sound k d h) in IsLineOf-plain (data_of (get_or rs k d)) 3 (get_or rs k d) written.plain (omega arith) written.short written.says) trace
+-- a version that is known
+version-range : (version : ℕ) → (version ≡ 1) ⊎ (version ≡ 2) → (1 ≤ version) × (version ≤ 2)
+version-range version (inl one) = (omega (arith, one), omega (arith, one))
+version-range version (inr two) = (omega (arith, two), omega (arith, two))
+
+pub trace_said-text : (newest : ℕ) (trace : TraceView) → trace.version ≤ newest → IsTraceOf trace.version trace.records → trace_said newest (trace_text trace) ≡ Ok trace
+trace_said-text newest trace known is =
+    let version = trace.version in
+    let rs = trace.records in
+    let range = version-range version is.known in
+    trace_said-trace newest version (header_line version) line_of rs (header_says-header_line newest version range.0 range.1 known) (header_short version range.1) (unbroken-compact_text (header_data version) 1 (header_plain version range.1))
+    (λ k d h. let written = IsWritten-sound version (get_or rs k d) (is.is_trace.in_range k d h) (is.is_trace.sound k d h, is.turns k d h) in IsLineOf-plain version (data_of (get_or rs k d)) 3 (get_or rs k d) written.plain (omega arith) written.short written.says) is.is_trace

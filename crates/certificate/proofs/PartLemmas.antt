@@ -6,6 +6,7 @@ use Rattle.serde_json.specs.View.{items_of}
 use Rattle.serde_json.specs.Written.{compact_text}
 use Rattle.ompt_events.specs.declared.records.Record.{Record}
 use Rattle.ompt_events.specs.declared.records.Claim.{Claim}
+use Rattle.ompt_events.specs.declared.records.Turns.{Turns}
 use Rattle.ompt_events.specs.declared.records.Body.TheVariants.{ThreadBegin, ThreadEnd, ParallelBegin, ParallelEnd, ImplicitTask, TaskCreate, Dependences, TaskSchedule, SyncRegion}
 use Rattle.ompt_events.specs.declared.records.Body.TheVariants as body
 use Rattle.ompt_events.specs.declared.deps.Dep.{Dep}
@@ -93,7 +94,7 @@ pub line-dependences : (r : Record) (task : ℕ) (list : List Dep) → line_of (
 unfolding with_member escape_byte
 line-dependences r task list = refl
 
-pub line-switching : (r : Record) (status : Status) (prior : ℕ) (next : Option ℕ) → line_of (with_body r (TaskSchedule status turns prior next None))
+pub line-switching : (r : Record) (status : Status) (prior : ℕ) (next : Option ℕ) → line_of (with_body r (TaskSchedule status None prior next None))
     ≡ (codes "{\"cb\":\"task_schedule\",\"next\":" ++ compact_text (number_or_null next))
     ++ ((codes ",\"prior\":" ++ decimal prior)
     ++ ((codes ",\"seen\":" ++ decimal r.seen)
@@ -104,7 +105,7 @@ pub line-switching : (r : Record) (status : Status) (prior : ℕ) (next : Option
 unfolding with_member escape_byte
 line-switching r status prior next = refl
 
-pub line-finishing : (r : Record) (status : Status) (prior : ℕ) (next : Option ℕ) (c : Claim) → line_of (with_body r (TaskSchedule status turns prior next (Some c)))
+pub line-finishing : (r : Record) (status : Status) (prior : ℕ) (next : Option ℕ) (c : Claim) → line_of (with_body r (TaskSchedule status None prior next (Some c)))
     ≡ (codes "{\"cb\":\"task_schedule\",\"kept\":" ++ decimal c.kept)
     ++ ((codes ",\"next\":" ++ compact_text (number_or_null next))
     ++ ((codes ",\"path\":" ++ compact_text (array (items_of (map whole_number c.path))))
@@ -117,6 +118,35 @@ pub line-finishing : (r : Record) (status : Status) (prior : ℕ) (next : Option
     ++ (codes "}")))))))))
 unfolding with_member escape_byte
 line-finishing r status prior next c = refl
+
+pub line-switching_in_turn : (r : Record) (status : Status) (turns : Turns) (prior : ℕ) (next : Option ℕ) → line_of (with_body r (TaskSchedule status (Some turns) prior next None))
+    ≡ (codes "{\"cb\":\"task_schedule\",\"next\":" ++ compact_text (number_or_null next))
+    ++ ((codes ",\"next_turn\":" ++ decimal turns.next)
+    ++ ((codes ",\"prior\":" ++ decimal prior)
+    ++ ((codes ",\"prior_turn\":" ++ decimal turns.prior)
+    ++ ((codes ",\"seen\":" ++ decimal r.seen)
+    ++ ((codes ",\"seq\":" ++ decimal r.seq)
+    ++ ((codes ",\"status\":" ++ quoted (status_name status))
+    ++ ((codes ",\"thread\":" ++ decimal r.thread)
+    ++ (codes "}"))))))))
+unfolding with_member escape_byte
+line-switching_in_turn r status turns prior next = refl
+
+pub line-finishing_in_turn : (r : Record) (status : Status) (turns : Turns) (prior : ℕ) (next : Option ℕ) (c : Claim) → line_of (with_body r (TaskSchedule status (Some turns) prior next (Some c)))
+    ≡ (codes "{\"cb\":\"task_schedule\",\"kept\":" ++ decimal c.kept)
+    ++ ((codes ",\"next\":" ++ compact_text (number_or_null next))
+    ++ ((codes ",\"next_turn\":" ++ decimal turns.next)
+    ++ ((codes ",\"path\":" ++ compact_text (array (items_of (map whole_number c.path))))
+    ++ ((codes ",\"prior\":" ++ decimal prior)
+    ++ ((codes ",\"prior_turn\":" ++ decimal turns.prior)
+    ++ ((codes ",\"root\":" ++ decimal c.root)
+    ++ ((codes ",\"seen\":" ++ decimal r.seen)
+    ++ ((codes ",\"seq\":" ++ decimal r.seq)
+    ++ ((codes ",\"status\":" ++ quoted (status_name status))
+    ++ ((codes ",\"thread\":" ++ decimal r.thread)
+    ++ (codes "}")))))))))))
+unfolding with_member escape_byte
+line-finishing_in_turn r status turns prior next c = refl
 
 pub line-sync_region : (r : Record) (kind : SyncKind) (endpoint : Endpoint) (parallel : Option ℕ) (task : ℕ) → line_of (with_body r (SyncRegion kind endpoint parallel task))
     ≡ (codes "{\"cb\":\"sync_region\",\"endpoint\":" ++ quoted (endpoint_name endpoint))
@@ -160,6 +190,6 @@ pub text-dep : (d : Dep) → compact_text (dep_data d)
 unfolding with_member escape_byte
 text-dep d = refl
 
-pub text-header : header_line ≡ (codes "{\"format\":\"task-credit-audit\",\"version\":" ++ decimal 1) ++ codes "}"
+pub text-header : (version : ℕ) → header_line version ≡ (codes "{\"format\":\"task-credit-audit\",\"version\":" ++ decimal version) ++ codes "}"
 unfolding with_member escape_byte
-text-header = refl
+text-header version = refl

@@ -4,6 +4,7 @@ use Rattle.std.specs.Prelude.{option_map, is_some}
 use Rattle.ompt_events.specs.declared.deps.Dep.{Dep}
 use Rattle.ompt_events.specs.declared.records.Record.{Record}
 use Rattle.ompt_events.specs.declared.records.Claim.{Claim}
+use Rattle.ompt_events.specs.declared.records.Turns.{Turns}
 use Rattle.ompt_events.specs.declared.records.Part.{Part}
 use Rattle.ompt_events.specs.declared.records.Part.TheVariants.{Whole}
 use Rattle.ompt_events.specs.declared.flags.TaskFlags.{TaskFlags}
@@ -24,13 +25,13 @@ use Rattle.ompt_events.specs.declared.names.ThreadKind.TheVariants.{Initial, Wor
 use Rattle.ompt_events.specs.Names.{status_name, endpoint_name, sync_kind_name, dep_kind_name, thread_kind_name, status_part, demands_next}
 use Rattle.ompt_events.specs.Flags.{has_flag}
 use Rattle.ompt_events.specs.Flags as table
-use Rattle.ompt_events.specs.Traces.{AreNamed, IsSound}
+use Rattle.ompt_events.specs.Traces.{AreNamed, IsSoundIn}
 use Rattle.serde_json.specs.View.{items_of}
 use Rattle.certificate.specs.Members.{named, nullable, not_both, no_id, each, dep_of}
-use Rattle.certificate.specs.RecordLines.{unbounded, body_named, thread_begin, thread_end, parallel_begin, parallel_end, implicit_task, task_create, dependences, claim, share, task_schedule, sync_region, cancel}
+use Rattle.certificate.specs.RecordLines.{unbounded, body_named, thread_begin, thread_end, parallel_begin, parallel_end, implicit_task, task_create, dependences, claim, share, turns, both_turns, tells_turns, task_schedule, sync_region, cancel}
 use Rattle.certificate.specs.Texts.{with_member, data_of, dep_data, number_or_null}
 use Rattle.certificate.proofs.FlagLemmas.{task_flags-read, cancel_flags-read}
-use Rattle.certificate.proofs.SoundLemmas.{is_some-map, is_some-cond}
+use Rattle.certificate.proofs.SoundLemmas.{is_some-map, is_some-cond, tells-turns}
 use Rattle.certificate.proofs.TextLemmas.{each-items_of, wholes-items_of}
 
 -- ---- names are read back
@@ -102,88 +103,92 @@ deps-read ds = each-items_of dep_of dep_data dep-read ds
 
 -- ---- what each record's object says
 
--- the record's object says the record
-abbrev pub Says : Record → Type 0
-Says r = unbounded (data_of r) ≡ Some r
+-- the record's object says the record, in a file of this version
+abbrev pub Says : ℕ → Record → Type 0
+Says version r = unbounded version (data_of r) ≡ Some r
 
 abbrev of_body : ℕ → ℕ → ℕ → Body → Record
 of_body thread seq seen body = record { thread = thread; seq = seq; seen = seen; body = body }
 
-says-thread_begin : (thread seq seen : ℕ) (kind : ThreadKind) → Says (of_body thread seq seen (ThreadBegin kind))
+says-thread_begin : (version thread seq seen : ℕ) (kind : ThreadKind) → Says version (of_body thread seq seen (ThreadBegin kind))
 unfolding with_member unbounded body_named thread_begin
-says-thread_begin thread seq seen kind = rw (named-thread_kind kind) refl
+says-thread_begin version thread seq seen kind = rw (named-thread_kind kind) refl
 
-says-thread_end : (thread seq seen : ℕ) → Says (of_body thread seq seen ThreadEnd)
+says-thread_end : (version thread seq seen : ℕ) → Says version (of_body thread seq seen ThreadEnd)
 unfolding with_member unbounded body_named thread_end
-says-thread_end thread seq seen = refl
+says-thread_end version thread seq seen = refl
 
-says-parallel_begin : (thread seq seen requested task parallel : ℕ) → Says (of_body thread seq seen (ParallelBegin requested task parallel))
+says-parallel_begin : (version thread seq seen requested task parallel : ℕ) → Says version (of_body thread seq seen (ParallelBegin requested task parallel))
 unfolding with_member unbounded body_named parallel_begin
-says-parallel_begin thread seq seen requested task parallel = refl
+says-parallel_begin version thread seq seen requested task parallel = refl
 
-says-parallel_end : (thread seq seen task parallel : ℕ) → Says (of_body thread seq seen (ParallelEnd task parallel))
+says-parallel_end : (version thread seq seen task parallel : ℕ) → Says version (of_body thread seq seen (ParallelEnd task parallel))
 unfolding with_member unbounded body_named parallel_end
-says-parallel_end thread seq seen task parallel = refl
+says-parallel_end version thread seq seen task parallel = refl
 
-says-implicit_task : (thread seq seen : ℕ) (endpoint : Endpoint) (actual index : ℕ) (flags : TaskFlags) (parallel task : ℕ) → AreNamed table.task_flags flags.0 → not_both endpoint ≡ Some endpoint
-    → Says (of_body thread seq seen (ImplicitTask endpoint actual index flags parallel task))
+says-implicit_task : (version thread seq seen : ℕ) (endpoint : Endpoint) (actual index : ℕ) (flags : TaskFlags) (parallel task : ℕ) → AreNamed table.task_flags flags.0 → not_both endpoint ≡ Some endpoint
+    → Says version (of_body thread seq seen (ImplicitTask endpoint actual index flags parallel task))
 unfolding with_member unbounded body_named implicit_task
-says-implicit_task thread seq seen endpoint actual index flags parallel task named one = rw (named-endpoint endpoint, one, task_flags-read flags.0 named) refl
+says-implicit_task version thread seq seen endpoint actual index flags parallel task named one = rw (named-endpoint endpoint, one, task_flags-read flags.0 named) refl
 
-says-task_create : (thread seq seen : ℕ) (deps : Bool) (flags : TaskFlags) (task child : ℕ) → AreNamed table.task_flags flags.0 → Says (of_body thread seq seen (TaskCreate deps flags task child))
+says-task_create : (version thread seq seen : ℕ) (deps : Bool) (flags : TaskFlags) (task child : ℕ) → AreNamed table.task_flags flags.0 → Says version (of_body thread seq seen (TaskCreate deps flags task child))
 unfolding with_member unbounded body_named task_create
-says-task_create thread seq seen deps flags task child named = rw (task_flags-read flags.0 named) refl
+says-task_create version thread seq seen deps flags task child named = rw (task_flags-read flags.0 named) refl
 
-says-dependences : (thread seq seen task : ℕ) (list : List Dep) → Says (of_body thread seq seen (Dependences task list))
+says-dependences : (version thread seq seen task : ℕ) (list : List Dep) → Says version (of_body thread seq seen (Dependences task list))
 unfolding with_member unbounded body_named dependences
-says-dependences thread seq seen task list = rw (deps-read list) refl
+says-dependences version thread seq seen task list = rw (deps-read list) refl
 
-says-finishing : (thread seq seen : ℕ) (status : Status) (prior : ℕ) (next : Option ℕ) (c : Claim) → is_some next ≡ demands_next status → is_some (status_part status) ≡ true
-    → Says (of_body thread seq seen (TaskSchedule status turns prior next (Some c)))
-unfolding with_member unbounded body_named task_schedule share claim
-says-finishing thread seq seen status prior next c follows finishes =
-    rw (named-status status, nullable-number_or_null next, next-read (demands_next status) next follows, finishes, wholes-items_of c.path) refl
+says-finishing : (version thread seq seen : ℕ) (status : Status) (told : Option Turns) (prior : ℕ) (next : Option ℕ) (c : Claim) → is_some next ≡ demands_next status → tells_turns version status ≡ is_some told → is_some (status_part status) ≡ true
+    → Says version (of_body thread seq seen (TaskSchedule status told prior next (Some c)))
+unfolding with_member unbounded body_named task_schedule share claim turns both_turns
+says-finishing version thread seq seen status None prior next c follows tells finishes =
+    rw (named-status status, nullable-number_or_null next, next-read (demands_next status) next follows, tells, finishes, wholes-items_of c.path) refl
+says-finishing version thread seq seen status (Some t) prior next c follows tells finishes =
+    rw (named-status status, nullable-number_or_null next, next-read (demands_next status) next follows, tells, finishes, wholes-items_of c.path) refl
 
-says-switching : (thread seq seen : ℕ) (status : Status) (prior : ℕ) (next : Option ℕ) → is_some next ≡ demands_next status → is_some (status_part status) ≡ false
-    → Says (of_body thread seq seen (TaskSchedule status turns prior next None))
-unfolding with_member unbounded body_named task_schedule share
-says-switching thread seq seen status prior next follows goes_on =
-    rw (named-status status, nullable-number_or_null next, next-read (demands_next status) next follows, goes_on) refl
+says-switching : (version thread seq seen : ℕ) (status : Status) (told : Option Turns) (prior : ℕ) (next : Option ℕ) → is_some next ≡ demands_next status → tells_turns version status ≡ is_some told → is_some (status_part status) ≡ false
+    → Says version (of_body thread seq seen (TaskSchedule status told prior next None))
+unfolding with_member unbounded body_named task_schedule share turns both_turns
+says-switching version thread seq seen status None prior next follows tells goes_on =
+    rw (named-status status, nullable-number_or_null next, next-read (demands_next status) next follows, tells, goes_on) refl
+says-switching version thread seq seen status (Some t) prior next follows tells goes_on =
+    rw (named-status status, nullable-number_or_null next, next-read (demands_next status) next follows, tells, goes_on) refl
 
-says-sync_region : (thread seq seen : ℕ) (kind : SyncKind) (endpoint : Endpoint) (parallel : Option ℕ) (task : ℕ) → Says (of_body thread seq seen (SyncRegion kind endpoint parallel task))
+says-sync_region : (version thread seq seen : ℕ) (kind : SyncKind) (endpoint : Endpoint) (parallel : Option ℕ) (task : ℕ) → Says version (of_body thread seq seen (SyncRegion kind endpoint parallel task))
 unfolding with_member unbounded body_named sync_region
-says-sync_region thread seq seen kind endpoint parallel task = rw (named-sync_kind kind, named-endpoint endpoint, nullable-number_or_null parallel) refl
+says-sync_region version thread seq seen kind endpoint parallel task = rw (named-sync_kind kind, named-endpoint endpoint, nullable-number_or_null parallel) refl
 
-says-discard : (thread seq seen : ℕ) (flags : CancelFlags) (task : ℕ) (c : Claim) → AreNamed table.cancel_flags flags.0 → has_flag flags.0 table.discarded_task ≡ true
-    → Says (of_body thread seq seen (body.Cancel flags task (Some c)))
+says-discard : (version thread seq seen : ℕ) (flags : CancelFlags) (task : ℕ) (c : Claim) → AreNamed table.cancel_flags flags.0 → has_flag flags.0 table.discarded_task ≡ true
+    → Says version (of_body thread seq seen (body.Cancel flags task (Some c)))
 unfolding with_member unbounded body_named cancel share claim
-says-discard thread seq seen flags task c named discards = rw (cancel_flags-read flags.0 named, discards, wholes-items_of c.path) refl
+says-discard version thread seq seen flags task c named discards = rw (cancel_flags-read flags.0 named, discards, wholes-items_of c.path) refl
 
-says-cancel : (thread seq seen : ℕ) (flags : CancelFlags) (task : ℕ) → AreNamed table.cancel_flags flags.0 → has_flag flags.0 table.discarded_task ≡ false
-    → Says (of_body thread seq seen (body.Cancel flags task None))
+says-cancel : (version thread seq seen : ℕ) (flags : CancelFlags) (task : ℕ) → AreNamed table.cancel_flags flags.0 → has_flag flags.0 table.discarded_task ≡ false
+    → Says version (of_body thread seq seen (body.Cancel flags task None))
 unfolding with_member unbounded body_named cancel share
-says-cancel thread seq seen flags task named others = rw (cancel_flags-read flags.0 named, others) refl
+says-cancel version thread seq seen flags task named others = rw (cancel_flags-read flags.0 named, others) refl
 
 -- every record that can stand in a trace is one of these
-says-body : (thread seq seen : ℕ) (b : Body) → IsSound b → Says (of_body thread seq seen b)
-says-body thread seq seen (ThreadBegin kind) sound = says-thread_begin thread seq seen kind
-says-body thread seq seen ThreadEnd sound = says-thread_end thread seq seen
-says-body thread seq seen (ParallelBegin requested task parallel) sound = says-parallel_begin thread seq seen requested task parallel
-says-body thread seq seen (ParallelEnd task parallel) sound = says-parallel_end thread seq seen task parallel
-says-body thread seq seen (ImplicitTask Begin actual index flags parallel task) sound = says-implicit_task thread seq seen Begin actual index flags parallel task sound.named_flags refl
-says-body thread seq seen (ImplicitTask End actual index flags parallel task) sound = says-implicit_task thread seq seen End actual index flags parallel task sound.named_flags refl
-says-body thread seq seen (ImplicitTask BeginEnd actual index flags parallel task) sound = absurd sound.begins_or_ends
-says-body thread seq seen (TaskCreate deps flags task child) sound = says-task_create thread seq seen deps flags task child sound.named_flags
-says-body thread seq seen (Dependences task list) sound = says-dependences thread seq seen task list
-says-body thread seq seen (TaskSchedule status turns prior next (Some c)) sound =
-    says-finishing thread seq seen status prior next c sound.next (sym (is_some-map (λ (part : Part). (prior, part)) (status_part status)) ∙ sym sound.claimed)
-says-body thread seq seen (TaskSchedule status turns prior next None) sound =
-    says-switching thread seq seen status prior next sound.next (sym (is_some-map (λ (part : Part). (prior, part)) (status_part status)) ∙ sym sound.claimed)
-says-body thread seq seen (SyncRegion kind endpoint parallel task) sound = says-sync_region thread seq seen kind endpoint parallel task
-says-body thread seq seen (body.Cancel flags task (Some c)) sound =
-    says-discard thread seq seen flags task c sound.named_cancellation (sym (is_some-cond (has_flag flags.0 table.discarded_task) (task, Whole)) ∙ sym sound.claimed)
-says-body thread seq seen (body.Cancel flags task None) sound =
-    says-cancel thread seq seen flags task sound.named_cancellation (sym (is_some-cond (has_flag flags.0 table.discarded_task) (task, Whole)) ∙ sym sound.claimed)
+says-body : (version thread seq seen : ℕ) (b : Body) → IsSoundIn version b → Says version (of_body thread seq seen b)
+says-body version thread seq seen (ThreadBegin kind) sound = says-thread_begin version thread seq seen kind
+says-body version thread seq seen ThreadEnd sound = says-thread_end version thread seq seen
+says-body version thread seq seen (ParallelBegin requested task parallel) sound = says-parallel_begin version thread seq seen requested task parallel
+says-body version thread seq seen (ParallelEnd task parallel) sound = says-parallel_end version thread seq seen task parallel
+says-body version thread seq seen (ImplicitTask Begin actual index flags parallel task) sound = says-implicit_task version thread seq seen Begin actual index flags parallel task sound.0.named_flags refl
+says-body version thread seq seen (ImplicitTask End actual index flags parallel task) sound = says-implicit_task version thread seq seen End actual index flags parallel task sound.0.named_flags refl
+says-body version thread seq seen (ImplicitTask BeginEnd actual index flags parallel task) sound = absurd sound.0.begins_or_ends
+says-body version thread seq seen (TaskCreate deps flags task child) sound = says-task_create version thread seq seen deps flags task child sound.0.named_flags
+says-body version thread seq seen (Dependences task list) sound = says-dependences version thread seq seen task list
+says-body version thread seq seen (TaskSchedule status told prior next (Some c)) sound =
+    says-finishing version thread seq seen status told prior next c sound.0.next (tells-turns version status told next sound.0.next sound.1) (sym (is_some-map (λ (part : Part). (prior, part)) (status_part status)) ∙ sym sound.0.claimed)
+says-body version thread seq seen (TaskSchedule status told prior next None) sound =
+    says-switching version thread seq seen status told prior next sound.0.next (tells-turns version status told next sound.0.next sound.1) (sym (is_some-map (λ (part : Part). (prior, part)) (status_part status)) ∙ sym sound.0.claimed)
+says-body version thread seq seen (SyncRegion kind endpoint parallel task) sound = says-sync_region version thread seq seen kind endpoint parallel task
+says-body version thread seq seen (body.Cancel flags task (Some c)) sound =
+    says-discard version thread seq seen flags task c sound.0.named_cancellation (sym (is_some-cond (has_flag flags.0 table.discarded_task) (task, Whole)) ∙ sym sound.0.claimed)
+says-body version thread seq seen (body.Cancel flags task None) sound =
+    says-cancel version thread seq seen flags task sound.0.named_cancellation (sym (is_some-cond (has_flag flags.0 table.discarded_task) (task, Whole)) ∙ sym sound.0.claimed)
 
-pub Says-sound : (r : Record) → IsSound r.body → Says r
-Says-sound r sound = says-body r.thread r.seq r.seen r.body sound
+pub Says-sound : (version : ℕ) (r : Record) → IsSoundIn version r.body → Says version r
+Says-sound version r sound = says-body version r.thread r.seq r.seen r.body sound

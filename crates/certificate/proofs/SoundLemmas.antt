@@ -1,5 +1,5 @@
 -- What a line stands for can stand in a trace.
-use Rattle.std.proofs.Common.{◌≡◌, ℕ, ◌≤◌, List, [], ◌∷◌, length, Option, Some, None, Ok, Bool, true, false, cond, arith, refl, sym, ap, ◌∙◌, subst, min, ◌==◌}
+use Rattle.std.proofs.Common.{◌≡◌, ℕ, ◌≤◌, List, [], ◌∷◌, length, Option, Some, None, Ok, Bool, true, false, cond, arith, refl, sym, ap, ◌∙◌, subst, min, ◌==◌, ◌&&◌}
 use Rattle.std.specs.Prelude.{option_map, is_some, IfSome, nat_eq}
 use Rattle.std.specs.Int.{bit_at}
 use Rattle.std.specs.Int.RustNames.{bit_or}
@@ -15,9 +15,10 @@ use Rattle.ompt_events.specs.Flags as table
 use Rattle.ompt_events.specs.Flags.{has_flag}
 use Rattle.ompt_events.specs.Names.{status_part, demands_next}
 use Rattle.ompt_events.specs.Limits.{max_depth, max_dependences}
-use Rattle.ompt_events.specs.Traces.{AreNamed, BeginsOrEnds, IsSound}
+use Rattle.ompt_events.specs.Traces.{AreNamed, BeginsOrEnds, IsSound, IsSoundIn}
 use Rattle.ompt_events.specs.declared.records.Record.{Record}
 use Rattle.ompt_events.specs.declared.records.Claim.{Claim}
+use Rattle.ompt_events.specs.declared.records.Turns.{Turns}
 use Rattle.ompt_events.specs.declared.records.Part.{Part}
 use Rattle.ompt_events.specs.declared.records.Part.TheVariants.{Whole}
 use Rattle.ompt_events.specs.declared.records.Body.{Body}
@@ -29,7 +30,7 @@ use Rattle.std.specs.Str.{bytes_eq}
 use Rattle.certificate.specs.declared.faults.ReadCause.TheVariants.{NotJson}
 use Rattle.certificate.proofs.RecordLemmas.{bounded-ok, ok_not_err, both-first}
 use Rattle.certificate.specs.Members.{whole, text, whole_or_null, list, truth, status, endpoint, not_both, begin_or_end, sync_kind, thread_kind, flag_of, flags_from, task_flags, cancel_flags, no_id, next, deps}
-use Rattle.certificate.specs.RecordLines.{thread_begin, thread_end, parallel_begin, parallel_end, implicit_task, task_create, dependences, sync_region, task_schedule, cancel, share, claim, body_named, body, unbounded, value_of, said_of, line_says, share_fits, body_fits, record_fits}
+use Rattle.certificate.specs.RecordLines.{thread_begin, thread_end, parallel_begin, parallel_end, implicit_task, task_create, dependences, sync_region, turns, both_turns, tells_turns, task_schedule, cancel, share, claim, body_named, body, unbounded, value_of, said_of, line_says, share_fits, body_fits, record_fits}
 use Rattle.certificate.specs.MemberNames as member
 use Rattle.certificate.specs.CallbackNames as callback
 
@@ -135,116 +136,143 @@ is_some-cond false a = refl
 discard-sound : (bits task : ℕ) (sh : Option Claim) → is_some sh ≡ has_flag bits table.discarded_task → AreNamed table.cancel_flags bits → share_fits sh ≡ true → IsSound (Cancel (record { 0 = bits }) task sh)
 discard-sound bits task sh claimed named fits = record { named_flags = tt; named_cancellation = named; begins_or_ends = tt; claimed = claimed ∙ sym (is_some-cond (has_flag bits table.discarded_task) (task, Whole)); short_path = share-short sh fits; few_dependences = tt; next = tt }
 
+-- turns are told exactly where they are read
+turns-sound : (tells : Bool) (d : Data) (told : Option Turns) → turns tells d ≡ Some told → is_some told ≡ tells
+unfolding turns
+turns-sound true d told e = by_turns (both_turns d) e
+  where
+    by_turns : (o : Option Turns) → option_map Some o ≡ Some told → is_some told ≡ true
+    by_turns None h = absurd (let f : None ≡ Some told = h in cc)
+    by_turns (Some t) h = let is : Some t ≡ told = cc in ap is_some (sym is)
+turns-sound false d told e = let is : None ≡ told = cc in ap is_some (sym is)
+
+-- a record tells turns exactly where they are read
+pub tells-turns : (version : ℕ) (st : Status) (told : Option Turns) (nx : Option ℕ) → is_some nx ≡ demands_next st → is_some told ≡ ((version == 2) && is_some nx) → tells_turns version st ≡ is_some told
+tells-turns version st told nx follows tells = ap (λ b. (version == 2) && b) (sym follows) ∙ sym tells
+
+-- where no task runs next, no turns are told in any version
+no_turns : (version : ℕ) → false ≡ ((version == 2) && false)
+no_turns version = elim (version == 2) as (λ b. false ≡ (b && false)) [
+  | true ↦ refl
+  | false ↦ refl
+]
+
 -- ---- callbacks
 
-thread_begin-sound : (d : Data) (b : Body) → thread_begin d ≡ Some b → IsSound b
+thread_begin-sound : (version : ℕ) (d : Data) (b : Body) → thread_begin d ≡ Some b → IsSoundIn version b
 unfolding thread_begin
-thread_begin-sound d b e =
+thread_begin-sound version d b e =
     option_and_then_some _ (thread_kind member.kind d) b e (λ kind _ same.
     let is : ThreadBegin kind ≡ b = cc in
-    subst IsSound is (record { named_flags = tt; named_cancellation = tt; begins_or_ends = tt; claimed = refl; short_path = tt; few_dependences = tt; next = tt }))
+    subst (λ (x : Body). IsSoundIn version x) is (record { named_flags = tt; named_cancellation = tt; begins_or_ends = tt; claimed = refl; short_path = tt; few_dependences = tt; next = tt }, no_turns version))
 
-thread_end-sound : (d : Data) (b : Body) → thread_end d ≡ Some b → IsSound b
+thread_end-sound : (version : ℕ) (d : Data) (b : Body) → thread_end d ≡ Some b → IsSoundIn version b
 unfolding thread_end
-thread_end-sound d b same =
+thread_end-sound version d b same =
     let is : ThreadEnd ≡ b = cc in
-    subst IsSound is (record { named_flags = tt; named_cancellation = tt; begins_or_ends = tt; claimed = refl; short_path = tt; few_dependences = tt; next = tt })
+    subst (λ (x : Body). IsSoundIn version x) is (record { named_flags = tt; named_cancellation = tt; begins_or_ends = tt; claimed = refl; short_path = tt; few_dependences = tt; next = tt }, no_turns version)
 
-parallel_begin-sound : (d : Data) (b : Body) → parallel_begin d ≡ Some b → IsSound b
+parallel_begin-sound : (version : ℕ) (d : Data) (b : Body) → parallel_begin d ≡ Some b → IsSoundIn version b
 unfolding parallel_begin
-parallel_begin-sound d b e =
+parallel_begin-sound version d b e =
     option_and_then_some _ (whole member.requested d) b e (λ requested _ e1. option_and_then_some _ (whole member.task d) b e1 (λ task _ e2. option_and_then_some _ (whole member.parallel d) b e2 (λ parallel _ same.
     let is : ParallelBegin requested task parallel ≡ b = cc in
-    subst IsSound is (record { named_flags = tt; named_cancellation = tt; begins_or_ends = tt; claimed = refl; short_path = tt; few_dependences = tt; next = tt }))))
+    subst (λ (x : Body). IsSoundIn version x) is (record { named_flags = tt; named_cancellation = tt; begins_or_ends = tt; claimed = refl; short_path = tt; few_dependences = tt; next = tt }, no_turns version))))
 
-parallel_end-sound : (d : Data) (b : Body) → parallel_end d ≡ Some b → IsSound b
+parallel_end-sound : (version : ℕ) (d : Data) (b : Body) → parallel_end d ≡ Some b → IsSoundIn version b
 unfolding parallel_end
-parallel_end-sound d b e =
+parallel_end-sound version d b e =
     option_and_then_some _ (whole member.task d) b e (λ task _ e1. option_and_then_some _ (whole member.parallel d) b e1 (λ parallel _ same.
     let is : ParallelEnd task parallel ≡ b = cc in
-    subst IsSound is (record { named_flags = tt; named_cancellation = tt; begins_or_ends = tt; claimed = refl; short_path = tt; few_dependences = tt; next = tt })))
+    subst (λ (x : Body). IsSoundIn version x) is (record { named_flags = tt; named_cancellation = tt; begins_or_ends = tt; claimed = refl; short_path = tt; few_dependences = tt; next = tt }, no_turns version)))
 
-implicit_task-sound : (d : Data) (b : Body) → implicit_task d ≡ Some b → IsSound b
+implicit_task-sound : (version : ℕ) (d : Data) (b : Body) → implicit_task d ≡ Some b → IsSoundIn version b
 unfolding implicit_task
-implicit_task-sound d b e =
+implicit_task-sound version d b e =
     option_and_then_some _ (begin_or_end member.endpoint d) b e (λ at one e1. option_and_then_some _ (whole member.actual d) b e1 (λ actual _ e2. option_and_then_some _ (whole member.index d) b e2 (λ index _ e3.
     option_and_then_some _ (task_flags member.flags d) b e3 (λ bits named e4. option_and_then_some _ (whole member.parallel d) b e4 (λ parallel _ e5. option_and_then_some _ (whole member.task d) b e5 (λ task _ same.
     let is : ImplicitTask at actual index (record { 0 = bits }) parallel task ≡ b = cc in
-    subst IsSound is (by_endpoint at actual index bits parallel task (begin_or_end-sound member.endpoint d at actual index bits parallel task one) (task_flags-named member.flags d bits named))))))))
+    subst (λ (x : Body). IsSoundIn version x) is (by_endpoint at actual index bits parallel task (begin_or_end-sound member.endpoint d at actual index bits parallel task one) (task_flags-named member.flags d bits named), no_turns version)))))))
   where
     by_endpoint : (at : Endpoint) (actual index bits parallel task : ℕ) → BeginsOrEnds (ImplicitTask at actual index (record { 0 = bits }) parallel task) → AreNamed table.task_flags bits → IsSound (ImplicitTask at actual index (record { 0 = bits }) parallel task)
     by_endpoint at actual index bits parallel task one named = record { named_flags = named; named_cancellation = tt; begins_or_ends = one; claimed = refl; short_path = tt; few_dependences = tt; next = tt }
 
-task_create-sound : (d : Data) (b : Body) → task_create d ≡ Some b → IsSound b
+task_create-sound : (version : ℕ) (d : Data) (b : Body) → task_create d ≡ Some b → IsSoundIn version b
 unfolding task_create
-task_create-sound d b e =
+task_create-sound version d b e =
     option_and_then_some _ (truth member.deps d) b e (λ deps _ e1. option_and_then_some _ (task_flags member.flags d) b e1 (λ bits named e2.
     option_and_then_some _ (whole member.task d) b e2 (λ task _ e3. option_and_then_some _ (whole member.child d) b e3 (λ child _ same.
     let is : TaskCreate deps (record { 0 = bits }) task child ≡ b = cc in
-    subst IsSound is (record { named_flags = task_flags-named member.flags d bits named; named_cancellation = tt; begins_or_ends = tt; claimed = refl; short_path = tt; few_dependences = tt; next = tt })))))
+    subst (λ (x : Body). IsSoundIn version x) is (record { named_flags = task_flags-named member.flags d bits named; named_cancellation = tt; begins_or_ends = tt; claimed = refl; short_path = tt; few_dependences = tt; next = tt }, no_turns version)))))
 
-dependences-sound : (d : Data) (b : Body) → dependences d ≡ Some b → body_fits b ≡ true → IsSound b
+dependences-sound : (version : ℕ) (d : Data) (b : Body) → dependences d ≡ Some b → body_fits b ≡ true → IsSoundIn version b
 unfolding dependences
-dependences-sound d b e fits =
+dependences-sound version d b e fits =
     option_and_then_some _ (whole member.task d) b e (λ task _ e1. option_and_then_some _ (deps member.list d) b e1 (λ list _ same.
     let is : Dependences task list ≡ b = cc in
     let few : length list ≤ max_dependences = leb-true _ _ (ap body_fits is ∙ fits) in
-    subst IsSound is (record { named_flags = tt; named_cancellation = tt; begins_or_ends = tt; claimed = refl; short_path = tt; few_dependences = few; next = tt })))
+    subst (λ (x : Body). IsSoundIn version x) is (record { named_flags = tt; named_cancellation = tt; begins_or_ends = tt; claimed = refl; short_path = tt; few_dependences = few; next = tt }, no_turns version)))
 
-task_schedule-sound : (d : Data) (b : Body) → task_schedule d ≡ Some b → body_fits b ≡ true → IsSound b
+task_schedule-sound : (version : ℕ) (d : Data) (b : Body) → task_schedule version d ≡ Some b → body_fits b ≡ true → IsSoundIn version b
 unfolding task_schedule
-task_schedule-sound d b e fits =
+task_schedule-sound version d b e fits =
     option_and_then_some _ (status member.status d) b e (λ st _ e1. option_and_then_some _ (whole member.prior d) b e1 (λ prior _ e2.
-    option_and_then_some _ (next st member.next d) b e2 (λ nx follows e3. option_and_then_some _ (share (is_some (status_part st)) d) b e3 (λ sh shared same.
-    let is : TaskSchedule st turns prior nx sh ≡ b = cc in
+    option_and_then_some _ (next st member.next d) b e2 (λ nx follows e3. option_and_then_some _ (turns (tells_turns version st) d) b e3 (λ told tells e4.
+    option_and_then_some _ (share (is_some (status_part st)) d) b e4 (λ sh shared same.
+    let is : TaskSchedule st told prior nx sh ≡ b = cc in
     let claimed = share-sound (is_some (status_part st)) d sh shared ∙ sym (is_some-map (λ (part : Part). (prior, part)) (status_part st)) in
-    subst IsSound is (record { named_flags = tt; named_cancellation = tt; begins_or_ends = tt; claimed = claimed; short_path = share-short sh (ap body_fits is ∙ fits); few_dependences = tt; next = next-sound st member.next d nx follows })))))
+    let demanded = next-sound st member.next d nx follows in
+    let bounds : share_fits sh ≡ true = both-first _ _ (ap body_fits is ∙ fits) in
+    subst (λ (x : Body). IsSoundIn version x) is (
+      record { named_flags = tt; named_cancellation = tt; begins_or_ends = tt; claimed = claimed; short_path = share-short sh bounds; few_dependences = tt; next = demanded },
+      turns-sound (tells_turns version st) d told tells ∙ ap (λ b. (version == 2) && b) (sym demanded),
+    ))))))
 
-sync_region-sound : (d : Data) (b : Body) → sync_region d ≡ Some b → IsSound b
+sync_region-sound : (version : ℕ) (d : Data) (b : Body) → sync_region d ≡ Some b → IsSoundIn version b
 unfolding sync_region
-sync_region-sound d b e =
+sync_region-sound version d b e =
     option_and_then_some _ (sync_kind member.kind d) b e (λ kind _ e1. option_and_then_some _ (endpoint member.endpoint d) b e1 (λ at _ e2.
     option_and_then_some _ (whole_or_null member.parallel d) b e2 (λ parallel _ e3. option_and_then_some _ (whole member.task d) b e3 (λ task _ same.
     let is : SyncRegion kind at parallel task ≡ b = cc in
-    subst IsSound is (record { named_flags = tt; named_cancellation = tt; begins_or_ends = tt; claimed = refl; short_path = tt; few_dependences = tt; next = tt })))))
+    subst (λ (x : Body). IsSoundIn version x) is (record { named_flags = tt; named_cancellation = tt; begins_or_ends = tt; claimed = refl; short_path = tt; few_dependences = tt; next = tt }, no_turns version)))))
 
-cancel-sound : (d : Data) (b : Body) → cancel d ≡ Some b → body_fits b ≡ true → IsSound b
+cancel-sound : (version : ℕ) (d : Data) (b : Body) → cancel d ≡ Some b → body_fits b ≡ true → IsSoundIn version b
 unfolding cancel
-cancel-sound d b e fits =
+cancel-sound version d b e fits =
     option_and_then_some _ (cancel_flags member.flags d) b e (λ bits named e1. option_and_then_some _ (whole member.task d) b e1 (λ task _ e2. option_and_then_some _ (share (has_flag bits table.discarded_task) d) b e2 (λ sh shared same.
     let is : Cancel (record { 0 = bits }) task sh ≡ b = cc in
-    subst IsSound is (discard-sound bits task sh (share-sound (has_flag bits table.discarded_task) d sh shared) (cancel_flags-named member.flags d bits named) (ap body_fits is ∙ fits)))))
+    subst (λ (x : Body). IsSoundIn version x) is (discard-sound bits task sh (share-sound (has_flag bits table.discarded_task) d sh shared) (cancel_flags-named member.flags d bits named) (ap body_fits is ∙ fits), no_turns version))))
 
 chosen : {X P : Type 0} (test : Bool) (x y : Option X) (z : X) → cond test x y ≡ Some z → (x ≡ Some z → P) → (y ≡ Some z → P) → P
 chosen true x y z e first second = first e
 chosen false x y z e first second = second e
 
-body_named-sound : (name : List ℕ) (d : Data) (b : Body) → body_named name d ≡ Some b → body_fits b ≡ true → IsSound b
+body_named-sound : (version : ℕ) (name : List ℕ) (d : Data) (b : Body) → body_named version name d ≡ Some b → body_fits b ≡ true → IsSoundIn version b
 unfolding body_named
-body_named-sound name d b e fits =
-    chosen (bytes_eq name callback.thread_begin) (thread_begin d) _ b e (thread_begin-sound d b) (λ e1.
-    chosen (bytes_eq name callback.thread_end) (thread_end d) _ b e1 (thread_end-sound d b) (λ e2.
-    chosen (bytes_eq name callback.parallel_begin) (parallel_begin d) _ b e2 (parallel_begin-sound d b) (λ e3.
-    chosen (bytes_eq name callback.parallel_end) (parallel_end d) _ b e3 (parallel_end-sound d b) (λ e4.
-    chosen (bytes_eq name callback.implicit_task) (implicit_task d) _ b e4 (implicit_task-sound d b) (λ e5.
-    chosen (bytes_eq name callback.task_create) (task_create d) _ b e5 (task_create-sound d b) (λ e6.
-    chosen (bytes_eq name callback.dependences) (dependences d) _ b e6 (λ is. dependences-sound d b is fits) (λ e7.
-    chosen (bytes_eq name callback.task_schedule) (task_schedule d) _ b e7 (λ is. task_schedule-sound d b is fits) (λ e8.
-    chosen (bytes_eq name callback.sync_region) (sync_region d) _ b e8 (sync_region-sound d b) (λ e9.
-    chosen (bytes_eq name callback.cancel) (cancel d) None b e9 (λ is. cancel-sound d b is fits) (λ none. absurd (let h : None ≡ Some b = none in cc)))))))))))
+body_named-sound version name d b e fits =
+    chosen (bytes_eq name callback.thread_begin) (thread_begin d) _ b e (thread_begin-sound version d b) (λ e1.
+    chosen (bytes_eq name callback.thread_end) (thread_end d) _ b e1 (thread_end-sound version d b) (λ e2.
+    chosen (bytes_eq name callback.parallel_begin) (parallel_begin d) _ b e2 (parallel_begin-sound version d b) (λ e3.
+    chosen (bytes_eq name callback.parallel_end) (parallel_end d) _ b e3 (parallel_end-sound version d b) (λ e4.
+    chosen (bytes_eq name callback.implicit_task) (implicit_task d) _ b e4 (implicit_task-sound version d b) (λ e5.
+    chosen (bytes_eq name callback.task_create) (task_create d) _ b e5 (task_create-sound version d b) (λ e6.
+    chosen (bytes_eq name callback.dependences) (dependences d) _ b e6 (λ is. dependences-sound version d b is fits) (λ e7.
+    chosen (bytes_eq name callback.task_schedule) (task_schedule version d) _ b e7 (λ is. task_schedule-sound version d b is fits) (λ e8.
+    chosen (bytes_eq name callback.sync_region) (sync_region d) _ b e8 (sync_region-sound version d b) (λ e9.
+    chosen (bytes_eq name callback.cancel) (cancel d) None b e9 (λ is. cancel-sound version d b is fits) (λ none. absurd (let h : None ≡ Some b = none in cc)))))))))))
 
-unbounded-sound : (d : Data) (r : Record) → unbounded d ≡ Some r → record_fits r ≡ true → IsSound r.body
+unbounded-sound : (version : ℕ) (d : Data) (r : Record) → unbounded version d ≡ Some r → record_fits r ≡ true → IsSoundIn version r.body
 unfolding unbounded
-unbounded-sound d r e fits =
+unbounded-sound version d r e fits =
     option_and_then_some _ (whole member.thread d) r e (λ thread _ e1. option_and_then_some _ (whole member.seq d) r e1 (λ seq _ e2.
-    option_and_then_some _ (whole member.seen d) r e2 (λ seen _ e3. option_and_then_some _ (body d) r e3 (λ b is same.
+    option_and_then_some _ (whole member.seen d) r e2 (λ seen _ e3. option_and_then_some _ (body version d) r e3 (λ b is same.
     let whole : record { thread = thread; seq = seq; seen = seen; body = b } ≡ r = cc in
     let bounds : body_fits b ≡ true = ap (λ (x : Record). body_fits x.body) whole ∙ both-first _ _ (both-first _ _ (both-first _ _ fits)) in
-    subst (λ (x : Record). IsSound x.body) whole (option_and_then_some (λ (name : List ℕ). body_named name d) (text member.cb d) b is (λ name _ named. body_named-sound name d b named bounds))))))
+    subst (λ (x : Record). IsSoundIn version x.body) whole (option_and_then_some (λ (name : List ℕ). body_named version name d) (text member.cb d) b is (λ name _ named. body_named-sound version name d b named bounds))))))
 
-pub line_says-sound : (line : List ℕ) (r : Record) → Ok r ≡ line_says line → IsSound r.body
-line_says-sound line r e = by_value (value_of line) e
+pub line_says-sound : (version : ℕ) (line : List ℕ) (r : Record) → Ok r ≡ line_says version line → IsSoundIn version r.body
+line_says-sound version line r e = by_value (value_of line) e
   where
-    by_value : (o : Option Data) → Ok r ≡ said_of o → IsSound r.body
+    by_value : (o : Option Data) → Ok r ≡ said_of version o → IsSoundIn version r.body
     by_value None h = absurd (ok_not_err r NotJson h)
-    by_value (Some d) h = let found = bounded-ok record_fits (unbounded d) r h in unbounded-sound d r found.0 found.1
+    by_value (Some d) h = let found = bounded-ok record_fits (unbounded version d) r h in unbounded-sound version d r found.0 found.1

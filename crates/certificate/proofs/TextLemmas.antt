@@ -7,7 +7,7 @@ use Rattle.std.proofs.lemmas.List.Sums.{sum_by-cons, sum_by-append}
 use Rattle.ompt_events.specs.declared.records.Record.{Record}
 use Rattle.ompt_events.specs.Records.{made}
 use Rattle.ompt_events.specs.Limits.{max_records, max_tasks}
-use Rattle.ompt_events.specs.Traces.{tasks_in, IsTrace}
+use Rattle.ompt_events.specs.Traces.{TraceView, tasks_in, IsTrace}
 use Rattle.serde_json.specs.Data.{Data, number, unsigned}
 use Rattle.serde_json.specs.Read.{max_depth}
 use Rattle.serde_json.specs.View.{items_of}
@@ -16,7 +16,7 @@ use Rattle.certificate.specs.Texts.{ended, whole_number}
 use Rattle.certificate.specs.Limits.{max_line}
 use Rattle.certificate.specs.Members.{each, whole_of}
 use Rattle.certificate.specs.RecordLines.{line_says, header_says, said_of}
-use Rattle.certificate.specs.Files.{Cut, cut, is_long, has_room, from_line, records_said}
+use Rattle.certificate.specs.Files.{Cut, cut, is_long, has_room, no_trace, from_line, trace_said}
 use Rattle.certificate.proofs.FileLemmas.{IsUnbroken, cut-line}
 use Rattle.certificate.proofs.JsonLemmas.{IsPlain, ArePlain, size, items_size, value_of-compact_text, unbroken-compact_text, length-compact_text}
 
@@ -27,9 +27,9 @@ cut-ended (line ∷ lines) all =
     ap cut (append_assoc line (10 ∷ []) (ended lines)) ∙ cut-line line (ended lines) all.0
     ∙ ap (λ (c : Cut). let later : Cut = record { lines = line ∷ c.lines; rest = c.rest } in later) (cut-ended lines all.1)
 
--- the line can stand in a file, and stands for the record
-pub record IsLineOf (line : List ℕ) (r : Record) : Type 0 where
-  pub says : line_says line ≡ Ok r
+-- the line can stand in a file of this version, and stands for the record
+pub record IsLineOf (version : ℕ) (line : List ℕ) (r : Record) : Type 0 where
+  pub says : line_says version line ≡ Ok r
   pub short : length line ≤ max_line
   pub unbroken : IsUnbroken line
 
@@ -59,24 +59,28 @@ not_first n later = ne_eqb n 1 (λ e. omega arith)
 not_long : (line : List ℕ) → length line ≤ max_line → is_long line ≡ false
 not_long line short = grind arith
 
-pub from_line-records : (line : Record → List ℕ) (n : ℕ) (before rs : List Record) → 2 ≤ n → AllByRecursion (λ r. IsLineOf (line r) r) rs → length (before ++ rs) ≤ max_records → tasks_in (before ++ rs) ≤ max_tasks
-    → from_line n before (map line rs) [] ≡ Ok (before ++ rs)
+-- the trace of this version with these records
+abbrev trace_at : ℕ → List Record → TraceView
+trace_at version rs = record { version = version; records = rs }
+
+from_line-records : (newest version : ℕ) (line : Record → List ℕ) (n : ℕ) (before rs : List Record) → 2 ≤ n → AllByRecursion (λ r. IsLineOf version (line r) r) rs → length (before ++ rs) ≤ max_records → tasks_in (before ++ rs) ≤ max_tasks
+    → from_line newest n (trace_at version before) (map line rs) [] ≡ Ok (trace_at version (before ++ rs))
 unfolding from_line
-from_line-records line n before [] later all few tasks = rw (not_first n later) (ap Ok (sym (append-nil before)))
-from_line-records line n before (r ∷ rs) later all few tasks =
+from_line-records newest version line n before [] later all few tasks = rw (not_first n later) (ap (λ (rs : List Record). Ok (trace_at version rs)) (sym (append-nil before)))
+from_line-records newest version line n before (r ∷ rs) later all few tasks =
     let whole : (before ++ r ∷ []) ++ rs ≡ before ++ r ∷ rs = append_assoc before (r ∷ []) rs in
-    let rest = from_line-records line (n + 1) (before ++ r ∷ []) rs (omega arith) all.1 (rw whole few) (rw whole tasks) in
-    rw (not_long (line r) all.0.short, not_first n later, all.0.says, has_room-before before r rs few tasks) (rest ∙ ap Ok whole)
+    let rest = from_line-records newest version line (n + 1) (before ++ r ∷ []) rs (omega arith) all.1 (rw whole few) (rw whole tasks) in
+    rw (not_long (line r) all.0.short, not_first n later, all.0.says, has_room-before before r rs few tasks) (rest ∙ ap (λ (rs : List Record). Ok (trace_at version rs)) whole)
 
 -- the text of a trace, given its lines, stands for it
-pub records_said-ended : (header : List ℕ) (line : Record → List ℕ) (rs : List Record) → header_says header ≡ Ok tt → length header ≤ max_line → IsUnbroken header → AllByRecursion (λ r. IsLineOf (line r) r) rs
-    → length rs ≤ max_records → tasks_in rs ≤ max_tasks → records_said (ended (header ∷ map line rs)) ≡ Ok rs
+trace_said-ended : (newest version : ℕ) (header : List ℕ) (line : Record → List ℕ) (rs : List Record) → header_says newest header ≡ Ok version → length header ≤ max_line → IsUnbroken header → AllByRecursion (λ r. IsLineOf version (line r) r) rs
+    → length rs ≤ max_records → tasks_in rs ≤ max_tasks → trace_said newest (ended (header ∷ map line rs)) ≡ Ok (trace_at version rs)
 unfolding from_line
-records_said-ended header line rs says short unbroken all few tasks =
-    ap (λ (c : Cut). from_line 1 [] c.lines c.rest) (cut-ended (header ∷ map line rs) (unbroken, lines rs all))
-    ∙ rw (not_long header short, says) (from_line-records line 2 [] rs (omega arith) all few tasks)
+trace_said-ended newest version header line rs says short unbroken all few tasks =
+    ap (λ (c : Cut). from_line newest 1 no_trace c.lines c.rest) (cut-ended (header ∷ map line rs) (unbroken, lines rs all))
+    ∙ rw (not_long header short, says) (from_line-records newest version line 2 [] rs (omega arith) all few tasks)
   where
-    lines : (rs : List Record) → AllByRecursion (λ r. IsLineOf (line r) r) rs → AllByRecursion IsUnbroken (map line rs)
+    lines : (rs : List Record) → AllByRecursion (λ r. IsLineOf version (line r) r) rs → AllByRecursion IsUnbroken (map line rs)
     lines [] all = tt
     lines (r ∷ rs) all = (all.0.unbroken, lines rs all.1)
 
@@ -86,15 +90,15 @@ AllByRecursion-from P [] all = tt
 AllByRecursion-from P (x ∷ xs) all = (all 0 x (omega arith), AllByRecursion-from P xs (λ k d h. all (suc k) d (omega arith)))
 
 -- the same where each record of a trace has its line
-pub records_said-trace : (header : List ℕ) (line : Record → List ℕ) (rs : List Record) → header_says header ≡ Ok tt → length header ≤ max_line → IsUnbroken header → All (λ r. IsLineOf (line r) r) rs → IsTrace rs
-    → records_said (ended (header ∷ map line rs)) ≡ Ok rs
-records_said-trace header line rs says short unbroken all trace = records_said-ended header line rs says short unbroken (AllByRecursion-from _ rs all) trace.few_records trace.few_tasks
+pub trace_said-trace : (newest version : ℕ) (header : List ℕ) (line : Record → List ℕ) (rs : List Record) → header_says newest header ≡ Ok version → length header ≤ max_line → IsUnbroken header → All (λ r. IsLineOf version (line r) r) rs → IsTrace rs
+    → trace_said newest (ended (header ∷ map line rs)) ≡ Ok (record { version = version; records = rs })
+trace_said-trace newest version header line rs says short unbroken all trace = trace_said-ended newest version header line rs says short unbroken (AllByRecursion-from _ rs all) trace.few_records trace.few_tasks
 
 -- ---- the line of a value
 
-pub IsLineOf-plain : (d : Data) (n : ℕ) (r : Record) → IsPlain d n → n ≤ max_depth → size d ≤ max_line → said_of (Some d) ≡ Ok r → IsLineOf (compact_text d) r
-IsLineOf-plain d n r plain shallow small says = record {
-  says = ap said_of (value_of-compact_text d n plain shallow) ∙ says;
+pub IsLineOf-plain : (version : ℕ) (d : Data) (n : ℕ) (r : Record) → IsPlain d n → n ≤ max_depth → size d ≤ max_line → said_of version (Some d) ≡ Ok r → IsLineOf version (compact_text d) r
+IsLineOf-plain version d n r plain shallow small says = record {
+  says = ap (said_of version) (value_of-compact_text d n plain shallow) ∙ says;
   short = omega (arith, length-compact_text d n plain);
   unbroken = unbroken-compact_text d n plain;
 }

@@ -1,6 +1,6 @@
 -- A line whose members stand in any order, read member after member.
 use Rattle.std.proofs.Common.{◌≡◌, ℕ, Bool, true, false, cond, Option, None, Some, List, [], ◌∷◌, ◌++◌, map, Ok, Err, arith, refl, sym, ap, ◌∙◌, append_assoc}
-use Rattle.std.specs.Prelude.{option_map}
+use Rattle.std.specs.Prelude.{option_map, IfSome}
 use Rattle.std.specs.Str.{bytes_eq}
 use Rattle.json.specs.Print.{quoted}
 use Rattle.serde_json.specs.Data.{Data, boolean, string, array, object, Members, no_members, member, put}
@@ -9,6 +9,7 @@ use Rattle.serde_json.specs.View.{items_of}
 use Rattle.serde_json.specs.Written.{compact_text, members_text, comma_if}
 use Rattle.ompt_events.specs.declared.records.Record.{Record}
 use Rattle.ompt_events.specs.declared.records.Part.{Part}
+use Rattle.ompt_events.specs.declared.records.Turns.{Turns}
 use Rattle.ompt_events.specs.declared.records.Body.TheVariants as body
 use Rattle.ompt_events.specs.declared.flags.TaskFlags.{TaskFlags}
 use Rattle.ompt_events.specs.declared.names.Status.{Status}
@@ -19,12 +20,12 @@ use Rattle.certificate.specs.Members.{not_both}
 use Rattle.ompt_events.specs.declared.names.SyncKind.{SyncKind}
 use Rattle.ompt_events.specs.Names.{status_name, endpoint_name, sync_kind_name, status_part, demands_next}
 use Rattle.ompt_events.specs.Flags as table
-use Rattle.ompt_events.specs.Traces.{IsSound, IsInRange}
+use Rattle.ompt_events.specs.Traces.{IsSound, IsSoundIn, IsInRange}
 use Rattle.certificate.specs.declared.faults.ReadCause.TheVariants.{Limit}
 use Rattle.certificate.specs.declared.unordered.Callback.{Callback}
 use Rattle.certificate.specs.declared.unordered.Callback.TheVariants.{ParallelBegin, ParallelEnd, ImplicitTask, TaskCreate, Dependences, TaskSchedule, SyncRegion}
 use Rattle.certificate.specs.declared.unordered.Found.{Found}
-use Rattle.certificate.specs.RecordLines.{unbounded, body_named, parallel_begin, parallel_end, implicit_task, dependences, task_create, task_schedule, sync_region, share, claim, bounded, record_fits, said_of, line_says, value_of}
+use Rattle.certificate.specs.RecordLines.{unbounded, body_named, parallel_begin, parallel_end, implicit_task, dependences, task_create, task_schedule, sync_region, share, claim, turns, both_turns, bounded, record_fits, said_of, line_says, value_of}
 use Rattle.certificate.specs.MemberNames as name
 use Rattle.certificate.specs.CallbackNames as callback
 use Rattle.certificate.specs.PlainData.{puts, IsPlain, MembersArePlain}
@@ -36,7 +37,7 @@ use Rattle.certificate.proofs.LineLemmas.{fits}
 use Rattle.certificate.proofs.MeaningLemmas.{get_member-put_either}
 use Rattle.certificate.proofs.ObjectLemmas.{followed, followed-none, followed-more}
 use Rattle.certificate.proofs.SaysLemmas.{named-status, named-endpoint, named-sync_kind, nullable-number_or_null, next-read, deps-read}
-use Rattle.certificate.proofs.SoundLemmas.{is_some-map}
+use Rattle.certificate.proofs.SoundLemmas.{is_some-map, tells-turns}
 use Rattle.certificate.proofs.TakeLemmas.{Takes-both}
 use Rattle.certificate.proofs.TextLemmas.{wholes-items_of}
 
@@ -102,14 +103,14 @@ IsFound-end rs later line rest met last =
 
 -- ---- what was found says the record
 
-pub line_says-found : (line : List ℕ) (rs : List (List ℕ × Option Data)) (r : Record) → IsFound line rs → Makes rs r → IsInRange r → IsSound r.body → line_says line ≡ Ok r
-line_says-found line rs r found makes range sound =
-    ap said_of found.value ∙ ap (bounded record_fits) (makes found.members found.are sound) ∙ ap (λ b. cond b (Ok r) (Err Limit)) (fits r range sound)
+pub line_says-found : (version : ℕ) (line : List ℕ) (rs : List (List ℕ × Option Data)) (r : Record) → IsFound line rs → Makes version rs r → IsInRange r → IsSoundIn version r.body → line_says version line ≡ Ok r
+line_says-found version line rs r found makes range sound =
+    ap (said_of version) found.value ∙ ap (bounded record_fits) (makes found.members found.are sound) ∙ ap (λ b. cond b (Ok r) (Err Limit)) (fits r range sound.0)
 
-pub makes-task_create : (f : Found) (thread : ℕ) (seq : ℕ) (seen : ℕ) (child : ℕ) (deps : Bool) (flags : TaskFlags) (task : ℕ) → f.callback ≡ Some TaskCreate → f.thread ≡ Some thread → f.seq ≡ Some seq → f.seen ≡ Some seen → f.child ≡ Some child → f.deps ≡ Some deps → f.flags ≡ Some flags → f.task ≡ Some task
-    → Makes (rows f) (record { thread = thread; seq = seq; seen = seen; body = body.TaskCreate deps flags task child })
+pub makes-task_create : (version : ℕ) (f : Found) (thread : ℕ) (seq : ℕ) (seen : ℕ) (child : ℕ) (deps : Bool) (flags : TaskFlags) (task : ℕ) → f.callback ≡ Some TaskCreate → f.thread ≡ Some thread → f.seq ≡ Some seq → f.seen ≡ Some seen → f.child ≡ Some child → f.deps ≡ Some deps → f.flags ≡ Some flags → f.task ≡ Some task
+    → Makes version (rows f) (record { thread = thread; seq = seq; seen = seen; body = body.TaskCreate deps flags task child })
 unfolding unbounded body_named task_create
-makes-task_create f thread seq seen child deps flags task is_callback is_thread is_seq is_seen is_child is_deps is_flags is_task = λ ms are sound.
+makes-task_create version f thread seq seen child deps flags task is_callback is_thread is_seq is_seen is_child is_deps is_flags is_task = λ ms are sound.
     let g_thread : get_member name.thread ms ≡ Some (whole_number thread) = are.1.0 ∙ ap (option_map whole_number) is_thread in
     let g_seq : get_member name.seq ms ≡ Some (whole_number seq) = are.1.1.0 ∙ ap (option_map whole_number) is_seq in
     let g_seen : get_member name.seen ms ≡ Some (whole_number seen) = are.1.1.1.0 ∙ ap (option_map whole_number) is_seen in
@@ -118,12 +119,16 @@ makes-task_create f thread seq seen child deps flags task is_callback is_thread 
     let g_flags : get_member name.flags ms ≡ Some (names (flag_names table.task_flags flags.0)) = are.1.1.1.1.1.1.1.0 ∙ ap (option_map (λ (bits : TaskFlags). names (flag_names table.task_flags bits.0))) is_flags in
     let g_task : get_member name.task ms ≡ Some (whole_number task) = are.1.1.1.1.0 ∙ ap (option_map whole_number) is_task in
     let g_child : get_member name.child ms ≡ Some (whole_number child) = are.1.1.1.1.1.0 ∙ ap (option_map whole_number) is_child in
-    rw (g_thread, g_seq, g_seen, g_callback, g_deps, g_flags, g_task, g_child, task_flags-read flags.0 sound.named_flags) refl
+    rw (g_thread, g_seq, g_seen, g_callback, g_deps, g_flags, g_task, g_child, task_flags-read flags.0 sound.0.named_flags) refl
 
-pub makes-switching : (f : Found) (thread : ℕ) (seq : ℕ) (seen : ℕ) (status : Status) (prior : ℕ) (next : Option ℕ) → f.callback ≡ Some TaskSchedule → f.thread ≡ Some thread → f.seq ≡ Some seq → f.seen ≡ Some seen → f.status ≡ Some status → f.prior ≡ Some prior → f.next ≡ Some next
-    → Makes (rows f) (record { thread = thread; seq = seq; seen = seen; body = body.TaskSchedule status turns prior next None })
-unfolding unbounded body_named task_schedule share
-makes-switching f thread seq seen status prior next is_callback is_thread is_seq is_seen is_status is_prior is_next = λ ms are sound.
+-- the turns, where some are told, were found
+abbrev pub IsTold : Found → Option Turns → Type 0
+IsTold f told = IfSome told (λ (t : Turns). (f.prior_turn ≡ Some t.prior) × (f.next_turn ≡ Some t.next))
+
+pub makes-switching : (version : ℕ) (f : Found) (thread : ℕ) (seq : ℕ) (seen : ℕ) (status : Status) (told : Option Turns) (prior : ℕ) (next : Option ℕ) → f.callback ≡ Some TaskSchedule → f.thread ≡ Some thread → f.seq ≡ Some seq → f.seen ≡ Some seen → f.status ≡ Some status → f.prior ≡ Some prior → f.next ≡ Some next → IsTold f told
+    → Makes version (rows f) (record { thread = thread; seq = seq; seen = seen; body = body.TaskSchedule status told prior next None })
+unfolding unbounded body_named task_schedule share turns both_turns
+makes-switching version f thread seq seen status None prior next is_callback is_thread is_seq is_seen is_status is_prior is_next is_told = λ ms are sound.
     let g_thread : get_member name.thread ms ≡ Some (whole_number thread) = are.1.0 ∙ ap (option_map whole_number) is_thread in
     let g_seq : get_member name.seq ms ≡ Some (whole_number seq) = are.1.1.0 ∙ ap (option_map whole_number) is_seq in
     let g_seen : get_member name.seen ms ≡ Some (whole_number seen) = are.1.1.1.0 ∙ ap (option_map whole_number) is_seen in
@@ -131,12 +136,23 @@ makes-switching f thread seq seen status prior next is_callback is_thread is_seq
     let g_status : get_member name.status ms ≡ Some (string (status_name status)) = are.1.1.1.1.1.1.1.1.0 ∙ ap (option_map (λ (s : Status). string (status_name s))) is_status in
     let g_prior : get_member name.prior ms ≡ Some (whole_number prior) = are.1.1.1.1.1.1.1.1.1.0 ∙ ap (option_map whole_number) is_prior in
     let g_next : get_member name.next ms ≡ Some (number_or_null next) = are.1.1.1.1.1.1.1.1.1.1.0 ∙ ap (option_map number_or_null) is_next in
-    rw (g_thread, g_seq, g_seen, g_callback, g_status, g_prior, g_next, named-status status, nullable-number_or_null next, next-read (demands_next status) next sound.next, sym (is_some-map (λ (part : Part). (prior, part)) (status_part status)) ∙ sym sound.claimed) refl
+    rw (g_thread, g_seq, g_seen, g_callback, g_status, g_prior, g_next, named-status status, nullable-number_or_null next, next-read (demands_next status) next sound.0.next, tells-turns version status None next sound.0.next sound.1, sym (is_some-map (λ (part : Part). (prior, part)) (status_part status)) ∙ sym sound.0.claimed) refl
+makes-switching version f thread seq seen status (Some t) prior next is_callback is_thread is_seq is_seen is_status is_prior is_next is_told = λ ms are sound.
+    let g_thread : get_member name.thread ms ≡ Some (whole_number thread) = are.1.0 ∙ ap (option_map whole_number) is_thread in
+    let g_seq : get_member name.seq ms ≡ Some (whole_number seq) = are.1.1.0 ∙ ap (option_map whole_number) is_seq in
+    let g_seen : get_member name.seen ms ≡ Some (whole_number seen) = are.1.1.1.0 ∙ ap (option_map whole_number) is_seen in
+    let g_callback : get_member name.cb ms ≡ Some (string callback.task_schedule) = are.0 ∙ ap (option_map (λ (c : Callback). string (callback_name c))) is_callback in
+    let g_status : get_member name.status ms ≡ Some (string (status_name status)) = are.1.1.1.1.1.1.1.1.0 ∙ ap (option_map (λ (s : Status). string (status_name s))) is_status in
+    let g_prior : get_member name.prior ms ≡ Some (whole_number prior) = are.1.1.1.1.1.1.1.1.1.0 ∙ ap (option_map whole_number) is_prior in
+    let g_next : get_member name.next ms ≡ Some (number_or_null next) = are.1.1.1.1.1.1.1.1.1.1.0 ∙ ap (option_map number_or_null) is_next in
+    let g_prior_turn : get_member name.prior_turn ms ≡ Some (whole_number t.prior) = are.1.1.1.1.1.1.1.1.1.1.1.1.1.1.1.1.1.1.1.1.1.0 ∙ ap (option_map whole_number) is_told.0 in
+    let g_next_turn : get_member name.next_turn ms ≡ Some (whole_number t.next) = are.1.1.1.1.1.1.1.1.1.1.1.1.1.1.1.1.1.1.1.1.1.1.0 ∙ ap (option_map whole_number) is_told.1 in
+    rw (g_thread, g_seq, g_seen, g_callback, g_status, g_prior, g_next, named-status status, nullable-number_or_null next, next-read (demands_next status) next sound.0.next, tells-turns version status (Some t) next sound.0.next sound.1, g_prior_turn, g_next_turn, sym (is_some-map (λ (part : Part). (prior, part)) (status_part status)) ∙ sym sound.0.claimed) refl
 
-pub makes-finishing : (f : Found) (thread : ℕ) (seq : ℕ) (seen : ℕ) (status : Status) (prior : ℕ) (next : Option ℕ) (kept : ℕ) (root : ℕ) (path : List ℕ) → f.callback ≡ Some TaskSchedule → f.thread ≡ Some thread → f.seq ≡ Some seq → f.seen ≡ Some seen → f.status ≡ Some status → f.prior ≡ Some prior → f.next ≡ Some next → f.kept ≡ Some kept → f.root ≡ Some root → f.path ≡ Some path
-    → Makes (rows f) (record { thread = thread; seq = seq; seen = seen; body = body.TaskSchedule status turns prior next (Some (record { kept = kept; root = root; path = path })) })
-unfolding unbounded body_named task_schedule share claim
-makes-finishing f thread seq seen status prior next kept root path is_callback is_thread is_seq is_seen is_status is_prior is_next is_kept is_root is_path = λ ms are sound.
+pub makes-finishing : (version : ℕ) (f : Found) (thread : ℕ) (seq : ℕ) (seen : ℕ) (status : Status) (told : Option Turns) (prior : ℕ) (next : Option ℕ) (kept : ℕ) (root : ℕ) (path : List ℕ) → f.callback ≡ Some TaskSchedule → f.thread ≡ Some thread → f.seq ≡ Some seq → f.seen ≡ Some seen → f.status ≡ Some status → f.prior ≡ Some prior → f.next ≡ Some next → f.kept ≡ Some kept → f.root ≡ Some root → f.path ≡ Some path → IsTold f told
+    → Makes version (rows f) (record { thread = thread; seq = seq; seen = seen; body = body.TaskSchedule status told prior next (Some (record { kept = kept; root = root; path = path })) })
+unfolding unbounded body_named task_schedule share claim turns both_turns
+makes-finishing version f thread seq seen status None prior next kept root path is_callback is_thread is_seq is_seen is_status is_prior is_next is_kept is_root is_path is_told = λ ms are sound.
     let g_thread : get_member name.thread ms ≡ Some (whole_number thread) = are.1.0 ∙ ap (option_map whole_number) is_thread in
     let g_seq : get_member name.seq ms ≡ Some (whole_number seq) = are.1.1.0 ∙ ap (option_map whole_number) is_seq in
     let g_seen : get_member name.seen ms ≡ Some (whole_number seen) = are.1.1.1.0 ∙ ap (option_map whole_number) is_seen in
@@ -147,12 +163,26 @@ makes-finishing f thread seq seen status prior next kept root path is_callback i
     let g_kept : get_member name.kept ms ≡ Some (whole_number kept) = are.1.1.1.1.1.1.1.1.1.1.1.0 ∙ ap (option_map whole_number) is_kept in
     let g_root : get_member name.root ms ≡ Some (whole_number root) = are.1.1.1.1.1.1.1.1.1.1.1.1.0 ∙ ap (option_map whole_number) is_root in
     let g_path : get_member name.path ms ≡ Some (array (items_of (map whole_number path))) = are.1.1.1.1.1.1.1.1.1.1.1.1.1.0 ∙ ap (option_map (λ (ns : List ℕ). array (items_of (map whole_number ns)))) is_path in
-    rw (g_thread, g_seq, g_seen, g_callback, g_status, g_prior, g_next, g_kept, g_root, g_path, named-status status, nullable-number_or_null next, next-read (demands_next status) next sound.next, sym (is_some-map (λ (part : Part). (prior, part)) (status_part status)) ∙ sym sound.claimed, wholes-items_of path) refl
+    rw (g_thread, g_seq, g_seen, g_callback, g_status, g_prior, g_next, g_kept, g_root, g_path, named-status status, nullable-number_or_null next, next-read (demands_next status) next sound.0.next, tells-turns version status None next sound.0.next sound.1, sym (is_some-map (λ (part : Part). (prior, part)) (status_part status)) ∙ sym sound.0.claimed, wholes-items_of path) refl
+makes-finishing version f thread seq seen status (Some t) prior next kept root path is_callback is_thread is_seq is_seen is_status is_prior is_next is_kept is_root is_path is_told = λ ms are sound.
+    let g_thread : get_member name.thread ms ≡ Some (whole_number thread) = are.1.0 ∙ ap (option_map whole_number) is_thread in
+    let g_seq : get_member name.seq ms ≡ Some (whole_number seq) = are.1.1.0 ∙ ap (option_map whole_number) is_seq in
+    let g_seen : get_member name.seen ms ≡ Some (whole_number seen) = are.1.1.1.0 ∙ ap (option_map whole_number) is_seen in
+    let g_callback : get_member name.cb ms ≡ Some (string callback.task_schedule) = are.0 ∙ ap (option_map (λ (c : Callback). string (callback_name c))) is_callback in
+    let g_status : get_member name.status ms ≡ Some (string (status_name status)) = are.1.1.1.1.1.1.1.1.0 ∙ ap (option_map (λ (s : Status). string (status_name s))) is_status in
+    let g_prior : get_member name.prior ms ≡ Some (whole_number prior) = are.1.1.1.1.1.1.1.1.1.0 ∙ ap (option_map whole_number) is_prior in
+    let g_next : get_member name.next ms ≡ Some (number_or_null next) = are.1.1.1.1.1.1.1.1.1.1.0 ∙ ap (option_map number_or_null) is_next in
+    let g_kept : get_member name.kept ms ≡ Some (whole_number kept) = are.1.1.1.1.1.1.1.1.1.1.1.0 ∙ ap (option_map whole_number) is_kept in
+    let g_root : get_member name.root ms ≡ Some (whole_number root) = are.1.1.1.1.1.1.1.1.1.1.1.1.0 ∙ ap (option_map whole_number) is_root in
+    let g_path : get_member name.path ms ≡ Some (array (items_of (map whole_number path))) = are.1.1.1.1.1.1.1.1.1.1.1.1.1.0 ∙ ap (option_map (λ (ns : List ℕ). array (items_of (map whole_number ns)))) is_path in
+    let g_prior_turn : get_member name.prior_turn ms ≡ Some (whole_number t.prior) = are.1.1.1.1.1.1.1.1.1.1.1.1.1.1.1.1.1.1.1.1.1.0 ∙ ap (option_map whole_number) is_told.0 in
+    let g_next_turn : get_member name.next_turn ms ≡ Some (whole_number t.next) = are.1.1.1.1.1.1.1.1.1.1.1.1.1.1.1.1.1.1.1.1.1.1.0 ∙ ap (option_map whole_number) is_told.1 in
+    rw (g_thread, g_seq, g_seen, g_callback, g_status, g_prior, g_next, g_kept, g_root, g_path, named-status status, nullable-number_or_null next, next-read (demands_next status) next sound.0.next, tells-turns version status (Some t) next sound.0.next sound.1, g_prior_turn, g_next_turn, sym (is_some-map (λ (part : Part). (prior, part)) (status_part status)) ∙ sym sound.0.claimed, wholes-items_of path) refl
 
-pub makes-sync_region : (f : Found) (thread : ℕ) (seq : ℕ) (seen : ℕ) (kind : SyncKind) (endpoint : Endpoint) (parallel : Option ℕ) (task : ℕ) → f.callback ≡ Some SyncRegion → f.thread ≡ Some thread → f.seq ≡ Some seq → f.seen ≡ Some seen → f.kind ≡ Some kind → f.endpoint ≡ Some endpoint → f.parallel ≡ Some parallel → f.task ≡ Some task
-    → Makes (rows f) (record { thread = thread; seq = seq; seen = seen; body = body.SyncRegion kind endpoint parallel task })
+pub makes-sync_region : (version : ℕ) (f : Found) (thread : ℕ) (seq : ℕ) (seen : ℕ) (kind : SyncKind) (endpoint : Endpoint) (parallel : Option ℕ) (task : ℕ) → f.callback ≡ Some SyncRegion → f.thread ≡ Some thread → f.seq ≡ Some seq → f.seen ≡ Some seen → f.kind ≡ Some kind → f.endpoint ≡ Some endpoint → f.parallel ≡ Some parallel → f.task ≡ Some task
+    → Makes version (rows f) (record { thread = thread; seq = seq; seen = seen; body = body.SyncRegion kind endpoint parallel task })
 unfolding unbounded body_named sync_region
-makes-sync_region f thread seq seen kind endpoint parallel task is_callback is_thread is_seq is_seen is_kind is_endpoint is_parallel is_task = λ ms are sound.
+makes-sync_region version f thread seq seen kind endpoint parallel task is_callback is_thread is_seq is_seen is_kind is_endpoint is_parallel is_task = λ ms are sound.
     let g_thread : get_member name.thread ms ≡ Some (whole_number thread) = are.1.0 ∙ ap (option_map whole_number) is_thread in
     let g_seq : get_member name.seq ms ≡ Some (whole_number seq) = are.1.1.0 ∙ ap (option_map whole_number) is_seq in
     let g_seen : get_member name.seen ms ≡ Some (whole_number seen) = are.1.1.1.0 ∙ ap (option_map whole_number) is_seen in
@@ -168,10 +198,10 @@ one-end Begin actual index flags parallel task sound = refl
 one-end End actual index flags parallel task sound = refl
 one-end BeginEnd actual index flags parallel task sound = absurd sound.begins_or_ends
 
-pub makes-parallel_begin : (f : Found) (thread : ℕ) (seq : ℕ) (seen : ℕ) (requested : ℕ) (task : ℕ) (parallel : ℕ) → f.callback ≡ Some ParallelBegin → f.thread ≡ Some thread → f.seq ≡ Some seq → f.seen ≡ Some seen → f.requested ≡ Some requested → f.task ≡ Some task → f.parallel ≡ Some (Some parallel)
-    → Makes (rows f) (record { thread = thread; seq = seq; seen = seen; body = body.ParallelBegin requested task parallel })
+pub makes-parallel_begin : (version : ℕ) (f : Found) (thread : ℕ) (seq : ℕ) (seen : ℕ) (requested : ℕ) (task : ℕ) (parallel : ℕ) → f.callback ≡ Some ParallelBegin → f.thread ≡ Some thread → f.seq ≡ Some seq → f.seen ≡ Some seen → f.requested ≡ Some requested → f.task ≡ Some task → f.parallel ≡ Some (Some parallel)
+    → Makes version (rows f) (record { thread = thread; seq = seq; seen = seen; body = body.ParallelBegin requested task parallel })
 unfolding unbounded body_named parallel_begin
-makes-parallel_begin f thread seq seen requested task parallel is_callback is_thread is_seq is_seen is_requested is_task is_parallel = λ ms are sound.
+makes-parallel_begin version f thread seq seen requested task parallel is_callback is_thread is_seq is_seen is_requested is_task is_parallel = λ ms are sound.
     let g_thread : get_member name.thread ms ≡ Some (whole_number thread) = are.1.0 ∙ ap (option_map whole_number) is_thread in
     let g_seq : get_member name.seq ms ≡ Some (whole_number seq) = are.1.1.0 ∙ ap (option_map whole_number) is_seq in
     let g_seen : get_member name.seen ms ≡ Some (whole_number seen) = are.1.1.1.0 ∙ ap (option_map whole_number) is_seen in
@@ -181,10 +211,10 @@ makes-parallel_begin f thread seq seen requested task parallel is_callback is_th
     let g_parallel : get_member name.parallel ms ≡ Some (whole_number parallel) = are.1.1.1.1.1.1.1.1.1.1.1.1.1.1.1.1.0 ∙ ap (option_map number_or_null) is_parallel in
     rw (g_thread, g_seq, g_seen, g_callback, g_requested, g_task, g_parallel) refl
 
-pub makes-parallel_end : (f : Found) (thread : ℕ) (seq : ℕ) (seen : ℕ) (task : ℕ) (parallel : ℕ) → f.callback ≡ Some ParallelEnd → f.thread ≡ Some thread → f.seq ≡ Some seq → f.seen ≡ Some seen → f.task ≡ Some task → f.parallel ≡ Some (Some parallel)
-    → Makes (rows f) (record { thread = thread; seq = seq; seen = seen; body = body.ParallelEnd task parallel })
+pub makes-parallel_end : (version : ℕ) (f : Found) (thread : ℕ) (seq : ℕ) (seen : ℕ) (task : ℕ) (parallel : ℕ) → f.callback ≡ Some ParallelEnd → f.thread ≡ Some thread → f.seq ≡ Some seq → f.seen ≡ Some seen → f.task ≡ Some task → f.parallel ≡ Some (Some parallel)
+    → Makes version (rows f) (record { thread = thread; seq = seq; seen = seen; body = body.ParallelEnd task parallel })
 unfolding unbounded body_named parallel_end
-makes-parallel_end f thread seq seen task parallel is_callback is_thread is_seq is_seen is_task is_parallel = λ ms are sound.
+makes-parallel_end version f thread seq seen task parallel is_callback is_thread is_seq is_seen is_task is_parallel = λ ms are sound.
     let g_thread : get_member name.thread ms ≡ Some (whole_number thread) = are.1.0 ∙ ap (option_map whole_number) is_thread in
     let g_seq : get_member name.seq ms ≡ Some (whole_number seq) = are.1.1.0 ∙ ap (option_map whole_number) is_seq in
     let g_seen : get_member name.seen ms ≡ Some (whole_number seen) = are.1.1.1.0 ∙ ap (option_map whole_number) is_seen in
@@ -193,10 +223,10 @@ makes-parallel_end f thread seq seen task parallel is_callback is_thread is_seq 
     let g_parallel : get_member name.parallel ms ≡ Some (whole_number parallel) = are.1.1.1.1.1.1.1.1.1.1.1.1.1.1.1.1.0 ∙ ap (option_map number_or_null) is_parallel in
     rw (g_thread, g_seq, g_seen, g_callback, g_task, g_parallel) refl
 
-pub makes-implicit_task : (f : Found) (thread : ℕ) (seq : ℕ) (seen : ℕ) (endpoint : Endpoint) (actual : ℕ) (index : ℕ) (flags : TaskFlags) (parallel : ℕ) (task : ℕ) → f.callback ≡ Some ImplicitTask → f.thread ≡ Some thread → f.seq ≡ Some seq → f.seen ≡ Some seen → f.endpoint ≡ Some endpoint → f.actual ≡ Some actual → f.index ≡ Some index → f.flags ≡ Some flags → f.parallel ≡ Some (Some parallel) → f.task ≡ Some task
-    → Makes (rows f) (record { thread = thread; seq = seq; seen = seen; body = body.ImplicitTask endpoint actual index flags parallel task })
+pub makes-implicit_task : (version : ℕ) (f : Found) (thread : ℕ) (seq : ℕ) (seen : ℕ) (endpoint : Endpoint) (actual : ℕ) (index : ℕ) (flags : TaskFlags) (parallel : ℕ) (task : ℕ) → f.callback ≡ Some ImplicitTask → f.thread ≡ Some thread → f.seq ≡ Some seq → f.seen ≡ Some seen → f.endpoint ≡ Some endpoint → f.actual ≡ Some actual → f.index ≡ Some index → f.flags ≡ Some flags → f.parallel ≡ Some (Some parallel) → f.task ≡ Some task
+    → Makes version (rows f) (record { thread = thread; seq = seq; seen = seen; body = body.ImplicitTask endpoint actual index flags parallel task })
 unfolding unbounded body_named implicit_task
-makes-implicit_task f thread seq seen endpoint actual index flags parallel task is_callback is_thread is_seq is_seen is_endpoint is_actual is_index is_flags is_parallel is_task = λ ms are sound.
+makes-implicit_task version f thread seq seen endpoint actual index flags parallel task is_callback is_thread is_seq is_seen is_endpoint is_actual is_index is_flags is_parallel is_task = λ ms are sound.
     let g_thread : get_member name.thread ms ≡ Some (whole_number thread) = are.1.0 ∙ ap (option_map whole_number) is_thread in
     let g_seq : get_member name.seq ms ≡ Some (whole_number seq) = are.1.1.0 ∙ ap (option_map whole_number) is_seq in
     let g_seen : get_member name.seen ms ≡ Some (whole_number seen) = are.1.1.1.0 ∙ ap (option_map whole_number) is_seen in
@@ -207,12 +237,12 @@ makes-implicit_task f thread seq seen endpoint actual index flags parallel task 
     let g_flags : get_member name.flags ms ≡ Some (names (flag_names table.task_flags flags.0)) = are.1.1.1.1.1.1.1.0 ∙ ap (option_map (λ (bits : TaskFlags). names (flag_names table.task_flags bits.0))) is_flags in
     let g_parallel : get_member name.parallel ms ≡ Some (whole_number parallel) = are.1.1.1.1.1.1.1.1.1.1.1.1.1.1.1.1.0 ∙ ap (option_map number_or_null) is_parallel in
     let g_task : get_member name.task ms ≡ Some (whole_number task) = are.1.1.1.1.0 ∙ ap (option_map whole_number) is_task in
-    rw (g_thread, g_seq, g_seen, g_callback, g_endpoint, g_actual, g_index, g_flags, g_parallel, g_task, named-endpoint endpoint, one-end endpoint actual index flags parallel task sound, task_flags-read flags.0 sound.named_flags) refl
+    rw (g_thread, g_seq, g_seen, g_callback, g_endpoint, g_actual, g_index, g_flags, g_parallel, g_task, named-endpoint endpoint, one-end endpoint actual index flags parallel task sound.0, task_flags-read flags.0 sound.0.named_flags) refl
 
-pub makes-dependences : (f : Found) (thread : ℕ) (seq : ℕ) (seen : ℕ) (task : ℕ) (list : List Dep) → f.callback ≡ Some Dependences → f.thread ≡ Some thread → f.seq ≡ Some seq → f.seen ≡ Some seen → f.task ≡ Some task → f.list ≡ Some list
-    → Makes (rows f) (record { thread = thread; seq = seq; seen = seen; body = body.Dependences task list })
+pub makes-dependences : (version : ℕ) (f : Found) (thread : ℕ) (seq : ℕ) (seen : ℕ) (task : ℕ) (list : List Dep) → f.callback ≡ Some Dependences → f.thread ≡ Some thread → f.seq ≡ Some seq → f.seen ≡ Some seen → f.task ≡ Some task → f.list ≡ Some list
+    → Makes version (rows f) (record { thread = thread; seq = seq; seen = seen; body = body.Dependences task list })
 unfolding unbounded body_named dependences
-makes-dependences f thread seq seen task list is_callback is_thread is_seq is_seen is_task is_list = λ ms are sound.
+makes-dependences version f thread seq seen task list is_callback is_thread is_seq is_seen is_task is_list = λ ms are sound.
     let g_thread : get_member name.thread ms ≡ Some (whole_number thread) = are.1.0 ∙ ap (option_map whole_number) is_thread in
     let g_seq : get_member name.seq ms ≡ Some (whole_number seq) = are.1.1.0 ∙ ap (option_map whole_number) is_seq in
     let g_seen : get_member name.seen ms ≡ Some (whole_number seen) = are.1.1.1.0 ∙ ap (option_map whole_number) is_seen in

@@ -1,4 +1,5 @@
--- How long a line is, and how often a device may ask for another turn.
+-- How long a line is, how often a device may ask for another turn, and which versions of the format the
+-- program reads.
 use Rattle.std.specs.Prelude.{ℕ}
 
 -- bytes of a line, its line feed not counted
@@ -8,3 +9,7 @@ max_line = 65536
 -- turns of one call; the next one ends it
 abbrev pub max_turns : ℕ
 max_turns = 10000
+
+-- the newest version of the format that the program reads
+abbrev pub newest_version : ℕ
+newest_version = 1

@@ -67,6 +67,12 @@ prior = codes "prior"
 abbrev pub next : List ℕ
 next = codes "next"
 
+abbrev pub prior_turn : List ℕ
+prior_turn = codes "prior_turn"
+
+abbrev pub next_turn : List ℕ
+next_turn = codes "next_turn"
+
 abbrev pub kept : List ℕ
 kept = codes "kept"
 

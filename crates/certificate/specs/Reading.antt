@@ -6,8 +6,8 @@ use Rattle.ompt_events.specs.Traces.{TraceView}
 use Rattle.certificate.specs.declared.faults.ReadCause.{ReadCause}
 use Rattle.certificate.specs.declared.faults.ReadCause.TheVariants.{Device, Memory, Header, NotJson, Field, Limit, TurnsSpent}
 use Rattle.certificate.specs.declared.faults.ReadFault.{ReadFault}
-use Rattle.certificate.specs.Limits.{max_line}
-use Rattle.certificate.specs.Files.{file_says, records_said, trace_of, rest_says, fault_in, line_feeds, IsFaultlessBefore}
+use Rattle.certificate.specs.Limits.{max_line, newest_version}
+use Rattle.certificate.specs.Files.{file_says_to, trace_said, rest_says, fault_in, line_feeds, IsFaultlessBefore}
 
 -- n is one more than the line feeds that were given, where these bytes are left
 abbrev pub IsLineAfterGiven : ℕ → List ℕ → Option (List ℕ) → Type 0
@@ -40,36 +40,50 @@ IsLineBeingRead n bytes (Some left) = IsBeingRead n bytes left
 
 -- a fault that is told in the line of number n is that of the file, or one of the device or of memory while
 -- that line was read, and then no line before it has a fault
-abbrev pub IsToldRightly : ReadCause → ℕ → List ℕ → Option (List ℕ) → Type 0
-IsToldRightly Device n bytes left = IsLineAfterGiven n bytes left × IsFaultlessBefore n bytes
-IsToldRightly TurnsSpent n bytes left = IsLineAfterGiven n bytes left × IsFaultlessBefore n bytes
-IsToldRightly Memory n bytes left = IsLineBeingRead n bytes left × IsFaultlessBefore n bytes
-IsToldRightly cause n bytes left = file_says bytes ≡ Err (fault_in n cause)
+abbrev pub IsToldRightlyTo : ℕ → ReadCause → ℕ → List ℕ → Option (List ℕ) → Type 0
+IsToldRightlyTo newest Device n bytes left =
+    IsLineAfterGiven n bytes left × IsFaultlessBefore newest n bytes
+IsToldRightlyTo newest TurnsSpent n bytes left =
+    IsLineAfterGiven n bytes left × IsFaultlessBefore newest n bytes
+IsToldRightlyTo newest Memory n bytes left =
+    IsLineBeingRead n bytes left × IsFaultlessBefore newest n bytes
+IsToldRightlyTo newest cause n bytes left = file_says_to newest bytes ≡ Err (fault_in n cause)
 
 -- the answer is the trace that the bytes stand for, or a fault that is told rightly
+abbrev pub IsAnswerTo : ℕ → Result TraceView ReadFault → List ℕ → Option (List ℕ) → Type 0
+IsAnswerTo newest (Ok trace) bytes left = file_says_to newest bytes ≡ Ok trace
+IsAnswerTo newest (Err fault) bytes left = IsToldRightlyTo newest fault.cause fault.line bytes left
+
+-- ---- the same for the versions that the program reads
+
+abbrev pub IsToldRightly : ReadCause → ℕ → List ℕ → Option (List ℕ) → Type 0
+IsToldRightly cause n bytes left = IsToldRightlyTo newest_version cause n bytes left
+
 abbrev pub IsAnswer : Result TraceView ReadFault → List ℕ → Option (List ℕ) → Type 0
-IsAnswer (Ok trace) bytes left = file_says bytes ≡ Ok trace
-IsAnswer (Err fault) bytes left = IsToldRightly fault.cause fault.line bytes left
+IsAnswer answer bytes left = IsAnswerTo newest_version answer bytes left
 
 -- ---- between two lines
 
--- the lines before number n stand for these records, and what they leave waits in the window and the source
-abbrev pub IsBetween : Option (List ℕ) → ℕ → List Record → List ℕ → Option (List ℕ) → Type 0
-IsBetween None n kept window left = Unit {0}
-IsBetween (Some bytes) n kept window None = ⊥
-IsBetween (Some bytes) n kept window (Some left) =
-    (records_said bytes ≡ rest_says n kept (window ++ left)) × IsFromLine n bytes (window ++ left)
+-- the lines before number n stand for this trace, and what they leave waits in the window and the source
+abbrev pub IsBetween : ℕ → Option (List ℕ) → ℕ → TraceView → List ℕ → Option (List ℕ) → Type 0
+IsBetween newest None n kept window left = Unit {0}
+IsBetween newest (Some bytes) n kept window None = ⊥
+IsBetween newest (Some bytes) n kept window (Some left) =
+    (trace_said newest bytes ≡ rest_says newest n kept (window ++ left))
+    × IsFromLine n bytes (window ++ left)
 
 -- after the line of number n was read: there was one, there was none, or it has a fault
-abbrev pub IsAfter : Result Bool ReadCause → Option (List ℕ) → ℕ → List Record → List ℕ → Option (List ℕ)
-    → Type 0
-IsAfter (Ok true) known n kept window left = IsBetween known (n + 1) kept window left
-IsAfter (Ok false) known n kept window left = IfSome known (λ bytes. file_says bytes ≡ Ok (trace_of kept))
-IsAfter (Err cause) known n kept window left = IfSome known (λ bytes. IsToldRightly cause n bytes left)
+abbrev pub IsAfter : ℕ → Result Bool ReadCause → Option (List ℕ) → ℕ → TraceView → List ℕ
+    → Option (List ℕ) → Type 0
+IsAfter newest (Ok true) known n kept window left = IsBetween newest known (n + 1) kept window left
+IsAfter newest (Ok false) known n kept window left =
+    IfSome known (λ bytes. file_says_to newest bytes ≡ Ok kept)
+IsAfter newest (Err cause) known n kept window left =
+    IfSome known (λ bytes. IsToldRightlyTo newest cause n bytes left)
 
 -- how the line of number n adds to the records, where it has no fault
 pub record Grows (n : ℕ) (old new : List Record) : Type 0 where
-  pub one : length new ≡ length old + (if n == 1 then 0 else 1)
+  pub one : length new ≡ (if n == 1 then 0 else length old + 1)
   pub room : n ≢ 1 → length old < max_records
 
 -- a cause that the text of a line has, or that no memory was found for it

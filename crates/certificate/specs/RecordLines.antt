@@ -1,5 +1,5 @@
--- What a single line stands for.
-use Rattle.std.specs.Prelude.{ℕ, ◌≡◌, ◌≢◌, ◌==◌, ◌&&◌, ◌^◌, Bool, true, false, List, length, Option, Some, None, Result, Ok, Err, ok_or, option_map, is_some, nat_lt, nat_le, codes, if◌then◌else◌}
+-- What a single line stands for, in a file of version 1 or 2 of the format.
+use Rattle.std.specs.Prelude.{ℕ, ◌≡◌, ◌≢◌, ◌==◌, ◌&&◌, ◌^◌, Bool, true, false, List, length, Option, Some, None, Result, Ok, Err, ok_or, option_map, option_and_then, is_some, nat_lt, nat_le, codes, if◌then◌else◌}
 use Rattle.std.specs.Option.{option_map_or}
 use Rattle.std.specs.List.{list_all}
 use Rattle.std.specs.Str.{is_utf8, bytes_eq}
@@ -8,12 +8,14 @@ use Rattle.serde_json.specs.Read.{read}
 use Rattle.ompt_events.specs.declared.deps.Dep.{Dep}
 use Rattle.ompt_events.specs.declared.records.Record.{Record}
 use Rattle.ompt_events.specs.declared.records.Claim.{Claim}
+use Rattle.ompt_events.specs.declared.records.Turns.{Turns}
+use Rattle.ompt_events.specs.declared.names.Status.{Status}
 use Rattle.ompt_events.specs.declared.records.Body.{Body}
 use Rattle.ompt_events.specs.declared.records.Body.TheVariants.{ThreadBegin, ThreadEnd, ParallelBegin, ParallelEnd, ImplicitTask, TaskCreate, Dependences, TaskSchedule, SyncRegion, Cancel}
 use Rattle.ompt_events.specs.Limits.{max_threads, max_depth, max_dependences}
 use Rattle.ompt_events.specs.Flags as flag
 use Rattle.ompt_events.specs.Flags.{has_flag}
-use Rattle.ompt_events.specs.Names.{status_part}
+use Rattle.ompt_events.specs.Names.{status_part, demands_next}
 use Rattle.certificate.specs.declared.faults.ReadCause.{ReadCause}
 use Rattle.certificate.specs.declared.faults.ReadCause.TheVariants.{Memory, Header, NotJson, Field, Limit}
 use Rattle.certificate.specs.Members.{◌>>=◌, whole, whole_or_null, text, truth, status, endpoint, begin_or_end, sync_kind, thread_kind, task_flags, cancel_flags, next, path, deps}
@@ -90,12 +92,32 @@ claim d = do
 unfoldable pub share : Bool → Data → Option (Option Claim)
 share finishes d = if finishes then option_map Some (claim d) else Some None
 
+-- which turn of the prior task ends, and which one of the next task begins
+unfoldable pub both_turns : Data → Option Turns
+both_turns d = do
+  prior ← whole member.prior_turn d
+  next ← whole member.next_turn d
+  Some (record { prior = prior; next = next })
+
+-- turns, by their numbers
+abbrev pub as_turns : ℕ × ℕ → Turns
+as_turns numbers = record { prior = numbers.0; next = numbers.1 }
+
+-- version 2 tells turns where a task runs next
+abbrev pub tells_turns : ℕ → Status → Bool
+tells_turns version status = (version == 2) && demands_next status
+
+-- turns are read where the record tells them, and nowhere else
+unfoldable pub turns : Bool → Data → Option (Option Turns)
+turns told d = if told then option_map Some (both_turns d) else Some None
+
 -- a task stops running or is fulfilled
-unfoldable pub task_schedule : Data → Option Body
-task_schedule d = do
+unfoldable pub task_schedule : ℕ → Data → Option Body
+task_schedule version d = do
   status ← status member.status d
   prior ← whole member.prior d
   next ← next status member.next d
+  turns ← turns (tells_turns version status) d
   share ← share (is_some (status_part status)) d
   Some (TaskSchedule status turns prior next share)
 
@@ -117,8 +139,8 @@ cancel d = do
   Some (Cancel (record { 0 = bits }) task share)
 
 -- the members of a callback, by its name
-unfoldable pub body_named : List ℕ → Data → Option Body
-body_named name d =
+unfoldable pub body_named : ℕ → List ℕ → Data → Option Body
+body_named version name d =
     if bytes_eq name callback.thread_begin then thread_begin d
     else if bytes_eq name callback.thread_end then thread_end d
     else if bytes_eq name callback.parallel_begin then parallel_begin d
@@ -126,23 +148,23 @@ body_named name d =
     else if bytes_eq name callback.implicit_task then implicit_task d
     else if bytes_eq name callback.task_create then task_create d
     else if bytes_eq name callback.dependences then dependences d
-    else if bytes_eq name callback.task_schedule then task_schedule d
+    else if bytes_eq name callback.task_schedule then task_schedule version d
     else if bytes_eq name callback.sync_region then sync_region d
     else if bytes_eq name callback.cancel then cancel d
     else None
 
-abbrev pub body : Data → Option Body
-body d = text member.cb d >>= λ name. body_named name d
+abbrev pub body : ℕ → Data → Option Body
+body version d = text member.cb d >>= λ name. body_named version name d
 
 -- ---- records
 
 -- the record of an object, its numbers without their bounds
-unfoldable pub unbounded : Data → Option Record
-unbounded d = do
+unfoldable pub unbounded : ℕ → Data → Option Record
+unbounded version d = do
   thread ← whole member.thread d
   seq ← whole member.seq d
   seen ← whole member.seen d
-  body ← body d
+  body ← body version d
   Some (record { thread = thread; seq = seq; seen = seen; body = body })
 
 abbrev pub is_short : ℕ → Bool
@@ -160,11 +182,14 @@ claim_fits c = path_fits c.path && is_short c.kept
 abbrev pub share_fits : Option Claim → Bool
 share_fits share = option_map_or claim_fits share true
 
+abbrev pub turns_fit : Option Turns → Bool
+turns_fit turns = option_map_or (λ (t : Turns). is_short t.prior && is_short t.next) turns true
+
 abbrev pub body_fits : Body → Bool
 body_fits (ParallelBegin requested task parallel) = is_short requested
 body_fits (ImplicitTask endpoint actual index bits parallel task) = is_short actual && is_short index
 body_fits (Dependences task list) = deps_fit list
-body_fits (TaskSchedule status turns prior next share) = share_fits share
+body_fits (TaskSchedule status turns prior next share) = share_fits share && turns_fit turns
 body_fits (Cancel bits task share) = share_fits share
 body_fits _ = true
 
@@ -176,13 +201,13 @@ abbrev pub bounded : {X : Type 0} → (X → Bool) → Option X → Result X Rea
 bounded fits None = Err Field
 bounded fits (Some x) = if fits x then Ok x else Err Limit
 
--- what one line stands for
-abbrev pub said_of : Option Data → Result Record ReadCause
-said_of None = Err NotJson
-said_of (Some d) = bounded record_fits (unbounded d)
+-- what one line of a file of this version stands for
+abbrev pub said_of : ℕ → Option Data → Result Record ReadCause
+said_of version None = Err NotJson
+said_of version (Some d) = bounded record_fits (unbounded version d)
 
-abbrev pub line_says : List ℕ → Result Record ReadCause
-line_says line = said_of (value_of line)
+abbrev pub line_says : ℕ → List ℕ → Result Record ReadCause
+line_says version line = said_of version (value_of line)
 
 -- the value of a line, or the cause for which it has none
 abbrev pub value_or_cause : List ℕ → Result Data ReadCause
@@ -192,20 +217,20 @@ value_or_cause line = ok_or (value_of line) NotJson
 abbrev pub format_name : List ℕ
 format_name = codes "task-credit-audit"
 
-abbrev pub version_number : ℕ
-version_number = 1
-
--- the header of a trace file of version 1
 abbrev pub names_format : Data → Bool
-names_format d =
-    option_map_or (λ s. bytes_eq s format_name) (text member.format d) false
-    && option_map_or (λ n. n == version_number) (whole member.version d) false
+names_format d = option_map_or (λ s. bytes_eq s format_name) (text member.format d) false
 
-abbrev pub is_header : List ℕ → Bool
-is_header line = option_map_or names_format (value_of line) false
+-- the version, if it is one from 1 to the newest that is read
+abbrev pub version_read : ℕ → ℕ → Option ℕ
+version_read newest version = if nat_le 1 version && nat_le version newest then Some version else None
 
-abbrev pub header_says : List ℕ → Result (Unit {0}) ReadCause
-header_says line = if is_header line then Ok tt else Err Header
+-- the version that the object of a header names, if it is one that is read
+abbrev pub version_in : ℕ → Data → Option ℕ
+version_in newest d = if names_format d then whole member.version d >>= version_read newest else None
+
+-- the version of a file with this header
+abbrev pub header_says : ℕ → List ℕ → Result ℕ ReadCause
+header_says newest line = ok_or (option_and_then (version_in newest) (value_of line)) Header
 
 -- the answer is what the definition says, or that no memory was found
 abbrev pub IsSaid : {X : Type 0} → Result X ReadCause → Result X ReadCause → Type 0

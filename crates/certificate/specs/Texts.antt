@@ -1,4 +1,4 @@
--- The text of a trace: a header, and then a line for each record.
+-- The text of a trace: a header with its version, and then a line for each record.
 use Rattle.std.specs.Prelude.{codes, decimal, ℕ, ◌≡◌, Bool, true, not, ◌&&◌, ◌==◌, nat_lt, nat_le, List, [], ◌∷◌, ◌++◌, map, flat_map, Option, Some, None, if◌then◌else◌}
 use Rattle.json.specs.Print.{quoted}
 use Rattle.serde_json.specs.Data.{Data, null, boolean, number, string, array, object, unsigned, Members, no_members, put}
@@ -6,6 +6,7 @@ use Rattle.serde_json.specs.View.{items_of}
 use Rattle.serde_json.specs.Written.{compact_text}
 use Rattle.ompt_events.specs.declared.records.Record.{Record}
 use Rattle.ompt_events.specs.declared.records.Claim.{Claim}
+use Rattle.ompt_events.specs.declared.records.Turns.{Turns}
 use Rattle.ompt_events.specs.declared.records.Body.{Body}
 use Rattle.ompt_events.specs.declared.records.Body.TheVariants.{ThreadBegin, ThreadEnd, ParallelBegin, ParallelEnd, ImplicitTask, TaskCreate, Dependences, TaskSchedule, SyncRegion, Cancel}
 use Rattle.ompt_events.specs.declared.deps.Dep.{Dep}
@@ -15,7 +16,7 @@ use Rattle.ompt_events.specs.Traces.{TraceView}
 use Rattle.ompt_events.specs.Names.{status_name, endpoint_name, sync_kind_name, dep_kind_name, thread_kind_name}
 use Rattle.certificate.specs.MemberNames as member
 use Rattle.certificate.specs.CallbackNames as callback
-use Rattle.certificate.specs.RecordLines.{format_name, version_number}
+use Rattle.certificate.specs.RecordLines.{format_name}
 
 -- the members of an object with one more, in the order of their names
 unfoldable pub with_member : List ℕ → Data → Members → Members
@@ -52,6 +53,12 @@ claim_members None = []
 claim_members (Some c) = (member.kept, whole_number c.kept) ∷ (member.root, whole_number c.root) ∷
     (member.path, array (items_of (map whole_number c.path))) ∷ []
 
+-- the turns that a record tells
+abbrev pub turn_members : Option Turns → List (List ℕ × Data)
+turn_members None = []
+turn_members (Some t) =
+    (member.prior_turn, whole_number t.prior) ∷ (member.next_turn, whole_number t.next) ∷ []
+
 -- one dependence
 abbrev pub dep_data : Dep → Data
 dep_data d = object_of ((member.type, string (dep_kind_name d.kind)) ∷ (member.var, whole_number d.var) ∷ [])
@@ -79,7 +86,8 @@ body_members (Dependences task list) = (member.cb, string callback.dependences) 
     (member.task, whole_number task) ∷ (member.list, array (items_of (map dep_data list))) ∷ []
 body_members (TaskSchedule status turns prior next share) =
     (member.cb, string callback.task_schedule) ∷ (member.status, string (status_name status)) ∷
-    (member.prior, whole_number prior) ∷ (member.next, number_or_null next) ∷ claim_members share
+    (member.prior, whole_number prior) ∷ (member.next, number_or_null next)
+    ∷ turn_members turns ++ claim_members share
 body_members (SyncRegion kind endpoint parallel task) =
     (member.cb, string callback.sync_region) ∷ (member.kind, string (sync_kind_name kind)) ∷
     (member.endpoint, string (endpoint_name endpoint))
@@ -101,15 +109,16 @@ data_of r = object_of (record_members r)
 abbrev pub line_of : Record → List ℕ
 line_of r = compact_text (data_of r)
 
-abbrev pub header_members : List (List ℕ × Data)
-header_members = (member.format, string format_name) ∷ (member.version, whole_number version_number) ∷ []
+-- the header of a file of this version
+abbrev pub header_members : ℕ → List (List ℕ × Data)
+header_members version =
+    (member.format, string format_name) ∷ (member.version, whole_number version) ∷ []
 
--- the header of version 1
-abbrev pub header_data : Data
-header_data = object_of header_members
+abbrev pub header_data : ℕ → Data
+header_data version = object_of (header_members version)
 
-abbrev pub header_line : List ℕ
-header_line = compact_text header_data
+abbrev pub header_line : ℕ → List ℕ
+header_line version = compact_text (header_data version)
 
 -- the lines, each ended by a line feed
 abbrev pub ended : List (List ℕ) → List ℕ
@@ -117,7 +126,7 @@ ended lines = flat_map (λ line. line ++ 10 ∷ []) lines
 
 -- the text of a trace
 abbrev pub trace_text : TraceView → List ℕ
-trace_text trace = ended (header_line ∷ map line_of trace.records)
+trace_text trace = ended (header_line trace.version ∷ map line_of trace.records)
 
 -- ---- the last members of a line, which several callbacks share
 

@@ -10,7 +10,7 @@ use Rattle.serde_json.specs.Written.{compact_text}
 use Rattle.ompt_events.specs.declared.records.Record.{Record}
 use Rattle.ompt_events.specs.Flags.{task_flags}
 use Rattle.ompt_events.specs.Names.{status_name, endpoint_name, sync_kind_name}
-use Rattle.ompt_events.specs.Traces.{IsSound}
+use Rattle.ompt_events.specs.Traces.{IsSoundIn}
 use Rattle.certificate.specs.declared.unordered.Callback.{Callback}
 use Rattle.certificate.specs.declared.unordered.Callback.TheVariants.{ParallelBegin, ParallelEnd, ImplicitTask, TaskCreate, Dependences, TaskSchedule, SyncRegion}
 use Rattle.certificate.specs.declared.unordered.Found.{Found}
@@ -52,7 +52,9 @@ rows f =
     (member.requested, option_map whole_number f.requested) ∷
     (member.actual, option_map whole_number f.actual) ∷
     (member.index, option_map whole_number f.index) ∷
-    (member.list, option_map (λ ds. array (items_of (map dep_data ds))) f.list) ∷ []
+    (member.list, option_map (λ ds. array (items_of (map dep_data ds))) f.list) ∷
+    (member.prior_turn, option_map whole_number f.prior_turn) ∷
+    (member.next_turn, option_map whole_number f.next_turn) ∷ []
 
 -- the rows, with this value at this name
 abbrev pub with_row : List ℕ → Data → List (List ℕ × Option Data) → List (List ℕ × Option Data)
@@ -78,6 +80,7 @@ pub record IsFound (line : List ℕ) (rs : List (List ℕ × Option Data)) : Typ
   pub value : value_of line ≡ Some (object members)
   pub are : AreRows members rs
 
--- an object with these rows says the record, if that is sound
-abbrev pub Makes : List (List ℕ × Option Data) → Record → Type 0
-Makes rs r = (ms : Members) → AreRows ms rs → IsSound r.body → unbounded (object ms) ≡ Some r
+-- in a file of this version an object with these rows says the record, if that is sound there
+abbrev pub Makes : ℕ → List (List ℕ × Option Data) → Record → Type 0
+Makes version rs r =
+    (ms : Members) → AreRows ms rs → IsSoundIn version r.body → unbounded version (object ms) ≡ Some r

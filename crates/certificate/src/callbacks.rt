@@ -13,11 +13,12 @@
 // - `flags`: a list of names.
 // - `path`: a list of numbers of at most 32 bits. `deps`: a list of objects with the members of `Dep`.
 // - `claim`: the members of `Claim`, where the record finishes a task.
+// - `turns`: the members of `Turns`, in a file of version 2 where a task runs next.
 
-// The header: its members, and what each says.
+// The header: the member that names the format, and the one with its version.
 macro_rules! header {
     ($shape:ident $given:tt) => {
-        $shape! { $given text "format" = "task-credit-audit", id "version" = 1 }
+        $shape! { $given text "format" = "task-credit-audit", id "version" }
     };
 }
 
@@ -88,6 +89,7 @@ macro_rules! members {
                 status: status "status",
                 prior: id "prior",
                 next: next "next",
+                turns: turns,
                 share: claim
             }
         }
@@ -105,14 +107,18 @@ macro_rules! members {
     (Cancel $shape:ident $given:tt) => {
         $shape! { $given Cancel { flags: flags "flags", task: id "task", share: claim } }
     };
+    (Turns $shape:ident $given:tt) => {
+        $shape! { $given Turns { prior: short "prior_turn", next: short "next_turn" } }
+    };
     (Claim $shape:ident $given:tt) => {
         $shape! { $given Claim { kept: short "kept", root: id "root", path: path "path" } }
     };
 }
 
 // The line of each record as it is written, part by part: a text that is the same for all, and then a
-// value. The members stand in the order of their names (`finishing` and `discarding` have a claim). What
-// follows the parts is the end of the line, or a tail that several lines share. Reading and writing share it.
+// value. The members stand in the order of their names (`finishing` and `discarding` have a claim,
+// `switching_in_turn` and `finishing_in_turn` tell turns). What follows the parts is the end of the line, or
+// a tail that several lines share. Reading and writing share it.
 macro_rules! lines {
     (thread_begin $shape:ident $given:tt $kind:tt $seen:tt $seq:tt $thread:tt) => {
         $shape! {
@@ -198,6 +204,34 @@ macro_rules! lines {
             ",\"next\":" id_or_null $next,
             ",\"path\":" path $path,
             ",\"prior\":" id $prior,
+            ",\"root\":" id $root;
+            status_tail $seen $seq $status $thread
+        }
+    };
+    (switching_in_turn $shape:ident $given:tt
+        $next:tt $next_turn:tt $prior:tt $prior_turn:tt $seen:tt $seq:tt $status:tt $thread:tt
+    ) => {
+        $shape! {
+            $given
+            "{\"cb\":\"task_schedule\",\"next\":" id_or_null $next,
+            ",\"next_turn\":" short $next_turn,
+            ",\"prior\":" id $prior,
+            ",\"prior_turn\":" short $prior_turn;
+            status_tail $seen $seq $status $thread
+        }
+    };
+    (finishing_in_turn $shape:ident $given:tt
+        $kept:tt $next:tt $next_turn:tt $path:tt $prior:tt $prior_turn:tt $root:tt
+        $seen:tt $seq:tt $status:tt $thread:tt
+    ) => {
+        $shape! {
+            $given
+            "{\"cb\":\"task_schedule\",\"kept\":" short $kept,
+            ",\"next\":" id_or_null $next,
+            ",\"next_turn\":" short $next_turn,
+            ",\"path\":" path $path,
+            ",\"prior\":" id $prior,
+            ",\"prior_turn\":" short $prior_turn,
             ",\"root\":" id $root;
             status_tail $seen $seq $status $thread
         }

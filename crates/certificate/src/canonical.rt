@@ -7,7 +7,7 @@ use crate::parts::{
     byte, cancel_flags, deps, end, endpoint, id, id_or_null, path, short, status, sync_kind,
     task_flags, thread_kind, truth,
 };
-use ompt_events::{Body, Claim, Record, Status};
+use ompt_events::{Body, Claim, Record, Status, Turns};
 use std::alloc::Global;
 
 // A part of a line, by the kind of its value.
@@ -46,8 +46,8 @@ macro_rules! take_parts {
     }};
 }
 
-/// The record whose line this is, if it is one as it is written.
-pub(crate) fn canonical(alloc: Global, line: &[u8]) -> Option<Record>
+/// The record whose line this is, if it is one as it is written. Turns are looked for in version 2 alone.
+pub(crate) fn canonical(alloc: Global, version: u32, line: &[u8]) -> Option<Record>
     ensures { IfSome result (λ event. line.now ≡ line_of event) }
 {
     match line.get(7) {
@@ -55,7 +55,7 @@ pub(crate) fn canonical(alloc: Global, line: &[u8]) -> Option<Record>
         Some(b's') => sync_region(line),
         Some(b'd') => dependences(alloc, line),
         Some(b'c') => cancel(alloc, line),
-        Some(b't') => task_or_thread(alloc, line),
+        Some(b't') => task_or_thread(alloc, version, line),
         _ => implicit_task(line),
     }
 }
@@ -81,18 +81,41 @@ fn cancel(alloc: Global, line: &[u8]) -> Option<Record>
 }
 
 /// A record of a task that is created or scheduled, or of a thread.
-fn task_or_thread(alloc: Global, line: &[u8]) -> Option<Record>
+fn task_or_thread(alloc: Global, version: u32, line: &[u8]) -> Option<Record>
     ensures { IfSome result (λ event. line.now ≡ line_of event) }
 {
     match line.get(12) {
         Some(b'c') => task_create(line),
-        Some(b's') => task_schedule(alloc, line),
+        Some(b's') => task_schedule(alloc, version, line),
         _ => thread(line),
     }
 }
 
 /// A task stops running or is fulfilled.
-fn task_schedule(alloc: Global, line: &[u8]) -> Option<Record>
+fn task_schedule(alloc: Global, version: u32, line: &[u8]) -> Option<Record>
+    ensures { IfSome result (λ event. line.now ≡ line_of event) }
+{
+    match in_turn(alloc, version, line) {
+        Some(event) => Some(event),
+        None => without_turns(alloc, line),
+    }
+}
+
+/// The same where turns are told: in version 2 alone.
+fn in_turn(alloc: Global, version: u32, line: &[u8]) -> Option<Record>
+    ensures { IfSome result (λ event. line.now ≡ line_of event) }
+{
+    if version != 2 {
+        return None;
+    }
+    match line.get(23) {
+        Some(b'k') => finishing_in_turn(alloc, line),
+        _ => switching_in_turn(line),
+    }
+}
+
+/// The same where no turns are told.
+fn without_turns(alloc: Global, line: &[u8]) -> Option<Record>
     ensures { IfSome result (λ event. line.now ≡ line_of event) }
 {
     match line.get(23) {
@@ -187,7 +210,7 @@ fn switching(line: &[u8]) -> Option<Record>
     lines!(switching take_parts
         (_alloc line (Record {
             thread, seq, seen,
-            body: Body::TaskSchedule { status, prior, next, share: None },
+            body: Body::TaskSchedule { status, turns: None, prior, next, share: None },
         }))
         next prior seen seq status thread)
 }
@@ -199,9 +222,43 @@ fn finishing(alloc: Global, line: &[u8]) -> Option<Record>
     lines!(finishing take_parts
         (alloc line (Record {
             thread, seq, seen,
-            body: Body::TaskSchedule { status, prior, next, share: Some(Claim { kept, root, path }) },
+            body: Body::TaskSchedule {
+                status, turns: None, prior, next, share: Some(Claim { kept, root, path }),
+            },
         }))
         kept next path prior root seen seq status thread)
+}
+
+/// A task stops running and is not finished, and its turns are told.
+fn switching_in_turn(line: &[u8]) -> Option<Record>
+    ensures { IfSome result (λ event. line.now ≡ line_of event) }
+{
+    lines!(switching_in_turn take_parts
+        (_alloc line (Record {
+            thread, seq, seen,
+            body: Body::TaskSchedule {
+                status,
+                turns: Some(Turns { prior: prior_turn, next: next_turn }),
+                prior, next, share: None,
+            },
+        }))
+        next next_turn prior prior_turn seen seq status thread)
+}
+
+/// A task, its body or its event is finished, and turns are told.
+fn finishing_in_turn(alloc: Global, line: &[u8]) -> Option<Record>
+    ensures { IfSome result (λ event. line.now ≡ line_of event) }
+{
+    lines!(finishing_in_turn take_parts
+        (alloc line (Record {
+            thread, seq, seen,
+            body: Body::TaskSchedule {
+                status,
+                turns: Some(Turns { prior: prior_turn, next: next_turn }),
+                prior, next, share: Some(Claim { kept, root, path }),
+            },
+        }))
+        kept next next_turn path prior prior_turn root seen seq status thread)
 }
 
 /// A region of synchronisation begins or ends.

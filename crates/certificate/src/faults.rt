@@ -12,7 +12,7 @@ pub enum ReadCause {
     Device,
     /// No memory was found.
     Memory,
-    /// Line 1 is not the header of a trace file of version 1.
+    /// Line 1 is not the header of a trace file of a version that is read.
     Header,
     /// More than 65,536 bytes with no line feed among them.
     LineTooLong,

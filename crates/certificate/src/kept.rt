@@ -1,49 +1,67 @@
-//! The records that a file has given so far.
-ghost use Rattle.std.specs.Prelude.{◌≡◌, ◌≢◌, [], ◌∷◌, ◌++◌, Ok, Err};
+//! The trace that a file has given so far.
+ghost use Rattle.std.specs.Prelude.{◌≡◌, ◌≢◌, ◌⊎◌, [], ◌∷◌, ◌++◌, Ok, Err};
 ghost use Rattle.std.specs.Result.{result_map_both};
-ghost use Rattle.ompt_events.specs.Traces.{IsSound};
+ghost use Rattle.ompt_events.specs.Traces.{IsSoundIn, IsTraceOf};
 ghost use Rattle.certificate.specs.RecordLines.{IsSaid};
-ghost use Rattle.certificate.specs.Files.{with_record};
+ghost use Rattle.certificate.specs.Files.{no_trace, with_record};
 
 use crate::faults::ReadCause;
 use ompt_events::{MAX_RECORDS, MAX_TASKS, Record, Trace};
 use std::alloc::Global;
 use std::marker::Model;
 
-/// Records in file order that keep within the limits of a trace.
+/// Records in file order that keep within the limits of a trace of the version.
 #[derive(Drop)]
 pub(crate) struct Kept {
+    version: u32,
     records: Vec<Record>,
     // How many of them make a task.
     tasks: usize,
 }
 
 impl Model for Kept {
-    ghost use Rattle.std.specs.Prelude.{List};
-    ghost use Rattle.ompt_events.specs.declared.records.Record.{Record};
+    ghost use Rattle.ompt_events.specs.Traces.{TraceView};
     ghost use Rattle.certificate.specs.Keeping.{IsKept};
 
-    ghost Value = { List Record };
+    ghost Value = { TraceView };
 
-    ghost view = { λ kept. kept.records.items };
+    ghost view = { λ kept. record { version = kept.version; records = kept.records.items } };
 
-    ghost invariant = { λ kept. IsKept kept.records.items kept.tasks };
+    ghost invariant = { λ kept. IsKept kept.version kept.records.items kept.tasks };
 }
 
 impl Kept {
     /// No record.
     pub(crate) fn new(alloc: Global) -> Kept
-        ensures { result ≡ [] }
+        ensures { result ≡ no_trace }
     {
         Kept {
+            version: 1,
             records: Vec::new(alloc),
             tasks: 0,
         }
     }
 
+    /// Begins a trace of this version.
+    pub(crate) fn begin(&mut self, version: u32)
+        requires { (version ≡ 1) ⊎ (version ≡ 2) }
+        ensures { self.new ≡ record { version = version; records = [] } }
+    {
+        self.records.clear();
+        self.tasks = 0;
+        self.version = version;
+    }
+
+    /// The version of the trace.
+    pub(crate) fn version(&self) -> u32
+        ensures { result ≡ self.now.version }
+    {
+        self.version
+    }
+
     /// Adds the record, if there is room for it.
     pub(crate) fn keep(&mut self, event: Record) -> Result<(), ReadCause>
-        requires { IsSound event.body }
+        requires { IsSoundIn self.old.version event.body }
         ensures { IsSaid (result_map_both (λ _. self.new) (λ e. e) result)
             (with_record self.old (Ok event)) }
     {
@@ -66,11 +84,34 @@ impl Kept {
 
     /// The trace of these records. Takes no memory.
     pub(crate) fn into_trace(self) -> Trace
-        ensures { result.records ≡ self }
+        ensures { result ≡ self }
     {
-        match Trace::from_records(self.records) {
-            Ok(trace) => trace,
-            Err(_) => unreachable!(),
+        if self.version == 2 {
+            of_turns(self.records)
+        } else {
+            of_records(self.records)
         }
+    }
+}
+
+/// The trace of version 1 of these records.
+fn of_records(records: Vec<Record>) -> Trace
+    requires { IsTraceOf 1 records.items }
+    ensures { result ≡ record { version = 1; records = records.items } }
+{
+    match Trace::from_records(records) {
+        Ok(trace) => trace,
+        Err(_) => unreachable!(),
+    }
+}
+
+/// The trace of version 2 of these records.
+fn of_turns(records: Vec<Record>) -> Trace
+    requires { IsTraceOf 2 records.items }
+    ensures { result ≡ record { version = 2; records = records.items } }
+{
+    match Trace::from_turns(records) {
+        Ok(trace) => trace,
+        Err(_) => unreachable!(),
     }
 }

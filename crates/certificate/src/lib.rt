@@ -1,7 +1,8 @@
-//! The trace file: what its lines stand for, a reader of it from any source, and traces and plain bytes
-//! written to any sink. Read `device`, `faults`, `reading` and `writing` for what a caller sees, and `laws`
-//! for what follows of a file; `lines` is how a line is read (`canonical` as it is written, `unordered` with its
-//! members in another order, both by `parts`), `texts` how it is written, and `callbacks` has the tables.
+//! The trace file, of version 1 or 2 of its format: what its lines stand for, a reader of it from any
+//! source, and traces and plain bytes written to any sink. Read `device`, `faults`, `reading` and `writing`
+//! for what a caller sees, and `laws` for what follows of a file; `lines` is how a line is read (`canonical`
+//! as it is written, `unordered` and `making` with its members in another order, both by `parts`), `texts`
+//! how it is written, and `callbacks` has the tables.
 #![tactic(auto)]
 
 mod callbacks;
@@ -12,6 +13,7 @@ mod kept;
 pub mod laws;
 mod lines;
 mod lists;
+mod making;
 mod members;
 mod memory;
 mod parts;
@@ -26,6 +28,6 @@ mod writing;
 pub use device::{DeviceFault, Sink, Source};
 pub use faults::{ReadCause, ReadFault, WriteFault};
 pub use memory::{MemSink, MemSource};
-pub use reading::read;
+pub use reading::{NEWEST_VERSION, read, read_to};
 pub use streams::{FromRead, StdRead, StdWrite, ToWrite};
 pub use writing::{write, write_bytes};

@@ -1,5 +1,6 @@
-//! What a single line stands for.
-ghost use Rattle.std.specs.Prelude.{◌≡◌, IfSome, Ok};
+//! What a single line stands for, in a file of version 1 or 2 of the format.
+ghost use Rattle.std.specs.Prelude.{◌≡◌, IfSome, Ok, Some, ok_or, option_and_then, option_map};
+ghost use Rattle.std.specs.Result.{result_map_both, result_ok};
 ghost use Rattle.json.specs.Find.{HasValue};
 ghost use Rattle.certificate.specs.Meanings.{meant_at};
 ghost use Rattle.certificate.specs.RecordLines as spec;
@@ -17,7 +18,7 @@ use crate::unordered::unordered;
 use crate::values::tape_of;
 use bitflags::Flags;
 use json::{Element, Scratch};
-use ompt_events::{Body, CancelFlags, Claim, Record};
+use ompt_events::{Body, CancelFlags, Claim, Record, Status, Turns};
 use std::alloc::Global;
 
 // The shapes into which the rows of a callback's members are put. Each member is looked up before any
@@ -50,30 +51,39 @@ macro_rules! bring_within {
     ($kind:ident $found:ident) => { $found };
 }
 
-// Whether each of the header's members says what it must.
-macro_rules! has_header {
-    (($value:ident) $($kind:ident $name:literal = $said:literal),*) => {
-        $((match $kind($value, $name) {
-            Ok(found) => found == $said,
-            Err(_) => false,
-        }))&&*
+// The version, where the format is that of this crate.
+macro_rules! read_header {
+    (
+        ($value:ident $newest:ident)
+        $format_kind:ident $format:literal = $said:literal, $version_kind:ident $version:literal
+    ) => {
+        match $format_kind($value, $format) {
+            Ok(found) if found == $said => version_read($newest, $version_kind($value, $version)),
+            _ => None,
+        }
     };
 }
 
 // A record, whose callback says the rest.
 macro_rules! read_record {
-    (($value:ident $alloc:ident) Record { $($field:ident: $kind:ident $name:literal),* }) => {{
+    (
+        ($value:ident $alloc:ident $version:ident)
+        Record { $($field:ident: $kind:ident $name:literal),* }
+    ) => {{
         $(let $field = look_up!($kind $name ($value $alloc));)*
-        let body = body($alloc, $value)?;
+        let body = body($alloc, $version, $value)?;
         Ok(Record { $($field: bring_within!($kind $field),)* body })
     }};
 }
 
 // The callback of this name.
 macro_rules! read_callback {
-    (($value:ident $alloc:ident) $cb:literal: $($read:ident = $name:literal $variant:ident),*) => {
+    (
+        ($value:ident $alloc:ident $version:ident)
+        $cb:literal: $($read:ident = $name:literal $variant:ident),*
+    ) => {
         match text($value, $cb)? {
-            $($name => $read($alloc, $value),)*
+            $($name => $read($alloc, $version, $value),)*
             _ => Err(ReadCause::Field),
         }
     };
@@ -87,22 +97,25 @@ macro_rules! read_body {
     }};
 }
 
-// A task_schedule, whose status says what else there is.
+// A task_schedule, whose status says what else there is. Turns are brought within their bounds last.
 macro_rules! read_schedule {
     (
-        ($value:ident $alloc:ident)
+        ($value:ident $alloc:ident $version:ident)
         $variant:ident {
             $status:ident: status $status_name:literal,
             $prior:ident: id $prior_name:literal,
             $next:ident: next $next_name:literal,
+            $turns:ident: turns,
             $share:ident: claim
         }
     ) => {{
         let $status = status($value, $status_name)?;
         let $prior = id($value, $prior_name)?;
         let $next = next($status, $value, $next_name)?;
+        let told = turns($value, tells_turns($version, $status))?;
         let $share = share($alloc, $value, $status.part().is_some())?;
-        Ok(Body::$variant { $status, $prior, $next, $share })
+        let $turns = short_turns(told)?;
+        Ok(Body::$variant { $status, $turns, $prior, $next, $share })
     }};
 }
 
@@ -123,6 +136,13 @@ macro_rules! read_cancel {
     }};
 }
 
+// The numbers of turns, looked up.
+macro_rules! look_up_turns {
+    ($given:tt Turns { $($field:ident: $kind:ident $name:literal),* }) => {
+        Ok(($(look_up!($kind $name $given)),*))
+    };
+}
+
 // A claim.
 macro_rules! read_claim {
     ($given:tt Claim { $($field:ident: $kind:ident $name:literal),* }) => {{
@@ -131,58 +151,80 @@ macro_rules! read_claim {
     }};
 }
 
-/// Tells a header line from any other. `scratch` is room that is kept from line to line.
-pub(crate) fn header(alloc: Global, line: &[u8], scratch: &mut Scratch) -> Result<(), ReadCause>
-    ensures { IsSaid result (spec.header_says line.now) }
+/// The version that a header line names, if it is at most the newest one. `scratch` is room that is kept
+/// from line to line.
+pub(crate) fn header(
+    alloc: Global,
+    newest: u32,
+    line: &[u8],
+    scratch: &mut Scratch,
+) -> Result<u32, ReadCause>
+    ensures { IsSaid result (spec.header_says newest line.now) }
 {
     match tape_of(alloc, line, scratch) {
-        Ok(tape) if is_header(&tape.root()) => Ok(()),
+        Ok(tape) => version_in(newest, &tape.root()).ok_or(ReadCause::Header),
         Err(ReadCause::Memory) => Err(ReadCause::Memory),
-        _ => Err(ReadCause::Header),
+        Err(_) => Err(ReadCause::Header),
     }
 }
 
-/// Whether the format and the version are those of this crate.
-fn is_header(value: &Element<'_, '_>) -> bool
+/// The version, if the format is that of this crate and the version at most the newest one.
+fn version_in(newest: u32, value: &Element<'_, '_>) -> Option<u32>
     requires { HasValue value.now }
-    ensures { result ≡ spec.names_format (meant_at value.now) }
+    ensures { result ≡ spec.version_in newest (meant_at value.now) }
 {
-    header!(has_header(value))
+    header!(read_header(value newest))
 }
 
-/// The record that a line stands for. A line as it is written is read directly.
+/// The version, if one was found and it is from 1 to the newest one.
+fn version_read(newest: u32, found: Result<u64, ReadCause>) -> Option<u32>
+    ensures { result ≡ option_and_then (spec.version_read newest) (result_ok found) }
+{
+    match found {
+        Ok(version) if 1 <= version && version <= u64::from(newest) => Some(version as u32),
+        _ => None,
+    }
+}
+
+/// The record that a line of a file of this version stands for. A line as it is written is read directly.
 pub(crate) fn record_of(
     alloc: Global,
+    version: u32,
     line: &[u8],
     scratch: &mut Scratch,
 ) -> Result<Record, ReadCause>
-    ensures { IsSaid result (spec.line_says line.now) }
+    ensures { IsSaid result (spec.line_says version line.now) }
 {
-    if let Some(event) = sound(alloc, line) {
+    if let Some(event) = sound(alloc, version, line) {
         return Ok(event);
     }
-    other(alloc, line, scratch)
+    other(alloc, version, line, scratch)
 }
 
 /// The record of a line in any form.
 #[inline(never)]
-fn other(alloc: Global, line: &[u8], scratch: &mut Scratch) -> Result<Record, ReadCause>
-    ensures { IsSaid result (spec.line_says line.now) }
+fn other(
+    alloc: Global,
+    version: u32,
+    line: &[u8],
+    scratch: &mut Scratch,
+) -> Result<Record, ReadCause>
+    ensures { IsSaid result (spec.line_says version line.now) }
 {
-    if let Some(event) = unordered(alloc, line) {
+    if let Some(event) = unordered(alloc, version, line) {
         return Ok(event);
     }
     let tape = tape_of(alloc, line, scratch)?;
-    record(alloc, &tape.root())
+    record(alloc, version, &tape.root())
 }
 
-/// The record of a line as it is written, if it can stand in a trace.
-fn sound(alloc: Global, line: &[u8]) -> Option<Record>
-    ensures { IfSome result (λ event. spec.line_says line.now ≡ Ok event) }
+/// The record of a line as it is written, if it can stand in a trace of this version.
+fn sound(alloc: Global, version: u32, line: &[u8]) -> Option<Record>
+    ensures { IfSome result (λ event. spec.line_says version line.now ≡ Ok event) }
 {
-    let event = canonical(alloc, line)?;
+    let event = canonical(alloc, version, line)?;
     event.read_numbers();
-    if event.body.is_sound() {
+    if event.body.is_sound_in(version) {
         Some(event)
     } else {
         None
@@ -191,25 +233,25 @@ fn sound(alloc: Global, line: &[u8]) -> Option<Record>
 
 /// The record of an object.
 #[tactic(auto, unfolding(crate::specs::RecordLines::unbounded))]
-fn record(alloc: Global, value: &Element<'_, '_>) -> Result<Record, ReadCause>
+fn record(alloc: Global, version: u32, value: &Element<'_, '_>) -> Result<Record, ReadCause>
     requires { HasValue value.now }
-    ensures { IsSaid result (bounded spec.record_fits (spec.unbounded (meant_at value.now))) }
+    ensures { IsSaid result (bounded spec.record_fits (spec.unbounded version (meant_at value.now))) }
 {
-    members!(Record read_record (value alloc))
+    members!(Record read_record (value alloc version))
 }
 
 /// What the record's callback says.
 #[tactic(auto, unfolding(crate::specs::RecordLines::body_named))]
-fn body(alloc: Global, value: &Element<'_, '_>) -> Result<Body, ReadCause>
+fn body(alloc: Global, version: u32, value: &Element<'_, '_>) -> Result<Body, ReadCause>
     requires { HasValue value.now }
-    ensures { IsSaid result (bounded spec.body_fits (spec.body (meant_at value.now))) }
+    ensures { IsSaid result (bounded spec.body_fits (spec.body version (meant_at value.now))) }
 {
-    callbacks!(read_callback (value alloc))
+    callbacks!(read_callback (value alloc version))
 }
 
 /// A thread begins.
 #[tactic(auto, unfolding(crate::specs::RecordLines::thread_begin))]
-fn thread_begin(_alloc: Global, value: &Element<'_, '_>) -> Result<Body, ReadCause>
+fn thread_begin(_alloc: Global, _version: u32, value: &Element<'_, '_>) -> Result<Body, ReadCause>
     requires { HasValue value.now }
     ensures { result ≡ bounded spec.body_fits (spec.thread_begin (meant_at value.now)) }
 {
@@ -218,7 +260,7 @@ fn thread_begin(_alloc: Global, value: &Element<'_, '_>) -> Result<Body, ReadCau
 
 /// A thread ends.
 #[tactic(auto, unfolding(crate::specs::RecordLines::thread_end))]
-fn thread_end(_alloc: Global, value: &Element<'_, '_>) -> Result<Body, ReadCause>
+fn thread_end(_alloc: Global, _version: u32, value: &Element<'_, '_>) -> Result<Body, ReadCause>
     requires { HasValue value.now }
     ensures { result ≡ bounded spec.body_fits (spec.thread_end (meant_at value.now)) }
 {
@@ -227,7 +269,7 @@ fn thread_end(_alloc: Global, value: &Element<'_, '_>) -> Result<Body, ReadCause
 
 /// A task begins a parallel region.
 #[tactic(auto, unfolding(crate::specs::RecordLines::parallel_begin))]
-fn parallel_begin(_alloc: Global, value: &Element<'_, '_>) -> Result<Body, ReadCause>
+fn parallel_begin(_alloc: Global, _version: u32, value: &Element<'_, '_>) -> Result<Body, ReadCause>
     requires { HasValue value.now }
     ensures { result ≡ bounded spec.body_fits (spec.parallel_begin (meant_at value.now)) }
 {
@@ -236,7 +278,7 @@ fn parallel_begin(_alloc: Global, value: &Element<'_, '_>) -> Result<Body, ReadC
 
 /// A task ends a parallel region.
 #[tactic(auto, unfolding(crate::specs::RecordLines::parallel_end))]
-fn parallel_end(_alloc: Global, value: &Element<'_, '_>) -> Result<Body, ReadCause>
+fn parallel_end(_alloc: Global, _version: u32, value: &Element<'_, '_>) -> Result<Body, ReadCause>
     requires { HasValue value.now }
     ensures { result ≡ bounded spec.body_fits (spec.parallel_end (meant_at value.now)) }
 {
@@ -245,7 +287,7 @@ fn parallel_end(_alloc: Global, value: &Element<'_, '_>) -> Result<Body, ReadCau
 
 /// An initial or implicit task begins or ends.
 #[tactic(auto, unfolding(crate::specs::RecordLines::implicit_task))]
-fn implicit_task(_alloc: Global, value: &Element<'_, '_>) -> Result<Body, ReadCause>
+fn implicit_task(_alloc: Global, _version: u32, value: &Element<'_, '_>) -> Result<Body, ReadCause>
     requires { HasValue value.now }
     ensures { result ≡ bounded spec.body_fits (spec.implicit_task (meant_at value.now)) }
 {
@@ -254,7 +296,7 @@ fn implicit_task(_alloc: Global, value: &Element<'_, '_>) -> Result<Body, ReadCa
 
 /// A task is created.
 #[tactic(auto, unfolding(crate::specs::RecordLines::task_create))]
-fn task_create(_alloc: Global, value: &Element<'_, '_>) -> Result<Body, ReadCause>
+fn task_create(_alloc: Global, _version: u32, value: &Element<'_, '_>) -> Result<Body, ReadCause>
     requires { HasValue value.now }
     ensures { result ≡ bounded spec.body_fits (spec.task_create (meant_at value.now)) }
 {
@@ -263,7 +305,7 @@ fn task_create(_alloc: Global, value: &Element<'_, '_>) -> Result<Body, ReadCaus
 
 /// What a task depends on.
 #[tactic(auto, unfolding(crate::specs::RecordLines::dependences))]
-fn dependences(alloc: Global, value: &Element<'_, '_>) -> Result<Body, ReadCause>
+fn dependences(alloc: Global, _version: u32, value: &Element<'_, '_>) -> Result<Body, ReadCause>
     requires { HasValue value.now }
     ensures { IsSaid result (bounded spec.body_fits (spec.dependences (meant_at value.now))) }
 {
@@ -272,16 +314,60 @@ fn dependences(alloc: Global, value: &Element<'_, '_>) -> Result<Body, ReadCause
 
 /// A task stops running or is fulfilled.
 #[tactic(auto, unfolding(crate::specs::RecordLines::task_schedule))]
-fn task_schedule(alloc: Global, value: &Element<'_, '_>) -> Result<Body, ReadCause>
+fn task_schedule(alloc: Global, version: u32, value: &Element<'_, '_>) -> Result<Body, ReadCause>
     requires { HasValue value.now }
-    ensures { IsSaid result (bounded spec.body_fits (spec.task_schedule (meant_at value.now))) }
+    ensures { IsSaid result (bounded spec.body_fits (spec.task_schedule version (meant_at value.now))) }
 {
-    members!(TaskSchedule read_schedule (value alloc))
+    members!(TaskSchedule read_schedule (value alloc version))
+}
+
+/// Whether a record with this status tells turns in a file of this version.
+fn tells_turns(version: u32, status: Status) -> bool
+    ensures { result ≡ spec.tells_turns version status }
+{
+    version == 2 && status.demands_next()
+}
+
+/// The turns that a record tells, if it tells them.
+#[tactic(auto, unfolding(crate::specs::RecordLines::turns))]
+fn turns(value: &Element<'_, '_>, told: bool) -> Result<Option<(u64, u64)>, ReadCause>
+    requires { HasValue value.now }
+    ensures { result_map_both (λ o. option_map spec.as_turns o) (λ e. e) result
+        ≡ ok_or (spec.turns told (meant_at value.now)) ReadCause.Field }
+{
+    if told {
+        Ok(Some(both_turns(value)?))
+    } else {
+        Ok(None)
+    }
+}
+
+/// Which turn of the prior task ends, and which one of the next task begins.
+#[tactic(auto, unfolding(crate::specs::RecordLines::both_turns))]
+fn both_turns(value: &Element<'_, '_>) -> Result<(u64, u64), ReadCause>
+    requires { HasValue value.now }
+    ensures { result_map_both spec.as_turns (λ e. e) result
+        ≡ ok_or (spec.both_turns (meant_at value.now)) ReadCause.Field }
+{
+    members!(Turns look_up_turns (value))
+}
+
+/// These turns, if each is a number of 32 bits.
+fn short_turns(told: Option<(u64, u64)>) -> Result<Option<Turns>, ReadCause>
+    ensures { result ≡ bounded spec.turns_fit (Some (option_map spec.as_turns told)) }
+{
+    match told {
+        Some((prior, next)) => Ok(Some(Turns {
+            prior: short(prior)?,
+            next: short(next)?,
+        })),
+        None => Ok(None),
+    }
 }
 
 /// A region of synchronisation begins or ends.
 #[tactic(auto, unfolding(crate::specs::RecordLines::sync_region))]
-fn sync_region(_alloc: Global, value: &Element<'_, '_>) -> Result<Body, ReadCause>
+fn sync_region(_alloc: Global, _version: u32, value: &Element<'_, '_>) -> Result<Body, ReadCause>
     requires { HasValue value.now }
     ensures { result ≡ bounded spec.body_fits (spec.sync_region (meant_at value.now)) }
 {
@@ -290,7 +376,7 @@ fn sync_region(_alloc: Global, value: &Element<'_, '_>) -> Result<Body, ReadCaus
 
 /// A task cancels a region or sees it cancelled, or is itself discarded.
 #[tactic(auto, unfolding(crate::specs::RecordLines::cancel))]
-fn cancel(alloc: Global, value: &Element<'_, '_>) -> Result<Body, ReadCause>
+fn cancel(alloc: Global, _version: u32, value: &Element<'_, '_>) -> Result<Body, ReadCause>
     requires { HasValue value.now }
     ensures { IsSaid result (bounded spec.body_fits (spec.cancel (meant_at value.now))) }
 {

@@ -5,7 +5,7 @@ ghost use Rattle.certificate.specs.Files.{text_adds};
 ghost use Rattle.certificate.specs.RecordLines.{IsSaid};
 ghost use Rattle.std.specs.Io.KnownBytes.{Keeps, IsAtEnd, prepend_known};
 ghost use Rattle.certificate.specs.Counts.{TakesTurns, breaks_told, cause_told};
-ghost use Rattle.certificate.specs.Reading.{IsAnswer, IsBetween, IsAfter, Grows};
+ghost use Rattle.certificate.specs.Reading.{IsAnswer, IsAnswerTo, IsBetween, IsAfter, Grows};
 ghost use Rattle.certificate.specs.Windows.{ShowsLine, ShowsFault, IsDeviceFault};
 
 use crate::device::{DeviceFault, MAX_TURNS, Source};
@@ -20,13 +20,35 @@ use std::alloc::Global;
 /// The number of the last line that is read: after the header and the records, one that is too many.
 const LAST_LINE: u32 = 2 + MAX_RECORDS as u32;
 
-/// Reads a trace file to its end. At most 131,074 bytes wait at a time, two of the longest lines with their
-/// line feeds, and the source is asked for no more than there is room for. After a refusal nothing is said of
-/// how far the source was read.
+/// The newest version of the format that [`read`] takes.
+pub const NEWEST_VERSION: u32 = 1;
+
+/// Reads a trace file of a version up to [`NEWEST_VERSION`] to its end. At most 131,074 bytes wait at a
+/// time, two of the longest lines with their line feeds, and the source is asked for no more than there is
+/// room for. After a refusal nothing is said of how far the source was read.
 pub fn read<S: Source>(alloc: Global, source: &mut S) -> Result<Trace, ReadFault>
     // The trace that the bytes stand for, their first fault, or a fault of the device or of memory.
     ensures file { IfSome (S.remaining source.old)
         (λ bytes. IsAnswer result bytes (S.remaining source.new)) }
+
+    // Each answer `Again` is a turn, and the 10,001st ends the call.
+    ensures turns { (turns : ℕ) × TakesTurns (cause_told result) 0 turns (S.agains source.old)
+        (S.agains source.new) }
+
+    // `Device` is told exactly where the source broke.
+    ensures breaks { S.breaks source.new ≡ breaks_told (cause_told result) (S.breaks source.old) }
+    ensures line { IfErr result (λ fault. (1 ≤ fault.line) × (fault.line ≤ LAST_LINE)) }
+{
+    read_to(alloc, NEWEST_VERSION, source)
+}
+
+/// The same of a file of a version up to `newest`: 1, or 2 for files that may tell turns.
+pub fn read_to<S: Source>(alloc: Global, newest: u32, source: &mut S) -> Result<Trace, ReadFault>
+    requires { newest ≤ 2 }
+
+    // The trace that the bytes stand for, their first fault, or a fault of the device or of memory.
+    ensures file { IfSome (S.remaining source.old)
+        (λ bytes. IsAnswerTo newest result bytes (S.remaining source.new)) }
 
     // Each answer `Again` is a turn, and the 10,001st ends the call.
     ensures turns { (turns : ℕ) × TakesTurns (cause_told result) 0 turns (S.agains source.old)
@@ -48,6 +70,7 @@ pub fn read<S: Source>(alloc: Global, source: &mut S) -> Result<Trace, ReadFault
     'lines: for line in 1..=LAST_LINE {
         match read_line(
             alloc,
+            newest,
             line,
             &mut window,
             source,
@@ -66,6 +89,7 @@ pub fn read<S: Source>(alloc: Global, source: &mut S) -> Result<Trace, ReadFault
 /// Reads the line of this number and keeps what it stands for. Says whether there was one.
 fn read_line<S: Source>(
     alloc: Global,
+    newest: u32,
     line: u32,
     window: &mut Window,
     source: &mut S,
@@ -73,19 +97,20 @@ fn read_line<S: Source>(
     kept: &mut Kept,
     scratch: &mut Scratch,
 ) -> Result<bool, ReadCause>
+    requires newest { newest ≤ 2 }
     requires line { 1 ≤ line }
     requires turns { turns.old ≤ MAX_TURNS }
-    ensures after { (known : Option (List ℕ)) → IsBetween known line kept.old window.old
+    ensures after { (known : Option (List ℕ)) → IsBetween newest known line kept.old window.old
         (S.remaining source.old)
-        → IsAfter result known line kept.new window.new (S.remaining source.new) }
-    ensures grows { result ≡ Ok true → Grows line kept.old kept.new }
+        → IsAfter newest result known line kept.new window.new (S.remaining source.new) }
+    ensures grows { result ≡ Ok true → Grows line kept.old.records kept.new.records }
     ensures turns { TakesTurns (result_err result) turns.old turns.new (S.agains source.old)
         (S.agains source.new) }
     ensures breaks { S.breaks source.new ≡ breaks_told (result_err result) (S.breaks source.old) }
 {
     match next_line(window, source, turns)? {
         Some(len) => {
-            take_text(alloc, line, window.front(len), kept, scratch)?;
+            take_text(alloc, newest, line, window.front(len), kept, scratch)?;
             window.skip(len + 1);
             Ok(true)
         }
@@ -97,17 +122,21 @@ fn read_line<S: Source>(
 /// Takes the text of the line of this number: the header, or a record that is kept.
 fn take_text(
     alloc: Global,
+    newest: u32,
     line: u32,
     text: &[u8],
     kept: &mut Kept,
     scratch: &mut Scratch,
 ) -> Result<(), ReadCause>
-    ensures { IsSaid (result_map_both (λ _. kept.new) (λ e. e) result) (text_adds line kept.old text.now) }
+    requires { newest ≤ 2 }
+    ensures { IsSaid (result_map_both (λ _. kept.new) (λ e. e) result)
+        (text_adds newest line kept.old text.now) }
 {
     if line == 1 {
-        header(alloc, text, scratch)
+        kept.begin(header(alloc, newest, text, scratch)?);
+        Ok(())
     } else {
-        kept.keep(record_of(alloc, text, scratch)?)
+        kept.keep(record_of(alloc, kept.version(), text, scratch)?)
     }
 }
 

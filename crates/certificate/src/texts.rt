@@ -14,7 +14,7 @@ use bitflags::Flags;
 use itoa::Buffer;
 use ompt_events::{
     Body, CancelFlags, Claim, Dep, DepKind, Deps, Endpoint, Path, Record, Status, SyncKind,
-    TaskFlags, ThreadKind,
+    TaskFlags, ThreadKind, Turns,
 };
 use std::alloc::AllocError;
 
@@ -89,12 +89,21 @@ pub(crate) fn put_record(out: &mut Vec<u8>, event: &Record) -> Result<(), AllocE
         Body::Dependences { task, list } => put_dependences(out, event, *task, list),
         Body::TaskSchedule {
             status,
+            turns,
             prior,
             next,
             share,
-        } => match share {
-            Some(claim) => put_finishing(out, event, *status, *prior, *next, claim),
-            None => put_switching(out, event, *status, *prior, *next),
+        } => match turns {
+            Some(turns) => match share {
+                Some(claim) => {
+                    put_finishing_in_turn(out, event, *status, *turns, *prior, *next, claim)
+                }
+                None => put_switching_in_turn(out, event, *status, *turns, *prior, *next),
+            },
+            None => match share {
+                Some(claim) => put_finishing(out, event, *status, *prior, *next, claim),
+                None => put_switching(out, event, *status, *prior, *next),
+            },
         },
         Body::SyncRegion {
             kind,
@@ -109,11 +118,15 @@ pub(crate) fn put_record(out: &mut Vec<u8>, event: &Record) -> Result<(), AllocE
     }
 }
 
-/// Puts the header line behind, without its line feed.
-pub(crate) fn put_header(out: &mut Vec<u8>) -> Result<(), AllocError>
-    ensures { OnOk result (Puts out.old.items out.new.items header_line) }
+/// Puts the header line of a file of this version behind, without its line feed.
+pub(crate) fn put_header(out: &mut Vec<u8>, version: u32) -> Result<(), AllocError>
+    ensures { OnOk result (Puts out.old.items out.new.items (header_line version)) }
 {
-    put_id(out, "{\"format\":\"task-credit-audit\",\"version\":", 1)?;
+    put_short(
+        out,
+        "{\"format\":\"task-credit-audit\",\"version\":",
+        version,
+    )?;
     put(out, "}")
 }
 
@@ -214,7 +227,7 @@ fn put_switching(
     next: Option<u64>,
 ) -> Result<(), AllocError>
     ensures { OnOk result (Puts out.old.items out.new.items
-        (line_of (with_body event.now (Body.TaskSchedule status prior next None)))) }
+        (line_of (with_body event.now (Body.TaskSchedule status None prior next None)))) }
 {
     lines!(switching put_parts (out) next prior (event.seen) (event.seq) status (event.thread))
 }
@@ -229,10 +242,45 @@ fn put_finishing(
     claim: &Claim,
 ) -> Result<(), AllocError>
     ensures { OnOk result (Puts out.old.items out.new.items
-        (line_of (with_body event.now (Body.TaskSchedule status prior next (Some claim.now))))) }
+        (line_of (with_body event.now (Body.TaskSchedule status None prior next (Some claim.now))))) }
 {
     lines!(finishing put_parts (out)
         (claim.kept) next (&claim.path) prior (claim.root) (event.seen) (event.seq) status (event.thread))
+}
+
+/// A task stops running and is not finished, and its turns are told.
+fn put_switching_in_turn(
+    out: &mut Vec<u8>,
+    event: &Record,
+    status: Status,
+    turns: Turns,
+    prior: u64,
+    next: Option<u64>,
+) -> Result<(), AllocError>
+    ensures { OnOk result (Puts out.old.items out.new.items
+        (line_of (with_body event.now (Body.TaskSchedule status (Some turns) prior next None)))) }
+{
+    lines!(switching_in_turn put_parts (out)
+        next (turns.next) prior (turns.prior) (event.seen) (event.seq) status (event.thread))
+}
+
+/// A task, its body or its event is finished, and turns are told.
+fn put_finishing_in_turn(
+    out: &mut Vec<u8>,
+    event: &Record,
+    status: Status,
+    turns: Turns,
+    prior: u64,
+    next: Option<u64>,
+    claim: &Claim,
+) -> Result<(), AllocError>
+    ensures { OnOk result (Puts out.old.items out.new.items
+        (line_of (with_body event.now
+        (Body.TaskSchedule status (Some turns) prior next (Some claim.now))))) }
+{
+    lines!(finishing_in_turn put_parts (out)
+        (claim.kept) next (turns.next) (&claim.path) prior (turns.prior) (claim.root)
+        (event.seen) (event.seq) status (event.thread))
 }
 
 /// A region of synchronisation begins or ends.

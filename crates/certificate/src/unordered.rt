@@ -5,13 +5,14 @@ ghost use Rattle.json.specs.Print.{quoted};
 ghost use Rattle.serde_json.specs.Data.{no_members};
 ghost use Rattle.certificate.specs.RecordLines as spec;
 ghost use Rattle.certificate.specs.Texts.{Takes};
-ghost use Rattle.certificate.specs.Unordered.{AreRows, IsFound, IsMember, Makes, callback_name, rows};
+ghost use Rattle.certificate.specs.Unordered.{AreRows, IsFound, IsMember, callback_name, rows};
 
+use crate::making::made;
 use crate::parts::{
     after, byte, deps, end, endpoint, id, id_or_null, name, next_item, path, short, status,
     sync_kind, task_flags, truth,
 };
-use ompt_events::{Body, Claim, Deps, Endpoint, Path, Record, Status, SyncKind, TaskFlags};
+use ompt_events::{Deps, Endpoint, Path, Record, Status, SyncKind, TaskFlags};
 use std::alloc::Global;
 
 /// No line that is read so has more members.
@@ -32,38 +33,40 @@ pub(crate) enum Callback {
 /// What was found of each member; the last one of a name counts.
 #[derive(Drop)]
 pub(crate) struct Found {
-    callback: Option<Callback>,
-    thread: Option<u8>,
-    seq: Option<u32>,
-    seen: Option<u32>,
-    task: Option<u64>,
-    child: Option<u64>,
-    deps: Option<bool>,
-    flags: Option<TaskFlags>,
-    status: Option<Status>,
-    prior: Option<u64>,
-    next: Option<Option<u64>>,
-    kept: Option<u32>,
-    root: Option<u64>,
-    path: Option<Path>,
-    kind: Option<SyncKind>,
-    endpoint: Option<Endpoint>,
-    parallel: Option<Option<u64>>,
-    requested: Option<u32>,
-    actual: Option<u32>,
-    index: Option<u32>,
-    list: Option<Deps>,
+    pub(crate) callback: Option<Callback>,
+    pub(crate) thread: Option<u8>,
+    pub(crate) seq: Option<u32>,
+    pub(crate) seen: Option<u32>,
+    pub(crate) task: Option<u64>,
+    pub(crate) child: Option<u64>,
+    pub(crate) deps: Option<bool>,
+    pub(crate) flags: Option<TaskFlags>,
+    pub(crate) status: Option<Status>,
+    pub(crate) prior: Option<u64>,
+    pub(crate) next: Option<Option<u64>>,
+    pub(crate) kept: Option<u32>,
+    pub(crate) root: Option<u64>,
+    pub(crate) path: Option<Path>,
+    pub(crate) kind: Option<SyncKind>,
+    pub(crate) endpoint: Option<Endpoint>,
+    pub(crate) parallel: Option<Option<u64>>,
+    pub(crate) requested: Option<u32>,
+    pub(crate) actual: Option<u32>,
+    pub(crate) index: Option<u32>,
+    pub(crate) list: Option<Deps>,
+    pub(crate) prior_turn: Option<u32>,
+    pub(crate) next_turn: Option<u32>,
 }
 
-/// The record that a line stands for whose members stand in any order, if it is one that is known
-/// here.
-pub(crate) fn unordered(alloc: Global, line: &[u8]) -> Option<Record>
-    ensures { IfSome result (λ event. spec.line_says line.now ≡ Ok event) }
+/// The record that a line of a file of this version stands for whose members stand in any order, if it is
+/// one that is known here.
+pub(crate) fn unordered(alloc: Global, version: u32, line: &[u8]) -> Option<Record>
+    ensures { IfSome result (λ event. spec.line_says version line.now ≡ Ok event) }
 {
     let found = members(alloc, line)?;
-    let event = made(found)?;
+    let event = made(version, found)?;
     event.read_numbers();
-    if event.body.is_sound() {
+    if event.body.is_sound_in(version) {
         Some(event)
     } else {
         None
@@ -119,6 +122,8 @@ fn none() -> Found
         actual: None,
         index: None,
         list: None,
+        prior_turn: None,
+        next_turn: None,
     }
 }
 
@@ -132,7 +137,7 @@ fn member<'l>(alloc: Global, rest: &'l [u8], found: &mut Found) -> Option<&'l [u
         Some(b'p') => member_p(alloc, rest, found),
         Some(b'c') => member_c(rest, found),
         Some(b'k') => member_k(rest, found),
-        Some(b'n') => next_member(rest, found),
+        Some(b'n') => member_n(rest, found),
         Some(b'r') => member_r(rest, found),
         Some(b'd') => deps_member(rest, found),
         Some(b'f') => flags_member(rest, found),
@@ -170,9 +175,29 @@ fn member_p<'l>(alloc: Global, rest: &'l [u8], found: &mut Found) -> Option<&'l 
     ensures { IfSome result (λ behind. IsMember (rows found.old) (rows found.new) rest.now behind.now) }
 {
     match rest.get(3) {
-        Some(b'i') => prior_member(rest, found),
+        Some(b'i') => member_prior(rest, found),
         Some(b't') => path_member(alloc, rest, found),
         _ => parallel_member(rest, found),
+    }
+}
+
+/// A member whose name begins with `prior`.
+fn member_prior<'l>(rest: &'l [u8], found: &mut Found) -> Option<&'l [u8]>
+    ensures { IfSome result (λ behind. IsMember (rows found.old) (rows found.new) rest.now behind.now) }
+{
+    match rest.get(6) {
+        Some(b'_') => prior_turn_member(rest, found),
+        _ => prior_member(rest, found),
+    }
+}
+
+/// A member whose name begins with `n`.
+fn member_n<'l>(rest: &'l [u8], found: &mut Found) -> Option<&'l [u8]>
+    ensures { IfSome result (λ behind. IsMember (rows found.old) (rows found.new) rest.now behind.now) }
+{
+    match rest.get(5) {
+        Some(b'_') => next_turn_member(rest, found),
+        _ => next_member(rest, found),
     }
 }
 
@@ -302,6 +327,24 @@ fn next_member<'l>(rest: &'l [u8], found: &mut Found) -> Option<&'l [u8]>
 {
     let (next, behind) = id_or_null(rest, "\"next\":")?;
     found.next = Some(next);
+    Some(behind)
+}
+
+/// The member `prior_turn`.
+fn prior_turn_member<'l>(rest: &'l [u8], found: &mut Found) -> Option<&'l [u8]>
+    ensures { IfSome result (λ behind. IsMember (rows found.old) (rows found.new) rest.now behind.now) }
+{
+    let (turn, behind) = short(rest, "\"prior_turn\":")?;
+    found.prior_turn = Some(turn);
+    Some(behind)
+}
+
+/// The member `next_turn`.
+fn next_turn_member<'l>(rest: &'l [u8], found: &mut Found) -> Option<&'l [u8]>
+    ensures { IfSome result (λ behind. IsMember (rows found.old) (rows found.new) rest.now behind.now) }
+{
+    let (turn, behind) = short(rest, "\"next_turn\":")?;
+    found.next_turn = Some(turn);
     Some(behind)
 }
 
@@ -439,313 +482,4 @@ fn name_of(callback: Callback) -> &'static str
         Callback::TaskSchedule => "task_schedule",
         Callback::SyncRegion => "sync_region",
     }
-}
-
-/// The record of what was found.
-fn made(found: Found) -> Option<Record>
-    ensures { IfSome result (λ event. Makes (rows found) event) }
-{
-    match found.callback {
-        Some(Callback::ParallelBegin) => parallel_begin(&found),
-        Some(Callback::ParallelEnd) => parallel_end(&found),
-        Some(Callback::ImplicitTask) => implicit_task(&found),
-        Some(Callback::TaskCreate) => task_create(&found),
-        Some(Callback::Dependences) => dependences(found),
-        Some(Callback::TaskSchedule) => task_schedule(found),
-        Some(Callback::SyncRegion) => sync_region(&found),
-        None => None,
-    }
-}
-
-/// The numbers that each record has.
-fn numbers(found: &Found) -> Option<(u8, u32, u32)>
-    ensures { IfSome result (λ numbers. (found.now.thread ≡ Some numbers.0)
-        × (found.now.seq ≡ Some numbers.1) × (found.now.seen ≡ Some numbers.2)) }
-{
-    let thread = found.thread?;
-    let seq = found.seq?;
-    let seen = found.seen?;
-    Some((thread, seq, seen))
-}
-
-/// The parallel region, where one is named.
-fn parallel_of(found: &Found) -> Option<u64>
-    ensures { IfSome result (λ parallel. found.now.parallel ≡ Some (Some parallel)) }
-{
-    match found.parallel {
-        Some(parallel) => parallel,
-        None => None,
-    }
-}
-
-/// A task stops running or is fulfilled.
-fn task_schedule(found: Found) -> Option<Record>
-    requires { found.callback ≡ Some Callback.TaskSchedule }
-    ensures { IfSome result (λ event. Makes (rows found) event) }
-{
-    let status = found.status?;
-    if status.part().is_some() {
-        finishing(found)
-    } else {
-        switching(&found)
-    }
-}
-
-/// A task is created.
-fn task_create(found: &Found) -> Option<Record>
-    requires { found.now.callback ≡ Some Callback.TaskCreate }
-    ensures { IfSome result (λ event. Makes (rows found.now) event) }
-{
-    let Some((thread, seq, seen)) = numbers(found) else {
-        return None;
-    };
-    let Some(child) = found.child else {
-        return None;
-    };
-    let Some(deps) = found.deps else {
-        return None;
-    };
-    let Some(flags) = found.flags else {
-        return None;
-    };
-    let Some(task) = found.task else {
-        return None;
-    };
-    Some(Record {
-        thread,
-        seq,
-        seen,
-        body: Body::TaskCreate {
-            deps,
-            flags,
-            task,
-            child,
-        },
-    })
-}
-
-/// A task stops running and is not finished.
-fn switching(found: &Found) -> Option<Record>
-    requires { found.now.callback ≡ Some Callback.TaskSchedule }
-    ensures { IfSome result (λ event. Makes (rows found.now) event) }
-{
-    let Some((thread, seq, seen)) = numbers(found) else {
-        return None;
-    };
-    let Some(status) = found.status else {
-        return None;
-    };
-    let Some(prior) = found.prior else {
-        return None;
-    };
-    let Some(next) = found.next else {
-        return None;
-    };
-    Some(Record {
-        thread,
-        seq,
-        seen,
-        body: Body::TaskSchedule {
-            status,
-            prior,
-            next,
-            share: None,
-        },
-    })
-}
-
-/// A task, its body or its event is finished.
-fn finishing(found: Found) -> Option<Record>
-    requires { found.callback ≡ Some Callback.TaskSchedule }
-    ensures { IfSome result (λ event. Makes (rows found) event) }
-{
-    let Some((thread, seq, seen)) = numbers(&found) else {
-        return None;
-    };
-    let Found {
-        status,
-        prior,
-        next,
-        kept,
-        root,
-        path,
-        ..
-    } = found;
-    let Some(status) = status else {
-        return None;
-    };
-    let Some(prior) = prior else {
-        return None;
-    };
-    let Some(next) = next else {
-        return None;
-    };
-    let Some(kept) = kept else {
-        return None;
-    };
-    let Some(root) = root else {
-        return None;
-    };
-    let Some(path) = path else {
-        return None;
-    };
-    Some(Record {
-        thread,
-        seq,
-        seen,
-        body: Body::TaskSchedule {
-            status,
-            prior,
-            next,
-            share: Some(Claim { kept, root, path }),
-        },
-    })
-}
-
-/// A region of synchronisation begins or ends.
-fn sync_region(found: &Found) -> Option<Record>
-    requires { found.now.callback ≡ Some Callback.SyncRegion }
-    ensures { IfSome result (λ event. Makes (rows found.now) event) }
-{
-    let Some((thread, seq, seen)) = numbers(found) else {
-        return None;
-    };
-    let Some(kind) = found.kind else {
-        return None;
-    };
-    let Some(endpoint) = found.endpoint else {
-        return None;
-    };
-    let Some(parallel) = found.parallel else {
-        return None;
-    };
-    let Some(task) = found.task else {
-        return None;
-    };
-    Some(Record {
-        thread,
-        seq,
-        seen,
-        body: Body::SyncRegion {
-            kind,
-            endpoint,
-            parallel,
-            task,
-        },
-    })
-}
-
-/// A task begins a parallel region.
-fn parallel_begin(found: &Found) -> Option<Record>
-    requires { found.now.callback ≡ Some Callback.ParallelBegin }
-    ensures { IfSome result (λ event. Makes (rows found.now) event) }
-{
-    let Some((thread, seq, seen)) = numbers(found) else {
-        return None;
-    };
-    let Some(requested) = found.requested else {
-        return None;
-    };
-    let Some(task) = found.task else {
-        return None;
-    };
-    let Some(parallel) = parallel_of(found) else {
-        return None;
-    };
-    Some(Record {
-        thread,
-        seq,
-        seen,
-        body: Body::ParallelBegin {
-            requested,
-            task,
-            parallel,
-        },
-    })
-}
-
-/// A task ends a parallel region.
-fn parallel_end(found: &Found) -> Option<Record>
-    requires { found.now.callback ≡ Some Callback.ParallelEnd }
-    ensures { IfSome result (λ event. Makes (rows found.now) event) }
-{
-    let Some((thread, seq, seen)) = numbers(found) else {
-        return None;
-    };
-    let Some(task) = found.task else {
-        return None;
-    };
-    let Some(parallel) = parallel_of(found) else {
-        return None;
-    };
-    Some(Record {
-        thread,
-        seq,
-        seen,
-        body: Body::ParallelEnd { task, parallel },
-    })
-}
-
-/// An initial or implicit task begins or ends.
-fn implicit_task(found: &Found) -> Option<Record>
-    requires { found.now.callback ≡ Some Callback.ImplicitTask }
-    ensures { IfSome result (λ event. Makes (rows found.now) event) }
-{
-    let Some((thread, seq, seen)) = numbers(found) else {
-        return None;
-    };
-    let Some(endpoint) = found.endpoint else {
-        return None;
-    };
-    let Some(actual) = found.actual else {
-        return None;
-    };
-    let Some(index) = found.index else {
-        return None;
-    };
-    let Some(flags) = found.flags else {
-        return None;
-    };
-    let Some(parallel) = parallel_of(found) else {
-        return None;
-    };
-    let Some(task) = found.task else {
-        return None;
-    };
-    Some(Record {
-        thread,
-        seq,
-        seen,
-        body: Body::ImplicitTask {
-            endpoint,
-            actual,
-            index,
-            flags,
-            parallel,
-            task,
-        },
-    })
-}
-
-/// What a task depends on.
-fn dependences(found: Found) -> Option<Record>
-    requires { found.callback ≡ Some Callback.Dependences }
-    ensures { IfSome result (λ event. Makes (rows found) event) }
-{
-    let Some((thread, seq, seen)) = numbers(&found) else {
-        return None;
-    };
-    let Found { task, list, .. } = found;
-    let Some(task) = task else {
-        return None;
-    };
-    let Some(list) = list else {
-        return None;
-    };
-    Some(Record {
-        thread,
-        seq,
-        seen,
-        body: Body::Dependences { task, list },
-    })
 }

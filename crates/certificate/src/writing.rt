@@ -13,8 +13,8 @@ use std::alloc::Global;
 /// The lines that wait are handed over once they have so many bytes.
 const BLOCK: usize = 65_536;
 
-/// Writes the text of the trace: the header, then the line of each record. After a fault a prefix of it
-/// went out. The lines are put together in blocks of some 64 KiB.
+/// Writes the text of the trace: the header of its version, then the line of each record. After a fault a
+/// prefix of it went out. The lines are put together in blocks of some 64 KiB.
 pub fn write<S: Sink>(alloc: Global, trace: &Trace, sink: &mut S) -> Result<(), WriteFault>
     ensures ok { OnOk result
         (Appends (S.contents sink.old) (S.contents sink.new) (trace_text trace.now)) }
@@ -27,7 +27,7 @@ pub fn write<S: Sink>(alloc: Global, trace: &Trace, sink: &mut S) -> Result<(), 
     // `Device` is told exactly where the sink broke.
     ensures breaks { S.breaks sink.new ≡ breaks_written result (S.breaks sink.old) }
 {
-    let mut block = header(alloc)?;
+    let mut block = header(alloc, trace.version())?;
     let mut turns = 0;
     'records: for event in trace.records() {
         add_line(&mut block, event)?;
@@ -40,13 +40,13 @@ pub fn write<S: Sink>(alloc: Global, trace: &Trace, sink: &mut S) -> Result<(), 
     Ok(())
 }
 
-/// The header line with its line feed.
-fn header(alloc: Global) -> Result<Vec<u8>, WriteFault>
-    ensures line { IfOk result (λ block. block.items ≡ header_line ++ 10 ∷ []) }
+/// The header line of a file of this version, with its line feed.
+fn header(alloc: Global, version: u32) -> Result<Vec<u8>, WriteFault>
+    ensures line { IfOk result (λ block. block.items ≡ header_line version ++ 10 ∷ []) }
     ensures fault { IfErr result (λ fault. fault ≡ WriteFault.Memory) }
 {
     let mut block = Vec::new(alloc);
-    put_header(&mut block).map_err(|_| WriteFault::Memory)?;
+    put_header(&mut block, version).map_err(|_| WriteFault::Memory)?;
     block.push(b'\n').map_err(|_| WriteFault::Memory)?;
     Ok(block)
 }

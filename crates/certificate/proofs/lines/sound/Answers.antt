@@ -3,7 +3,7 @@ use Rattle.certificate.specs.RecordLines.{line_says}
 use Rattle.certificate.proofs.LineLemmas.{line_says-line_of}
 use Rattle.certificate.proofs.lines.sound.Goals as goal
 
-pub returns-then-is_sound : goal.returns-then-is_sound
-returns-then-is_sound c =
+pub returns-then-is_sound_in : goal.returns-then-is_sound_in
+returns-then-is_sound_in c =
     let event = c.in_ok-event.event in
-    ap (λ bytes. line_says bytes) c.in_ok-event.ensures ∙ line_says-line_of event c.read_numbers.ensures (c.is_sound.ensures.0 c.if-is_sound.true)
+    ap (λ bytes. line_says c.args.version bytes) c.in_ok-event.ensures ∙ line_says-line_of c.args.version event c.read_numbers.ensures (c.is_sound_in.ensures.0 c.if-is_sound_in.true)

@@ -15,7 +15,7 @@ pub records-init : goal.records-init
 records-init g c = record {
   sent = [];
   out = Appends-none _;
-  text = c.in_ok-block.ensures.line ∙ sym (append-nil (header_line ++ 10 ∷ []));
+  text = (rw c.version.ensures at c.in_ok-block.ensures.line) ∙ sym (append-nil (header_line c.args.trace.now.version ++ 10 ∷ []));
   few = omega arith;
   counted = count_more-zero _;
   breaks = refl;
@@ -24,19 +24,19 @@ records-init g c = record {
 pub returns-in_err-add_line-clause-prefix : goal.returns-in_err-add_line-clause-prefix
 returns-in_err-add_line-clause-prefix g c =
     let now = c.records.invariant in
-    on_err _ _ (sent-out _ _ now.sent c.records.block.items c.args.trace.now.records c.records.event-index now.text now.out)
+    on_err _ _ (sent-out c.args.trace.now.version _ _ now.sent c.records.block.items c.args.trace.now.records c.records.event-index now.text now.out)
 
 pub returns-in_err-turns-clause-prefix : goal.returns-in_err-turns-clause-prefix
 returns-in_err-turns-clause-prefix g c =
     let now = c.records.invariant in
-    let text = text-more now.sent c.records.block.items c.add_line.new.block.items c.args.trace.now.records c.records.event-index c.event-item.result now.text (rw c.records-event-items.ensures.value at c.records-test.true) (rw c.records-event-items.ensures.value at c.event-item.is) c.in_ok-add_line.ensures.line in
+    let text = text-more c.args.trace.now.version now.sent c.records.block.items c.add_line.new.block.items c.args.trace.now.records c.records.event-index c.event-item.result now.text (rw c.records-event-items.ensures.value at c.records-test.true) (rw c.records-event-items.ensures.value at c.event-item.is) c.in_ok-add_line.ensures.line in
     let part = rw c.as_slice.ensures.value at c.in_err-turns.ensures.prefix in
-    on_err _ _ (part-out _ _ _ now.sent c.add_line.new.block.items c.args.trace.now.records (c.records.event-index + 1) part.0 text now.out part.1)
+    on_err _ _ (part-out c.args.trace.now.version _ _ _ now.sent c.add_line.new.block.items c.args.trace.now.records (c.records.event-index + 1) part.0 text now.out part.1)
 
 pub records-preserved : goal.records-preserved
 records-preserved g c =
     let now = c.records.invariant in
-    let text = text-more now.sent c.records.block.items c.add_line.new.block.items c.args.trace.now.records c.records.event-index c.event-item.result now.text (rw c.records-event-items.ensures.value at c.records-test.true) (rw c.records-event-items.ensures.value at c.event-item.is) c.in_ok-add_line.ensures.line in
+    let text = text-more c.args.trace.now.version now.sent c.records.block.items c.add_line.new.block.items c.args.trace.now.records c.records.event-index c.event-item.result now.text (rw c.records-event-items.ensures.value at c.records-test.true) (rw c.records-event-items.ensures.value at c.event-item.is) c.in_ok-add_line.ensures.line in
     elim c.if-len-ge-BLOCK.branch [
       | then-len-ge-BLOCK+in_ok-turns w ↦ record {
         sent = now.sent ++ c.add_line.new.block.items;
@@ -60,10 +60,10 @@ pub returns-in_err-send-clause-prefix : goal.returns-in_err-send-clause-prefix
 returns-in_err-send-clause-prefix g c =
     let now = c.records.invariant in
     let part = rw c.as_slice-2.ensures.value at c.in_err-send.ensures.prefix in
-    on_err _ _ (part-out _ _ _ now.sent c.records.block.items c.args.trace.now.records c.records.event-index part.0 now.text now.out part.1)
+    on_err _ _ (part-out c.args.trace.now.version _ _ _ now.sent c.records.block.items c.args.trace.now.records c.records.event-index part.0 now.text now.out part.1)
 
 pub returns-clause-ok : goal.returns-clause-ok
 returns-clause-ok g c =
     let now = c.records.invariant in
     let all = rw c.records-event-items.ensures.value at c.records-test.false in
-    whole-out _ _ _ now.sent c.records.block.items c.args.trace.now.records c.records.event-index now.text (omega (arith, all)) now.out (rw c.as_slice-2.ensures.value at c.in_ok-send.ensures.ok)
+    whole-out c.args.trace.now.version _ _ _ now.sent c.records.block.items c.args.trace.now.records c.records.event-index now.text (omega (arith, all)) now.out (rw c.as_slice-2.ensures.value at c.in_ok-send.ensures.ok)

@@ -1,11 +1,12 @@
 use Rattle.std.proofs.Common.{length, refl, arith, ap, ◌∙◌, Some, Ok}
+use Rattle.ompt_events.specs.Traces.{TraceView}
 use Rattle.certificate.specs.declared.faults.ReadCause.TheVariants.{Memory}
 use Rattle.certificate.proofs.CountLemmas.{TakesTurns-none, TakesTurns-more, TakesTurns-other}
 use Rattle.certificate.proofs.ReadingLemmas.{IsAnswer-no_window, IsBetween-start, Grows-counted}
-use Rattle.certificate.proofs.reading.read.Goals as goal
+use Rattle.certificate.proofs.reading.read_to.Goals as goal
 
 pub returns-in_default-clause-file : goal.returns-in_default-clause-file
-returns-in_default-clause-file g c = IsAnswer-no_window (g.S.Source.remaining c.args.source.now)
+returns-in_default-clause-file g c = IsAnswer-no_window c.args.newest (g.S.Source.remaining c.args.source.now)
 
 pub returns-in_default-clause-turns : goal.returns-in_default-clause-turns
 returns-in_default-clause-turns g c = (0, TakesTurns-other (Some Memory) _ _ _ _ (λ same. cc) (TakesTurns-none 0 _ (omega arith)))
@@ -13,11 +14,11 @@ returns-in_default-clause-turns g c = (0, TakesTurns-other (Some Memory) _ _ _ _
 pub lines-init : goal.lines-init
 lines-init g c = record {
   low = omega arith;
-  between = rw (c.in-Ok.ensures, c.new-kept.ensures) (IsBetween-start _);
+  between = rw (c.in-Ok.ensures, c.new-kept.ensures) (IsBetween-start _ _);
   turns = TakesTurns-none 0 _ (omega arith);
   breaks = refl;
-  counted = ap length c.new-kept.ensures;
-  room = omega (arith, ap length c.new-kept.ensures);
+  counted = ap (λ (t : TraceView). length t.records) c.new-kept.ensures;
+  room = omega (arith, ap (λ (t : TraceView). length t.records) c.new-kept.ensures);
 }
 
 pub returns-in-Ok-false-clause-turns : goal.returns-in-Ok-false-clause-turns
@@ -30,7 +31,7 @@ pub lines-preserved : goal.lines-preserved
 lines-preserved g c =
     let now = c.lines.invariant in
     let call = c.in-Ok-true.ensures in
-    let counted = Grows-counted c.lines.line c.lines.kept c.read_line.new.kept now.low now.counted now.room (call.grows (ap Ok c.in-Ok-true.field-0-test)) in
+    let counted = Grows-counted c.lines.line c.lines.kept.records c.read_line.new.kept.records now.low now.counted now.room (call.grows (ap Ok c.in-Ok-true.field-0-test)) in
     record {
       low = omega arith;
       between = rw c.in-Ok-true.field-0-test at (call.after (g.S.Source.remaining c.args.source.now) now.between);

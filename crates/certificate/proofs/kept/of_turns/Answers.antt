@@ -1,0 +1,8 @@
+use Rattle.std.proofs.Common.{◌+◌}
+use Rattle.certificate.proofs.KeptLemmas.{IsTraceOf-take}
+use Rattle.certificate.proofs.kept.of_turns.Goals as goal
+
+pub unreachable-requires : goal.unreachable-requires
+unreachable-requires c =
+    let refused = (c.in-Err.ensures.refused).1 in
+    refused.refused (IsTraceOf-take 2 (c.in-Err.field-0.1 + 1) c.args.records.items c.requires)
