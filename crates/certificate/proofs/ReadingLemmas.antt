@@ -1,5 +1,5 @@
 -- How the state of a reader goes from line to line.
-use Rattle.std.proofs.Common.{◌≡◌, ◌≢◌, ℕ, ◌+◌, ◌*◌, ◌-◌, ◌<◌, ◌≤◌, ◌⊎◌, ◌&&◌, List, [], ◌∷◌, ◌++◌, length, take, drop, get_or, Option, Some, None, Result, Ok, Err, true, false, cond, arith, refl, sym, ap, ◌∙◌, subst, inl, inr, eqb-true, eq-eqb, append_assoc, append-nil, zero-add, length-append, length-take}
+use Rattle.std.proofs.Common.{Bool, ◌≡◌, ◌≢◌, ℕ, ◌+◌, ◌*◌, ◌-◌, ◌<◌, ◌≤◌, ◌⊎◌, ◌&&◌, List, [], ◌∷◌, ◌++◌, length, take, drop, get_or, Option, Some, None, Result, Ok, Err, true, false, cond, arith, refl, sym, ap, ◌∙◌, subst, inl, inr, eqb-true, eq-eqb, append_assoc, append-nil, zero-add, length-append, length-take}
 use Rattle.std.specs.Prelude.{nat_lt, nat_le, ◌==◌, IfSome, ok_or, option_and_then}
 use Rattle.std.specs.Io.KnownBytes.{Keeps, IsAtEnd, prepend_known}
 use Rattle.ompt_events.specs.declared.records.Record.{Record}
@@ -331,26 +331,23 @@ Grows-counted n old new low counted room grows =
 
 -- ---- the version that a header names
 
-pub header_says-known : (newest : ℕ) (line : List ℕ) (version : ℕ) → newest ≤ 2 → Ok version ≡ header_says newest line → (version ≡ 1) ⊎ (version ≡ 2)
-header_says-known newest line version few says = by_value (value_of line) says
+pub header_says-range : (newest : ℕ) (line : List ℕ) (version : ℕ) → Ok version ≡ header_says newest line → (1 ≤ version) × (version ≤ newest)
+header_says-range newest line version says = by_value (value_of line) says
   where
-    by_taken : (n : ℕ) → version_read newest n ≡ Some version → (version ≡ 1) ⊎ (version ≡ 2)
+    by_taken : (n : ℕ) → version_read newest n ≡ Some version → (1 ≤ version) × (version ≤ newest)
     by_taken n e =
-        elim (nat_le 1 n && nat_le n newest) as (λ b. nat_le 1 n && nat_le n newest ≡ b → cond b (Some n) None ≡ Some version → (version ≡ 1) ⊎ (version ≡ 2)) [
+        elim (nat_le 1 n && nat_le n newest) as (λ b. nat_le 1 n && nat_le n newest ≡ b → cond b (Some n) None ≡ Some version → (1 ≤ version) × (version ≤ newest)) [
           | true ↦ λ range same.
               let is : n ≡ version = cc in
               let low : 1 ≤ n = leb-true 1 n (both-first (nat_le 1 n) (nat_le n newest) range) in
               let high : n ≤ newest = leb-true n newest (both-second (nat_le 1 n) (nat_le n newest) range) in
-              elim (cases_lt 1 version) [
-                | inl more ↦ inr (omega arith)
-                | inr one ↦ inl (omega arith)
-              ]
+              (omega arith, omega arith)
           | false ↦ λ _ other. absurd (none-some version other)
         ] refl e
 
-    by_object : (d : Data) → version_in newest d ≡ Some version → (version ≡ 1) ⊎ (version ≡ 2)
+    by_object : (d : Data) → version_in newest d ≡ Some version → (1 ≤ version) × (version ≤ newest)
     by_object d e =
-        elim (names_format d) as (λ b. cond b (option_and_then (version_read newest) (whole member.version d)) None ≡ Some version → (version ≡ 1) ⊎ (version ≡ 2)) [
+        elim (names_format d) as (λ b. cond b (option_and_then (version_read newest) (whole member.version d)) None ≡ Some version → (1 ≤ version) × (version ≤ newest)) [
           | true ↦ λ named. option_and_then_some (version_read newest) (whole member.version d) version named (λ n _ is. by_taken n is)
           | false ↦ λ other. absurd (none-some version other)
         ] e
@@ -359,6 +356,45 @@ header_says-known newest line version few says = by_value (value_of line) says
     by_version None e = absurd (ok_not_err version Header e)
     by_version (Some n) e = cc
 
-    by_value : (o : Option Data) → Ok version ≡ ok_or (option_and_then (version_in newest) o) Header → (version ≡ 1) ⊎ (version ≡ 2)
+    by_value : (o : Option Data) → Ok version ≡ ok_or (option_and_then (version_in newest) o) Header → (1 ≤ version) × (version ≤ newest)
     by_value None e = absurd (ok_not_err version Header e)
     by_value (Some d) e = by_object d (by_version (version_in newest d) e)
+
+pub header_says-known : (newest : ℕ) (line : List ℕ) (version : ℕ) → newest ≤ 2 → Ok version ≡ header_says newest line → (version ≡ 1) ⊎ (version ≡ 2)
+header_says-known newest line version few says =
+    let range = header_says-range newest line version says in
+    let low = range.0 in
+    let high = range.1 in
+    elim (cases_lt 1 version) [
+      | inl more ↦ inr (omega arith)
+      | inr one ↦ inl (omega arith)
+    ]
+
+-- after a line that adds to a trace, its version is one that is read
+with_header-version : (newest : ℕ) (after : TraceView) (line : List ℕ) → Ok after ≡ with_header (header_says newest line) → after.version ≤ newest
+with_header-version newest after line h = by (header_says newest line) refl h
+  where
+    by : (o : Result ℕ ReadCause) → header_says newest line ≡ o → Ok after ≡ with_header o → after.version ≤ newest
+    by (Err cause) e is = absurd (ok_not_err after cause is)
+    by (Ok version) e is =
+        let range = header_says-range newest line version (sym e) in
+        let same : after ≡ record { version = version; records = [] } = cc in
+        let named = ap (λ (t : TraceView). t.version) same in
+        omega (arith, named, range.1)
+
+with_record-version : (before after : TraceView) (said : Result Record ReadCause) → Ok after ≡ with_record before said → after.version ≡ before.version
+with_record-version before after (Err cause) is = absurd (ok_not_err after cause is)
+with_record-version before after (Ok r) is = by (has_room before.records r) is
+  where
+    by : (b : Bool) → Ok after ≡ cond b (Ok (record { version = before.version; records = before.records ++ r ∷ [] })) (Err Limit) → after.version ≡ before.version
+    by true e =
+        let same : after ≡ record { version = before.version; records = before.records ++ r ∷ [] } = cc in
+        ap (λ (t : TraceView). t.version) same
+    by false e = absurd (ok_not_err after Limit e)
+
+pub version-text : (newest n : ℕ) (before after : TraceView) (line : List ℕ) → Ok after ≡ text_adds newest n before line → before.version ≤ newest → after.version ≤ newest
+version-text newest n before after line h low = by (n == 1) h
+  where
+    by : (b : Bool) → Ok after ≡ cond b (with_header (header_says newest line)) (with_record before (line_says before.version line)) → after.version ≤ newest
+    by true e = with_header-version newest after line e
+    by false e = let same = with_record-version before after (line_says before.version line) e in omega (arith, same, low)

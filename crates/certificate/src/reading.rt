@@ -38,13 +38,14 @@ pub fn read<S: Source>(alloc: Global, source: &mut S) -> Result<Trace, ReadFault
     // `Device` is told exactly where the source broke.
     ensures breaks { S.breaks source.new ≡ breaks_told (cause_told result) (S.breaks source.old) }
     ensures line { IfErr result (λ fault. (1 ≤ fault.line) × (fault.line ≤ LAST_LINE)) }
+    ensures version { IfOk result (λ trace. trace.version ≤ NEWEST_VERSION) }
 {
     read_to(alloc, NEWEST_VERSION, source)
 }
 
 /// The same of a file of a version up to `newest`: 1, or 2 for files that may tell turns.
 pub fn read_to<S: Source>(alloc: Global, newest: u32, source: &mut S) -> Result<Trace, ReadFault>
-    requires { newest ≤ 2 }
+    requires { (1 ≤ newest) × (newest ≤ 2) }
 
     // The trace that the bytes stand for, their first fault, or a fault of the device or of memory.
     ensures file { IfSome (S.remaining source.old)
@@ -57,6 +58,7 @@ pub fn read_to<S: Source>(alloc: Global, newest: u32, source: &mut S) -> Result<
     // `Device` is told exactly where the source broke.
     ensures breaks { S.breaks source.new ≡ breaks_told (cause_told result) (S.breaks source.old) }
     ensures line { IfErr result (λ fault. (1 ≤ fault.line) × (fault.line ≤ LAST_LINE)) }
+    ensures version { IfOk result (λ trace. trace.version ≤ newest) }
 {
     let Ok(mut window) = Window::new(alloc) else {
         return Err(ReadFault {
@@ -104,6 +106,7 @@ fn read_line<S: Source>(
         (S.remaining source.old)
         → IsAfter newest result known line kept.new window.new (S.remaining source.new) }
     ensures grows { result ≡ Ok true → Grows line kept.old.records kept.new.records }
+    ensures version { kept.old.version ≤ newest → IfOk result (λ _. kept.new.version ≤ newest) }
     ensures turns { TakesTurns (result_err result) turns.old turns.new (S.agains source.old)
         (S.agains source.new) }
     ensures breaks { S.breaks source.new ≡ breaks_told (result_err result) (S.breaks source.old) }

@@ -1,5 +1,5 @@
 //! The audit of a file, with its report alone or with an order that shows the verdict.
-ghost use Rattle.std.specs.Prelude.{IfOk, IfErr, None};
+ghost use Rattle.std.specs.Prelude.{◌≡◌, IfOk, IfErr, None};
 ghost use Rattle.checker.specs.Verdicts.{IsVerdict};
 ghost use Rattle.taskaudit.specs.Audits.{Prints, Reports, Leaves, IsReadRightly};
 ghost use Rattle.taskaudit.specs.Devices.{TellsDevices, IsOfNoDevice};

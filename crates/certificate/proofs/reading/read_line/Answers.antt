@@ -2,7 +2,7 @@ use Rattle.std.proofs.Common.{sym, ◌∙◌}
 use Rattle.std.proofs.lemmas.Result.{err_from_is_err_and}
 use Rattle.certificate.specs.declared.faults.ReadCause.TheVariants.{Memory}
 use Rattle.certificate.proofs.RecordLemmas.{ok_not_err}
-use Rattle.certificate.proofs.ReadingLemmas.{IsBetween-keeps, IsBetween-line, IsAfter-no_line, IsAfter-text_fault, IsAfter-none_first, IsAfter-none, Grows-text, IsOfText-from, IsOfText-not_spent, breaks_told-text}
+use Rattle.certificate.proofs.ReadingLemmas.{IsBetween-keeps, IsBetween-line, IsAfter-no_line, IsAfter-text_fault, IsAfter-none_first, IsAfter-none, Grows-text, version-text, IsOfText-from, IsOfText-not_spent, breaks_told-text}
 use Rattle.certificate.proofs.CountLemmas.{TakesTurns-other}
 use Rattle.certificate.proofs.reading.read_line.Goals as goal
 
@@ -54,3 +54,7 @@ returns-in_err-take_text-in-Some-clause-breaks g c =
     let p = err_from_is_err_and c.from_residual-in_err-take_text-in-Some.result c.from_residual-in_err-take_text-in-Some.ensures.1 in
     let is = IsOfText-from c.args.newest c.args.line c.args.kept.now c.front.result.now c.in_err-take_text-in-Some.field-0.0 c.in_err-take_text-in-Some.ensures in
     rw (p.1, p.2) (◌∙◌ {b = g.S.Source.breaks c.args.source.now} c.in_ok-len.ensures.breaks (sym (breaks_told-text _ (g.S.Source.breaks c.args.source.now) is)))
+
+pub returns-in_ok-take_text-in-Some-clause-version : goal.returns-in_ok-take_text-in-Some-clause-version
+returns-in_ok-take_text-in-Some-clause-version g c =
+    λ low. version-text c.args.newest c.args.line c.args.kept.now c.take_text.new.kept _ (c.in_ok-take_text-in-Some.ensures (ok_not_err _ Memory)) low

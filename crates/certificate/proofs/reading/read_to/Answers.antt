@@ -14,6 +14,7 @@ returns-in_default-clause-turns g c = (0, TakesTurns-other (Some Memory) _ _ _ _
 pub lines-init : goal.lines-init
 lines-init g c = record {
   low = omega arith;
+  version = let low = c.requires.0 in omega (arith, low, ap (λ (t : TraceView). t.version) c.new-kept.ensures);
   between = rw (c.in-Ok.ensures, c.new-kept.ensures) (IsBetween-start _ _);
   turns = TakesTurns-none 0 _ (omega arith);
   breaks = refl;
@@ -34,6 +35,7 @@ lines-preserved g c =
     let counted = Grows-counted c.lines.line c.lines.kept.records c.read_line.new.kept.records now.low now.counted now.room (call.grows (ap Ok c.in-Ok-true.field-0-test)) in
     record {
       low = omega arith;
+      version = call.version now.version;
       between = rw c.in-Ok-true.field-0-test at (call.after (g.S.Source.remaining c.args.source.now) now.between);
       turns = TakesTurns-more _ 0 c.lines.turns c.read_line.new.turns _ _ _ now.turns call.turns;
       breaks = call.breaks ∙ now.breaks;

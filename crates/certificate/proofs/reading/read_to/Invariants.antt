@@ -8,6 +8,7 @@ use Rattle.certificate.proofs.reading.read_to.Given as goal
 abbrev pub invariant-lines : goal.invariant-lines
 invariant-lines g l = record {
   low : 1 ≤ l.line;
+  version : l.kept.version ≤ l.newest;
   between : IsBetween l.newest (g.S.Source.remaining l.fn.source) l.line l.kept l.window (g.S.Source.remaining l.source);
   turns : TakesTurns None 0 l.turns (g.S.Source.agains l.fn.source) (g.S.Source.agains l.source);
   breaks : g.S.Source.breaks l.source ≡ g.S.Source.breaks l.fn.source;
