@@ -9,3 +9,5 @@ pub mod OwnOrderLemmas
 pub mod RisingLemmas
 pub mod SuspendedLemmas
 pub mod SayingLemmas
+pub mod PairMaps
+pub mod TurnTableLemmas

@@ -4,3 +4,6 @@
 #![tactic(auto)]
 
 pub mod laws;
+mod turn_table;
+
+pub use turn_table::turns_of;
