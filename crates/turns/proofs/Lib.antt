@@ -11,3 +11,5 @@ pub mod SuspendedLemmas
 pub mod SayingLemmas
 pub mod PairMaps
 pub mod TurnTableLemmas
+pub mod SortedLemmas
+pub mod ArrangeLemmas

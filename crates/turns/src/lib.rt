@@ -4,6 +4,8 @@
 #![tactic(auto)]
 
 pub mod laws;
+mod own_order;
 mod turn_table;
 
+pub use own_order::{OwnOrder, arrange};
 pub use turn_table::turns_of;
