@@ -1,7 +1,7 @@
 -- Places that are sorted by turn are the tasks' own order, and their numbers are the own places.
-use Rattle.std.proofs.Common.{◌≡◌, ◌≢◌, ◌∙◌, ℕ, ◌<◌, ◌+◌, List, [], ◌∷◌, ◌++◌, Option, Some, None, refl, sym, ap, arith, length, inl, inr, set, get_or, map}
+use Rattle.std.proofs.Common.{◌≡◌, ◌∙◌, ℕ, ◌<◌, ◌+◌, List, [], ◌∷◌, ◌++◌, Option, Some, None, refl, sym, ap, arith, length, inl, inr, set, map}
 use Rattle.std.proofs.lemmas.Bool.{cases_eq}
-use Rattle.std.proofs.lemmas.Option.{none-some, same_Some, slice_get-map, slice_get_read, slice_get_within, get_or_from_slice_get}
+use Rattle.std.proofs.lemmas.Option.{none-some, same_Some, slice_get-map, slice_get_within, get_or_from_slice_get}
 use Rattle.std.proofs.lemmas.List.{length-map, length-set}
 use Rattle.std.proofs.lemmas.List.FromFn.{length-range_with_len, map-range_with_len_more}
 use Rattle.std.proofs.lemmas.List.Sorted.{Contains-permutation, IsPermutation-map, IsPermutation-sym, IsPermutation-trans}
@@ -15,7 +15,7 @@ use Rattle.ompt_events.proofs.ListLemmas.{get_contains, contains_get}
 use Rattle.task_tree.proofs.LinkLemmas.{get_set_same, get_set_other}
 use Rattle.turns.specs.TurnTable.{pair_cmp, AreTurns}
 use Rattle.turns.specs.OwnOrder.{OwnOrderView, IsOwnOrderOf, AreApartBelow, AreNumbers}
-use Rattle.turns.proofs.RankedLemmas.{Every, every_get, every_weaker, row_below, Comes, Ranked}
+use Rattle.turns.proofs.RankedLemmas.{Every, every_get, every_weaker, row_below, Comes}
 use Rattle.turns.proofs.SortedLemmas.{ranked_from, ranked_equal, map_range, same_by_index, pair_order, apart_in_order, sorted_order}
 use Rattle.turns.proofs.OwnOrderLemmas.{own_permuted, own_ranked, own_length, own_has, own_within, own_place_of, not_both}
 
