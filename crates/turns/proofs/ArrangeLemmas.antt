@@ -27,7 +27,7 @@ turns_length rs turns are = ap length are ∙ length-map (places rs) (turn_at rs
 pub turns_get : (rs : List Record) (turns : List ℕ) (i : ℕ) → AreTurns rs turns → i < length rs → slice_get turns i ≡ Some (turn_at rs i)
 turns_get rs turns i are within = ap (λ l. slice_get l i) are ∙ map_range (turn_at rs) (length rs) i within
 
-turns_index : (rs : List Record) (turns : List ℕ) (i : ℕ) → AreTurns rs turns → i < length rs → slice_index turns i ≡ turn_at rs i
+pub turns_index : (rs : List Record) (turns : List ℕ) (i : ℕ) → AreTurns rs turns → i < length rs → slice_index turns i ≡ turn_at rs i
 turns_index rs turns i are within = get_or_from_slice_get turns i (turn_at rs i) 0 (turns_get rs turns i are within)
 
 -- ---- keys: a turn and a place

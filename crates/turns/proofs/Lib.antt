@@ -13,3 +13,4 @@ pub mod PairMaps
 pub mod TurnTableLemmas
 pub mod SortedLemmas
 pub mod ArrangeLemmas
+pub mod GapLemmas

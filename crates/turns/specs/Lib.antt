@@ -4,3 +4,4 @@ pub mod Renaming
 pub mod Rising
 pub mod TurnTable
 pub mod OwnOrder
+pub mod Gaps
