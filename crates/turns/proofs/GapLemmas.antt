@@ -127,7 +127,7 @@ greatest_more rs i r old new stands are raised = record {
 pub begun_some : (rs : List Record) (begins : Begins) (task turn place : ℕ) → AreBegins rs begins → get pair_cmp begins.first (task, turn) ≡ Some place → IsTrue true ↔ ((k : ℕ) × BeginsTurn rs k task turn)
 begun_some rs begins task turn place are is = (λ yes. (place, runs (are.first.begins task turn place is)), λ begun. refl)
 
-begins_cases : (rs : List Record) (k task turn : ℕ) → BeginsTurn rs k task turn → (at begun_turn rs k ≡ Some (task, turn)) ⊎ ((turn ≡ 0) × (at begun_root rs k ≡ Some task))
+pub begins_cases : (rs : List Record) (k task turn : ℕ) → BeginsTurn rs k task turn → (at begun_turn rs k ≡ Some (task, turn)) ⊎ ((turn ≡ 0) × (at begun_root rs k ≡ Some task))
 begins_cases rs k task turn (runs is) = inl is
 begins_cases rs k task _ (is_root is) = inr (refl, is)
 

@@ -14,3 +14,4 @@ pub mod TurnTableLemmas
 pub mod SortedLemmas
 pub mod ArrangeLemmas
 pub mod GapLemmas
+pub mod RisingPassLemmas

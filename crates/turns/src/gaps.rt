@@ -67,10 +67,7 @@ fn find_begins(alloc: Global, records: &[Record]) -> Result<Begins, AllocError>
 }
 
 /// By task and turn the first record after which the task runs in the turn.
-fn find_first(
-    alloc: Global,
-    records: &[Record],
-) -> Result<BTreeMap<(u64, u32), usize>, AllocError>
+fn find_first(alloc: Global, records: &[Record]) -> Result<BTreeMap<(u64, u32), usize>, AllocError>
     ensures { IfOk result (AreFirst records.now (length records.now)) }
 {
     let mut first = BTreeMap::new(alloc);

@@ -18,5 +18,5 @@ pub returns-else-is_none : goal.returns-else-is_none
 returns-else-is_none c =
     let rs = c.args.records.now in
     first_old rs c.args.at c.args.first.now c.requires.first (λ task turn begins none.
-      let same = same_Some {A = ℕ × ℕ} c.in-Some.turn (task, turn) (sym c.in-Some.is ∙ c.begun_turn.ensures ∙ sym (at_index begun_turn rs c.args.at c.index-records-at.result c.requires.within) ∙ begins) in
-      false≢true (sym (ap is_some (c.first_begin.ensures ∙ ap (get pair_cmp c.args.first.now) same ∙ none)) ∙ c.is_none.ensures ∙ ap not c.if-is_none.false))
+    let same = same_Some {A = ℕ × ℕ} c.in-Some.turn (task, turn) (sym c.in-Some.is ∙ c.begun_turn.ensures ∙ sym (at_index begun_turn rs c.args.at c.index-records-at.result c.requires.within) ∙ begins) in
+    false≢true (sym (ap is_some (c.first_begin.ensures ∙ ap (get pair_cmp c.args.first.now) same ∙ none)) ∙ c.is_none.ensures ∙ ap not c.if-is_none.false))
