@@ -1,8 +1,7 @@
 -- Places that are sorted by turn are the tasks' own order, and their numbers are the own places.
-use Rattle.std.proofs.Common.{◌≡◌, ◌∙◌, ℕ, ◌<◌, ◌+◌, List, [], ◌∷◌, ◌++◌, Option, Some, None, refl, sym, ap, arith, length, inl, inr, set, map}
-use Rattle.std.proofs.lemmas.Bool.{cases_eq}
+use Rattle.std.proofs.Common.{◌≡◌, ◌∙◌, ℕ, ◌<◌, ◌+◌, List, [], ◌∷◌, ◌++◌, Option, Some, None, refl, sym, ap, arith, length, inl, inr, map}
 use Rattle.std.proofs.lemmas.Option.{none-some, same_Some, slice_get-map, slice_get_within, get_or_from_slice_get}
-use Rattle.std.proofs.lemmas.List.{length-map, length-set}
+use Rattle.std.proofs.lemmas.List.{length-map}
 use Rattle.std.proofs.lemmas.List.FromFn.{length-range_with_len, map-range_with_len_more}
 use Rattle.std.proofs.lemmas.List.Sorted.{Contains-permutation, IsPermutation-map, IsPermutation-sym, IsPermutation-trans}
 use Rattle.std.specs.Prelude.{slice_get, slice_index, option_map}
@@ -12,7 +11,6 @@ use Rattle.ompt_events.specs.declared.records.Record.{Record}
 use Rattle.ompt_events.specs.Places.{places}
 use Rattle.ompt_events.specs.Turns.{turn_at, own_places, own_place}
 use Rattle.ompt_events.proofs.ListLemmas.{get_contains, contains_get}
-use Rattle.task_tree.proofs.LinkLemmas.{get_set_same, get_set_other}
 use Rattle.turns.specs.TurnTable.{pair_cmp, AreTurns}
 use Rattle.turns.specs.OwnOrder.{OwnOrderView, IsOwnOrderOf, AreApartBelow, AreNumbers}
 use Rattle.turns.proofs.RankedLemmas.{Every, every_get, every_weaker, row_below, Comes}
@@ -97,19 +95,6 @@ own_apart rs ordered is = record {
       omega (arith, within, long);
   apart = λ number other place one another.
       sym (own_place_of rs number place (ap (λ l. slice_get l number) (sym is) ∙ one)) ∙ own_place_of rs other place (ap (λ l. slice_get l other) (sym is) ∙ another);
-}
-
--- one number more is written
-pub numbers_more : (ordered : List ℕ) (n place : ℕ) (old : List ℕ) → AreApartBelow ordered (length ordered) → AreNumbers ordered n old → slice_get ordered n ≡ Some place → AreNumbers ordered (n + 1) (set old place n)
-numbers_more ordered n place old apart are here = record {
-  all = length-set old place n ∙ are.all;
-  each = λ number other below stands. elim (cases_eq number n) [
-    | inl same ↦
-        let is_place : other ≡ place = same_Some other place (sym stands ∙ ap (slice_get ordered) same ∙ here) in
-        ap (slice_get (set old place n)) is_place ∙ get_set_same old place n (let low = apart.below n place here in let long = are.all in omega arith) ∙ ap Some (sym same)
-    | inr differ ↦
-        get_set_other old place other n (λ e. differ (apart.apart number n place (stands ∙ ap Some e) here)) ∙ are.each number other (omega arith) stands
-  ];
 }
 
 pub numbers_are_own : (rs : List Record) (ordered numbers : List ℕ) → ordered ≡ own_places rs → AreNumbers ordered (length ordered) numbers → numbers ≡ map (own_place rs) (places rs)

@@ -168,7 +168,7 @@ gap_told rs i (missing task turn tells never) none = tells.0 none
 pub untold_none : (rs : List Record) (i : ℕ) (r : Record) → slice_get rs i ≡ Some r → told_turns r.body ≡ None → HasTurnGap rs i → ⊥
 untold_none rs i r stands none gap = gap_told rs i gap (ap (option_and_then (λ (q : Record). told_turns q.body)) stands ∙ none)
 
-pub gap_within : (rs : List Record) (i : ℕ) → HasTurnGap rs i → i < length rs
+gap_within : (rs : List Record) (i : ℕ) → HasTurnGap rs i → i < length rs
 gap_within rs i gap = by (at told_turns rs i) refl
   where
     by : (o : Option Turns) → at told_turns rs i ≡ o → i < length rs

@@ -102,7 +102,7 @@ own_get rs i within =
 own_comes : (rs : List Record) (m n i k : ℕ) → m < n → slice_get (own_places rs) m ≡ Some i → slice_get (own_places rs) n ≡ Some k → Comes (turn_at rs) i k
 own_comes rs m n i k less one other = ranked_get (Comes (turn_at rs)) (own_places rs) m n i k (own_ranked rs) less one other
 
-pub not_itself : (rs : List Record) (i : ℕ) → Comes (turn_at rs) i i → ⊥
+not_itself : (rs : List Record) (i : ℕ) → Comes (turn_at rs) i i → ⊥
 not_itself rs i (inl less) = absurd (omega arith)
 not_itself rs i (inr (same, less)) = absurd (omega arith)
 

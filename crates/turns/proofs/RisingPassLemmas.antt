@@ -1,9 +1,9 @@
 -- What is known of the tasks while the records are gone over, and what it says of turns.
 use Rattle.std.proofs.Common.{◌≡◌, ◌≢◌, ◌∙◌, ℕ, ◌<◌, ◌≤◌, ◌+◌, ◌-◌, ◌↔◌, List, length, get_or, take, Option, Some, None, cond, refl, sym, ap, subst, arith, inl, inr, set}
 use Rattle.std.proofs.lemmas.Bool.{cases_eq, eq-eqb, ne_eqb, eqb-true}
-use Rattle.std.proofs.lemmas.Option.{none-some, same_Some, slice_get_within, get_or_from_slice_get}
-use Rattle.std.proofs.lemmas.List.{length-set, length-replicate, get_or-replicate}
-use Rattle.std.specs.Prelude.{◌==◌, slice_get, option_and_then, replicate, filter, IsTrue, IsSomeAnd, nat_eq}
+use Rattle.std.proofs.lemmas.Option.{none-some, same_Some, slice_get_within}
+use Rattle.std.proofs.lemmas.List.{length-set}
+use Rattle.std.specs.Prelude.{◌==◌, slice_get, option_and_then, filter, IsTrue, IsSomeAnd, nat_eq}
 use Rattle.std.specs.Option.{option_map_or, unwrap_or}
 use Rattle.ompt_events.specs.declared.records.Record.{Record}
 use Rattle.ompt_events.specs.declared.records.Turns.{Turns}
@@ -21,7 +21,7 @@ use Rattle.task_tree.specs.Family.{FamilyView, IsFamilyOf}
 use Rattle.task_tree.proofs.LinkLemmas.{get_set_same, get_set_other}
 use Rattle.task_tree.proofs.OnceLemmas.{made_once}
 use Rattle.turns.specs.declared.rising.Latest.{Latest}
-use Rattle.turns.specs.Rising.{TurnsRise, not_begun, turn_now, IsOnTurn, IsNext, next_first, next_later, IsLatest, AreLatest, IsTurnThere, IsBeginOf, MayBegin, may_untold, may_next, IsStepOn}
+use Rattle.turns.specs.Rising.{TurnsRise, turn_now, IsOnTurn, IsNext, next_first, next_later, IsLatest, AreLatest, IsTurnThere, IsBeginOf, MayBegin, may_untold, may_next, IsStepOn}
 use Rattle.turns.proofs.GapLemmas.{begins_cases, untold_none, no_start_none}
 use Rattle.turns.proofs.RisingLemmas.{own_running}
 use Rattle.turns.proofs.TurnTableLemmas.{turn_own, turn_other}
@@ -57,26 +57,7 @@ untold_now rs n task known untold are = by known.turn refl
           | inr (zero_turn, root) ↦ zero_turn
         ]
 
--- ---- before the first record, and where a root begins
-
-pub latest_none : (rs : List Record) (tasks : List ℕ) (latest : List Latest) → latest ≡ replicate (length tasks) not_begun → AreLatest rs 0 tasks latest
-latest_none rs tasks latest are = record {
-  all = ap length are ∙ length-replicate (length tasks) not_begun;
-  each = λ index task known stands there.
-      let within = slice_get_within latest index known there in
-      let long : length latest ≡ length tasks = ap length are ∙ length-replicate (length tasks) not_begun in
-      let is : not_begun ≡ known = sym (get_or-replicate (length tasks) index not_begun not_begun (omega (arith, within, long))) ∙ ap (λ l. get_or l index not_begun) (sym are) ∙ get_or_from_slice_get latest index known not_begun there in
-      subst (IsLatest rs 0 task) is (nothing task);
-}
-  where
-    nothing : (task : ℕ) → IsLatest rs 0 task not_begun
-    nothing task = record {
-      begun = λ turn is. absurd (none-some turn is);
-      none = λ is k turn below. absurd (omega (arith, below));
-      bound = λ k turn below. absurd (omega (arith, below));
-      own = λ k below. absurd (omega (arith, below));
-      now = λ thread turn on. sym on.0;
-    }
+-- ---- where a root begins
 
 -- one entry is written
 latest_put : (rs : List Record) (n m index : ℕ) (tasks : List ℕ) (latest : List Latest) (new : Latest) → AreLatest rs n tasks latest → ((task : ℕ) → slice_get tasks index ≡ Some task → IsLatest rs m task new) → ((other task : ℕ) (known : Latest) → other ≢ index → slice_get tasks other ≡ Some task → slice_get latest other ≡ Some known → IsLatest rs m task known) → AreLatest rs m tasks (set latest index new)
@@ -192,7 +173,7 @@ start_one rs i task next r known within read old begins later own = record {
 
 -- ---- all tasks
 
-pub latest_keep : (rs : List Record) (i turn : ℕ) (r : Record) (tasks : List ℕ) (latest : List Latest) → i < length rs → r ≡ get_or rs i r → AreLatest rs i tasks latest → IsTurnThere rs i tasks latest turn → at begun_turn rs i ≡ None → AreLatest rs (i + 1) tasks latest
+latest_keep : (rs : List Record) (i turn : ℕ) (r : Record) (tasks : List ℕ) (latest : List Latest) → i < length rs → r ≡ get_or rs i r → AreLatest rs i tasks latest → IsTurnThere rs i tasks latest turn → at begun_turn rs i ≡ None → AreLatest rs (i + 1) tasks latest
 latest_keep rs i turn r tasks latest within read are there none = record {
   all = are.all;
   each = λ index task known stands is. keep_one rs i task r known within read (are.each index task known stands is)
@@ -200,7 +181,7 @@ latest_keep rs i turn r tasks latest within read are there none = record {
       (λ own. let low = there.reached index task known stands is own in let e = there.is in omega (arith, low, e));
 }
 
-pub latest_start : (rs : List Record) (i index task next turn : ℕ) (r : Record) (tasks : List ℕ) (latest : List Latest) (known : Latest) → i < length rs → r ≡ get_or rs i r → AreApart tasks → AreLatest rs i tasks latest → IsTurnThere rs i tasks latest turn → at begun_turn rs i ≡ Some (task, next) → slice_get tasks index ≡ Some task → slice_get latest index ≡ Some known → turn_now known ≤ next → AreLatest rs (i + 1) tasks (set latest index (record { turn = Some next; thread = r.thread }))
+latest_start : (rs : List Record) (i index task next turn : ℕ) (r : Record) (tasks : List ℕ) (latest : List Latest) (known : Latest) → i < length rs → r ≡ get_or rs i r → AreApart tasks → AreLatest rs i tasks latest → IsTurnThere rs i tasks latest turn → at begun_turn rs i ≡ Some (task, next) → slice_get tasks index ≡ Some task → slice_get latest index ≡ Some known → turn_now known ≤ next → AreLatest rs (i + 1) tasks (set latest index (record { turn = Some next; thread = r.thread }))
 latest_start rs i index task next turn r tasks latest known within read apart are there begins stands is later =
     latest_put rs i (i + 1) index tasks latest (record { turn = Some next; thread = r.thread }) are
     (λ other other_is. subst (λ t. IsLatest rs (i + 1) t (record { turn = Some next; thread = r.thread })) (same_Some task other (sym stands ∙ other_is)) (start_one rs i task next r known within read (are.each index task known stands is) begins later (own index task known stands is)))
@@ -244,7 +225,7 @@ told_right (Some t) turn told right is = elim (cases_eq t.prior turn) [
   | inr apart ↦ absurd (right apart)
 ]
 
-pub keeps_gapless : (rs : List Record) (i turn : ℕ) (r : Record) → slice_get rs i ≡ Some r → turn ≡ turn_at rs i → (IsSomeAnd (told_turns r.body) (λ t. t.prior ≢ turn) → ⊥) → at begun_turn rs i ≡ None → HasTurnGap rs i → ⊥
+keeps_gapless : (rs : List Record) (i turn : ℕ) (r : Record) → slice_get rs i ≡ Some r → turn ≡ turn_at rs i → (IsSomeAnd (told_turns r.body) (λ t. t.prior ≢ turn) → ⊥) → at begun_turn rs i ≡ None → HasTurnGap rs i → ⊥
 keeps_gapless rs i turn r stands is right none = by (told_turns r.body) refl
   where
     by : (o : Option Turns) → told_turns r.body ≡ o → HasTurnGap rs i → ⊥
@@ -258,7 +239,7 @@ explicit_not_root rs task once explicit root = by (slice_get rs explicit.0) expl
     by None is begins = none-some task is
     by (Some r) is begins = root_or_created task task r.body begins is
 
-pub starts_gapless : (rs : List Record) (i task next turn : ℕ) (r : Record) (known : Latest) → IsFreeOf rs CreatedTwice → slice_get rs i ≡ Some r → IsLatest rs i task known → turn ≡ turn_at rs i → (IsSomeAnd (told_turns r.body) (λ t. t.prior ≢ turn) → ⊥) → at begun_turn rs i ≡ Some (task, next) → MayBegin rs task r.body known next → HasTurnGap rs i → ⊥
+starts_gapless : (rs : List Record) (i task next turn : ℕ) (r : Record) (known : Latest) → IsFreeOf rs CreatedTwice → slice_get rs i ≡ Some r → IsLatest rs i task known → turn ≡ turn_at rs i → (IsSomeAnd (told_turns r.body) (λ t. t.prior ≢ turn) → ⊥) → at begun_turn rs i ≡ Some (task, next) → MayBegin rs task r.body known next → HasTurnGap rs i → ⊥
 starts_gapless rs i task next turn r known once stands old is right begins (may_untold untold later) gap = untold_none rs i r stands untold gap
 starts_gapless rs i task next turn r known once stands old is right begins (may_next follows explicit) gap = by gap
   where
@@ -300,7 +281,7 @@ starts_gapless rs i task next turn r known once stands old is right begins (may_
             never began.0 (subst (λ t. BeginsTurn rs began.0 t before_it) (sym (ap (λ (p : ℕ × ℕ). p.0) same)) (subst (BeginsTurn rs began.0 task) last_is began.1))
 
 -- no turn before is begun
-pub may_later : (rs : List Record) (task next : ℕ) (r : Record) (known : Latest) → MayBegin rs task r.body known next → turn_now known ≤ next
+may_later : (rs : List Record) (task next : ℕ) (r : Record) (known : Latest) → MayBegin rs task r.body known next → turn_now known ≤ next
 may_later rs task next r known (may_untold untold later) = later
 may_later rs task next r known (may_next (next_first none first) explicit) = let e = none_now known none in omega (arith, e)
 may_later rs task next r known (may_next (next_later last is more) explicit) = let e = some_now known last is in omega (arith, e, more)

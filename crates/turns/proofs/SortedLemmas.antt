@@ -21,7 +21,7 @@ use Rattle.turns.proofs.RisingListLemmas.{IsIn}
 
 -- ---- by index
 
-pub every_from : {X : Type 0} (P : X → Type 0) (xs : List X) → ((k : ℕ) (x : X) → slice_get xs k ≡ Some x → P x) → Every P xs
+every_from : {X : Type 0} (P : X → Type 0) (xs : List X) → ((k : ℕ) (x : X) → slice_get xs k ≡ Some x → P x) → Every P xs
 every_from P [] all = tt
 every_from P (x ∷ xs) all = (all 0 x refl, every_from P xs (λ k y is. all (suc k) y is))
 
@@ -89,7 +89,7 @@ ranked_equal R apart xs ys ranked_x ranked_y moved = ranked_alike R apart xs ys 
 
 -- ---- pairs in order
 
-pub pair_total : IsTotalOrder pair_cmp
+pair_total : IsTotalOrder pair_cmp
 pair_total = then_total (on_total (λ (p : ℕ × ℕ). p.0) nat_cmp_total) (on_total (λ (p : ℕ × ℕ). p.1) nat_cmp_total)
 
 less : (a b : ℕ) → a < b → nat_cmp a b ≡ Less

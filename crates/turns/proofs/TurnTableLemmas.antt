@@ -29,13 +29,6 @@ turn_other rs i r thread task within read apart =
 
 -- ---- what is kept
 
--- a record that begins no turn changes nothing
-pub none_kept : (kept : BTreeMap (ℕ × ℕ) ℕ) (r : Record) → begun_turn r.body ≡ None → IsTurnKept kept kept r
-none_kept kept r none = record {
-  own = λ task. sym (ap (λ (o : Option (ℕ × ℕ)). option_map_or (λ (b : ℕ × ℕ). cond (b.0 == task) b.1 (kept_turn kept r.thread task)) o (kept_turn kept r.thread task)) none);
-  others = λ thread task apart. refl;
-}
-
 pub one_kept : (old new : BTreeMap (ℕ × ℕ) ℕ) (r : Record) (task turn : ℕ) → begun_turn r.body ≡ Some (task, turn) → Updates pair_cmp old new (r.thread, task) (Some turn) → IsTurnKept old new r
 one_kept old new r task turn begins updates = record {
   own = λ other. elim (cases_eq task other) [
