@@ -9,3 +9,9 @@ pub mod OwnOrderLemmas
 pub mod RisingLemmas
 pub mod SuspendedLemmas
 pub mod SayingLemmas
+pub mod PairMaps
+pub mod TurnTableLemmas
+pub mod SortedLemmas
+pub mod ArrangeLemmas
+pub mod GapLemmas
+pub mod RisingPassLemmas

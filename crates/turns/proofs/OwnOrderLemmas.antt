@@ -21,7 +21,7 @@ use Rattle.turns.proofs.RankedLemmas.{Every, every_filter, every_take, every_wea
 pub own_permuted : (rs : List Record) → IsPermutation (places rs) (own_places rs)
 own_permuted rs = by_key_permuted (turn_at rs) (turns_in rs) (places rs) (every_weaker (λ k. k < 0 + length rs) (λ i. turn_at rs i < turns_in rs) (λ i below. turn_low rs i) (places rs) (row_below 0 (length rs)))
 
-own_ranked : (rs : List Record) → Ranked (Comes (turn_at rs)) (own_places rs)
+pub own_ranked : (rs : List Record) → Ranked (Comes (turn_at rs)) (own_places rs)
 own_ranked rs = by_key_ranked (turn_at rs) (turns_in rs) (places rs) (row_rises 0 (length rs))
 
 pub own_length : (rs : List Record) → length (own_places rs) ≡ length rs
@@ -68,7 +68,7 @@ not_itself : (rs : List Record) (i : ℕ) → Comes (turn_at rs) i i → ⊥
 not_itself rs i (inl less) = absurd (omega arith)
 not_itself rs i (inr (same, less)) = absurd (omega arith)
 
-not_both : (rs : List Record) (i k : ℕ) → Comes (turn_at rs) i k → Comes (turn_at rs) k i → ⊥
+pub not_both : (rs : List Record) (i k : ℕ) → Comes (turn_at rs) i k → Comes (turn_at rs) k i → ⊥
 not_both rs i k (inl one) (inl other) = absurd (omega arith)
 not_both rs i k (inl one) (inr (same, less)) = absurd (omega arith)
 not_both rs i k (inr (same, less)) (inl other) = absurd (omega arith)

@@ -2,3 +2,6 @@
 -- turns speak of. What a turn and the tasks' own order are, is defined in `ompt_events` (Turns).
 pub mod Renaming
 pub mod Rising
+pub mod TurnTable
+pub mod OwnOrder
+pub mod Gaps

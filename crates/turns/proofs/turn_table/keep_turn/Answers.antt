@@ -1,0 +1,6 @@
+use Rattle.std.proofs.Common.{sym, ◌∙◌}
+use Rattle.turns.proofs.TurnTableLemmas.{one_kept}
+use Rattle.turns.proofs.turn_table.keep_turn.Goals as goal
+
+pub returns-in_ok-insert : goal.returns-in_ok-insert
+returns-in_ok-insert c = one_kept c.args.kept.now c.insert.new.self c.args.event.now c.in-Some.task c.in-Some.turn (sym c.begun_turn.ensures ∙ c.in-Some.is) c.in_ok-insert.ensures.updates
