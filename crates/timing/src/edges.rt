@@ -1,4 +1,5 @@
 //! The predecessors of a trace's tasks.
+ghost use Rattle.std.specs.Prelude.{◌≡◌};
 ghost use Rattle.task_tree.specs.Paths.{IsTreeOf};
 
 use crate::lines::trace_of_input;
@@ -13,7 +14,9 @@ pub fn of_input(rt: &HostRuntime) -> Result<()> {
     of_trace(rt, &trace_of_input(rt)?)
 }
 
-fn of_trace(rt: &HostRuntime, trace: &Trace) -> Result<()> {
+fn of_trace(rt: &HostRuntime, trace: &Trace) -> Result<()>
+    requires { trace.now.version ≡ 1 }
+{
     match Tree::build(rt.alloc(), trace) {
         Ok(tree) => of_tree(rt, trace, &tree),
         Err(_) => bail!("no tree"),
@@ -22,7 +25,8 @@ fn of_trace(rt: &HostRuntime, trace: &Trace) -> Result<()> {
 
 /// Prints the predecessors, or the first record with misplaced dependences.
 fn of_tree(rt: &HostRuntime, trace: &Trace, tree: &Tree) -> Result<()>
-    requires { IsTreeOf trace.now.records tree.now }
+    requires version { trace.now.version ≡ 1 }
+    requires tree { IsTreeOf trace.now.records tree.now }
 {
     match Edges::build(rt.alloc(), trace, tree) {
         Ok(edges) => of_edges(rt, &edges),

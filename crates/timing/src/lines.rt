@@ -1,13 +1,18 @@
 //! Standard input as lines and as traces, and what single lines stand for.
+ghost use Rattle.std.specs.Prelude.{◌≡◌, IfOk};
+
 use anyhow::{Result, bail};
-use certificate::{FromRead, ReadFault, ToWrite, read, write};
+use certificate::{FromRead, ReadFault, ToWrite, read, read_to, write};
 use memchr::memchr;
 use ompt_events::Trace;
 use std::alloc::Global;
 use std::io::Read;
 
-/// The first line of a trace file.
-const HEADER: &str = "{\"format\":\"task-credit-audit\",\"version\":1}\n";
+/// The first line of a trace file of version 1.
+pub const HEADER: &str = "{\"format\":\"task-credit-audit\",\"version\":1}\n";
+
+/// The first line of a trace file of version 2.
+pub const HEADER_WITH_TURNS: &str = "{\"format\":\"task-credit-audit\",\"version\":2}\n";
 
 /// Standard input to its end.
 pub fn input(rt: &HostRuntime) -> Result<Vec<u8>> {
@@ -23,9 +28,19 @@ pub fn text_of_input(rt: &HostRuntime) -> Result<String> {
     Ok(text)
 }
 
-/// The trace that stands on standard input.
-pub fn trace_of_input(rt: &HostRuntime) -> Result<Trace> {
+/// The trace of version 1 that stands on standard input.
+pub fn trace_of_input(rt: &HostRuntime) -> Result<Trace>
+    ensures { IfOk result (λ trace. trace.version ≡ 1) }
+{
     trace_of(rt.alloc(), input(rt)?.as_slice())
+}
+
+/// The trace of either version that stands on standard input.
+pub fn any_trace_of_input(rt: &HostRuntime) -> Result<Trace> {
+    match read_to(rt.alloc(), 2, &mut FromRead::new(rt.reader())) {
+        Ok(trace) => Ok(trace),
+        Err(fault) => bail!("{}", told(rt.alloc(), fault)?),
+    }
 }
 
 /// The traces of the files that stand one after another on standard input.
@@ -45,10 +60,13 @@ pub fn traces_of_input(rt: &HostRuntime) -> Result<Vec<Trace>> {
     Ok(traces)
 }
 
-/// The trace of a file.
-fn trace_of(alloc: Global, file: &[u8]) -> Result<Trace> {
+/// The trace of a file of version 1.
+fn trace_of(alloc: Global, file: &[u8]) -> Result<Trace>
+    ensures { IfOk result (λ trace. trace.version ≡ 1) }
+{
     match read(alloc, &mut FromRead::new(file)) {
-        Ok(trace) => Ok(trace),
+        Ok(trace) if trace.version() == 1 => Ok(trace),
+        Ok(_) => bail!("a trace of version 2"),
         Err(fault) => bail!("{}", told(alloc, fault)?),
     }
 }
@@ -76,23 +94,23 @@ pub fn lines_of(alloc: Global, bytes: &[u8]) -> Result<Vec<&[u8]>> {
     Ok(lines)
 }
 
-/// For each line of standard input, as line 2 of a file: the line that is written of its record, or the
-/// fault.
-pub fn each(rt: &HostRuntime) -> Result<()> {
+/// For each line of standard input, as line 2 of a file with this header: the line that is written of its
+/// record, or the fault.
+pub fn each(rt: &HostRuntime, header: &str) -> Result<()> {
     let bytes = input(rt)?;
     for line in lines_of(rt.alloc(), &bytes)?.iter() {
-        let answer = written(rt.alloc(), *line)?;
+        let answer = written(rt.alloc(), header, *line)?;
         println!(rt; "{answer}")?;
     }
     Ok(())
 }
 
 /// The line that is written of the record that the line stands for, or the fault.
-fn written(alloc: Global, line: &[u8]) -> Result<String> {
-    let mut file = Vec::from_slice(alloc, HEADER.as_bytes())?;
+fn written(alloc: Global, header: &str, line: &[u8]) -> Result<String> {
+    let mut file = Vec::from_slice(alloc, header.as_bytes())?;
     file.extend_from_slice(line)?;
     file.push(b'\n')?;
-    match read(alloc, &mut FromRead::new(file.as_slice())) {
+    match read_to(alloc, 2, &mut FromRead::new(file.as_slice())) {
         Ok(trace) => {
             let mut text = Vec::new(alloc);
             write(alloc, &trace, &mut ToWrite::new(&mut text))?;

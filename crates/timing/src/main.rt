@@ -1,10 +1,11 @@
-//! Runs one layer alone. `bench/` times the words `values`, `read`, `write`, `ledger`, `coverage`, `open` and
-//! `calls`; `tests/` compares what the other words print. Nothing is promised but safety. Begin at `run`.
+//! Runs one layer alone. `bench/` times the words `values`, `read`, `write`, `rise`, `arrange`, `ledger`, `coverage`,
+//! `open` and `calls`; `tests/` compares what the other words print. Nothing is promised but safety. Begin at `run`.
 #![tactic(auto)]
 
 mod calls;
 mod devices;
 mod edges;
+mod in_turns;
 mod layers;
 mod ledger;
 mod lines;
@@ -23,8 +24,8 @@ use anyhow::{Result, bail};
 use std::env;
 
 const WORDS: &str =
-    "values, read, write, lines, names, tables, shares, states, ledger, devices, refusals, tree, edges, verdict, \
-     counters, waits, coverage, open, shared or calls";
+    "values, read, write, lines, lines_with_turns, turns, rise, arrange, names, tables, shares, states, ledger, \
+     devices, refusals, tree, edges, verdict, counters, waits, coverage, open, shared or calls";
 
 /// Does what the word asks for.
 fn run(rt: &HostRuntime, word: &str) -> Result<()> {
@@ -32,7 +33,11 @@ fn run(rt: &HostRuntime, word: &str) -> Result<()> {
         "values" => layers::values(rt),
         "read" => layers::records(rt),
         "write" => layers::rewrite(rt),
-        "lines" => lines::each(rt),
+        "lines" => lines::each(rt, lines::HEADER),
+        "lines_with_turns" => lines::each(rt, lines::HEADER_WITH_TURNS),
+        "turns" => in_turns::of_input(rt),
+        "rise" => in_turns::rise(rt),
+        "arrange" => in_turns::arranged(rt),
         "names" => names::each(rt),
         "tables" => tables::all(rt),
         "shares" => shares::each(rt),

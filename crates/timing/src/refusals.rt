@@ -1,6 +1,6 @@
 //! Lists of records that are no trace for a reason that no file has, and a thread's buffer.
 use anyhow::Result;
-use ompt_events::{Body, CancelFlags, Claim, Endpoint, Path, Record, Status, TaskFlags, Trace};
+use ompt_events::{Body, CancelFlags, Claim, Endpoint, Path, Record, Status, TaskFlags, Trace, Turns};
 use std::alloc::{AllocError, Global};
 use thread_buffers::Buffer;
 
@@ -11,18 +11,55 @@ pub fn all(rt: &HostRuntime) -> Result<()> {
         let mut records = Vec::new(rt.alloc());
         records.push(begins(TaskFlags::INITIAL, Endpoint::Begin))?;
         records.push(last)?;
-        match Trace::from_records(records) {
-            Ok(trace) => {
-                let count = trace.records().len();
-                println!(rt; "{what}: a trace of {count}")?;
-            }
-            Err((records, at)) => {
-                let count = records.len();
-                println!(rt; "{what}: refused at {at} of {count}")?;
-            }
+        tell(rt, what, Trace::from_records(records))?;
+    }
+    in_turns(rt)?;
+    buffered(rt)
+}
+
+/// Prints whether the records are a trace.
+fn tell(rt: &HostRuntime, what: &str, made: Result<Trace, (Vec<Record>, usize)>) -> Result<()> {
+    match made {
+        Ok(trace) => {
+            let (count, version) = (trace.records().len(), trace.version());
+            println!(rt; "{what}: a trace of {count}, version {version}")?;
+        }
+        Err((records, at)) => {
+            let count = records.len();
+            println!(rt; "{what}: refused at {at} of {count}")?;
         }
     }
-    buffered(rt)
+    Ok(())
+}
+
+/// Prints of records that tell turns, and of some that tell none, whether they are a trace of each version.
+fn in_turns(rt: &HostRuntime) -> Result<()> {
+    for number in 0..5u8 {
+        let (what, event) = turning_record(number);
+        tell(rt, what, Trace::from_records(one(rt.alloc(), event)?))?;
+        let (what, event) = turning_record(number);
+        tell(rt, what, Trace::from_turns(one(rt.alloc(), event)?))?;
+    }
+    Ok(())
+}
+
+/// A list of one record.
+fn one(alloc: Global, event: Record) -> Result<Vec<Record>, AllocError> {
+    let mut records = Vec::new(alloc);
+    records.push(event)?;
+    Ok(records)
+}
+
+/// A record by which turns are told or are missing.
+fn turning_record(number: u8) -> (&'static str, Record) {
+    let turns = Some(Turns { prior: 1, next: 0 });
+    match number {
+        0 => ("a switch with turns", schedules(Status::Switch, turns, Some(1))),
+        1 => ("a switch without turns", schedules(Status::Switch, None, Some(1))),
+        2 => ("an early fulfilment with turns", schedules(Status::EarlyFulfill, turns, None)),
+        3 => ("an early fulfilment without turns", schedules(Status::EarlyFulfill, None, None)),
+        _ => ("no schedule", creates(TaskFlags::EXPLICIT)),
+    }
 }
 
 /// Prints what a buffer of thread 3 holds after one record.
@@ -117,8 +154,19 @@ fn cancels(flags: CancelFlags, share: Option<Claim>) -> Record {
 fn stops(status: Status, share: Option<Claim>) -> Record {
     record(Body::TaskSchedule {
         status,
+        turns: None,
         prior: 2,
         next: Some(1),
         share,
+    })
+}
+
+fn schedules(status: Status, turns: Option<Turns>, next: Option<u64>) -> Record {
+    record(Body::TaskSchedule {
+        status,
+        turns,
+        prior: 2,
+        next,
+        share: None,
     })
 }

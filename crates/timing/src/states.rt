@@ -1,4 +1,5 @@
 //! The states of a trace's tasks after all records, and whether its parallel regions are nested.
+ghost use Rattle.std.specs.Prelude.{◌≡◌};
 ghost use Rattle.task_tree.specs.Paths.{IsTreeOf};
 
 use crate::lines::traces_of_input;
@@ -17,6 +18,9 @@ pub fn each(rt: &HostRuntime) -> Result<()> {
 
 /// Prints the states of one trace, or why there is no tree.
 fn of_trace(rt: &HostRuntime, trace: &Trace) -> Result<()> {
+    if trace.version() != 1 {
+        bail!("a trace of version 2");
+    }
     match Tree::build(rt.alloc(), trace) {
         Ok(tree) => {
             of_tasks(rt, trace, &tree)?;
@@ -32,7 +36,8 @@ fn of_trace(rt: &HostRuntime, trace: &Trace) -> Result<()> {
 
 /// Prints each task's state, or why there are none.
 fn of_tasks(rt: &HostRuntime, trace: &Trace, tree: &Tree) -> Result<()>
-    requires { IsTreeOf trace.now.records tree.now }
+    requires version { trace.now.version ≡ 1 }
+    requires tree { IsTreeOf trace.now.records tree.now }
 {
     match run(rt.alloc(), trace, tree) {
         Ok(states) => {
@@ -54,7 +59,8 @@ fn of_tasks(rt: &HostRuntime, trace: &Trace, tree: &Tree) -> Result<()>
 
 /// Prints where a parallel region lies inside another.
 fn of_regions(rt: &HostRuntime, trace: &Trace, tree: &Tree) -> Result<()>
-    requires { IsTreeOf trace.now.records tree.now }
+    requires version { trace.now.version ≡ 1 }
+    requires tree { IsTreeOf trace.now.records tree.now }
 {
     match nested(rt.alloc(), trace, tree) {
         Ok(found) => {

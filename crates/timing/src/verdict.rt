@@ -1,4 +1,5 @@
 //! What the calls on a trace answer, the order of a yes among them, and the orders that leave a task incomplete.
+ghost use Rattle.std.specs.Prelude.{◌≡◌};
 use crate::lines::trace_of_input;
 use anyhow::Result;
 use checker::{Order, Verdict, check, counter_order};
@@ -12,7 +13,9 @@ pub fn of_input(rt: &HostRuntime) -> Result<()> {
 }
 
 /// Prints the answers of the calls on the trace.
-fn of_trace(rt: &HostRuntime, trace: &Trace) -> Result<()> {
+fn of_trace(rt: &HostRuntime, trace: &Trace) -> Result<()>
+    requires { trace.now.version ≡ 1 }
+{
     let gap = gap(trace);
     let target = target(trace);
     println!(rt; "gap {gap:?}, target {target:?}")?;
@@ -42,7 +45,9 @@ pub fn counters_of_input(rt: &HostRuntime) -> Result<()> {
 }
 
 /// Prints those at one record.
-fn counters_at(rt: &HostRuntime, trace: &Trace, at: usize) -> Result<()> {
+fn counters_at(rt: &HostRuntime, trace: &Trace, at: usize) -> Result<()>
+    requires { trace.now.version ≡ 1 }
+{
     for event in trace.records() {
         if let Some(task) = event.body.created() {
             if let Some(order) = counter_order(rt.alloc(), trace, at, task)? {

@@ -1,0 +1,55 @@
+//! The turns of a trace, and the order in which the tasks' own records stand.
+use crate::lines::any_trace_of_input;
+use anyhow::{Result, bail};
+use ompt_events::Trace;
+use task_tree::Family;
+use turns::{OwnOrder, arrange, find_gap, turns_of, turns_rise};
+
+/// Prints of the trace on standard input: its version, the turn of each record, the first record with a turn
+/// gap, the places in the tasks' own order, and whether turns are found to rise along the file.
+pub fn of_input(rt: &HostRuntime) -> Result<()> {
+    let trace = any_trace_of_input(rt)?;
+    let turns = turns_of(rt.alloc(), trace.records())?;
+    let gap = find_gap(rt.alloc(), trace.records(), turns.as_slice())?;
+    println!(rt; "version {}, turns {turns:?}, gap {gap:?}", trace.version())?;
+    of_order(rt, &arrange(rt.alloc(), trace.records(), turns.as_slice())?)?;
+    told_rising(rt, &trace)
+}
+
+/// Prints the places in the own order, and the number there of each place.
+fn of_order(rt: &HostRuntime, order: &OwnOrder) -> Result<()> {
+    let mut places = Vec::with_capacity(rt.alloc(), order.len())?;
+    let mut numbers = Vec::with_capacity(rt.alloc(), order.len())?;
+    for number in 0..order.len() {
+        places.push(order.place(number))?;
+        numbers.push(order.own_place(number))?;
+    }
+    println!(rt; "own order {places:?}, in it {numbers:?}")?;
+    Ok(())
+}
+
+/// Prints whether turns are found to rise.
+fn told_rising(rt: &HostRuntime, trace: &Trace) -> Result<()> {
+    match Family::build(rt.alloc(), trace) {
+        Ok(family) => {
+            let rise = turns_rise(rt.alloc(), trace.records(), &family)?;
+            println!(rt; "rise: {rise}")?;
+            Ok(())
+        }
+        Err(fault) => bail!("no family: {fault}"),
+    }
+}
+
+/// Reads the trace on standard input and asks whether its turns rise.
+pub fn rise(rt: &HostRuntime) -> Result<()> {
+    told_rising(rt, &any_trace_of_input(rt)?)
+}
+
+/// Reads the trace on standard input and puts its records into the tasks' own order.
+pub fn arranged(rt: &HostRuntime) -> Result<()> {
+    let trace = any_trace_of_input(rt)?;
+    let turns = turns_of(rt.alloc(), trace.records())?;
+    let order = arrange(rt.alloc(), trace.records(), turns.as_slice())?;
+    println!(rt; "{} records", order.len())?;
+    Ok(())
+}
