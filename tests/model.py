@@ -43,7 +43,7 @@ Walk = namedtuple('Walk', 'roots current')
 Yes = namedtuple('Yes', 'order')
 No = namedtuple('No', 'place why task order')
 Malformed = namedtuple('Malformed', 'place number name')
-# All orders are tried of a trace with at most so many records.
+# All orders are tried of a trace with at most so many records, if no other number is given.
 MOST_TRIED = 8
 
 
@@ -576,21 +576,22 @@ def moved(records):
 
 
 def turn_gap(records):
-    """HasTurnGap: the turns that the record tells are not those of its tasks, by other_turn or one of the other rules."""
-    turns = turn_at(records)
-    return {i for i in places(records) if records[i].told_turns and (
-        records[i].told_turns.prior != turns[i] or begins_wrong_turn(records, i))}
+    """HasTurnGap: the turns that it tells are not those of its tasks."""
+    return {i for i in places(records) if gap_rules(records, i)}
 
 
-def begins_wrong_turn(records, i):
-    """HasTurnGap, by the rules of the next task at i: begun_again, falling, of_root and missing."""
-    task, turn = records[i].begun_turn
-    begun_again = (task, turn) in said('begun_turn', records[:i])
-    falling = any(turn < later for earlier in records[:i] if earlier.begun_turn and earlier.thread == records[i].thread
-                  for other, later in [earlier.begun_turn] if other == task)
-    of_root = turn == 0 and is_root(records, task)
-    missing = turn > 0 and (task, turn - 1) not in begun_turns(records)
-    return begun_again or falling or of_root or missing
+def gap_rules(records, i):
+    """HasTurnGap: the rules that hold at i, of other_turn, begun_again, falling, of_root and missing."""
+    if not records[i].told_turns:
+        return set()
+    (task, turn), thread = records[i].begun_turn, records[i].thread
+    earlier_there = said('begun_turn', [record for record in records[:i] if record.thread == thread])
+    rules = {'other_turn': records[i].told_turns.prior != turn_at(records)[i],
+             'begun_again': (task, turn) in said('begun_turn', records[:i]),
+             'falling': any(other == task and turn < later for other, later in earlier_there),
+             'of_root': turn == 0 and is_root(records, task),
+             'missing': turn > 0 and (task, turn - 1) not in begun_turns(records)}
+    return {name for name, holds in rules.items() if holds}
 
 
 def status_order(records):
@@ -718,7 +719,7 @@ def shows(records, name):
 
 # The verdict and its report
 
-def verdict(records):
+def verdict(records, most_tried=MOST_TRIED):
     """IsVerdict: Malformed with the least cause that occurs, else No at the first unfinished record, else Yes. With a No
     goes an order too (IsShownBy)."""
     for name, (number, _) in ALL_CAUSES.items():
@@ -727,7 +728,9 @@ def verdict(records):
             return Malformed(min(found), number, name)
     before, required = happens_before(records), must_be_complete(records)
     left = [unfinished(records, required, i) for i in places(records)]
-    check_missed(records, required, before, left)
+    check_earliest(records, required, before, left)
+    if len(records) <= most_tried:
+        check_all_orders(records, required, before, left)
     i = next((i for i in places(records) if left[i]), None)
     if i is None:
         return Yes(approved_order(before))
@@ -736,14 +739,24 @@ def verdict(records):
     return No(i, why, task, counter_order(records, before, i, task))
 
 
-def check_missed(records, required, before, left):
+def check_earliest(records, required, before, left):
     """Checks that in a trace without a cause the tasks which are unfinished by what a record has seen are those that some
     order leaves incomplete there. In each order all that happens before i stands before i, and in its earliest order
-    nothing else; where the records are few, all orders are tried too."""
+    nothing else."""
     earliest = [incomplete(records, required, i, before[i]) for i in places(records)]
     assert left == earliest, 'what the records have seen disagrees with the orders in which they are earliest'
-    if len(records) <= MOST_TRIED:
-        assert left == missed(records, required, before), 'what the records have seen disagrees with all orders'
+
+
+def check_all_orders(records, required, before, left):
+    """Checks the same by all orders; for few records."""
+    assert left == missed(records, required, before), 'what the records have seen disagrees with all orders'
+
+
+def counter_orders(records):
+    """IsCounterOrder: in a trace without a cause, for each place and each task that is missed there an order."""
+    before, required = happens_before(records), must_be_complete(records)
+    return {(i, task): counter_order(records, before, i, task) for i in places(records)
+            for task in incomplete(records, required, i, before[i])}
 
 
 def approved_order(before):
