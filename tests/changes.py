@@ -272,8 +272,8 @@ def runs_next(it):
 
 
 def stays(records, task):
-    """The stays of the task: of each turn in which it runs next, in file order, the place of its begin and those of the ends
-    that its thread tells behind it."""
+    """The stays of the task on a thread: of each, in file order, the place at which the task runs next, and those at
+    which it stops there behind it."""
     found = []
     for i, it in enumerate(records):
         if runs_next(it) and it['next'] == task:
@@ -369,8 +369,8 @@ def turns_moved(records, found, least, change):
 
 
 def counted_turns(records):
-    """The records, where turns are counted anew: the begins of a task by the turn that they told, and then in file order.
-    One that told none has the turn that its thread told last."""
+    """The records, where turns are counted anew: the begins of a task by the turn that they told, and then in file
+    order. One that told none has the turn that its thread told last."""
     roots = {it['task'] for it in records if it['cb'] == 'implicit_task' and it['endpoint'] == 'begin'}
     begins, last, counts = [], {}, {}
     for i, it in enumerate(records):
@@ -418,7 +418,8 @@ def changed(chance, records, changes=CHANGES):
 
 
 def changed_with_turns(chance, records):
-    """The same of a trace of version 2. Two in five changes are of turns; half of the others have the turns counted anew."""
+    """The same of a trace of version 2. Two in five changes are of turns; behind half of the others the turns are
+    counted anew."""
     if chance.random() < 0.4:
         return changed(chance, records, TURN_CHANGES)
     found = changed(chance, records)

@@ -221,7 +221,7 @@ def own_place(records):
 
 
 def begun_turns(records):
-    """BeginsTurn: the pairs of a task and a turn that begins: where the task runs next, or turn 0 where a root begins."""
+    """BeginsTurn: the pairs of a task and a turn that begins, where it runs next; or turn 0, where a root begins."""
     return said('begun_turn', records) | {(task, 0) for task in said('begun_root', records)}
 
 
@@ -495,7 +495,7 @@ def dependent_at(records, i):
 
 
 def must_be_complete(records):
-    """MustBeComplete: for each place the tasks that must be complete there, with covers and predecessors by own order."""
+    """MustBeComplete: for each place the tasks that must be complete there; covers and predecessors by own order."""
     own, stands, found = in_own_order(records), own_place(records), []
     for i in places(records):
         task = dependent_at(records, i)
@@ -569,7 +569,7 @@ def not_current(records):
 
 
 def moved(records):
-    """IsMoved: an explicit task runs next that ran next earlier in file order on another thread; no turns are told."""
+    """IsMoved: an explicit task runs next that ran next earlier in the file on another thread; no turns are told."""
     return {b for b in places(records) if not records[b].told_turns and is_explicit(records, records[b].started)
             for a in places(records)[:b]
             if records[a].started == records[b].started and records[a].thread != records[b].thread}
@@ -709,7 +709,8 @@ IN_OWN_ORDER = {'RegionOrder', 'TeamShort', 'ShareWrong'}
 
 
 def shows(records, name):
-    """Shows: the places at which the trace shows the cause. Three causes are read in own order, the others in file order."""
+    """Shows: the places at which the trace shows the cause. Three causes are read in own order, all others as they
+    stand."""
     _, places_with = ALL_CAUSES[name]
     if name not in IN_OWN_ORDER:
         return places_with(records)

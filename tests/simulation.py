@@ -1,8 +1,8 @@
 """Random runs of OpenMP programs as a right tool records them, and the same with one thing changed; for tests/compare.
 
 A run keeps what its tasks and threads do, and takes random steps that a runtime may take. A hasty one takes one step
-too early: a wait ends, or a dependent task starts, before it may. In a run of version 2 untied tasks go on on any thread,
-and the turns of all tasks are counted. The recorder is that of examples/recorder.py."""
+too early: a wait ends, or a dependent task starts, before it may. In a run of version 2 untied tasks go on on any
+thread, and the turns of all tasks are counted. The recorder is that of examples/recorder.py."""
 import itertools
 import os
 import sys
@@ -137,9 +137,10 @@ class Run:
         self.threads = [Thread(it, self) for it in range(threads)]
 
     def step(self, thread):
-        """One random step of a thread, as often as not one that ends something."""
+        """One random step of a thread, as often as not one that ends something; less often in version 2, where tasks
+        are to be suspended and go on."""
         ends, others = self.ends(thread), self.others(thread)
-        steps = ends if ends and self.chance.random() < 0.5 else ends + others
+        steps = ends if ends and self.chance.random() < (0.2 if self.tells_turns else 0.5) else ends + others
         hasty = [(action, is_due) for action, is_due in steps if not is_due]
         if steps:
             action, is_due = self.chance.choice(hasty or steps)
@@ -160,15 +161,14 @@ class Run:
                 [*pair, lambda thread: thread.run_next('switch', self.jobs[0])])
 
     def moving_beginnings(self):
-        """What a short run of version 2 may begin with besides: a task runs, is suspended and goes on elsewhere; it may have
-        a child before, or begin a region; or a task of which another one depends moves."""
-        plain = partial(self.create, is_untied=True, with_items=False)
+        """What a short run of version 2 may begin with besides: a task runs, is suspended and goes on elsewhere. It
+        may create a child or begin a region before, create a child or end behind, and another may depend on it."""
+        plain, start = partial(self.create, is_untied=True, with_items=False), self.start_first
         pair = [partial(self.create, is_untied=True, with_items=True)] * 2
-        moves = [self.start_first, self.suspend_first, self.resume_elsewhere]
-        return ([plain, *moves], [plain, *moves, self.end_first], [*pair, *moves], [plain, *moves, self.create_in_first],
-                [plain, self.start_first, self.create, self.suspend_first, self.resume_elsewhere],
-                [plain, self.start_first, self.create, self.begin_region, self.suspend_first, self.resume_elsewhere],
-                [plain, self.start_first, self.begin_region, self.suspend_first, self.resume_elsewhere])
+        moves = [self.suspend_first, self.resume_elsewhere]
+        return ([plain, start, *moves], [plain, start, *moves, self.end_first], [*pair, start, *moves],
+                [plain, start, *moves, self.create_in_first], [plain, start, self.create, *moves],
+                [plain, start, self.create, self.begin_region, *moves], [plain, start, self.begin_region, *moves])
 
     def start_first(self, thread):
         thread.run_next('switch', self.jobs[0])
@@ -236,7 +236,7 @@ class Run:
         if job is None:
             return self.allowed((lambda: self.begin_initial(thread), True))
         steps = [(lambda it=it: thread.run_next(self.chance.choice(['switch', 'yield']), it), True)
-                 for it in self.runnable(thread) * (3 if job.is_untied else 1) + [job] * job.is_untied
+                 for it in self.runnable(thread) * (3 if self.tells_turns else 1) + [job] * job.is_untied
                  + self.movable(thread) * 3]
         steps += [(lambda it=it: thread.run_next('switch', it), False) for it in self.waiting()] if self.haste else []
         if job.awaits() or job.regions and job.regions[-1].kind in WAITING:
@@ -349,9 +349,9 @@ def long_run(chance, is_hasty, version=1):
     for thread in run.threads:
         if chance.random() < 0.3:
             thread.record('thread_begin', kind=chance.choice(['initial', 'worker', 'other', 'unknown']))
-    for thread in run.threads if version == 2 else []:
-        run.begin_initial(thread)
-    steps = chance.randint(0, chance.choice([20, 60, 120]))
+        if version == 2 and chance.random() < 0.5:
+            run.begin_initial(thread)
+    steps = chance.randint(20 if version == 2 else 0, chance.choice([20, 60, 120]))
     hasty_from = chance.randint(0, steps) if is_hasty else None
     for number in range(steps):
         run.haste |= number == hasty_from
