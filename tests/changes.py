@@ -402,10 +402,7 @@ def with_ended_turns(records):
 CHANGES = (seen_other, seen_repeated, entries_exchanged, entry_twice, record_lost, record_twice, records_exchanged,
            record_elsewhere, created_late, run_too_soon, run_elsewhere, cut, thread_lost, root_added, task_other,
            status_other, region_other, claim_other, flags_other, dependences_other, number_other)
-
-
-TURN_CHANGES = (turn_other, turn_begun_again, turns_falling, turns_apart_exchanged, turn_of_root,
-                turn_missing)
+TURN_CHANGES = (turn_other, turn_begun_again, turns_falling, turns_apart_exchanged, turn_of_root, turn_missing)
 
 
 def changed(chance, records, changes=CHANGES):
