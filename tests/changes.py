@@ -415,11 +415,11 @@ def changed(chance, records, changes=CHANGES):
 
 
 def changed_with_turns(chance, records):
-    """The same of a trace of version 2. Two in five changes are of turns; behind half of the others the turns are
+    """The same of a trace of version 2. A third of the changes are of turns; behind most of the others the turns are
     counted anew."""
-    if chance.random() < 0.4:
+    if chance.random() < 0.33:
         return changed(chance, records, TURN_CHANGES)
     found = changed(chance, records)
-    if chance.random() < 0.5:
+    if chance.random() < 0.75:
         return chance.choice([counted_turns, implied_turns])(found)
     return [{'prior_turn': 0, 'next_turn': 0} | it if runs_next(it) else it for it in found]
