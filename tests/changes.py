@@ -1,6 +1,8 @@
 """One change of a random kind in the records of a trace, which leaves a file that can be read; for tests/compare.
 
 Each change takes a source of chance and the records, and returns the changed records; None where it does not apply."""
+import itertools
+
 from model import CALLED_BARRIERS, DEMANDS_NEXT, STATUS_PART, WAITS_FOR_TASKS
 
 TASKS = ('task', 'child', 'prior', 'next', 'root')
@@ -263,15 +265,161 @@ def number_other(chance, records):
     return it and records
 
 
+# Turns
+
+def runs_next(it):
+    return it.get('status') in DEMANDS_NEXT
+
+
+def stays(records, task):
+    """The stays of the task on a thread: of each, in file order, the place at which the task runs next, and those at
+    which it stops there behind it."""
+    found = []
+    for i, it in enumerate(records):
+        if runs_next(it) and it['next'] == task:
+            found.append((i, []))
+        if runs_next(it) and it['prior'] == task:
+            begun = [ends for begin, ends in found if begin < i and records[begin]['thread'] == it['thread']]
+            if begun:
+                begun[-1].append(i)
+    return found
+
+
+def tell(records, stay, turn):
+    """Tells this turn of a task, at its begin and at its ends."""
+    begin, ends = stay
+    records[begin]['next_turn'] = turn
+    for i in ends:
+        records[i]['prior_turn'] = turn
+
+
+def some_stays(chance, records, most, test=lambda *stays: True):
+    """The stays of a task, and so many of them in file order of which the test holds; or None."""
+    tasks = sorted({it['next'] for it in records if runs_next(it)})
+    for task in chance.sample(tasks, len(tasks)):
+        found = stays(records, task)
+        chosen = [it for it in itertools.combinations(found, most) if test(*it)]
+        if chosen:
+            return found, chance.choice(chosen)
+    return None
+
+
+def share_thread(records):
+    """Whether two stays are on one thread."""
+    return lambda one, other: records[one[0]]['thread'] == records[other[0]]['thread']
+
+
+def turn_other(chance, records):
+    """A record tells another turn of the task that stops, or of the one that runs next."""
+    it = one_of(chance, records, runs_next)
+    if it:
+        name = chance.choice(['prior_turn', 'next_turn'])
+        it[name] = chance.choice([it[name] + 1, max(0, it[name] - 1), chance.randint(0, 4)])
+    return it and records
+
+
+def turn_begun_again(chance, records):
+    """A task begins one turn twice, and ends both as it began them."""
+    found = some_stays(chance, records, 2)
+    if not found:
+        return None
+    one, other = chance.sample(found[1], 2)
+    tell(records, one, records[other[0]]['next_turn'])
+    return records
+
+
+def turns_falling(chance, records):
+    """Two turns of a task on one thread change places, so that the later one begins first."""
+    found = some_stays(chance, records, 2, share_thread(records))
+    return found and exchanged(records, *found[1])
+
+
+def turns_apart_exchanged(chance, records):
+    """Two turns of a task on two threads change places, so that its parts ran in another order."""
+    found = some_stays(chance, records, 2, lambda *two: not share_thread(records)(*two))
+    return found and exchanged(records, *found[1])
+
+
+def exchanged(records, one, other):
+    turn, other_turn = records[one[0]]['next_turn'], records[other[0]]['next_turn']
+    tell(records, one, other_turn)
+    tell(records, other, turn)
+    return records
+
+
+def turn_of_root(chance, records):
+    """A root begins turn 0 where it first runs next, and each later turn is one less too."""
+    roots = {it['task'] for it in records if it['cb'] == 'implicit_task'}
+    return turns_moved(records, some_stays(chance, records, 1, lambda stay: records[stay[0]]['next'] in roots), 0, -1)
+
+
+def turn_missing(chance, records):
+    """From some turn on each turn of a task is one more, so that no record begins the first of them."""
+    found = some_stays(chance, records, 1)
+    return turns_moved(records, found, found and records[found[1][0][0]]['next_turn'], 1)
+
+
+def turns_moved(records, found, least, change):
+    """Of the chosen task each turn from the least on is so much more."""
+    for stay in found[0] if found else []:
+        turn = records[stay[0]]['next_turn']
+        if turn >= least:
+            tell(records, stay, turn + change)
+    return found and records
+
+
+def counted_turns(records):
+    """The records, where turns are counted anew: the begins of a task by the turn that they told, and then in file
+    order. One that told none has the turn that its thread told last."""
+    roots = {it['task'] for it in records if it['cb'] == 'implicit_task' and it['endpoint'] == 'begin'}
+    begins, last, counts = [], {}, {}
+    for i, it in enumerate(records):
+        if runs_next(it):
+            place = it['thread'], it['next']
+            last[place] = it.get('next_turn', last.get(place, 0))
+            begins.append((last[place], i))
+    for _, i in sorted(begins):
+        task = records[i]['next']
+        records[i]['next_turn'] = counts[task] = counts.get(task, 0 if task in roots else -1) + 1
+    return with_ended_turns(records)
+
+
+def implied_turns(records):
+    """The records, where turns are those that the order of the file implies, whatever they told."""
+    return counted_turns([{name: value for name, value in it.items() if name != 'next_turn'} for it in records])
+
+
+def with_ended_turns(records):
+    """The records, where each turn that ends is the one that the task began last on the thread."""
+    last = {}
+    for it in records:
+        if runs_next(it):
+            it['prior_turn'] = last.get((it['thread'], it['prior']), 0)
+            last[it['thread'], it['next']] = it['next_turn']
+    return records
+
+
 CHANGES = (seen_other, seen_repeated, entries_exchanged, entry_twice, record_lost, record_twice, records_exchanged,
            record_elsewhere, created_late, run_too_soon, run_elsewhere, cut, thread_lost, root_added, task_other,
            status_other, region_other, claim_other, flags_other, dependences_other, number_other)
+TURN_CHANGES = (turn_other, turn_begun_again, turns_falling, turns_apart_exchanged, turn_of_root, turn_missing)
 
 
-def changed(chance, records):
+def changed(chance, records, changes=CHANGES):
     """The records with one change, by the first kind that applies; as they are where none does."""
-    for change in chance.sample(CHANGES, len(CHANGES)):
+    for change in chance.sample(changes, len(changes)):
         found = change(chance, [dict(it) for it in records])
         if found is not None:
             return found
     return records
+
+
+def changed_with_turns(chance, records):
+    """The same of a trace of version 2. A third of the changes are of turns; behind most of the others the turns are
+    counted anew."""
+    if chance.random() < 0.33:
+        return changed(chance, records, TURN_CHANGES)
+    found = changed(chance, records)
+    if chance.random() < 0.75:
+        return chance.choice([counted_turns, implied_turns])(found)
+    return [{'prior_turn': 0, 'next_turn': 0} | it if runs_next(it) else it for it in found]

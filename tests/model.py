@@ -32,8 +32,10 @@ START_STATE = {'Created': 'Running', 'Suspended': 'Running', 'EarlyWaiting': 'Ea
 DISCARD_STATE = {'Created': 'Done'}
 
 RECORDS_SAY = ['begun_root', 'ended_root', 'begun_initial', 'joined', 'forked', 'region_named', 'creation', 'created',
-               'created_with_deps', 'dependences', 'made', 'started', 'fulfilled', 'wait_completed', 'discarded',
-               'finish', 'schedule', 'claim', 'region', 'flags', 'running']
+               'created_with_deps', 'dependences', 'made', 'started', 'told_turns', 'begun_turn', 'ended_turn',
+               'suspended_turn', 'fulfilled', 'wait_completed', 'discarded', 'finish', 'schedule', 'claim', 'region',
+               'flags', 'running']
+Turns = namedtuple('Turns', 'prior next')
 Membership = namedtuple('Membership', 'parallel actual index member')
 Claim = namedtuple('Claim', 'root path kept')
 Region = namedtuple('Region', 'task kind endpoint')
@@ -41,7 +43,7 @@ Walk = namedtuple('Walk', 'roots current')
 Yes = namedtuple('Yes', 'order')
 No = namedtuple('No', 'place why task order')
 Malformed = namedtuple('Malformed', 'place number name')
-# All orders are tried of a trace with at most so many records.
+# All orders are tried of a trace with at most so many records, if no other number is given.
 MOST_TRIED = 8
 
 
@@ -49,12 +51,13 @@ MOST_TRIED = 8
 
 def read(data):
     """The records of a readable trace file: what its lines after the header say; None is what they do not say."""
-    lines = [json.loads(line) for line in data.split(b'\n')[1:-1]]
+    header, *lines = [json.loads(line) for line in data.split(b'\n')[:-1]]
+    tells_turns = header['version'] == 2
     return [SimpleNamespace(thread=line['thread'], seq=line['seq'], seen=line['seen'],
-                            **{**dict.fromkeys(RECORDS_SAY), **said_by(line)}) for line in lines]
+                            **{**dict.fromkeys(RECORDS_SAY), **said_by(line, tells_turns)}) for line in lines]
 
 
-def said_by(line):
+def said_by(line, tells_turns):
     """The module Records: what its definitions give of a record, where they apply."""
     task, flags = line.get('task'), line.get('flags')
     match line['cb']:
@@ -77,7 +80,7 @@ def said_by(line):
         case 'dependences':
             return {'dependences': (task, line['list']), 'named': {task}}
         case 'task_schedule':
-            return said_by_schedule(line)
+            return said_by_schedule(line, tells_turns)
         case 'sync_region':
             return {'region': Region(task, line['kind'], line['endpoint']), 'running': task, 'named': {task}}
         case 'cancel' if 'discarded_task' in flags:
@@ -88,12 +91,16 @@ def said_by(line):
     return {'named': set()}
 
 
-def said_by_schedule(line):
-    """The module Records, of a task_schedule."""
+def said_by_schedule(line, tells_turns):
+    """The module Records, of a task_schedule. Turns are told in version 2, there where a task runs next."""
     status, prior = line['status'], line['prior']
     says = {'schedule': (status, prior), 'named': {prior}}
     if status in DEMANDS_NEXT:
-        says |= {'started': line['next'], 'running': prior, 'named': {prior, line['next']}}
+        told = Turns(line['prior_turn'], line['next_turn']) if tells_turns else None
+        prior_turn, next_turn = told or (0, 0)
+        says |= {'started': line['next'], 'running': prior, 'named': {prior, line['next']}, 'told_turns': told,
+                 'begun_turn': (line['next'], next_turn), 'ended_turn': (prior, prior_turn),
+                 'suspended_turn': (prior, prior_turn) if status in ('yield', 'switch') else None}
     if status in ('early_fulfill', 'late_fulfill'):
         says |= {'fulfilled': prior}
     if status == 'taskwait_complete':
@@ -183,6 +190,48 @@ def path_of(records, task):
         path.insert(0, children(records, parent).index(task))
         task = parent
     return task, path
+
+
+# Turns
+
+def turn_at(records):
+    """turn_at, for all places: the turn of the task that the record is of, by the earlier records of its thread."""
+    last, turns = {}, []
+    for record in records:
+        turns.append(last.get((record.thread, record.running), 0))
+        if record.begun_turn:
+            task, turn = record.begun_turn
+            last[record.thread, task] = turn
+    return turns
+
+
+def own_places(records):
+    """own_places: all places by turn, and then in file order."""
+    return sorted(places(records), key=turn_at(records).__getitem__)
+
+
+def in_own_order(records):
+    """in_own_order: the records in that order, which in version 1 is file order."""
+    return [records[i] for i in own_places(records)]
+
+
+def own_place(records):
+    """own_place, for all places: where the record at a place stands in that order."""
+    return {i: at for at, i in enumerate(own_places(records))}
+
+
+def begun_turns(records):
+    """BeginsTurn: the pairs of a task and a turn that begins, where it runs next; or turn 0, where a root begins."""
+    return said('begun_turn', records) | {(task, 0) for task in said('begun_root', records)}
+
+
+def resumptions(records):
+    """IsResumption: the pairs of places a, b where a suspends a task and b, another one, begins its next turn."""
+    begins = {}
+    for b in places(records):
+        begins.setdefault(records[b].begun_turn, []).append(b)
+    suspensions = [(a, records[a].suspended_turn) for a in places(records) if records[a].suspended_turn]
+    return {(a, b) for a, (task, turn) in suspensions for b in begins.get((task, turn + 1), []) if a != b}
 
 
 # Which task a thread runs
@@ -286,6 +335,27 @@ def moves_of(records, task):
     return early + at_home + [it for it in moves if it not in early + at_home]
 
 
+def has_moved(records, task):
+    """has_moved: the task runs next on another thread than its home, at a record that tells turns."""
+    home = home_of(records, task)
+    return any(record.started == task and record.told_turns and record.thread != home for record in records)
+
+
+def moved_moves(records, task):
+    """moved_moves: of a task that moved: early fulfilments; turn by turn its begin and its end; all others."""
+    moves = [(i, move) for i in places(records) for move in moves_by(task, records[i])]
+    early = [(i, move) for i, move in moves if move[1] == 'early_fulfill']
+    begins = [(records[i].begun_turn[1], 0, i, move) for i, move in moves if move[0] == 'Started']
+    ends = [(records[i].ended_turn[1], 1, i, move) for i, move in moves if move[1] in DEMANDS_NEXT]
+    by_turn = [(i, move) for _, _, i, move in sorted(begins + ends)]
+    return early + by_turn + [it for it in moves if it not in early + by_turn]
+
+
+def all_moves_of(records, task):
+    """all_moves_of: the task's moves, each with its place, in the order in which they are read."""
+    return moved_moves(records, task) if has_moved(records, task) else moves_of(records, task)
+
+
 def nature_of(records, task):
     """nature_of: whether the task is a root, a taskwait with dependences, or any other."""
     if is_root(records, task):
@@ -310,8 +380,9 @@ def state_after(state, what, status):
 # What happens before what, and orders
 
 def starts(records):
-    """IsStart: for each task that runs next, the first place after which it runs."""
-    return {records[i].started: i for i in reversed(places(records)) if records[i].started is not None}
+    """IsStart: for each task that runs next in turn 0, the first place after which it does."""
+    begun = [(i, *records[i].begun_turn) for i in reversed(places(records)) if records[i].begun_turn]
+    return {task: i for i, task, turn in begun if turn == 0}
 
 
 def program_steps(records):
@@ -320,8 +391,9 @@ def program_steps(records):
                     if records[a].thread == records[b].thread}
     creations = [(a, records[a].created) for a in places(records) if records[a].creation]
     starts_of = starts(records)
-    return thread_order | {(a, b) for a, task in creations for b in places(records)
-                           if starts_of.get(task) == b or task in (records[b].discarded, records[b].fulfilled)}
+    born = {(a, b) for a, task in creations for b in places(records)
+            if starts_of.get(task) == b or task in (records[b].discarded, records[b].fulfilled)}
+    return thread_order | born | resumptions(records)
 
 
 def steps(records):
@@ -412,9 +484,9 @@ def predecessors(records, task):
 
 
 def starts_task(records, i):
-    """StartsTask: the explicit task that the record at i starts, for the first time in file order, or None."""
+    """StartsTask: the explicit task of which the record at i is the start, or None."""
     task = records[i].started
-    return task if is_explicit(records, task) and starts(records)[task] == i else None
+    return task if is_explicit(records, task) and starts(records).get(task) == i else None
 
 
 def dependent_at(records, i):
@@ -422,10 +494,13 @@ def dependent_at(records, i):
     return records[i].wait_completed if records[i].wait_completed is not None else starts_task(records, i)
 
 
-def required(records, i):
-    """IsRequired: the tasks that must be complete at i."""
-    task = dependent_at(records, i)
-    return covered(records, i) | (predecessors(records, task) if task is not None else set())
+def must_be_complete(records):
+    """MustBeComplete: for each place the tasks that must be complete there; covers and predecessors by own order."""
+    own, stands, found = in_own_order(records), own_place(records), []
+    for i in places(records):
+        task = dependent_at(records, i)
+        found.append(covered(own, stands[i]) | (predecessors(own, task) if task is not None else set()))
+    return found
 
 
 def is_finished(records, counts, task):
@@ -434,28 +509,28 @@ def is_finished(records, counts, task):
     return 'Whole' in parts or {'Body', 'Event'} <= parts
 
 
-def incomplete(records, i, earlier):
+def incomplete(records, required, i, earlier):
     """The tasks required at i and not complete there, if the earlier places count, and i where it starts a task."""
     counts = earlier if starts_task(records, i) is None else earlier | {i}
-    return {task for task in required(records, i) if not is_finished(records, counts, task)}
+    return {task for task in required[i] if not is_finished(records, counts, task)}
 
 
-def unfinished(records, i):
+def unfinished(records, required, i):
     """IsUnfinished: the tasks required at i and not complete by what the record there has seen (IsCompleteAt)."""
-    return incomplete(records, i, {k for k in places(records) if records[k].seen < records[i].seen})
+    return incomplete(records, required, i, {k for k in places(records) if records[k].seen < records[i].seen})
 
 
 def incomplete_in(records, order, i):
     """IsViolation: the tasks required at i and not complete there in this order (IsCompleteIn)."""
-    return incomplete(records, i, {*order[:order.index(i)]})
+    return incomplete(records, must_be_complete(records), i, {*order[:order.index(i)]})
 
 
-def missed(records, before):
+def missed(records, required, before):
     """IsMissed: for each place the tasks required there and not complete in some linearization, by trying all of them."""
     tried = {(i, frozenset(order[:at])) for order in linearizations(before) for at, i in enumerate(order)}
     found = [set() for _ in records]
     for i, earlier in tried:
-        found[i] |= incomplete(records, i, earlier)
+        found[i] |= incomplete(records, required, i, earlier)
     return found
 
 
@@ -494,9 +569,29 @@ def not_current(records):
 
 
 def moved(records):
-    """IsMoved: an explicit task runs next that ran next earlier in file order on another thread."""
-    return {b for b in places(records) if is_explicit(records, records[b].started) for a in places(records)[:b]
+    """IsMoved: an explicit task runs next that ran next earlier in the file on another thread; no turns are told."""
+    return {b for b in places(records) if not records[b].told_turns and is_explicit(records, records[b].started)
+            for a in places(records)[:b]
             if records[a].started == records[b].started and records[a].thread != records[b].thread}
+
+
+def turn_gap(records):
+    """HasTurnGap: the turns that it tells are not those of its tasks."""
+    return {i for i in places(records) if gap_rules(records, i)}
+
+
+def gap_rules(records, i):
+    """HasTurnGap: the rules that hold at i, of other_turn, begun_again, falling, of_root and missing."""
+    if not records[i].told_turns:
+        return set()
+    (task, turn), thread = records[i].begun_turn, records[i].thread
+    earlier_there = said('begun_turn', [record for record in records[:i] if record.thread == thread])
+    rules = {'other_turn': records[i].told_turns.prior != turn_at(records)[i],
+             'begun_again': (task, turn) in said('begun_turn', records[:i]),
+             'falling': any(other == task and turn < later for other, later in earlier_there),
+             'of_root': turn == 0 and is_root(records, task),
+             'missing': turn > 0 and (task, turn - 1) not in begun_turns(records)}
+    return {name for name, holds in rules.items() if holds}
 
 
 def status_order(records):
@@ -505,7 +600,7 @@ def status_order(records):
     for task in said('made', records):
         nature = nature_of(records, task)
         state = 'Running' if nature == 'root' else 'Created'
-        for i, move in moves_of(records, task):
+        for i, move in all_moves_of(records, task):
             state = state_after(state, *move) if may(nature, *move) else None
             if state is None:
                 found.add(i)
@@ -602,40 +697,67 @@ def target_task(records):
     return {i for i in places(records) if records[i].made is not None and 'target' in records[i].flags}
 
 
+# Each with its number; a trace shows one of Moved and TurnGap at most.
 ALL_CAUSES = {
-    'SeqGap': seq_gap, 'CreatedTwice': created_twice, 'Rootless': rootless, 'NotCurrent': not_current, 'Moved': moved,
-    'StatusOrder': status_order, 'RegionOrder': region_order, 'TeamShort': team_short,
-    'NestedParallel': nested_parallel, 'DepsPlace': deps_place, 'ShareWrong': share_wrong, 'EntryTwice': entry_twice,
-    'LengthAhead': length_ahead, 'LengthBack': length_back, 'NoOrder': no_order, 'TargetTask': target_task}
+    'SeqGap': (1, seq_gap), 'CreatedTwice': (2, created_twice), 'Rootless': (3, rootless),
+    'NotCurrent': (4, not_current), 'Moved': (5, moved), 'TurnGap': (5, turn_gap), 'StatusOrder': (6, status_order),
+    'RegionOrder': (7, region_order), 'TeamShort': (8, team_short), 'NestedParallel': (9, nested_parallel),
+    'DepsPlace': (10, deps_place), 'ShareWrong': (11, share_wrong), 'EntryTwice': (12, entry_twice),
+    'LengthAhead': (13, length_ahead), 'LengthBack': (14, length_back), 'NoOrder': (15, no_order),
+    'TargetTask': (16, target_task)}
+IN_OWN_ORDER = {'RegionOrder', 'TeamShort', 'ShareWrong'}
+
+
+def shows(records, name):
+    """Shows: the places at which the trace shows the cause. Three causes are read in own order, all others as they
+    stand."""
+    _, places_with = ALL_CAUSES[name]
+    if name not in IN_OWN_ORDER:
+        return places_with(records)
+    file_places = own_places(records)
+    return {file_places[at] for at in places_with(in_own_order(records))}
 
 
 # The verdict and its report
 
-def verdict(records):
+def verdict(records, most_tried=MOST_TRIED):
     """IsVerdict: Malformed with the least cause that occurs, else No at the first unfinished record, else Yes. With a No
     goes an order too (IsShownBy)."""
-    for number, (name, places_with) in enumerate(ALL_CAUSES.items(), 1):
-        found = places_with(records)
+    for name, (number, _) in ALL_CAUSES.items():
+        found = shows(records, name)
         if found:
             return Malformed(min(found), number, name)
-    before = happens_before(records)
-    left = [unfinished(records, i) for i in places(records)]
-    check_missed(records, before, left)
+    before, required = happens_before(records), must_be_complete(records)
+    left = [unfinished(records, required, i) for i in places(records)]
+    check_earliest(records, required, before, left)
+    if len(records) <= most_tried:
+        check_all_orders(records, required, before, left)
     i = next((i for i in places(records) if left[i]), None)
     if i is None:
         return Yes(approved_order(before))
     task = next(record.created for record in records if record.created in left[i])
-    return No(i, 'Unfinished' if covered(records, i) else 'Predecessor', task, counter_order(records, before, i, task))
+    why = 'Unfinished' if covered(in_own_order(records), own_place(records)[i]) else 'Predecessor'
+    return No(i, why, task, counter_order(records, before, i, task))
 
 
-def check_missed(records, before, left):
+def check_earliest(records, required, before, left):
     """Checks that in a trace without a cause the tasks which are unfinished by what a record has seen are those that some
     order leaves incomplete there. In each order all that happens before i stands before i, and in its earliest order
-    nothing else; where the records are few, all orders are tried too."""
-    earliest = [incomplete(records, i, before[i]) for i in places(records)]
+    nothing else."""
+    earliest = [incomplete(records, required, i, before[i]) for i in places(records)]
     assert left == earliest, 'what the records have seen disagrees with the orders in which they are earliest'
-    if len(records) <= MOST_TRIED:
-        assert left == missed(records, before), 'what the records have seen disagrees with all orders'
+
+
+def check_all_orders(records, required, before, left):
+    """Checks the same by all orders; for few records."""
+    assert left == missed(records, required, before), 'what the records have seen disagrees with all orders'
+
+
+def counter_orders(records):
+    """IsCounterOrder: in a trace without a cause, for each place and each task that is missed there an order."""
+    before, required = happens_before(records), must_be_complete(records)
+    return {(i, task): counter_order(records, before, i, task) for i in places(records)
+            for task in incomplete(records, required, i, before[i])}
 
 
 def approved_order(before):

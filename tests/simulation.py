@@ -1,7 +1,8 @@
 """Random runs of OpenMP programs as a right tool records them, and the same with one thing changed; for tests/compare.
 
 A run keeps what its tasks and threads do, and takes random steps that a runtime may take. A hasty one takes one step
-too early: a wait ends, or a dependent task starts, before it may. The recorder is that of examples/recorder.py."""
+too early: a wait ends, or a dependent task starts, before it may. In a run of version 2 untied tasks go on on any
+thread, and the turns of all tasks are counted. The recorder is that of examples/recorder.py."""
 import itertools
 import os
 import sys
@@ -14,6 +15,7 @@ from recorder import Ledger, Recorder, Task
 
 WAITING = sorted(BARRIERS | {'taskwait'})
 DEP_KINDS = ('in', 'out', 'inout', 'mutexinoutset', 'inoutset')
+FLAGS = ['untied', 'final', 'undeferred']
 MOST_TASKS = 12
 
 
@@ -24,8 +26,10 @@ class Job(Task):
         super().__init__(parent)
         self.parent, self.children, self.items, self.regions, self.barriers = parent, [], [], [], 0
         self.stands, self.is_done, self.event = 'created', False, None
-        self.is_taskwait = self.is_initial = False
+        self.is_taskwait = self.is_initial = self.is_untied = False
         self.thread = self.context = None
+        # the turn that it began last
+        self.turn = -1 if parent else 0
         if parent:
             parent.children.append(self)
 
@@ -106,9 +110,13 @@ class Thread(Recorder):
         """The current task stops with this status, and the job runs."""
         prior = self.current
         self.task_schedule(prior, status, job)
-        self.current, job.stands, job.thread, job.context = job, 'running', self, self.roots[-1]
+        if self.run.tells_turns:
+            self.records[-1].update(prior_turn=prior.turn, next_turn=job.turn + 1)
+        self.run.was_moving |= job.thread not in (None, self)
         if status in ('switch', 'yield'):
             prior.stands = 'suspended'
+        self.current, job.stands, job.thread, job.context = job, 'running', self, self.roots[-1]
+        job.turn += 1
 
     def discard(self, job):
         self.known = self.ledger.append()
@@ -120,16 +128,19 @@ class Thread(Recorder):
 class Run:
     """A run, and its records in the order of time. `haste` is there while a hasty step may be taken."""
 
-    def __init__(self, chance, threads):
+    def __init__(self, chance, threads, version):
         Task.ids = itertools.count(1)
-        self.chance, self.haste, self.was_hasty = chance, False, False
+        self.chance, self.haste, self.was_hasty, self.was_moving = chance, False, False, False
+        self.tells_turns = version == 2
+        self.flags = FLAGS + ['untied'] * 3 if self.tells_turns else FLAGS
         self.ledger, self.records, self.jobs, self.regions = Ledger(), [], [], itertools.count(100)
         self.threads = [Thread(it, self) for it in range(threads)]
 
     def step(self, thread):
-        """One random step of a thread, as often as not one that ends something."""
+        """One random step of a thread, as often as not one that ends something; less often in version 2, where tasks
+        are to be suspended and go on."""
         ends, others = self.ends(thread), self.others(thread)
-        steps = ends if ends and self.chance.random() < 0.5 else ends + others
+        steps = ends if ends and self.chance.random() < (0.2 if self.tells_turns else 0.5) else ends + others
         hasty = [(action, is_due) for action, is_due in steps if not is_due]
         if steps:
             action, is_due = self.chance.choice(hasty or steps)
@@ -149,6 +160,37 @@ class Run:
         return ([self.create], [self.create, self.begin_region], [group, self.create], pair,
                 [*pair, lambda thread: thread.run_next('switch', self.jobs[0])])
 
+    def moving_beginnings(self):
+        """What a short run of version 2 may begin with besides: a task runs, is suspended and goes on elsewhere. It
+        may create a child or begin a region before, create a child or end behind, and another may depend on it."""
+        plain, start = partial(self.create, is_untied=True, with_items=False), self.start_first
+        pair = [partial(self.create, is_untied=True, with_items=True)] * 2
+        moves = [self.suspend_first, self.resume_elsewhere]
+        return ([plain, start, *moves], [plain, start, *moves, self.end_first], [*pair, start, *moves],
+                [plain, start, *moves, self.create_in_first], [plain, start, self.create, *moves],
+                [plain, start, self.create, self.begin_region, *moves], [plain, start, self.begin_region, *moves])
+
+    def start_first(self, thread):
+        thread.run_next('switch', self.jobs[0])
+
+    def suspend_first(self, thread):
+        thread.run_next(self.chance.choice(['switch', 'yield']), thread.roots[-1])
+
+    def resume_elsewhere(self, thread):
+        """The first task goes on on the second thread, which may have to begin."""
+        other = self.threads[1]
+        if not other.roots:
+            self.begin_initial(other)
+        other.run_next('switch', self.jobs[0])
+
+    def create_in_first(self, thread):
+        self.create(self.threads[1])
+
+    def end_first(self, thread):
+        """The first task ends on the second thread."""
+        job = self.threads[1].current
+        self.end_body(self.threads[1], 'detach' if job.event == 'due' else 'complete', self.threads[1].roots[-1])
+
     # What a thread may do
 
     def ends(self, thread):
@@ -165,7 +207,7 @@ class Run:
             steps += self.endings_of_body(thread)
         elif thread.forks and job.is_initial:
             steps.append((lambda: thread.record('parallel_end', parallel=thread.forks.pop(), task=job.id), True))
-        elif not any(it.stands == 'suspended' and it.context is job for it in self.jobs):
+        elif not any(it.stands == 'suspended' and it.context is job and not it.is_untied for it in self.jobs):
             steps.append((thread.end, True))
         return self.allowed(*steps)
 
@@ -194,7 +236,8 @@ class Run:
         if job is None:
             return self.allowed((lambda: self.begin_initial(thread), True))
         steps = [(lambda it=it: thread.run_next(self.chance.choice(['switch', 'yield']), it), True)
-                 for it in self.runnable(thread)]
+                 for it in self.runnable(thread) * (3 if self.tells_turns else 1) + [job] * job.is_untied
+                 + self.movable(thread) * 3]
         steps += [(lambda it=it: thread.run_next('switch', it), False) for it in self.waiting()] if self.haste else []
         if job.awaits() or job.regions and job.regions[-1].kind in WAITING:
             return self.allowed(*steps)
@@ -208,12 +251,16 @@ class Run:
 
     def runnable(self, thread, ending=None):
         """The tasks that may run next on the thread, if the task `ending` is complete: its innermost root, those it
-        suspended there, and new ones."""
+        suspended there, untied ones that any thread suspended, and new ones."""
         root = thread.roots[-1]
         roots = [root] if root is not thread.current else []
         return roots + [it for it in self.jobs if it is not thread.current and not it.is_taskwait and (
-            it.stands == 'suspended' and it.context is root and it.thread is thread
+            it.stands == 'suspended' and (it.context is root and it.thread is thread or it.is_untied)
             or it.stands == 'created' and it.is_ready(ending))]
+
+    def movable(self, thread):
+        """The tasks that another thread suspended, and that may go on on this one."""
+        return [it for it in self.jobs if it.stands == 'suspended' and it.is_untied and it.thread is not thread]
 
     def waiting(self, ending=None):
         """The tasks that may not start yet, since a predecessor is not complete, even if the task `ending` is."""
@@ -238,16 +285,19 @@ class Run:
             member.team = team
             it.begin(member, 'implicit', parallel, len(threads), index)
 
-    def create(self, thread, *flags, with_items=None):
+    def create(self, thread, *flags, with_items=None, is_untied=False):
         job = Job(thread.current)
-        with_items = with_items or flags or self.chance.random() < 0.5
+        if with_items is None:
+            with_items = flags or self.chance.random() < 0.5
         job.items = [{'type': self.chance.choice(DEP_KINDS), 'var': self.chance.randint(7, 9)}
                      for _ in range(self.chance.randint(1, 3) if with_items else 0)]
         job.is_taskwait = 'taskwait' in flags
         job.event = 'due' if not flags and self.chance.random() < 0.3 else None
         self.jobs.append(job)
+        flag = 'untied' if is_untied else self.chance.choice(self.flags)
+        job.is_untied = self.tells_turns and flag == 'untied'
         thread.record('task_create', task=job.parent.id, child=job.id, deps=bool(with_items),
-                      flags=['explicit', *flags, *self.chance.sample(['untied', 'final', 'undeferred'], 1)])
+                      flags=['explicit', *flags, flag])
         if with_items:
             thread.record('dependences', task=job.id, list=job.items)
 
@@ -293,13 +343,15 @@ class Run:
         job.stands, job.is_done = 'ended', True
 
 
-def long_run(chance, is_hasty):
-    """A run of one to four threads, of up to some hundred records."""
-    run = Run(chance, chance.randint(1, 4))
+def long_run(chance, is_hasty, version=1):
+    """A run of one to four threads, of up to some hundred records; of version 2 one of two threads or more."""
+    run = Run(chance, chance.randint(version, 4), version)
     for thread in run.threads:
         if chance.random() < 0.3:
             thread.record('thread_begin', kind=chance.choice(['initial', 'worker', 'other', 'unknown']))
-    steps = chance.randint(0, chance.choice([20, 60, 120]))
+        if version == 2 and chance.random() < 0.5:
+            run.begin_initial(thread)
+    steps = chance.randint(20 if version == 2 else 0, chance.choice([20, 60, 120]))
     hasty_from = chance.randint(0, steps) if is_hasty else None
     for number in range(steps):
         run.haste |= number == hasty_from
@@ -307,10 +359,10 @@ def long_run(chance, is_hasty):
     return run
 
 
-def short_run(chance, is_hasty, most):
+def short_run(chance, is_hasty, most, version=1):
     """A run that ends once it has so many records. It begins with a task for which something soon may wait, and mostly
     with a second thread, so that its records have several orders."""
-    run = Run(chance, chance.randint(2, 3))
+    run = Run(chance, chance.randint(2, 3), version)
     first = run.threads[0]
     run.begin_initial(first)
     others = chance.choice(['in a team', 'at once', 'at once', 'later'])
@@ -318,7 +370,8 @@ def short_run(chance, is_hasty, most):
         run.fork(first)
     for thread in run.threads[1:] if others == 'at once' else []:
         run.begin_initial(thread)
-    for action in chance.choice(run.beginnings()):
+    moves = version == 2 and chance.random() < 0.7
+    for action in chance.choice(run.moving_beginnings() if moves else run.beginnings()):
         action(first)
     run.haste = is_hasty
     while len(run.records) < most and chance.random() < 0.95:
