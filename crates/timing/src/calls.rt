@@ -1,7 +1,7 @@
 //! How long a call takes of a ledger that threads share.
 ghost use Rattle.std.specs.Thread.{IsSync};
 
-use crate::turns::{Plan, all_turns, entry_of};
+use crate::device_turns::{Plan, all_turns, entry_of};
 use anyhow::{Result, bail};
 use credit_ledger::{Entry, Ledger, LedgerFault, SharedLedger};
 use std::alloc::Global;

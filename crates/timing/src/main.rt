@@ -3,6 +3,7 @@
 #![tactic(auto)]
 
 mod calls;
+mod device_turns;
 mod devices;
 mod edges;
 mod in_turns;
@@ -16,7 +17,7 @@ mod shares;
 mod states;
 mod tables;
 mod tree;
-mod turns;
+
 mod verdict;
 mod waits;
 

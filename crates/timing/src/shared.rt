@@ -2,7 +2,7 @@
 ghost use Rattle.std.specs.Prelude.{◌≡◌, IfOk};
 ghost use Rattle.std.specs.Thread.{IsSync};
 
-use crate::turns::{Plan, all_turns, are_each_once, are_in_order, enter_one};
+use crate::device_turns::{Plan, all_turns, are_each_once, are_in_order, enter_one};
 use anyhow::{Result, bail};
 use credit_ledger::{Ledger, LedgerFault, Seat, SharedLedger, Span};
 use ompt_events::Path;

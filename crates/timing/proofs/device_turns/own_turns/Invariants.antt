@@ -1,5 +1,5 @@
 use Rattle.std.proofs.Common.{◌≡◌}
-use Rattle.timing.proofs.turns.own_turns.Given as goal
+use Rattle.timing.proofs.device_turns.own_turns.Given as goal
 
 abbrev pub invariant-entries : goal.invariant-entries
 invariant-entries g l = l.seat.place.table_id ≡ l.ledger.board.shared.table_id

@@ -1,5 +1,5 @@
 use Rattle.std.proofs.Common.{◌+◌, ◌*◌}
-use Rattle.timing.proofs.turns.+all_turns+fn-all_turns-join+arg2+fn-all_turns-join+arg3.Given as goal
+use Rattle.timing.proofs.device_turns.+all_turns+fn-all_turns-join+arg2+fn-all_turns-join+arg3.Given as goal
 
 abbrev pub decreases-all_turns : goal.decreases-all_turns
 decreases-all_turns g l = l.threads * 2
