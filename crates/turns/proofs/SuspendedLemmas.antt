@@ -68,7 +68,7 @@ not_root rs task once (i, creates) (k, begins) = elim (cases_order i k) [
 
 -- ---- one record of a thread more
 
-abbrev part_of : List Record → ℕ → ℕ → List Record
+abbrev pub part_of : List Record → ℕ → ℕ → List Record
 part_of rs thread n = filter (λ q. q.thread == thread) (take n rs)
 
 part_more : (rs : List Record) (thread n : ℕ) (r : Record) → slice_get rs n ≡ Some r → part_of rs thread (n + 1) ≡ part_of rs thread n ++ cond (r.thread == thread) (r ∷ []) []
@@ -76,10 +76,10 @@ part_more rs thread n r stands =
     filter_more (λ q. q.thread == thread) rs n r (slice_get_within rs n r stands)
     ∙ ap (λ (q : Record). part_of rs thread n ++ cond (q.thread == thread) (q ∷ []) []) (get_or_from_slice_get rs n r r stands)
 
-part_own : (rs : List Record) (thread n : ℕ) (r : Record) → slice_get rs n ≡ Some r → r.thread ≡ thread → part_of rs thread (n + 1) ≡ part_of rs thread n ++ r ∷ []
+pub part_own : (rs : List Record) (thread n : ℕ) (r : Record) → slice_get rs n ≡ Some r → r.thread ≡ thread → part_of rs thread (n + 1) ≡ part_of rs thread n ++ r ∷ []
 part_own rs thread n r stands same = part_more rs thread n r stands ∙ ap (λ b. part_of rs thread n ++ cond b (r ∷ []) []) (eq-eqb r.thread thread same)
 
-part_other : (rs : List Record) (thread n : ℕ) (r : Record) → slice_get rs n ≡ Some r → r.thread ≢ thread → part_of rs thread (n + 1) ≡ part_of rs thread n
+pub part_other : (rs : List Record) (thread n : ℕ) (r : Record) → slice_get rs n ≡ Some r → r.thread ≢ thread → part_of rs thread (n + 1) ≡ part_of rs thread n
 part_other rs thread n r stands apart = part_more rs thread n r stands ∙ ap (λ b. part_of rs thread n ++ cond b (r ∷ []) []) (ne_eqb r.thread thread apart) ∙ append-nil (part_of rs thread n)
 
 take_past : {X : Type 0} (xs : List X) (n : ℕ) → length xs ≤ n → take n xs ≡ xs
@@ -89,7 +89,7 @@ take_past (x ∷ xs) zero past = absurd (omega arith)
 take_past (x ∷ xs) (suc n) past = ap (λ l. x ∷ l) (take_past xs n (omega arith))
 
 -- what holds at the start and is kept by each record of the thread holds of all that it has recorded
-part_keeps : (rs : List Record) (thread : ℕ) (P : ℕ → List Record → Type 0) → P 0 []
+pub part_keeps : (rs : List Record) (thread : ℕ) (P : ℕ → List Record → Type 0) → P 0 []
     → ((n : ℕ) (r : Record) → slice_get rs n ≡ Some r → r.thread ≡ thread → P n (part_of rs thread n) → P (n + 1) (part_of rs thread n ++ r ∷ []))
     → ((n : ℕ) → thread_at rs n ≢ Some thread → P n (part_of rs thread n) → P (n + 1) (part_of rs thread n))
     → (n : ℕ) → P n (part_of rs thread n)

@@ -29,22 +29,34 @@ turn_other rs i r thread task within read apart =
 
 -- ---- what is kept
 
+after_it : (r : Record) (task turn other before : ℕ) → begun_turn r.body ≡ Some (task, turn) → turn_after other before r ≡ cond (task == other) turn before
+after_it r task turn other before begins = ap (λ (o : Option (ℕ × ℕ)). option_map_or (λ (b : ℕ × ℕ). cond (b.0 == other) b.1 before) o before) begins
+
+-- a turn that is kept already
+pub same_kept : (kept : BTreeMap (ℕ × ℕ) ℕ) (r : Record) (task turn : ℕ) → begun_turn r.body ≡ Some (task, turn) → kept_turn kept r.thread task ≡ turn → IsTurnKept kept kept r
+same_kept kept r task turn begins same = record {
+  own = λ other. elim (cases_eq task other) [
+    | inl is ↦
+        ap (kept_turn kept r.thread) (sym is) ∙ same
+        ∙ sym (after_it r task turn other (kept_turn kept r.thread other) begins ∙ ap (λ b. cond b turn (kept_turn kept r.thread other)) (eq-eqb task other is))
+    | inr apart ↦ sym (after_it r task turn other (kept_turn kept r.thread other) begins ∙ ap (λ b. cond b turn (kept_turn kept r.thread other)) (ne_eqb task other apart))
+  ];
+  others = λ thread other apart. refl;
+}
+
 pub one_kept : (old new : BTreeMap (ℕ × ℕ) ℕ) (r : Record) (task turn : ℕ) → begun_turn r.body ≡ Some (task, turn) → Updates pair_cmp old new (r.thread, task) (Some turn) → IsTurnKept old new r
 one_kept old new r task turn begins updates = record {
   own = λ other. elim (cases_eq task other) [
     | inl same ↦
         ap (λ t. kept_turn new r.thread t) (sym same)
         ∙ ap (λ (o : Option ℕ). option_map_or (λ (t : ℕ). t) o 0) (pair_here old new (r.thread, task) (Some turn) updates)
-        ∙ sym (after other ∙ ap (λ b. cond b turn (kept_turn old r.thread other)) (eq-eqb task other same))
+        ∙ sym (after_it r task turn other (kept_turn old r.thread other) begins ∙ ap (λ b. cond b turn (kept_turn old r.thread other)) (eq-eqb task other same))
     | inr apart ↦
         ap (λ (o : Option ℕ). option_map_or (λ (t : ℕ). t) o 0) (pair_there old new (r.thread, task) (Some turn) updates (r.thread, other) (λ e. apart (sym (ap (λ (p : ℕ × ℕ). p.1) e))))
-        ∙ sym (after other ∙ ap (λ b. cond b turn (kept_turn old r.thread other)) (ne_eqb task other apart))
+        ∙ sym (after_it r task turn other (kept_turn old r.thread other) begins ∙ ap (λ b. cond b turn (kept_turn old r.thread other)) (ne_eqb task other apart))
   ];
   others = λ thread other apart. ap (λ (o : Option ℕ). option_map_or (λ (t : ℕ). t) o 0) (pair_there old new (r.thread, task) (Some turn) updates (thread, other) (λ e. apart (ap (λ (p : ℕ × ℕ). p.0) e)));
 }
-  where
-    after : (other : ℕ) → turn_after other (kept_turn old r.thread other) r ≡ cond (task == other) turn (kept_turn old r.thread other)
-    after other = ap (λ (o : Option (ℕ × ℕ)). option_map_or (λ (b : ℕ × ℕ). cond (b.0 == other) b.1 (kept_turn old r.thread other)) o (kept_turn old r.thread other)) begins
 
 pub last_turns_more : (rs : List Record) (i : ℕ) (r : Record) (old new : BTreeMap (ℕ × ℕ) ℕ) → i < length rs → r ≡ get_or rs i r → AreLastTurns rs i old → IsTurnKept old new r → AreLastTurns rs (i + 1) new
 last_turns_more rs i r old new within read are kept thread task = elim (cases_eq thread r.thread) [

@@ -4,7 +4,7 @@ use Rattle.std.specs.Option.{unwrap_or}
 use Rattle.ompt_events.specs.declared.records.Record.{Record}
 use Rattle.ompt_events.specs.declared.records.Body.{Body}
 use Rattle.ompt_events.specs.Records.{running, told_turns, begun_turn}
-use Rattle.ompt_events.specs.Places.{at, is_own}
+use Rattle.ompt_events.specs.Places.{at, thread_at, is_own}
 use Rattle.ompt_events.specs.Tree.{IsExplicit}
 use Rattle.ompt_events.specs.Turns.{turn_in, turn_at}
 use Rattle.ompt_events.specs.Causes.{HasTurnGap, BeginsTurn}
@@ -14,6 +14,20 @@ use Rattle.turns.specs.declared.rising.Latest.{Latest}
 abbrev pub TurnsRise : List Record → Type 0
 TurnsRise rs =
     (task i k : ℕ) → is_own rs task i ≡ true → is_own rs task k ≡ true → i < k → turn_at rs i ≤ turn_at rs k
+
+-- no record before the place began a later turn of the task
+abbrev pub NoneLater : List Record → ℕ → ℕ → ℕ → Type 0
+NoneLater rs i task turn = (k later : ℕ) → k < i → BeginsTurn rs k task later → later ≤ turn
+
+-- as far as the file has come to the record, no later turn has begun of the task that it is of than the one that
+-- it is in, nor of a task that begins a turn there than that one
+pub record IsInOrder (rs : List Record) (i : ℕ) : Type 0 where
+  pub own : (task : ℕ) → at running rs i ≡ Some task → NoneLater rs i task (turn_at rs i)
+  pub begins : (task turn : ℕ) → BeginsTurn rs i task turn → NoneLater rs i task turn
+
+-- so of each record: along the file each task comes to its turns in order
+abbrev pub AreInOrder : List Record → Type 0
+AreInOrder rs = (i : ℕ) → IsInOrder rs i
 
 -- ---- what is known of a task
 
@@ -34,13 +48,13 @@ pub data IsNext (known : Latest) (turn : ℕ) : Type 0 where
   next_first : known.turn ≡ None → turn ≡ 0 → IsNext known turn
   next_later : (last : ℕ) → known.turn ≡ Some last → turn ≡ last + 1 → IsNext known turn
 
--- what the first n records say of the task: the turn that is known began; no record began a later one, nor is in
--- one; and the task is in it on the thread that is known, or in turn 0 on any
+-- what the first n records say of the task: the turn that is known began, and on the thread that is known,
+-- where it is not turn 0; no later one began; and the task is in it on that thread, or in turn 0 on any
 pub record IsLatest (rs : List Record) (n task : ℕ) (known : Latest) : Type 0 where
-  pub begun : (turn : ℕ) → known.turn ≡ Some turn → (k : ℕ) × BeginsTurn rs k task turn
-  pub none : known.turn ≡ None → (k turn : ℕ) → k < n → at begun_turn rs k ≡ Some (task, turn) → ⊥
-  pub bound : (k turn : ℕ) → k < n → at begun_turn rs k ≡ Some (task, turn) → turn ≤ turn_now known
-  pub own : (k : ℕ) → k < n → at running rs k ≡ Some task → turn_at rs k ≤ turn_now known
+  pub begun : (turn : ℕ) → known.turn ≡ Some turn → (k : ℕ) × (k < n) × BeginsTurn rs k task turn
+      × ((turn ≡ 0) ⊎ (thread_at rs k ≡ Some known.thread))
+  pub none : known.turn ≡ None → (k turn : ℕ) → k < n → BeginsTurn rs k task turn → ⊥
+  pub bound : NoneLater rs n task (turn_now known)
   pub now : (thread turn : ℕ) → IsOnTurn known thread turn
       → turn_in task (filter (λ q. q.thread == thread) (take n rs)) ≡ turn
 
@@ -52,29 +66,35 @@ pub record AreLatest (rs : List Record) (n : ℕ) (tasks : List ℕ) (latest : L
 
 -- ---- one record
 
--- the record at the place is in this turn of its task, and no earlier one is in a later turn of it
-pub record IsTurnThere (rs : List Record) (i : ℕ) (tasks : List ℕ) (latest : List Latest) (turn : ℕ) : Type 0 where
+-- the record at the place is in this turn of its task, of which no earlier one began a later turn
+pub record IsTurnThere (rs : List Record) (i turn : ℕ) : Type 0 where
   pub is : turn ≡ turn_at rs i
-  pub greatest : (task k : ℕ) → k < i → at running rs i ≡ Some task → at running rs k ≡ Some task
-      → turn_at rs k ≤ turn
-  pub reached : (index task : ℕ) (known : Latest) → slice_get tasks index ≡ Some task
-      → slice_get latest index ≡ Some known → at running rs i ≡ Some task → turn ≤ turn_now known
+  pub bound : (task : ℕ) → at running rs i ≡ Some task → NoneLater rs i task turn
 
 -- the task at the index runs next there, in this turn
-pub record IsBeginOf (rs : List Record) (tasks : List ℕ) (i index turn : ℕ) : Type 0 where
+pub record IsStartOf (rs : List Record) (tasks : List ℕ) (i index turn : ℕ) : Type 0 where
   pub task : ℕ
-  pub begins : at begun_turn rs i ≡ Some (task, turn)
+  pub starts : at begun_turn rs i ≡ Some (task, turn)
   pub indexed : slice_get tasks index ≡ Some task
 
--- a task of which this is known may begin the turn: it is no earlier one where none are told, and else the next,
+-- the task at the index begins this turn there
+pub record IsBeginOf (rs : List Record) (tasks : List ℕ) (i index turn : ℕ) : Type 0 where
+  pub task : ℕ
+  pub begins : BeginsTurn rs i task turn
+  pub indexed : slice_get tasks index ≡ Some task
+
+-- no task begins a turn there
+abbrev pub BeginsNone : List Record → ℕ → Type 0
+BeginsNone rs i = (task turn : ℕ) → BeginsTurn rs i task turn → ⊥
+
+-- a task of which this is known may begin the turn: no earlier one where none are told, and else the next one,
 -- which for a root is not turn 0
 pub data MayBegin (rs : List Record) (task : ℕ) (body : Body) (known : Latest) (turn : ℕ) : Type 0 where
   may_untold : told_turns body ≡ None → turn_now known ≤ turn → MayBegin rs task body known turn
   may_next : IsNext known turn → (turn ≡ 0 → IsExplicit rs task) → MayBegin rs task body known turn
 
--- the record at the place goes on as those before it, and what is known afterwards is right
+-- the record at the place has no gap and is in order, and what is known afterwards is right
 pub record IsStepOn (rs : List Record) (i : ℕ) (tasks : List ℕ) (latest : List Latest) : Type 0 where
   pub known : AreLatest rs (i + 1) tasks latest
   pub gapless : HasTurnGap rs i → ⊥
-  pub rises : (task k : ℕ) → k < i → at running rs i ≡ Some task → at running rs k ≡ Some task
-      → turn_at rs k ≤ turn_at rs i
+  pub in_order : IsInOrder rs i

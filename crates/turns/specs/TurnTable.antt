@@ -23,7 +23,8 @@ kept_turn kept thread task = option_map_or (λ (turn : ℕ). turn) (get pair_cmp
 -- for each task on each thread that turn is kept which the task began last there, by the first n records
 abbrev pub AreLastTurns : List Record → ℕ → BTreeMap (ℕ × ℕ) ℕ → Type 0
 AreLastTurns rs n kept =
-    (thread task : ℕ) → kept_turn kept thread task ≡ turn_in task (filter (λ q. q.thread == thread) (take n rs))
+    (thread task : ℕ)
+    → kept_turn kept thread task ≡ turn_in task (filter (λ q. q.thread == thread) (take n rs))
 
 -- the turn that the record begins is kept for its thread
 pub record IsTurnKept (old new : BTreeMap (ℕ × ℕ) ℕ) (r : Record) : Type 0 where

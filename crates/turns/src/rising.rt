@@ -1,5 +1,5 @@
 //! Whether file order is the tasks' own order already: one pass over the records, which costs little.
-ghost use Rattle.std.specs.Prelude.{ℕ, ◌≡◌, ◌≢◌, ◌↔◌, ◌<◌, List, Some, None, true, IfOk, IsTrue, IsSomeAnd, MatchOption, length, replicate, slice_get};
+ghost use Rattle.std.specs.Prelude.{ℕ, ◌≡◌, ◌≢◌, ◌↔◌, ◌<◌, List, Some, None, true, false, IfOk, IsTrue, IsSomeAnd, MatchOption, length, replicate, slice_get};
 ghost use Rattle.ompt_events.specs.declared.records.Record.{Record};
 ghost use Rattle.ompt_events.specs.declared.cause.Cause.TheVariants.{TurnGap};
 ghost use Rattle.ompt_events.specs.Records.{running, begun_root, told_turns, begun_turn};
@@ -8,7 +8,7 @@ ghost use Rattle.ompt_events.specs.Turns.{TellsNoTurns};
 ghost use Rattle.ompt_events.specs.Causes.{IsFreeOf};
 ghost use Rattle.task_tree.specs.Subjects.{Calls};
 ghost use Rattle.task_tree.specs.Family.{IsFamilyOf};
-ghost use Rattle.turns.specs.Rising.{TurnsRise, turn_now, not_begun, AreLatest, IsOnTurn, IsTurnThere, IsBeginOf, IsNext, MayBegin, IsStepOn};
+ghost use Rattle.turns.specs.Rising.{TurnsRise, AreInOrder, not_begun, turn_now, IsOnTurn, IsNext, AreLatest, IsTurnThere, IsStartOf, IsBeginOf, BeginsNone, MayBegin, IsStepOn};
 
 use ompt_events::Record;
 use std::alloc::{AllocError, Global};
@@ -39,11 +39,11 @@ impl Latest {
         }
     }
 
-    /// The turn that the task is in, if that can be told, where it runs on this thread. In turn 0 it may have
-    /// run on any.
+    /// The turn that the task is in, if that can be told, where it runs on this thread. In turn 0 it may run
+    /// on any.
     fn turn_on(self, thread: u8) -> Option<u32>
         ensures on { (turn : ℕ) → result ≡ Some turn → IsOnTurn self thread turn }
-        ensures first { turn_now self ≡ 0 → result ≡ Some 0 }
+        ensures off { result ≡ None → (turn_now self ≢ 0) × (thread ≢ self.thread) }
     {
         let turn = self.turn.unwrap_or(0);
         if turn == 0 || self.thread == thread {
@@ -64,18 +64,20 @@ impl Latest {
     }
 }
 
-/// Whether, along the file, no task's turns fall and no record tells turns which are not those of its tasks.
-/// At false nothing is known. It is true where no record tells a turn; and where each task begins the turns 0,
-/// 1, 2 and so on in file order, each of its records being made by the thread on which it began one last.
+/// Whether, along the file, each task comes to its turns in order and no record tells turns which are not
+/// those of its tasks. Then no task's turns fall. It is so where no record tells a turn; and where in file
+/// order each task begins the turns 0, 1, 2 and so on, makes each record on the thread on which it began one
+/// last, and tells those turns.
 pub fn turns_rise(alloc: Global, records: &[Record], family: &Family) -> Result<bool, AllocError>
     requires { IsFamilyOf records.now family.now }
+    ensures exact { IfOk result (λ rise. IsTrue rise
+        ↔ (AreInOrder records.now × IsFreeOf records.now TurnGap)) }
     ensures rises { IfOk result (λ rise. rise ≡ true → TurnsRise records.now) }
     ensures gapless { IfOk result (λ rise. rise ≡ true → IsFreeOf records.now TurnGap) }
     ensures untold { IfOk result (λ rise. TellsNoTurns records.now → rise ≡ true) }
 {
     let mut latest = none_begun(alloc, family.tasks().as_slice().len())?;
     for at in 0..records.len() {
-        begin_root(records, family, &mut latest, at);
         if !goes_on(records, family, &mut latest, at) {
             return Ok(false);
         }
@@ -90,31 +92,13 @@ fn none_begun(alloc: Global, tasks: usize) -> Result<Vec<Latest>, AllocError>
     vec![in alloc; Latest::none(); tasks]
 }
 
-/// Notes the root that begins at a place, if one does, and by that its turn 0.
-fn begin_root(records: &[Record], family: &Family, latest: &mut Vec<Latest>, at: usize)
-    requires within { at < length records.now }
-    requires family { IsFamilyOf records.now family.now }
-    requires latest { AreLatest records.now at family.now.tasks latest.old.items }
-    ensures { AreLatest records.now at family.now.tasks latest.new.items }
-{
-    let Some(index) = root_at(records, family, at) else {
-        return;
-    };
-    if latest[index].turn.is_none() {
-        latest[index] = Latest {
-            turn: Some(0),
-            thread: records[at].thread,
-        };
-    }
-}
-
-/// Whether the record at a place goes on as told above; if so, it is noted.
+/// Whether the record at a place has no gap and is in order, where those before it are; if so, it is noted.
 fn goes_on(records: &[Record], family: &Family, latest: &mut Vec<Latest>, at: usize) -> bool
     requires within { at < length records.now }
     requires family { IsFamilyOf records.now family.now }
     requires latest { AreLatest records.now at family.now.tasks latest.old.items }
     ensures on { result ≡ true → IsStepOn records.now at family.now.tasks latest.new.items }
-    ensures untold { TellsNoTurns records.now → result ≡ true }
+    ensures off { result ≡ false → AreInOrder records.now → IsFreeOf records.now TurnGap → ⊥ }
 {
     let event = &records[at];
     let Some(turn) = turn_there(records, family, latest.as_slice(), at) else {
@@ -141,9 +125,8 @@ fn turn_there(records: &[Record], family: &Family, latest: &[Latest], at: usize)
     requires within { at < length records.now }
     requires family { IsFamilyOf records.now family.now }
     requires latest { AreLatest records.now at family.now.tasks latest.now }
-    ensures there { (turn : ℕ) → result ≡ Some turn
-        → IsTurnThere records.now at family.now.tasks latest.now turn }
-    ensures untold { TellsNoTurns records.now → result ≢ None }
+    ensures there { (turn : ℕ) → result ≡ Some turn → IsTurnThere records.now at turn }
+    ensures none { result ≡ None → AreInOrder records.now → IsFreeOf records.now TurnGap → ⊥ }
 {
     match running_at(records, family, at) {
         Some(index) => latest[index].turn_on(records[at].thread),
@@ -164,10 +147,9 @@ fn tells_other(event: &Record, turn: u32) -> bool
 /// Whether a task of which this is known may begin the turn.
 fn may_begin(event: &Record, family: &Family, known: Latest, begin: Begin) -> bool
     requires { begin.index < length family.now.tasks }
-    ensures may { (records : List Record) (task : ℕ) → IsFamilyOf records family.now
-        → slice_get family.now.tasks begin.index ≡ Some task → result ≡ true
-        → MayBegin records task event.now.body known begin.turn }
-    ensures untold { told_turns event.now.body ≡ None → turn_now known ≡ 0 → result ≡ true }
+    ensures { (records : List Record) (task : ℕ) → IsFamilyOf records family.now
+        → slice_get family.now.tasks begin.index ≡ Some task
+        → IsTrue result ↔ MayBegin records task event.now.body known begin.turn }
 {
     if event.body.told_turns().is_none() {
         return known.turn.unwrap_or(0) <= begin.turn;
@@ -198,12 +180,25 @@ fn root_at(records: &[Record], family: &Family, at: usize) -> Option<usize>
     family.subject(at)
 }
 
-/// The task that runs next at a place, if one does, and the turn that it begins.
+/// The task that begins a turn at a place, if one does: a root that begins, or the task that runs next.
 fn begin_at(records: &[Record], family: &Family, at: usize) -> Option<Begin>
     requires within { at < length records.now }
     requires family { IsFamilyOf records.now family.now }
-    ensures { MatchOption result (says_at begun_turn records.now at ≡ None)
+    ensures { MatchOption result (BeginsNone records.now at)
         (λ begin. IsBeginOf records.now family.now.tasks at begin.index begin.turn) }
+{
+    match root_at(records, family, at) {
+        Some(index) => Some(Begin { index, turn: 0 }),
+        None => start_at(records, family, at),
+    }
+}
+
+/// The task that runs next at a place, if one does, and the turn that it begins.
+fn start_at(records: &[Record], family: &Family, at: usize) -> Option<Begin>
+    requires within { at < length records.now }
+    requires family { IsFamilyOf records.now family.now }
+    ensures { MatchOption result (says_at begun_turn records.now at ≡ None)
+        (λ begin. IsStartOf records.now family.now.tasks at begin.index begin.turn) }
 {
     let (_, turn) = records[at].body.begun_turn()?;
     let index = family.object(at)?;

@@ -46,11 +46,14 @@ fn turn_before(kept: &BTreeMap<(u8, u64), u32>, event: &Record) -> u32
     }
 }
 
-/// Keeps the turn that the record begins, if it begins one.
+/// Keeps the turn that the record begins, if it begins another than the one that is kept.
 fn keep_turn(kept: &mut BTreeMap<(u8, u64), u32>, event: &Record) -> Result<(), AllocError>
     ensures { OnOk result (IsTurnKept kept.old kept.new event.now) }
 {
-    if let Some((task, turn)) = event.body.begun_turn() {
+    let Some((task, turn)) = event.body.begun_turn() else {
+        return Ok(());
+    };
+    if kept_turn(kept, event.thread, task) != turn {
         kept.insert((event.thread, task), turn)?;
     }
     Ok(())
