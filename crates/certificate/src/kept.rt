@@ -60,6 +60,7 @@ impl Kept {
     }
 
     /// Adds the record, if there is room for it.
+    #[inline(always)]
     pub(crate) fn keep(&mut self, event: Record) -> Result<(), ReadCause>
         requires { IsSoundIn self.old.version event.body }
         ensures { IsSaid (result_map_both (λ _. self.new) (λ e. e) result)

@@ -186,24 +186,8 @@ fn version_read(newest: u32, found: Result<u64, ReadCause>) -> Option<u32>
     }
 }
 
-/// The record that a line of a file of this version stands for. A line as it is written is read directly.
-pub(crate) fn record_of(
-    alloc: Global,
-    version: u32,
-    line: &[u8],
-    scratch: &mut Scratch,
-) -> Result<Record, ReadCause>
-    ensures { IsSaid result (spec.line_says version line.now) }
-{
-    if let Some(event) = sound(alloc, version, line) {
-        return Ok(event);
-    }
-    other(alloc, version, line, scratch)
-}
-
-/// The record of a line in any form.
-#[inline(never)]
-fn other(
+/// The record that a line in any form stands for in a file of this version.
+pub(crate) fn other(
     alloc: Global,
     version: u32,
     line: &[u8],
@@ -218,8 +202,8 @@ fn other(
     record(alloc, version, &tape.root())
 }
 
-/// The record of a line as it is written, if it can stand in a trace of this version.
-fn sound(alloc: Global, version: u32, line: &[u8]) -> Option<Record>
+/// The record that a line as it is written stands for in a file of this version, if it can stand there.
+pub(crate) fn sound(alloc: Global, version: u32, line: &[u8]) -> Option<Record>
     ensures { IfSome result (λ event. spec.line_says version line.now ≡ Ok event) }
 {
     let event = canonical(alloc, version, line)?;

@@ -1,8 +1,8 @@
 //! The reader of trace files.
 ghost use Rattle.std.specs.Prelude.{◌≡◌, ◌≤◌, ◌+◌, ℕ, List, Option, length, Ok, true, IfOk, IfErr, IfSome};
 ghost use Rattle.std.specs.Result.{result_err, result_map_both};
-ghost use Rattle.certificate.specs.Files.{text_adds};
-ghost use Rattle.certificate.specs.RecordLines.{IsSaid};
+ghost use Rattle.certificate.specs.Files.{text_adds, with_header, with_record};
+ghost use Rattle.certificate.specs.RecordLines.{IsSaid, header_says, line_says};
 ghost use Rattle.std.specs.Io.KnownBytes.{Keeps, IsAtEnd, prepend_known};
 ghost use Rattle.certificate.specs.Counts.{TakesTurns, breaks_told, cause_told};
 ghost use Rattle.certificate.specs.Reading.{IsAnswer, IsAnswerTo, IsBetween, IsAfter, Grows};
@@ -11,7 +11,7 @@ ghost use Rattle.certificate.specs.Windows.{ShowsLine, ShowsFault, IsDeviceFault
 use crate::device::{DeviceFault, MAX_TURNS, Source};
 use crate::faults::{ReadCause, ReadFault};
 use crate::kept::Kept;
-use crate::lines::{header, record_of};
+use crate::lines::{header, other, sound};
 use crate::window::{MAX_LINE, Window};
 use json::Scratch;
 use ompt_events::{MAX_RECORDS, Trace};
@@ -122,7 +122,9 @@ fn read_line<S: Source>(
     }
 }
 
-/// Takes the text of the line of this number: the header, or a record that is kept.
+/// Takes the text of the line of this number: the header, or a record that is kept. Compiled, a line as it is
+/// written has this function to itself: with the loop or the other forms beside it, it runs slower.
+#[inline(never)]
 fn take_text(
     alloc: Global,
     newest: u32,
@@ -136,11 +138,43 @@ fn take_text(
         (text_adds newest line kept.old text.now) }
 {
     if line == 1 {
-        kept.begin(header(alloc, newest, text, scratch)?);
-        Ok(())
-    } else {
-        kept.keep(record_of(alloc, kept.version(), text, scratch)?)
+        return take_header(alloc, newest, text, kept, scratch);
     }
+    match sound(alloc, kept.version(), text) {
+        Some(event) => kept.keep(event),
+        None => take_other(alloc, text, kept, scratch),
+    }
+}
+
+/// Takes the text of the header, which begins the trace.
+#[inline(never)]
+fn take_header(
+    alloc: Global,
+    newest: u32,
+    text: &[u8],
+    kept: &mut Kept,
+    scratch: &mut Scratch,
+) -> Result<(), ReadCause>
+    requires { newest ≤ 2 }
+    ensures { IsSaid (result_map_both (λ _. kept.new) (λ e. e) result)
+        (with_header (header_says newest text.now)) }
+{
+    kept.begin(header(alloc, newest, text, scratch)?);
+    Ok(())
+}
+
+/// Takes the text of a record in any form.
+#[inline(never)]
+fn take_other(
+    alloc: Global,
+    text: &[u8],
+    kept: &mut Kept,
+    scratch: &mut Scratch,
+) -> Result<(), ReadCause>
+    ensures { IsSaid (result_map_both (λ _. kept.new) (λ e. e) result)
+        (with_record kept.old (line_says kept.old.version text.now)) }
+{
+    kept.keep(other(alloc, kept.version(), text, scratch)?)
 }
 
 /// The length of the next line, which the window then begins with; none at the end of the input.

@@ -1,0 +1,7 @@
+use Rattle.certificate.specs.declared.faults.ReadCause.TheVariants.{Memory}
+use Rattle.certificate.proofs.RecordLemmas.{ok_not_err}
+use Rattle.certificate.proofs.ReadingLemmas.{header_says-known}
+use Rattle.certificate.proofs.reading.take_header.Goals as goal
+
+pub begin-requires : goal.begin-requires
+begin-requires c = header_says-known c.args.newest c.args.text.now _ c.requires (c.in_ok-header.ensures (ok_not_err _ Memory))
