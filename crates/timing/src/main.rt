@@ -17,7 +17,6 @@ mod shares;
 mod states;
 mod tables;
 mod tree;
-
 mod verdict;
 mod waits;
 

@@ -1,6 +1,8 @@
 //! Lists of records that are no trace for a reason that no file has, and a thread's buffer.
 use anyhow::Result;
-use ompt_events::{Body, CancelFlags, Claim, Endpoint, Path, Record, Status, TaskFlags, Trace, Turns};
+use ompt_events::{
+    Body, CancelFlags, Claim, Endpoint, Path, Record, Status, TaskFlags, Trace, Turns,
+};
 use std::alloc::{AllocError, Global};
 use thread_buffers::Buffer;
 
@@ -54,10 +56,22 @@ fn one(alloc: Global, event: Record) -> Result<Vec<Record>, AllocError> {
 fn turning_record(number: u8) -> (&'static str, Record) {
     let turns = Some(Turns { prior: 1, next: 0 });
     match number {
-        0 => ("a switch with turns", schedules(Status::Switch, turns, Some(1))),
-        1 => ("a switch without turns", schedules(Status::Switch, None, Some(1))),
-        2 => ("an early fulfilment with turns", schedules(Status::EarlyFulfill, turns, None)),
-        3 => ("an early fulfilment without turns", schedules(Status::EarlyFulfill, None, None)),
+        0 => (
+            "a switch with turns",
+            schedules(Status::Switch, turns, Some(1)),
+        ),
+        1 => (
+            "a switch without turns",
+            schedules(Status::Switch, None, Some(1)),
+        ),
+        2 => (
+            "an early fulfilment with turns",
+            schedules(Status::EarlyFulfill, turns, None),
+        ),
+        3 => (
+            "an early fulfilment without turns",
+            schedules(Status::EarlyFulfill, None, None),
+        ),
         _ => ("no schedule", creates(TaskFlags::EXPLICIT)),
     }
 }

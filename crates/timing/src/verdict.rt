@@ -1,5 +1,6 @@
 //! What the calls on a trace answer, the order of a yes among them, and the orders that leave a task incomplete.
 ghost use Rattle.std.specs.Prelude.{◌≡◌};
+
 use crate::lines::trace_of_input;
 use anyhow::Result;
 use checker::{Order, Verdict, check, counter_order};
