@@ -59,7 +59,8 @@ with_header (Ok version) = Ok (record { version = version; records = [] })
 -- the trace after the line of number n, which is not too long, when this one stands before it
 abbrev pub text_adds : ℕ → ℕ → TraceView → List ℕ → Result TraceView ReadCause
 text_adds newest n before line =
-    if n == 1 then with_header (header_says newest line) else with_record before (line_says before.version line)
+    if n == 1 then with_header (header_says newest line)
+    else with_record before (line_says before.version line)
 
 -- the same of any line
 abbrev pub line_adds : ℕ → ℕ → TraceView → List ℕ → Result TraceView ReadCause

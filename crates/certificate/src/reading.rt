@@ -122,8 +122,8 @@ fn read_line<S: Source>(
     }
 }
 
-/// Takes the text of the line of this number: the header, or a record that is kept. Compiled, a line as it is
-/// written has this function to itself: with the loop or the other forms beside it, it runs slower.
+/// Takes the text of the line of this number: the header, or a record that is kept. Compiled, a line as it
+/// is written has this function to itself: with the loop or the other forms beside it, it runs slower.
 #[inline(never)]
 fn take_text(
     alloc: Global,
