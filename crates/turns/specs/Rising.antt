@@ -19,8 +19,8 @@ TurnsRise rs =
 abbrev pub NoneLater : List Record → ℕ → ℕ → ℕ → Type 0
 NoneLater rs i task turn = (k later : ℕ) → k < i → BeginsTurn rs k task later → later ≤ turn
 
--- as far as the file has come to the record, no later turn has begun of the task that it is of than the one that
--- it is in, nor of a task that begins a turn there than that one
+-- as far as the file has come to the record, no later turn has begun of the task that it is of than the one
+-- that it is in, nor of a task that begins a turn there than that one
 pub record IsInOrder (rs : List Record) (i : ℕ) : Type 0 where
   pub own : (task : ℕ) → at running rs i ≡ Some task → NoneLater rs i task (turn_at rs i)
   pub begins : (task turn : ℕ) → BeginsTurn rs i task turn → NoneLater rs i task turn
@@ -87,7 +87,7 @@ pub record IsBeginOf (rs : List Record) (tasks : List ℕ) (i index turn : ℕ) 
 abbrev pub BeginsNone : List Record → ℕ → Type 0
 BeginsNone rs i = (task turn : ℕ) → BeginsTurn rs i task turn → ⊥
 
--- a task of which this is known may begin the turn: no earlier one where none are told, and else the next one,
+-- a task of which this is known may begin the turn: no earlier one where none are told, and else the next,
 -- which for a root is not turn 0
 pub data MayBegin (rs : List Record) (task : ℕ) (body : Body) (known : Latest) (turn : ℕ) : Type 0 where
   may_untold : told_turns body ≡ None → turn_now known ≤ turn → MayBegin rs task body known turn
