@@ -17,8 +17,8 @@ use task_tree::Tree;
 /// `TurnGap`, `StatusOrder` and `RegionOrder`.
 pub type StateFault = Fault;
 
-/// Takes each task of a trace of version 1 through its states, as `States::in_run` does. The tree must be that
-/// of the trace's tasks.
+/// Takes each task of a trace of version 1 through its states, as `States::in_run` does. The tree must be
+/// that of the trace's tasks.
 pub fn run<'a>(alloc: Global, trace: &'a Trace, tree: &'a Tree) -> Result<States<'a>, StateFault>
     requires version { trace.now.version ≡ 1 }
     requires tree { IsTreeOf trace.now.records tree.now }
@@ -37,8 +37,8 @@ pub fn run<'a>(alloc: Global, trace: &'a Trace, tree: &'a Tree) -> Result<States
     States::in_run(alloc, &tasks)
 }
 
-/// The first record of a trace of version 1 at which a parallel region lies inside another (OpenMP 5.2, 10.1),
-/// as `find_nested` finds it. The tree must be that of the trace's tasks.
+/// The first record of a trace of version 1 at which a parallel region lies inside another (OpenMP 5.2,
+/// 10.1), as `find_nested` finds it. The tree must be that of the trace's tasks.
 pub fn nested(alloc: Global, trace: &Trace, tree: &Tree) -> Result<Option<usize>, StateFault>
     requires version { trace.now.version ≡ 1 }
     requires tree { IsTreeOf trace.now.records tree.now }

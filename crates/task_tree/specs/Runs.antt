@@ -23,8 +23,8 @@ pub record RunView : Type 0 where
   pub records : List Record
   pub family : FamilyView
 
--- the records are a trace, and the family is theirs; no record tells a turn, so that each task's own order is that
--- of the file
+-- the records are a trace, and the family is theirs; no record tells a turn, so that each task's own order is
+-- that of the file
 pub record IsRun (run : RunView) : Type 0 where
   pub trace : IsTrace run.records
   pub untold : TellsNoTurns run.records

@@ -1,5 +1,6 @@
-//! Runs one layer alone. `bench/` times the words `values`, `read`, `write`, `rise`, `arrange`, `ledger`, `coverage`,
-//! `open` and `calls`; `tests/` compares what the other words print. Nothing is promised but safety. Begin at `run`.
+//! Runs one layer alone. `bench/` times the words `values`, `read`, `write`, `rise`, `turns`, `arrange`, `ledger`,
+//! `coverage`, `open` and `calls`; `tests/` compares what the other words print. Nothing is promised but safety.
+//! Begin at `run`.
 #![tactic(auto)]
 
 mod calls;
@@ -24,8 +25,8 @@ use anyhow::{Result, bail};
 use std::env;
 
 const WORDS: &str =
-    "values, read, write, lines, lines_with_turns, turns, rise, arrange, names, tables, shares, states, ledger, \
-     devices, refusals, tree, edges, verdict, counters, waits, coverage, open, shared or calls";
+    "values, read, write, lines, lines_with_turns, turns, rise, arrange, names, tables, shares, states, \
+     ledger, devices, refusals, tree, edges, verdict, counters, waits, coverage, open, shared or calls";
 
 /// Does what the word asks for.
 fn run(rt: &HostRuntime, word: &str) -> Result<()> {
