@@ -12,11 +12,11 @@ TASKS = ('task', 'child', 'prior', 'next', 'root')
 
 
 class Record(SimpleNamespace):
-    """A record: its line number, the text and the value of the line, and what it says (the module Records of
-    docs/MODEL.md)."""
+    """A record of a file of version 1: its line number, the text and the value of the line, and what it says (the
+    module Records of docs/MODEL.md)."""
 
     def __init__(self, number, text, value):
-        super().__init__(**{**dict.fromkeys(RECORDS_SAY), **said_by(value)})
+        super().__init__(**{**dict.fromkeys(RECORDS_SAY), **said_by(value, tells_turns=False)})
         self.number, self.text, self.value = number, text, value
         self.thread, self.seq, self.seen = value['thread'], value['seq'], value['seen']
 
