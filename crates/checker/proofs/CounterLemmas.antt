@@ -16,17 +16,18 @@ use Rattle.ompt_events.specs.Places.{at, thread_at, places}
 use Rattle.ompt_events.specs.HappensBefore.{HappensBefore, chain}
 use Rattle.ompt_events.specs.Linearization.{IsEarlier, IsLinearization, IsReady, IsFirstReady, IsGreedy, IsGreedyAfter}
 use Rattle.ompt_events.specs.Completion.{IsPartFinished, CountsIn, CountsAt, IsCompleteIn, IsCompleteAt}
-use Rattle.ompt_events.specs.Violations.{IsUnfinished}
-use Rattle.ompt_events.specs.Causes.{IsFreeOf, IsWellFormed}
-use Rattle.ompt_events.specs.CauseNames.{all_causes}
+use Rattle.ompt_events.specs.Causes.{IsFreeOf}
 use Rattle.ompt_events.proofs.PlaceLemmas.{Contains-filter, contains_place}
 use Rattle.ompt_events.proofs.HappensBeforeLemmas.{before_from}
-use Rattle.checker.specs.Counter.{AreBounds, IsEarliestOrder, IsCounterOrder, IsBelow, is_below}
+use Rattle.checker.specs.Readings.{Reading, by_file}
+use Rattle.checker.specs.Verdicts.{ShowsNone, IsUnfinished}
+use Rattle.checker.specs.Search.{ClearView, IsClearView}
+use Rattle.checker.specs.Counter.{AreBounds, IsEarliestOrder, IsCounterOrderBy, IsBelow, is_below}
 use Rattle.checker.specs.Merge.{AreInTurn, IsGreedyBehind}
 use Rattle.checker.proofs.MergeLemmas.{thread_of}
 use Rattle.checker.proofs.MergingLemmas.{each_more}
 use Rattle.checker.proofs.EarlierLemmas.{earlier_first, earlier_cases, earlier_right, earlier_across, earlier_append_cases, earlier_to, earlier_apart, order_apart, filter_holds}
-use Rattle.checker.proofs.MissedLemmas.{before_known, known_finish}
+use Rattle.checker.proofs.MissedLemmas.{before_known, known_finish, file_shows_none}
 
 -- ---- some of a greedy order
 
@@ -207,11 +208,15 @@ complete_earliest rs i task order free permutation is complete = elim complete [
     of p (k, finishes, counted) = (k, finishes, counts k p finishes counted)
 
 -- so that order leaves an unfinished task incomplete
-pub counter_by : (rs : List Record) (i task : ℕ) (order : List ℕ) → IsWellFormed rs all_causes → IsLinearization rs order → IsEarliestOrder rs i order → IsUnfinished rs i task → IsCounterOrder rs i task order
-counter_by rs i task order clear linear is unfinished = record {
+pub counter_by : (reading : Reading) (i task : ℕ) (order : List ℕ) → ShowsNone reading → IsFreeOf reading.records LengthBack → IsLinearization reading.records order → IsEarliestOrder reading.records i order → IsUnfinished reading i task → IsCounterOrderBy reading i task order
+counter_by reading i task order clear free linear is unfinished = record {
   well_formed = clear;
   required = unfinished.required;
   linearization = linear;
-  incomplete = λ complete. unfinished.incomplete (complete_earliest rs i task order (clear LengthBack (14, omega arith, refl)) linear.all_once is complete);
+  incomplete = λ complete. unfinished.incomplete (complete_earliest reading.records i task order free linear.all_once is complete);
   earliest = is;
 }
+
+-- the same of a run without a cause, by the order of its file
+pub file_counter : (view : ClearView) (i task : ℕ) (order : List ℕ) → IsClearView view → IsLinearization view.run.records order → IsEarliestOrder view.run.records i order → IsUnfinished (by_file view.run.records) i task → IsCounterOrderBy (by_file view.run.records) i task order
+file_counter view i task order clear = counter_by (by_file view.run.records) i task order (file_shows_none view.run.records clear.well_formed) (clear.well_formed LengthBack (14, omega arith, refl))

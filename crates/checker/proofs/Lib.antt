@@ -17,4 +17,5 @@ mod StartLemmas
 mod LateLemmas
 mod PhaseLemmas
 mod VerdictLemmas
+mod ReadingLemmas
 mod BeforeLemmas

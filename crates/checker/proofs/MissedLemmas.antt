@@ -16,13 +16,14 @@ use Rattle.ompt_events.specs.HappensBefore.{IsStep, HappensBefore, program, ledg
 use Rattle.ompt_events.specs.Linearization.{IsEarlier, IsLinearization}
 use Rattle.ompt_events.specs.Completion.{IsPartFinished, CountsIn, CountsAt, IsCompleteIn, IsCompleteAt}
 use Rattle.ompt_events.specs.Causes.{IsFreeOf, known_after, length_back}
-use Rattle.ompt_events.specs.Violations.{IsRequired, IsUnfinished, IsFirstUnfinished}
+use Rattle.ompt_events.specs.CauseNames.{all_causes}
 use Rattle.checker.specs.declared.verdict.Why.{Why}
-use Rattle.checker.specs.Verdicts.{IsMissed, IsFirstMissed, IsRejected, task_of}
-use Rattle.checker.specs.Search.{ClearView, IsClearView, IsFirstViolation}
+use Rattle.checker.specs.Readings.{Reading, by_file, IsRequiredBy}
+use Rattle.checker.specs.Verdicts.{ShowsNone, IsUnfinished, IsFirstUnfinished, IsMissed, IsFirstMissed, IsRejected, task_of}
+use Rattle.checker.specs.Search.{IsClear, IsOfRecords, ClearView, IsClearView, IsFirstViolation}
 use Rattle.ompt_events.proofs.PlaceLemmas.{Contains-filter, contains_place, at_within}
 use Rattle.checker.proofs.LengthLemmas.{known_least}
-use Rattle.checker.proofs.VerdictLemmas.{complete_in, required_cases, cover_ends, preceded_starts}
+use Rattle.checker.proofs.VerdictLemmas.{complete_in, preceded_starts, of_file, listed}
 use Rattle.checker.proofs.EarlierLemmas.{earlier_first, earlier_behind, earlier_cases, earlier_left, earlier_right, earlier_across, earlier_append_cases, earlier_filter, earlier_from, earlier_to, earlier_apart, order_apart, split_at, filter_holds}
 
 -- ---- what happens before a record is known there
@@ -178,19 +179,20 @@ complete_at rs i task front back permutation complete = elim complete [
 
 -- ---- unfinished is missed
 
-pub required_within : (rs : List Record) (i task : ℕ) → IsRequired rs i task → i < length rs
-required_within rs i task required = elim (required_cases rs i task required) [
-  | inl covers ↦ let ends = cover_ends rs i task covers in at_within region rs i ends.0 ends.1
-  | inr precedes ↦ elim (preceded_starts rs i task precedes).1 [
-    | inl starts ↦ at_within started rs i (preceded_starts rs i task precedes).0 starts
-    | inr completes ↦ at_within wait_completed rs i (preceded_starts rs i task precedes).0 completes
-  ]
-]
+pub required_within : (reading : Reading) (i task : ℕ) → IsOfRecords reading → IsRequiredBy reading i task → i < length reading.records
+required_within reading i task of (inl covers) = of.within i task covers
+required_within reading i task of (inr precedes) =
+    let own = preceded_starts reading i task precedes in
+    elim own.1 [
+      | inl starts ↦ at_within started reading.records i own.0 starts
+      | inr completes ↦ at_within wait_completed reading.records i own.0 completes
+    ]
 
 -- an unfinished task is incomplete where the record comes as early as the ledger lengths allow
-pub missed_by : (rs : List Record) (order : List ℕ) (i task : ℕ) → IsFreeOf rs LengthBack → IsLinearization rs order → IsUnfinished rs i task → IsMissed rs i task
-missed_by rs order i task free linear unfinished =
-    let has : Contains order i = Contains-permutation (places rs) order i linear.all_once (contains_place rs i (required_within rs i task unfinished.required)) in
+pub missed_by : (reading : Reading) (order : List ℕ) (i task : ℕ) → IsOfRecords reading → IsFreeOf reading.records LengthBack → IsLinearization reading.records order → IsUnfinished reading i task → IsMissed reading i task
+missed_by reading order i task of free linear unfinished =
+    let rs = reading.records in
+    let has : Contains order i = Contains-permutation (places rs) order i linear.all_once (contains_place rs i (required_within reading i task of unfinished.required)) in
     let parts = split_at order i has in
     let P : List ℕ → Type 0 = IsLinearization rs in
     let moved = moved_linear rs i parts.0 parts.1 free (subst P parts.2 linear) in
@@ -202,27 +204,31 @@ missed_by rs order i task free linear unfinished =
     }
 
 -- and a missed one is unfinished
-pub unfinished_by : (rs : List Record) (i task : ℕ) → IsMissed rs i task → IsUnfinished rs i task
-unfinished_by rs i task missed = record {
+pub unfinished_by : (reading : Reading) (i task : ℕ) → IsMissed reading i task → IsUnfinished reading i task
+unfinished_by reading i task missed = record {
   required = missed.required;
-  incomplete = λ complete. missed.incomplete (complete_in rs missed.order i task missed.linearization complete);
+  incomplete = λ complete. missed.incomplete (complete_in reading.records missed.order i task missed.linearization complete);
 }
 
 -- so the first unfinished task is the first missed one
-pub first_missed : (rs : List Record) (order : List ℕ) (i task : ℕ) → IsFreeOf rs LengthBack → IsLinearization rs order → IsFirstUnfinished rs i task → IsFirstMissed rs i task
-first_missed rs order i task free linear is = record {
-  missed = missed_by rs order i task free linear is.unfinished;
-  first = λ k other below missed. is.first k other below (unfinished_by rs k other missed);
+pub first_missed : (reading : Reading) (order : List ℕ) (i task : ℕ) → IsOfRecords reading → IsFreeOf reading.records LengthBack → IsLinearization reading.records order → IsFirstUnfinished reading i task → IsFirstMissed reading i task
+first_missed reading order i task of free linear is = record {
+  so = missed_by reading order i task of free linear is.so;
+  first = λ k other below missed. is.first k other below (unfinished_by reading k other missed);
   creation = is.creation;
   is_created = is.is_created;
-  created_first = λ k other below creates missed. is.created_first k other below creates (unfinished_by rs i other missed);
+  created_first = λ k other below creates missed. is.created_first k other below creates (unfinished_by reading i other missed);
 }
 
+-- where no cause occurs by the order of the file, no record shows one by it
+pub file_shows_none : (rs : List Record) → IsClear rs all_causes → ShowsNone (by_file rs)
+file_shows_none rs clear i cause has = clear cause (listed cause) i has
+
 -- a no
-pub rejected : (view : ClearView) (i : ℕ) (why : Why) → IsClearView view → IsFirstViolation view.run.records i why → IsRejected view.run.records i why
+pub rejected : (view : ClearView) (i : ℕ) (why : Why) → IsClearView view → IsFirstViolation (by_file view.run.records) i why → IsRejected (by_file view.run.records) i why
 rejected view i why clear found = record {
-  well_formed = clear.well_formed;
+  well_formed = file_shows_none view.run.records clear.well_formed;
   unfinished = found.unfinished;
-  missed = first_missed view.run.records view.order i (task_of why) (clear.well_formed LengthBack (14, omega arith, refl)) clear.linearization found.unfinished;
+  missed = first_missed (by_file view.run.records) view.order i (task_of why) (of_file view.run.records) (clear.well_formed LengthBack (14, omega arith, refl)) clear.linearization found.unfinished;
   reason = found.reason;
 }

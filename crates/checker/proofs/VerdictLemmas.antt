@@ -23,20 +23,17 @@ use Rattle.ompt_events.specs.declared.names.SyncKind.{SyncKind}
 use Rattle.ompt_events.specs.declared.names.SyncKind.TheVariants.{Taskwait, Taskgroup}
 use Rattle.ompt_events.specs.declared.names.Endpoint.{Endpoint}
 use Rattle.ompt_events.specs.declared.names.Endpoint.TheVariants.{End, BeginEnd}
-use Rattle.ompt_events.specs.Violations.{IsRequired, IsUnfinished, covered, preceding, awaited}
 use Rattle.ompt_events.specs.Causes.{IsFreeOf, no_order}
-use Rattle.wait_coverage.specs.Spans.{IsCoverComplete}
-use Rattle.wait_coverage.specs.Waits.{IsOpen, IsFirstOpenEnd}
 use Rattle.ompt_events.specs.CauseNames.{all_causes}
-use Rattle.checker.specs.Verdicts.{AreComplete, IsAlwaysComplete, IsApproved}
-use Rattle.checker.specs.Starts.{IsPreceded, IsLate, AreReady, IsFirstLateStart}
-use Rattle.checker.specs.Search.{IsClear, AreAllCovered, AreAllReady, IsFirstViolation}
+use Rattle.checker.specs.Readings.{Reading, by_file, IsPrecededBy}
+use Rattle.checker.specs.Verdicts.{ShowsNone, AreComplete, IsAlwaysComplete, IsUnfinished, IsOpenBy, IsLateBy, IsApproved}
+use Rattle.checker.specs.Search.{IsClear, IsOfRecords, AreAllCovered, AreAllReady, IsFirstOpenBy, IsFirstLateBy, IsFirstViolation}
 use Rattle.checker.specs.declared.verdict.Why.TheVariants.{Unfinished, Predecessor}
 use Rattle.std.proofs.lemmas.List.{length-take, get_or-take}
 use Rattle.std.proofs.lemmas.List.FromFn.{length-range_with_len, get_or-range_with_len}
 use Rattle.std.proofs.lemmas.List.Sorted.{IsPermutation-refl}
 use Rattle.ompt_events.proofs.TurnLemmas.{start_starts}
-use Rattle.ompt_events.proofs.PlaceLemmas.{contains_place}
+use Rattle.ompt_events.proofs.PlaceLemmas.{contains_place, at_within}
 use Rattle.ompt_events.proofs.HappensBeforeLemmas.{before_to}
 use Rattle.ompt_events.proofs.LinearizationLemmas.{greedy_grounded}
 use Rattle.checker.proofs.ScheduleLemmas.{before_less}
@@ -56,71 +53,59 @@ complete_in rs order i task linear (inr (body, event)) = inr (part_in rs order i
 
 -- ---- the first violation
 
--- what must be complete is covered, or precedes what starts
-pub required_cases : (rs : List Record) (i task : ℕ) → IsRequired rs i task → Covers rs i task ⊎ IsPreceded rs i task
-required_cases rs i task (covered covers) = inl covers
-required_cases rs i task (preceding {dependent = dependent} explicit start before) = inr (inl (dependent, explicit, start, before))
-required_cases rs i task (awaited {dependent = dependent} completes before) = inr (inr (dependent, completes, before))
-
-preceded_required : (rs : List Record) (i task : ℕ) → IsPreceded rs i task → IsRequired rs i task
-preceded_required rs i task (inl (dependent, explicit, start, before)) = preceding explicit start before
-preceded_required rs i task (inr (dependent, completes, before)) = awaited completes before
-
-pub all_complete : (rs : List Record) → AreAllCovered rs → AreAllReady rs → (i : ℕ) → AreComplete rs i
-all_complete rs ends starts i task required = elim (required_cases rs i task required) [
-  | inl covers ↦ ends i task covers
-  | inr precedes ↦ starts i task precedes
-]
+pub all_complete : (reading : Reading) → AreAllCovered reading → AreAllReady reading → (i : ℕ) → AreComplete reading i
+all_complete reading ends starts i task (inl covers) = ends i task covers
+all_complete reading ends starts i task (inr precedes) = starts i task precedes
 
 -- what is unfinished is open where a wait ends, or late where a task starts or a taskwait is complete
-pub open_unfinished : (rs : List Record) (i task : ℕ) → IsOpen rs i task → IsUnfinished rs i task
-open_unfinished rs i task is = record { required = covered is.covered; incomplete = is.incomplete }
+pub open_unfinished : (reading : Reading) (i task : ℕ) → IsOpenBy reading i task → IsUnfinished reading i task
+open_unfinished reading i task is = record { required = inl is.0; incomplete = is.1 }
 
-pub late_unfinished : (rs : List Record) (i task : ℕ) → IsLate rs i task → IsUnfinished rs i task
-late_unfinished rs i task is = record { required = preceded_required rs i task is.0; incomplete = is.1 }
+pub late_unfinished : (reading : Reading) (i task : ℕ) → IsLateBy reading i task → IsUnfinished reading i task
+late_unfinished reading i task is = record { required = inr is.0; incomplete = is.1 }
 
-pub unfinished_cases : (rs : List Record) (i task : ℕ) → IsUnfinished rs i task → IsOpen rs i task ⊎ IsLate rs i task
-unfinished_cases rs i task is = elim (required_cases rs i task is.required) [
-  | inl covers ↦ inl (record { covered = covers; incomplete = is.incomplete })
+pub unfinished_cases : (reading : Reading) (i task : ℕ) → IsUnfinished reading i task → IsOpenBy reading i task ⊎ IsLateBy reading i task
+unfinished_cases reading i task is = elim is.required [
+  | inl covers ↦ inl (covers, is.incomplete)
   | inr precedes ↦ inr (precedes, is.incomplete)
 ]
 
 -- an end before which all is ready
-pub open_before : (rs : List Record) (i task : ℕ) → IsFirstOpenEnd rs i task → ((k : ℕ) → k ≤ i → AreReady rs k) → IsFirstViolation rs i (Unfinished task)
-open_before rs i task is ready = record {
+pub open_before : (reading : Reading) (i task : ℕ) → IsFirstOpenBy reading i task → ((k other : ℕ) → k ≤ i → IsLateBy reading k other → ⊥) → IsFirstViolation reading i (Unfinished task)
+open_before reading i task is ready = record {
   unfinished = record {
-    unfinished = record { required = covered is.first_open.is_open.covered; incomplete = is.first_open.is_open.incomplete };
-    first = λ k other below unfinished. elim (required_cases rs k other unfinished.required) [
-      | inl covers ↦ unfinished.incomplete (is.before k below other covers)
-      | inr precedes ↦ unfinished.incomplete (ready k (omega (arith, below)) other precedes)
+    so = open_unfinished reading i task is.so;
+    first = λ k other below unfinished. elim (unfinished_cases reading k other unfinished) [
+      | inl opened ↦ is.first k other below opened
+      | inr late ↦ ready k other (omega (arith, below)) late
     ];
-    creation = is.first_open.creation;
-    is_created = is.first_open.is_created;
-    created_first = λ k other below creates unfinished. elim (required_cases rs i other unfinished.required) [
-      | inl covers ↦ is.first_open.created_first k other below creates (record { covered = covers; incomplete = unfinished.incomplete })
-      | inr precedes ↦ unfinished.incomplete (ready i (omega arith) other precedes)
+    creation = is.creation;
+    is_created = is.is_created;
+    created_first = λ k other below creates unfinished. elim (unfinished_cases reading i other unfinished) [
+      | inl opened ↦ is.created_first k other below creates opened
+      | inr late ↦ ready i other (omega arith) late
     ];
   };
-  reason = is.first_open.is_open.covered;
+  reason = is.so.0;
 }
 
 -- a start before which all that ends cover is complete
-pub late_before : (rs : List Record) (i task : ℕ) → IsFirstLateStart rs i task → ((k : ℕ) → k ≤ i → IsCoverComplete rs k) → IsFirstViolation rs i (Predecessor task)
-late_before rs i task is complete = record {
+pub late_before : (reading : Reading) (i task : ℕ) → IsFirstLateBy reading i task → ((k other : ℕ) → k ≤ i → IsOpenBy reading k other → ⊥) → IsFirstViolation reading i (Predecessor task)
+late_before reading i task is complete = record {
   unfinished = record {
-    unfinished = record { required = preceded_required rs i task is.first_late.late.0; incomplete = is.first_late.late.1 };
-    first = λ k other below unfinished. elim (required_cases rs k other unfinished.required) [
-      | inl covers ↦ unfinished.incomplete (complete k (omega (arith, below)) other covers)
-      | inr precedes ↦ unfinished.incomplete (is.before k below other precedes)
+    so = late_unfinished reading i task is.so;
+    first = λ k other below unfinished. elim (unfinished_cases reading k other unfinished) [
+      | inl opened ↦ complete k other (omega (arith, below)) opened
+      | inr late ↦ is.first k other below late
     ];
-    creation = is.first_late.creation;
-    is_created = is.first_late.is_created;
-    created_first = λ k other below creates unfinished. elim (required_cases rs i other unfinished.required) [
-      | inl covers ↦ unfinished.incomplete (complete i (omega arith) other covers)
-      | inr precedes ↦ is.first_late.created_first k other below creates (precedes, unfinished.incomplete)
+    creation = is.creation;
+    is_created = is.is_created;
+    created_first = λ k other below creates unfinished. elim (unfinished_cases reading i other unfinished) [
+      | inl opened ↦ complete i other (omega arith) opened
+      | inr late ↦ is.created_first k other below creates late
     ];
   };
-  reason = is.first_late.late.0;
+  reason = is.so.0;
 }
 
 -- a record that ends a region starts nothing
@@ -129,7 +114,7 @@ region_or_schedule (SyncRegion kind endpoint parallel own) says task ends (inl s
 region_or_schedule (SyncRegion kind endpoint parallel own) says task ends (inr completes) = none-some task completes
 region_or_schedule _ says task ends starts = none-some says ends
 
-at_cases : (rs : List Record) (i task : ℕ) (own : ℕ × SyncKind × Endpoint) → at region rs i ≡ Some own → (at started rs i ≡ Some task) ⊎ (at wait_completed rs i ≡ Some task) → ⊥
+pub at_cases : (rs : List Record) (i task : ℕ) (own : ℕ × SyncKind × Endpoint) → at region rs i ≡ Some own → (at started rs i ≡ Some task) ⊎ (at wait_completed rs i ≡ Some task) → ⊥
 at_cases rs i task own ends starts = of (slice_get rs i) ends starts
   where
     of : (o : Option Record) → option_and_then (λ (r : Record). region r.body) o ≡ Some own → (option_and_then (λ (r : Record). started r.body) o ≡ Some task) ⊎ (option_and_then (λ (r : Record). wait_completed r.body) o ≡ Some task) → ⊥
@@ -145,36 +130,34 @@ cover_ends rs i task (coverage.waited {parent = parent} {begin = begin} is found
 cover_ends rs i task (coverage.grouped {parent = parent} {begin = begin} is found of) = region_ends rs i parent begin Taskgroup is
 cover_ends rs i task (coverage.synchronised {own = own} {begin = begin} {kind = kind} number is barrier begins mate other found of) = region_ends rs i own begin kind is
 
-pub preceded_starts : (rs : List Record) (i task : ℕ) → IsPreceded rs i task → (own : ℕ) × ((at started rs i ≡ Some own) ⊎ (at wait_completed rs i ≡ Some own))
-preceded_starts rs i task (inl (dependent, explicit, start, before)) = (dependent, inl (start_starts rs i dependent start))
-preceded_starts rs i task (inr (dependent, completes, before)) = (dependent, inr completes)
+pub preceded_starts : (reading : Reading) (i task : ℕ) → IsPrecededBy reading i task → (own : ℕ) × ((at started reading.records i ≡ Some own) ⊎ (at wait_completed reading.records i ≡ Some own))
+preceded_starts reading i task (inl (dependent, explicit, start, before)) = (dependent, inl (start_starts reading.records i dependent start))
+preceded_starts reading i task (inr (dependent, completes, before)) = (dependent, inr completes)
 
-not_both : (rs : List Record) (i task other : ℕ) → Covers rs i task → IsPreceded rs i other → ⊥
-not_both rs i task other covers precedes =
-    let ends = cover_ends rs i task covers in
-    let starts = preceded_starts rs i other precedes in
-    at_cases rs i starts.0 ends.0 ends.1 starts.1
-
--- what ends and what starts are at different records
-pub one_first : (rs : List Record) (end start task predecessor : ℕ) → IsFirstOpenEnd rs end task → IsFirstLateStart rs start predecessor → end ≡ start → ⊥
-one_first rs end start task predecessor unfinished late same =
-    let P : ℕ → Type 0 = λ k. Covers rs k task in
-    not_both rs start task predecessor (subst P same unfinished.first_open.is_open.covered) late.first_late.late.0
+-- so the order of the file is of its records
+pub of_file : (rs : List Record) → IsOfRecords (by_file rs)
+of_file rs = record {
+  within = λ i task covers. let ends = cover_ends rs i task covers in at_within region rs i ends.0 ends.1;
+  apart = λ i task other covers precedes.
+      let ends = cover_ends rs i task covers in
+      let starts = preceded_starts (by_file rs) i other precedes in
+      at_cases rs i starts.0 ends.0 ends.1 starts.1;
+}
 
 -- ---- a yes
 
 -- where each required task is complete by what the record there has seen, each is complete in every order
-pub always_complete : (rs : List Record) → ((i : ℕ) → AreComplete rs i) → IsAlwaysComplete rs
-always_complete rs complete order linear i task required = complete_in rs order i task linear (complete i task required)
+pub always_complete : (reading : Reading) → ((i : ℕ) → AreComplete reading i) → IsAlwaysComplete reading
+always_complete reading complete order linear i task required = complete_in reading.records order i task linear (complete i task required)
 
 -- a yes
-pub approved : (rs : List Record) (order : List ℕ) → IsClear rs all_causes → IsLinearization rs order → IsGreedy rs order → ((i : ℕ) → AreComplete rs i) → IsApproved rs order
-approved rs order clear linear greedy complete = record {
+pub approved : (reading : Reading) (order : List ℕ) → ShowsNone reading → IsLinearization reading.records order → IsGreedy reading.records order → ((i : ℕ) → AreComplete reading i) → IsApproved reading order
+approved reading order clear linear greedy complete = record {
   well_formed = clear;
   linearization = linear;
   greedy = greedy;
   finished = λ i task unfinished. unfinished.incomplete (complete i task unfinished.required);
-  always_complete = always_complete rs complete;
+  always_complete = always_complete reading complete;
 }
 
 -- file order is a linearization where each step leads on, and the greedy one
@@ -223,18 +206,20 @@ file_orders rs steps i (no_order h) = h.never (places rs) (greedy_grounded rs (p
 
 -- ---- which of the two is first
 
-pub start_first : (rs : List Record) (end start task predecessor : ℕ) → IsFirstOpenEnd rs end task → IsFirstLateStart rs start predecessor → start < end → IsFirstViolation rs start (Predecessor predecessor)
-start_first rs end start task predecessor unfinished late less = late_before rs start predecessor late (λ k low. unfinished.before k (omega (arith, low, less)))
+pub start_first : (reading : Reading) (end start task predecessor : ℕ) → IsFirstOpenBy reading end task → IsFirstLateBy reading start predecessor → start < end → IsFirstViolation reading start (Predecessor predecessor)
+start_first reading end start task predecessor unfinished late less = late_before reading start predecessor late (λ k other low. unfinished.first k other (omega (arith, low, less)))
 
-pub end_first : (rs : List Record) (end start task predecessor : ℕ) → IsFirstOpenEnd rs end task → IsFirstLateStart rs start predecessor → end ≤ start → IsFirstViolation rs end (Unfinished task)
-end_first rs end start task predecessor unfinished late most = elim (cases_eq end start) [
-  | inl same ↦ absurd (one_first rs end start task predecessor unfinished late same)
-  | inr apart ↦ open_before rs end task unfinished (λ k low. late.before k (omega (arith, low, most, apart)))
+pub end_first : (reading : Reading) (end start task predecessor : ℕ) → IsOfRecords reading → IsFirstOpenBy reading end task → IsFirstLateBy reading start predecessor → end ≤ start → IsFirstViolation reading end (Unfinished task)
+end_first reading end start task predecessor of unfinished late most = elim (cases_eq end start) [
+  | inl same ↦
+      let P : ℕ → Type 0 = λ k. IsPrecededBy reading k predecessor in
+      absurd (of.apart end task predecessor unfinished.so.0 (subst P (sym same) late.so.0))
+  | inr differ ↦ open_before reading end task unfinished (λ k other low. late.first k other (omega (arith, low, most, differ)))
 ]
 
 -- ---- causes by their numbers
 
-listed : (cause : Cause) → Contains all_causes cause
+pub listed : (cause : Cause) → Contains all_causes cause
 listed SeqGap = (0, omega arith, refl)
 listed CreatedTwice = (1, omega arith, refl)
 listed Rootless = (2, omega arith, refl)

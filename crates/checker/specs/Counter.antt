@@ -1,18 +1,18 @@
 -- The order of all records in which one stands as early as it can, and what it shows of a task.
-use Rattle.std.specs.Prelude.{ℕ, ◌≡◌, ◌<◌, ◌≤◌, ◌⊎◌, ◌↔◌, ⊤, ltb, Bool, false, List, [], ◌∷◌, ◌++◌, Contains, Option, Some, None, length, slice_index}
+use Rattle.std.specs.Prelude.{ℕ, ◌≡◌, ◌<◌, ◌≤◌, ◌⊎◌, ◌↔◌, ⊤, ltb, Bool, false, List, [], ◌∷◌, ◌++◌, Contains, Option, Some, None, MatchOption, length, slice_index}
 use Rattle.std.specs.Option.{option_map_or}
 use Rattle.ompt_events.specs.declared.records.Record.{Record}
 use Rattle.ompt_events.specs.Places.{thread_at, seen_at}
 use Rattle.ompt_events.specs.HappensBefore.{IsFinishing, HappensBefore}
 use Rattle.ompt_events.specs.Linearization.{IsLinearization, IsGreedy, IsGreedyAfter}
 use Rattle.ompt_events.specs.Completion.{IsCompleteIn}
-use Rattle.ompt_events.specs.Violations.{IsRequired}
 use Rattle.ompt_events.specs.CauseNames.{all_causes}
 use Rattle.ompt_events.specs.Causes.{IsWellFormed}
 use Rattle.checker.specs.Entries.{MakersView, IsLedger}
 use Rattle.checker.specs.declared.verdict.Verdict.{Verdict}
 use Rattle.checker.specs.declared.verdict.Verdict.TheVariants.{No}
-use Rattle.checker.specs.Verdicts.{IsMissed, task_of}
+use Rattle.checker.specs.Readings.{Reading, by_task, IsRequiredBy}
+use Rattle.checker.specs.Verdicts.{ShowsNone, IsMissed, task_of}
 
 -- the records that happen before i, again and again the first in file order of which all that happens before
 -- it stands; then i; then the others in the same manner
@@ -24,24 +24,34 @@ pub record IsEarliestOrder (rs : List Record) (i : ℕ) (order : List ℕ) : Typ
   pub before_greedy : IsGreedyAfter rs (λ a. HappensBefore rs a i) [] before
   pub after_greedy : IsGreedyAfter rs (λ _. ⊤) (before ++ i ∷ []) after
 
--- no cause occurs, the task must be complete at i, and in this order it isn't: that in which i is earliest
-pub record IsCounterOrder (rs : List Record) (i task : ℕ) (order : List ℕ) : Type 0 where
-  pub well_formed : IsWellFormed rs all_causes
-  pub required : IsRequired rs i task
-  pub linearization : IsLinearization rs order
-  pub incomplete : IsCompleteIn rs order task i → ⊥
-  pub earliest : IsEarliestOrder rs i order
+-- no record shows a cause, the task must be complete at i, and in this order it isn't: that in which i is
+-- earliest
+pub record IsCounterOrderBy (reading : Reading) (i task : ℕ) (order : List ℕ) : Type 0 where
+  pub well_formed : ShowsNone reading
+  pub required : IsRequiredBy reading i task
+  pub linearization : IsLinearization reading.records order
+  pub incomplete : IsCompleteIn reading.records order task i → ⊥
+  pub earliest : IsEarliestOrder reading.records i order
 
--- a cause occurs, or no order misses the task
-abbrev pub HasNoCounterOrder : List Record → ℕ → ℕ → Type 0
-HasNoCounterOrder rs i task = IsWellFormed rs all_causes → IsMissed rs i task → ⊥
+-- a record shows a cause, or no order misses the task
+abbrev pub HasNoCounterOrderBy : Reading → ℕ → ℕ → Type 0
+HasNoCounterOrderBy reading i task = ShowsNone reading → IsMissed reading i task → ⊥
+
+-- an order was asked for that leaves the task incomplete at i: this is it, or there is none
+abbrev pub IsCounterBy : Reading → ℕ → ℕ → Option (List ℕ) → Type 0
+IsCounterBy reading i task found =
+    MatchOption found (HasNoCounterOrderBy reading i task) (IsCounterOrderBy reading i task)
 
 -- with a no goes an order that leaves its task incomplete at its record, and with no other verdict
-abbrev pub IsShownBy : List Record → Verdict → Option (List ℕ) → Type 0
-IsShownBy rs (No i why) (Some order) = IsCounterOrder rs i (task_of why) order
-IsShownBy rs (No i why) None = ⊥
-IsShownBy rs verdict (Some order) = ⊥
-IsShownBy rs verdict None = ⊤
+abbrev pub IsShownBy : Reading → Verdict → Option (List ℕ) → Type 0
+IsShownBy reading (No i why) (Some order) = IsCounterOrderBy reading i (task_of why) order
+IsShownBy reading (No i why) None = ⊥
+IsShownBy reading verdict (Some order) = ⊥
+IsShownBy reading verdict None = ⊤
+
+-- the same of a trace as it is meant, by each task's own order
+abbrev pub IsCounterOrder : List Record → ℕ → ℕ → List ℕ → Type 0
+IsCounterOrder rs = IsCounterOrderBy (by_task rs)
 
 -- ---- what the search for it knows
 

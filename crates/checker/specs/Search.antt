@@ -1,18 +1,18 @@
 -- What the searches of a check tell one another.
-use Rattle.std.specs.Prelude.{ℕ, ◌≡◌, List}
+use Rattle.std.specs.Prelude.{ℕ, ◌≡◌, ◌<◌, ⊤, List, length}
 use Rattle.ompt_events.specs.declared.records.Record.{Record}
 use Rattle.ompt_events.specs.declared.cause.Cause.{Cause}
 use Rattle.ompt_events.specs.declared.fault.Fault.{Fault}
+use Rattle.ompt_events.specs.declared.fault.Fault.TheVariants.{Memory, Malformed}
 use Rattle.ompt_events.specs.declared.cause.Cause.TheVariants.{EntryTwice}
 use Rattle.ompt_events.specs.CauseNames.{all_causes, before}
 use Rattle.ompt_events.specs.Causes.{IsWellFormed}
 use Rattle.ompt_events.specs.Faults.{IsFault}
 use Rattle.ompt_events.specs.Linearization.{IsLinearization, IsGreedy}
-use Rattle.ompt_events.specs.Violations.{IsFirstUnfinished}
+use Rattle.ompt_events.specs.Completion.{IsCompleteAt}
 use Rattle.task_tree.specs.Runs.{RunView, IsRun}
-use Rattle.wait_coverage.specs.Spans.{IsCoverComplete}
-use Rattle.checker.specs.Verdicts.{task_of, IsReason}
-use Rattle.checker.specs.Starts.{AreReady}
+use Rattle.checker.specs.Readings.{Reading, IsPrecededBy}
+use Rattle.checker.specs.Verdicts.{IsLeastShown, task_of, IsReason, IsOpenBy, IsLateBy, IsFirstSo, IsFirstUnfinished}
 use Rattle.checker.specs.declared.verdict.Why.{Why}
 
 -- none of these causes occurs
@@ -22,6 +22,11 @@ IsClear rs causes = IsWellFormed rs causes
 -- what was found is what makes the records malformed, unless memory ran out
 abbrev pub IsLeastFound : List Record → Fault → Type 0
 IsLeastFound rs fault = IsFault rs all_causes fault
+
+-- the trace shows that cause there, the least that it shows, unless memory ran out
+abbrev pub IsShownFault : Reading → Fault → Type 0
+IsShownFault reading Memory = ⊤
+IsShownFault reading (Malformed i cause) = IsLeastShown reading i cause
 
 -- none of the causes before those of the ledger occurs in the run
 pub record IsSound (run : RunView) : Type 0 where
@@ -34,18 +39,32 @@ AreOfTrace rs run of_edges = (run.records ≡ rs) × (of_edges ≡ run)
 
 -- ---- the first violation
 
--- what each end covers is complete there
-abbrev pub AreAllCovered : List Record → Type 0
-AreAllCovered rs = (i : ℕ) → IsCoverComplete rs i
+-- what the reading says of waits is said at its records, and at none that starts a task, or at which a taskwait
+-- with dependences is complete
+pub record IsOfRecords (reading : Reading) : Type 0 where
+  pub within : (i task : ℕ) → reading.covers i task → i < length reading.records
+  pub apart : (i task other : ℕ) → reading.covers i task → IsPrecededBy reading i other → ⊥
+
+-- what each wait covers that ends is complete there
+abbrev pub AreAllCovered : Reading → Type 0
+AreAllCovered reading = (i task : ℕ) → reading.covers i task → IsCompleteAt reading.records task i
 
 -- each task that starts, and each taskwait that is complete, has complete predecessors there
-abbrev pub AreAllReady : List Record → Type 0
-AreAllReady rs = (i : ℕ) → AreReady rs i
+abbrev pub AreAllReady : Reading → Type 0
+AreAllReady reading = (i task : ℕ) → IsPrecededBy reading i task → IsCompleteAt reading.records task i
+
+-- the first open end, with its task
+abbrev pub IsFirstOpenBy : Reading → ℕ → ℕ → Type 0
+IsFirstOpenBy reading = IsFirstSo reading.records (IsOpenBy reading)
+
+-- the first late start, with the predecessor that is late
+abbrev pub IsFirstLateBy : Reading → ℕ → ℕ → Type 0
+IsFirstLateBy reading = IsFirstSo reading.records (IsLateBy reading)
 
 -- the first record at which a required task is unfinished, with that task and the reason
-pub record IsFirstViolation (rs : List Record) (i : ℕ) (why : Why) : Type 0 where
-  pub unfinished : IsFirstUnfinished rs i (task_of why)
-  pub reason : IsReason rs i why
+pub record IsFirstViolation (reading : Reading) (i : ℕ) (why : Why) : Type 0 where
+  pub unfinished : IsFirstUnfinished reading i (task_of why)
+  pub reason : IsReason reading i why
 
 -- ---- what is known where no cause occurs
 

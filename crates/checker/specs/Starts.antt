@@ -13,13 +13,11 @@ use Rattle.task_tree.specs.Runs.{RunView, IsRun}
 use Rattle.depend_edges.specs.Edges.{AreLatest}
 use Rattle.wait_coverage.specs.Done.{AreOwn}
 use Rattle.trace_ledger.specs.Entries.{IsDone}
+use Rattle.checker.specs.Readings.{by_file, IsPrecededBy}
 
--- the task must be complete at i as a predecessor: of an explicit task that starts there (OpenMP 5.2,
--- 15.9.5), or of a taskwait with dependences that is complete there (15.5)
+-- by the order of the file the task must be complete at i as a predecessor
 abbrev pub IsPreceded : List Record → ℕ → ℕ → Type 0
-IsPreceded rs i task =
-    ((dependent : ℕ) × IsExplicit rs dependent × IsStart rs i dependent × IsPredecessor rs dependent task)
-    ⊎ ((dependent : ℕ) × (at wait_completed rs i ≡ Some dependent) × IsPredecessor rs dependent task)
+IsPreceded rs = IsPrecededBy (by_file rs)
 
 -- and it isn't
 abbrev pub IsLate : List Record → ℕ → ℕ → Type 0

@@ -1,11 +1,9 @@
 //! The check as a whole.
-ghost use Rattle.std.specs.Prelude.{ℕ, ◌≡◌, List, MatchOption, IfOk, IfErr};
-ghost use Rattle.ompt_events.specs.declared.records.Record.{Record};
+ghost use Rattle.std.specs.Prelude.{ℕ, ◌≡◌, MatchOption, IfOk, IfErr};
 ghost use Rattle.ompt_events.specs.declared.fault.Fault.TheVariants.{Memory};
-ghost use Rattle.checker.specs.Search.{AreAllReady, AreAllCovered, IsFirstViolation};
-ghost use Rattle.checker.specs.Starts.{IsFirstLateStart};
+ghost use Rattle.checker.specs.Readings.{Reading, by_file};
 ghost use Rattle.checker.specs.Verdicts.{IsVerdict, AreComplete};
-ghost use Rattle.wait_coverage.specs.Waits.{IsFirstOpenEnd};
+ghost use Rattle.checker.specs.Search.{IsOfRecords, AreAllReady, AreAllCovered, IsFirstOpenBy, IsFirstLateBy, IsFirstViolation};
 
 use crate::phases::ask;
 use crate::question::{Clear, Question};
@@ -48,8 +46,9 @@ impl Question for ForVerdict {
 
 /// The first record at which a task that must be finished is not, and why it must be.
 pub(crate) fn violation_of(alloc: Global, clear: &Clear) -> Result<Option<(usize, Why)>, Fault>
-    ensures found { IfOk result (λ found. MatchOption found ((i : ℕ) → AreComplete clear.now.run.records i)
-        (λ f. IsFirstViolation clear.now.run.records f.0 f.1)) }
+    ensures found { IfOk result (λ found. MatchOption found
+        ((i : ℕ) → AreComplete (by_file clear.now.run.records) i)
+        (λ f. IsFirstViolation (by_file clear.now.run.records) f.0 f.1)) }
     ensures memory_alone { IfErr result (λ fault. fault ≡ Memory) }
 {
     let sound = clear.sound();
@@ -62,10 +61,10 @@ pub(crate) fn violation_of(alloc: Global, clear: &Clear) -> Result<Option<(usize
 
 /// The first of an end that covers an unfinished task and a start before a predecessor is finished.
 fn first_of(unfinished: Option<(usize, u64)>, late: Option<(usize, u64)>) -> Option<(usize, Why)>
-    ensures { (records : List Record)
-        → MatchOption unfinished (AreAllCovered records) (λ f. IsFirstOpenEnd records f.0 f.1)
-        → MatchOption late (AreAllReady records) (λ f. IsFirstLateStart records f.0 f.1)
-        → MatchOption result ((i : ℕ) → AreComplete records i) (λ f. IsFirstViolation records f.0 f.1) }
+    ensures { (reading : Reading) → IsOfRecords reading
+        → MatchOption unfinished (AreAllCovered reading) (λ f. IsFirstOpenBy reading f.0 f.1)
+        → MatchOption late (AreAllReady reading) (λ f. IsFirstLateBy reading f.0 f.1)
+        → MatchOption result ((i : ℕ) → AreComplete reading i) (λ f. IsFirstViolation reading f.0 f.1) }
 {
     match (unfinished, late) {
         (Some((end, task)), Some((start, predecessor))) => {

@@ -1,10 +1,10 @@
 //! An order that leaves a task incomplete where it must be complete.
-ghost use Rattle.std.specs.Prelude.{◌≡◌, ◌<◌, ◌↔◌, IfOk, IfErr, IsTrue, MatchOption, length};
+ghost use Rattle.std.specs.Prelude.{◌≡◌, ◌<◌, ◌↔◌, IfOk, IfErr, IsTrue, length};
 ghost use Rattle.ompt_events.specs.declared.fault.Fault.TheVariants.{Memory};
 ghost use Rattle.ompt_events.specs.Linearization.{IsLinearization};
-ghost use Rattle.ompt_events.specs.Violations.{IsUnfinished};
-ghost use Rattle.checker.specs.Counter.{IsEarliestOrder, IsCounterOrder, HasNoCounterOrder, IsShownBy};
-ghost use Rattle.checker.specs.Verdicts.{IsVerdict};
+ghost use Rattle.checker.specs.Readings.{by_file, by_task};
+ghost use Rattle.checker.specs.Verdicts.{IsUnfinished, IsVerdict};
+ghost use Rattle.checker.specs.Counter.{IsEarliestOrder, IsCounterBy, IsShownBy};
 
 use crate::checking::violation_of;
 use crate::earliest::earliest_order;
@@ -31,8 +31,7 @@ pub fn counter_order(
     task: u64,
 ) -> Result<Option<Order>, CheckFault>
     requires { trace.now.version ≡ 1 }
-    ensures { IfOk result (λ found. MatchOption found (HasNoCounterOrder trace.now.records at task)
-        (IsCounterOrder trace.now.records at task)) }
+    ensures { IfOk result (IsCounterBy (by_task trace.now.records) at task) }
 {
     match ask(alloc, trace, &ForCounter { at, task }) {
         Ok(found) => Ok(found),
@@ -49,7 +48,7 @@ pub fn check_with_counter(
 ) -> Result<(Verdict, Option<Order>), CheckFault>
     requires { trace.now.version ≡ 1 }
     ensures verdict { IfOk result (λ answer. IsVerdict trace.now.records answer.0) }
-    ensures counter { IfOk result (λ answer. IsShownBy trace.now.records answer.0 answer.1) }
+    ensures counter { IfOk result (λ answer. IsShownBy (by_task trace.now.records) answer.0 answer.1) }
 {
     match ask(alloc, trace, &ForVerdictAndCounter) {
         Ok(answer) => Ok(answer),
@@ -68,9 +67,7 @@ struct ForCounter {
 impl Question for ForCounter {
     type Answer = Option<Order>;
 
-    ghost is_right = { λ question records found. MatchOption found
-        (HasNoCounterOrder records question.at question.task)
-        (IsCounterOrder records question.at question.task) };
+    ghost is_right = { λ question records. IsCounterBy (by_task records) question.at question.task };
 
     fn answer(&self, alloc: Global, clear: Clear) -> Result<Option<Order>, Fault> {
         if self.at >= clear.sound().run().len() {
@@ -89,7 +86,8 @@ struct ForVerdictAndCounter;
 impl Question for ForVerdictAndCounter {
     type Answer = (Verdict, Option<Order>);
 
-    ghost is_right = { λ question records answer. IsVerdict records answer.0 × IsShownBy records answer.0 answer.1 };
+    ghost is_right = { λ question records answer. IsVerdict records answer.0
+        × IsShownBy (by_task records) answer.0 answer.1 };
 
     fn answer(&self, alloc: Global, clear: Clear) -> Result<(Verdict, Option<Order>), Fault> {
         match violation_of(alloc, &clear)? {
@@ -105,7 +103,8 @@ impl Question for ForVerdictAndCounter {
 /// Whether the task must be complete at the place, and isn't by what the record there has seen.
 fn is_unfinished(alloc: Global, clear: &Clear, at: usize, task: u64) -> Result<bool, Fault>
     requires { at < length clear.now.run.records }
-    ensures unfinished { IfOk result (λ found. IsTrue found ↔ IsUnfinished clear.now.run.records at task) }
+    ensures unfinished { IfOk result (λ found. IsTrue found
+        ↔ IsUnfinished (by_file clear.now.run.records) at task) }
     ensures memory_alone { IfErr result (λ fault. fault ≡ Memory) }
 {
     let sound = clear.sound();

@@ -1,18 +1,44 @@
-//! What an unfinished task tells of orders: a law over the definitions alone, proved for all records. The
-//! function does nothing.
-ghost use Rattle.std.specs.Prelude.{◌↔◌, ℕ, List};
+//! What an unfinished task tells of orders, and what turns change of a verdict: laws over the definitions
+//! alone, proved for all records. The functions do nothing.
+ghost use Rattle.std.specs.Prelude.{◌↔◌, ℕ, List, Option};
 ghost use Rattle.ompt_events.specs.declared.records.Record.{Record};
-ghost use Rattle.ompt_events.specs.CauseNames.{all_causes};
-ghost use Rattle.ompt_events.specs.Causes.{IsWellFormed};
+ghost use Rattle.ompt_events.specs.Traces.{IsTraceOf};
 ghost use Rattle.ompt_events.specs.Linearization.{IsLinearization};
-ghost use Rattle.ompt_events.specs.Violations.{IsUnfinished};
-ghost use Rattle.checker.specs.Verdicts.{IsMissed};
+ghost use Rattle.ompt_events.specs.Violations as violations;
+ghost use Rattle.turns.specs.Rising.{TurnsRise};
+ghost use Rattle.checker.specs.declared.verdict.Verdict.{Verdict};
+ghost use Rattle.checker.specs.Readings.{by_task, by_file, IsRequiredBy};
+ghost use Rattle.checker.specs.Verdicts.{ShowsNone, IsUnfinished, IsMissed, IsVerdict, IsVerdictBy};
+ghost use Rattle.checker.specs.Counter.{IsCounterBy};
 
 /// Unfinished means missed. Where no cause occurs and the records have an order, a task that must be complete
 /// at a record is unfinished by what the record has seen exactly where some order of all records, allowed by
 /// them, leaves it incomplete there.
 pub fn unfinished_is_missed()
     ensures { (rs : List Record) (order : List ℕ) (i task : ℕ)
-        → IsWellFormed rs all_causes → IsLinearization rs order
-        → IsUnfinished rs i task ↔ IsMissed rs i task }
+        → ShowsNone (by_task rs) → IsLinearization rs order
+        → IsUnfinished (by_task rs) i task ↔ IsMissed (by_task rs) i task }
+{}
+
+/// Where no task's turns fall along the file, the order of the file alone gives the same verdict as each
+/// task's own order, record for record, and the same counter orders. A trace of version 1 tells no turns, so
+/// this holds of every one.
+pub fn file_order_gives_the_verdict()
+    ensures rising { (rs : List Record) → TurnsRise rs → (verdict : Verdict)
+        → IsVerdict rs verdict ↔ IsVerdictBy (by_file rs) verdict }
+    ensures rising_counter { (rs : List Record) → TurnsRise rs → (i task : ℕ) (found : Option (List ℕ))
+        → IsCounterBy (by_task rs) i task found ↔ IsCounterBy (by_file rs) i task found }
+    ensures version_1 { (rs : List Record) → IsTraceOf 1 rs → (verdict : Verdict)
+        → IsVerdict rs verdict ↔ IsVerdictBy (by_file rs) verdict }
+    ensures version_1_counter { (rs : List Record) → IsTraceOf 1 rs → (i task : ℕ) (found : Option (List ℕ))
+        → IsCounterBy (by_task rs) i task found ↔ IsCounterBy (by_file rs) i task found }
+{}
+
+/// What a verdict calls required is what must be complete at a record by the definitions of waits and
+/// dependences.
+pub fn required_is_owed_by_waits_and_dependences()
+    ensures by_task { (rs : List Record) (i task : ℕ)
+        → IsRequiredBy (by_task rs) i task ↔ violations.MustBeComplete rs i task }
+    ensures by_file { (rs : List Record) (i task : ℕ)
+        → IsRequiredBy (by_file rs) i task ↔ violations.IsRequired rs i task }
 {}

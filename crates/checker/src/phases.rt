@@ -3,7 +3,8 @@ ghost use Rattle.std.specs.Prelude.{◌≡◌, IfOk, IfErr, OnOk};
 ghost use Rattle.ompt_events.specs.declared.cause.Cause.TheVariants.{NotCurrent, TargetTask};
 ghost use Rattle.ompt_events.specs.CauseNames.{before};
 ghost use Rattle.ompt_events.specs.Linearization.{IsLinearization, IsGreedy};
-ghost use Rattle.checker.specs.Search.{IsClear, IsLeastFound};
+ghost use Rattle.checker.specs.Readings.{by_task};
+ghost use Rattle.checker.specs.Search.{IsClear, IsLeastFound, IsShownFault};
 
 use crate::claims::find_wrong_claim;
 use crate::in_order::is_in_order;
@@ -30,8 +31,10 @@ pub(crate) fn ask<Q: Question>(
 ) -> Result<Q::Answer, Fault>
     requires { trace.now.version ≡ 1 }
     ensures right { IfOk result (Q.is_right question.now trace.now.records) }
-    ensures malformed { IfErr result (IsLeastFound trace.now.records) }
+    ensures malformed { IfErr result (IsShownFault (by_task trace.now.records)) }
 {
+    // Tells that the records are a trace of their version. Compiled, it is nothing.
+    let _records = trace.records();
     exclude(Cause::SeqGap, gap(trace))?;
     let family = Family::build(alloc, trace)?;
     ask_run(alloc, trace, &Run::of(trace, &family), question)

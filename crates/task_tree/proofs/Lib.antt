@@ -13,4 +13,5 @@ pub mod PathLemmas
 pub mod ClimbLemmas
 pub mod LineageLemmas
 pub mod LookupLemmas
+pub mod OwnLemmas
 pub mod NamedLemmas

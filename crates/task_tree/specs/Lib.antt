@@ -2,6 +2,7 @@
 -- is, is defined in `ompt_events` (Tree). Read Family and Paths first, then the steps in their order.
 pub mod Family
 pub mod Runs
+pub mod Own
 pub mod Paths
 pub mod Ranking
 pub mod Numbering

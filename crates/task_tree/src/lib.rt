@@ -2,8 +2,8 @@
 //!
 //! `Family` has parents, numbers, roots and children, and the index of each task that a record names, so
 //! that no later phase searches for a task again; `Tree` has the paths too. `Run` is the records with their
-//! family, which all later phases take: it says by place what a record is. Read `run`, `family` and `tree`
-//! for what a caller sees, then `makers`, `children` (after `links`, `subjects` and `rows`), `roots` (after
+//! family, which all later phases take: it says by place what a record is. `Own` is a run whose records stand
+//! in the tasks' own order. Read `run`, `own`, `family` and `tree` for what a caller sees, then `makers`, `children` (after `links`, `subjects` and `rows`), `roots` (after
 //! `forward`) and `rootless`, the steps of a build. `numbering` is the list of ids that they share
 //! (`ranking` searches it), `slot` an index or none in 32 bits, `link_slot` a link or none, `standing_slot`
 //! where a task stands or nothing, and `hints` says where a task is looked for first.
@@ -19,6 +19,7 @@ mod link_slot;
 mod links;
 mod makers;
 mod numbering;
+mod own;
 mod paths;
 mod ranking;
 mod rootless;
@@ -32,6 +33,7 @@ mod tree;
 
 pub use family::Family;
 pub use numbering::Numbering;
+pub use own::{Own, OwnOrder};
 pub use run::{Creation, Finishing, RegionEvent, Run, Schedule, ThreadEvent, WaitEvent};
 pub use slot::Slot;
 pub use tree::{Tree, TreeFault};

@@ -1,0 +1,242 @@
+-- Two readings of the same records that say the same have the same verdicts; where no task's turns fall along
+-- the file, each task's own order and the order of the file are such readings.
+use Rattle.std.proofs.Common.{◌≡◌, ℕ, ◌<◌, List, length, Option, Some, None, refl, sym, subst, inl, inr}
+use Rattle.std.specs.Prelude.{◌↔◌, option_and_then}
+use Rattle.ompt_events.specs.declared.records.Record.{Record}
+use Rattle.ompt_events.specs.declared.cause.Cause.{Cause}
+use Rattle.ompt_events.specs.declared.fault.Fault.{Fault}
+use Rattle.ompt_events.specs.declared.fault.Fault.TheVariants.{Memory, Malformed as Refused}
+use Rattle.ompt_events.specs.CauseNames.{all_causes}
+use Rattle.ompt_events.specs.declared.names.SyncKind.{SyncKind}
+use Rattle.ompt_events.specs.declared.names.Endpoint.{Endpoint}
+use Rattle.ompt_events.specs.Records.{created, region, wait_completed}
+use Rattle.ompt_events.specs.Places.{at}
+use Rattle.ompt_events.specs.Traces.{IsTraceOf}
+use Rattle.ompt_events.specs.Turns.{in_own_order, own_place}
+use Rattle.ompt_events.specs.Tree.{IsExplicit}
+use Rattle.ompt_events.specs.HappensBefore.{IsStart}
+use Rattle.ompt_events.specs.Linearization.{IsLinearization, IsGreedy}
+use Rattle.ompt_events.specs.Completion.{IsCompleteIn, IsCompleteAt}
+use Rattle.ompt_events.specs.Violations as violations
+use Rattle.ompt_events.specs.Causes.{IsMalformed}
+use Rattle.ompt_events.proofs.PlaceLemmas.{at_within}
+use Rattle.ompt_events.proofs.TurnLemmas.{first_version_tells_none}
+use Rattle.task_tree.specs.Runs.{RunView, IsRun}
+use Rattle.turns.specs.Rising.{TurnsRise}
+use Rattle.turns.proofs.OwnOrderLemmas.{own_place_iff, arranged_get, arranged_length}
+use Rattle.turns.proofs.RenamingLemmas.{renamed_covers, renamed_predecessor}
+use Rattle.turns.proofs.RisingLemmas.{own_renaming, untold_rise}
+use Rattle.turns.proofs.SayingLemmas.{shows_has}
+use Rattle.checker.specs.declared.verdict.Verdict.{Verdict}
+use Rattle.checker.specs.declared.verdict.Verdict.TheVariants.{Yes, No, Malformed}
+use Rattle.checker.specs.declared.verdict.Why.{Why}
+use Rattle.checker.specs.declared.verdict.Why.TheVariants.{Unfinished, Predecessor}
+use Rattle.checker.specs.Readings.{Reading, by_task, by_file, IsPrecededBy, IsRequiredBy}
+use Rattle.checker.specs.Verdicts.{ShowsNone, IsLeastShown, IsUnfinished, IsMissed, IsFirstSo, IsApproved, IsRejected, IsReason, IsVerdictBy, task_of}
+use Rattle.checker.specs.Counter.{IsEarliestOrder, IsCounterOrderBy, IsCounterBy, IsShownBy}
+use Rattle.checker.specs.Search.{IsOfRecords, IsLeastFound, IsShownFault}
+use Rattle.checker.proofs.VerdictLemmas.{cover_ends, preceded_starts, at_cases, listed}
+
+-- ---- readings that say the same
+
+-- two readings are of the same records, and what the one says the other says too
+pub record AreAlike (a b : Reading) : Type 0 where
+  pub same : a.records ≡ b.records
+  pub shows : (i : ℕ) (cause : Cause) → a.shows i cause ↔ b.shows i cause
+  pub covers : (i task : ℕ) → a.covers i task ↔ b.covers i task
+  pub depends : (task other : ℕ) → a.depends task other ↔ b.depends task other
+
+-- the other way round
+pub alike_back : (a b : Reading) → AreAlike a b → AreAlike b a
+alike_back a b alike = record {
+  same = sym alike.same;
+  shows = λ i cause. ((alike.shows i cause).1, (alike.shows i cause).0);
+  covers = λ i task. ((alike.covers i task).1, (alike.covers i task).0);
+  depends = λ task other. ((alike.depends task other).1, (alike.depends task other).0);
+}
+
+alike_preceded : (a b : Reading) (i task : ℕ) → AreAlike a b → IsPrecededBy a i task → IsPrecededBy b i task
+alike_preceded a b i task alike (inl (dependent, explicit, start, after)) =
+    let E : List Record → Type 0 = λ rs. IsExplicit rs dependent in
+    let S : List Record → Type 0 = λ rs. IsStart rs i dependent in
+    inl (dependent, subst E alike.same explicit, subst S alike.same start, (alike.depends dependent task).0 after)
+alike_preceded a b i task alike (inr (dependent, completes, after)) =
+    let C : List Record → Type 0 = λ rs. at wait_completed rs i ≡ Some dependent in
+    inr (dependent, subst C alike.same completes, (alike.depends dependent task).0 after)
+
+alike_required : (a b : Reading) (i task : ℕ) → AreAlike a b → IsRequiredBy a i task → IsRequiredBy b i task
+alike_required a b i task alike (inl covers) = inl ((alike.covers i task).0 covers)
+alike_required a b i task alike (inr preceded) = inr (alike_preceded a b i task alike preceded)
+
+alike_none : (a b : Reading) → AreAlike a b → ShowsNone a → ShowsNone b
+alike_none a b alike free i cause shown = free i cause ((alike.shows i cause).1 shown)
+
+alike_least : (a b : Reading) (i : ℕ) (cause : Cause) → AreAlike a b → IsLeastShown a i cause → IsLeastShown b i cause
+alike_least a b i cause alike is = record {
+  within = let P : List Record → Type 0 = λ rs. i < length rs in subst P alike.same is.within;
+  shown = (alike.shows i cause).0 is.shown;
+  first = λ k below shown. is.first k below ((alike.shows k cause).1 shown);
+  least = λ k other less shown. is.least k other less ((alike.shows k other).1 shown);
+}
+
+alike_unfinished : (a b : Reading) (i task : ℕ) → AreAlike a b → IsUnfinished a i task → IsUnfinished b i task
+alike_unfinished a b i task alike is = record {
+  required = alike_required a b i task alike is.required;
+  incomplete = let P : List Record → Type 0 = λ rs. IsCompleteAt rs task i in λ complete. is.incomplete (subst P (sym alike.same) complete);
+}
+
+alike_missed : (a b : Reading) (i task : ℕ) → AreAlike a b → IsMissed a i task → IsMissed b i task
+alike_missed a b i task alike is = record {
+  required = alike_required a b i task alike is.required;
+  order = is.order;
+  linearization = let P : List Record → Type 0 = λ rs. IsLinearization rs is.order in subst P alike.same is.linearization;
+  incomplete = let P : List Record → Type 0 = λ rs. IsCompleteIn rs is.order task i in λ complete. is.incomplete (subst P (sym alike.same) complete);
+}
+
+-- the first of which one thing is so is the first of which another is, where both are so of the same
+first_so : (rs ss : List Record) (is_so is_too : ℕ → ℕ → Type 0) (i task : ℕ) → rs ≡ ss → ((k other : ℕ) → is_so k other ↔ is_too k other) → IsFirstSo rs is_so i task → IsFirstSo ss is_too i task
+first_so rs ss is_so is_too i task same both is = record {
+  so = (both i task).0 is.so;
+  first = λ k other below so. is.first k other below ((both k other).1 so);
+  creation = is.creation;
+  is_created = let P : List Record → Type 0 = λ l. at created l is.creation ≡ Some task in subst P same is.is_created;
+  created_first = λ k other below creates so.
+      let P : List Record → Type 0 = λ l. at created l k ≡ Some other in
+      is.created_first k other below (subst P (sym same) creates) ((both i other).1 so);
+}
+
+alike_reason : (a b : Reading) (i : ℕ) (why : Why) → AreAlike a b → IsReason a i why → IsReason b i why
+alike_reason a b i (Unfinished task) alike reason = (alike.covers i task).0 reason
+alike_reason a b i (Predecessor task) alike reason = alike_preceded a b i task alike reason
+
+alike_yes : (a b : Reading) (order : List ℕ) → AreAlike a b → IsApproved a order → IsApproved b order
+alike_yes a b order alike is = record {
+  well_formed = alike_none a b alike is.well_formed;
+  linearization = let P : List Record → Type 0 = λ rs. IsLinearization rs order in subst P alike.same is.linearization;
+  greedy = let P : List Record → Type 0 = λ rs. IsGreedy rs order in subst P alike.same is.greedy;
+  finished = λ i task unfinished. is.finished i task (alike_unfinished b a i task (alike_back a b alike) unfinished);
+  always_complete = λ other linear i task required.
+      let L : List Record → Type 0 = λ rs. IsLinearization rs other in
+      let C : List Record → Type 0 = λ rs. IsCompleteIn rs other task i in
+      subst C alike.same (is.always_complete other (subst L (sym alike.same) linear) i task (alike_required b a i task (alike_back a b alike) required));
+}
+
+alike_no : (a b : Reading) (i : ℕ) (why : Why) → AreAlike a b → IsRejected a i why → IsRejected b i why
+alike_no a b i why alike is =
+    let back = alike_back a b alike in
+    record {
+      well_formed = alike_none a b alike is.well_formed;
+      unfinished = first_so a.records b.records (IsUnfinished a) (IsUnfinished b) i (task_of why) alike.same (λ k other. (alike_unfinished a b k other alike, alike_unfinished b a k other back)) is.unfinished;
+      missed = first_so a.records b.records (IsMissed a) (IsMissed b) i (task_of why) alike.same (λ k other. (alike_missed a b k other alike, alike_missed b a k other back)) is.missed;
+      reason = alike_reason a b i why alike is.reason;
+    }
+
+-- they have the same verdicts
+pub alike_verdict : (a b : Reading) (verdict : Verdict) → AreAlike a b → IsVerdictBy a verdict → IsVerdictBy b verdict
+alike_verdict a b (Yes order) alike is = alike_yes a b order alike is
+alike_verdict a b (No i why) alike is = alike_no a b i why alike is
+alike_verdict a b (Malformed i cause) alike is = alike_least a b i cause alike is
+
+alike_order : (a b : Reading) (i task : ℕ) (order : List ℕ) → AreAlike a b → IsCounterOrderBy a i task order → IsCounterOrderBy b i task order
+alike_order a b i task order alike is = record {
+  well_formed = alike_none a b alike is.well_formed;
+  required = alike_required a b i task alike is.required;
+  linearization = let P : List Record → Type 0 = λ rs. IsLinearization rs order in subst P alike.same is.linearization;
+  incomplete = let P : List Record → Type 0 = λ rs. IsCompleteIn rs order task i in λ complete. is.incomplete (subst P (sym alike.same) complete);
+  earliest = let P : List Record → Type 0 = λ rs. IsEarliestOrder rs i order in subst P alike.same is.earliest;
+}
+
+-- and the same counter orders
+pub alike_counter : (a b : Reading) (i task : ℕ) (found : Option (List ℕ)) → AreAlike a b → IsCounterBy a i task found → IsCounterBy b i task found
+alike_counter a b i task (Some order) alike is = alike_order a b i task order alike is
+alike_counter a b i task None alike none = λ free missed.
+    let back = alike_back a b alike in
+    none (alike_none b a back free) (alike_missed b a i task back missed)
+
+pub alike_shown : (a b : Reading) (verdict : Verdict) (found : Option (List ℕ)) → AreAlike a b → IsShownBy a verdict found → IsShownBy b verdict found
+alike_shown a b (No i why) (Some order) alike is = alike_order a b i (task_of why) order alike is
+alike_shown a b (No i why) None alike is = is
+alike_shown a b (Yes order) (Some other) alike is = is
+alike_shown a b (Yes order) None alike is = is
+alike_shown a b (Malformed i cause) (Some other) alike is = is
+alike_shown a b (Malformed i cause) None alike is = is
+
+-- ---- the order of the file
+
+-- where no task's turns fall the order of the file says what each task's own order says
+pub rising_alike : (rs : List Record) → TurnsRise rs → AreAlike (by_task rs) (by_file rs)
+rising_alike rs rise = record {
+  same = refl;
+  shows = shows_has rs rise;
+  covers = λ i task. let c = renamed_covers (own_renaming rs rise) i task in (c.1, c.0);
+  depends = λ task other. let p = renamed_predecessor (own_renaming rs rise) task other in (p.1, p.0);
+}
+
+pub first_version_alike : (rs : List Record) → IsTraceOf 1 rs → AreAlike (by_task rs) (by_file rs)
+first_version_alike rs trace = rising_alike rs (untold_rise rs (first_version_tells_none rs trace))
+
+-- ---- what is said by each task's own order is said of its records
+
+own_region : (rs : List Record) (i : ℕ) (own : ℕ × SyncKind × Endpoint) → at region (in_own_order rs) (own_place rs i) ≡ Some own → (i < length rs) × (at region rs i ≡ Some own)
+own_region rs i own says =
+    let below = at_within region (in_own_order rs) (own_place rs i) own says in
+    let within : i < length rs = (own_place_iff rs i).0 (rw (arranged_length rs) at below) in
+    let P : Option Record → Type 0 = λ o. option_and_then (λ (r : Record). region r.body) o ≡ Some own in
+    (within, subst P (arranged_get rs i within) says)
+
+pub of_tasks : (rs : List Record) → IsOfRecords (by_task rs)
+of_tasks rs = record {
+  within = λ i task covers. let ends = cover_ends (in_own_order rs) (own_place rs i) task covers in (own_region rs i ends.0 ends.1).0;
+  apart = λ i task other covers preceded.
+      let ends = cover_ends (in_own_order rs) (own_place rs i) task covers in
+      let starts = preceded_starts (by_task rs) i other preceded in
+      at_cases rs i starts.0 ends.0 (own_region rs i ends.0 ends.1).1 starts.1;
+}
+
+-- ---- what is required, by the definitions of waits and dependences
+
+pub task_required : (rs : List Record) (i task : ℕ) → IsRequiredBy (by_task rs) i task ↔ violations.MustBeComplete rs i task
+task_required rs i task = (to, from)
+  where
+    to : IsRequiredBy (by_task rs) i task → violations.MustBeComplete rs i task
+    to (inl covers) = violations.wait_ends covers
+    to (inr (inl (dependent, explicit, start, after))) = violations.dependent_starts explicit start after
+    to (inr (inr (dependent, completes, after))) = violations.taskwait_completes completes after
+
+    from : violations.MustBeComplete rs i task → IsRequiredBy (by_task rs) i task
+    from (violations.wait_ends covers) = inl covers
+    from (violations.dependent_starts {dependent = dependent} explicit start after) = inr (inl (dependent, explicit, start, after))
+    from (violations.taskwait_completes {dependent = dependent} completes after) = inr (inr (dependent, completes, after))
+
+pub file_required : (rs : List Record) (i task : ℕ) → IsRequiredBy (by_file rs) i task ↔ violations.IsRequired rs i task
+file_required rs i task = (to, from)
+  where
+    to : IsRequiredBy (by_file rs) i task → violations.IsRequired rs i task
+    to (inl covers) = violations.covered covers
+    to (inr (inl (dependent, explicit, start, after))) = violations.preceding explicit start after
+    to (inr (inr (dependent, completes, after))) = violations.awaited completes after
+
+    from : violations.IsRequired rs i task → IsRequiredBy (by_file rs) i task
+    from (violations.covered covers) = inl covers
+    from (violations.preceding {dependent = dependent} explicit start after) = inr (inl (dependent, explicit, start, after))
+    from (violations.awaited {dependent = dependent} completes after) = inr (inr (dependent, completes, after))
+
+-- ---- from the searches over the file
+
+-- a run reads alike by each task's own order and by the order of the file
+pub run_alike : (run : RunView) → IsRun run → AreAlike (by_file run.records) (by_task run.records)
+run_alike run is = alike_back (by_task run.records) (by_file run.records) (rising_alike run.records (untold_rise run.records is.untold))
+
+-- the least cause of the file, found by its records, is the least that they show by the order of the file
+least_shown : (rs : List Record) (i : ℕ) (cause : Cause) → IsMalformed rs all_causes i cause → IsLeastShown (by_file rs) i cause
+least_shown rs i cause is = record {
+  within = is.found.within;
+  shown = is.found.has;
+  first = is.found.first;
+  least = λ k other less has. is.least other (listed other) less k has;
+}
+
+-- what is found in the file of a trace of version 1 is what it shows
+pub shown_fault : (rs : List Record) (fault : Fault) → IsTraceOf 1 rs → IsLeastFound rs fault → IsShownFault (by_task rs) fault
+shown_fault rs Memory trace is = tt
+shown_fault rs (Refused i cause) trace is = alike_least (by_file rs) (by_task rs) i cause (alike_back (by_task rs) (by_file rs) (first_version_alike rs trace)) (least_shown rs i cause is)
