@@ -22,11 +22,11 @@ use Rattle.ompt_events.specs.Causes.{IsMalformed}
 use Rattle.ompt_events.proofs.PlaceLemmas.{at_within}
 use Rattle.ompt_events.proofs.TurnLemmas.{first_version_tells_none}
 use Rattle.task_tree.specs.Runs.{RunView, IsRun}
-use Rattle.turns.specs.Rising.{TurnsRise}
-use Rattle.turns.proofs.OwnOrderLemmas.{own_place_iff, arranged_get, arranged_length}
-use Rattle.turns.proofs.RenamingLemmas.{renamed_covers, renamed_predecessor}
-use Rattle.turns.proofs.RisingLemmas.{own_renaming, untold_rise}
-use Rattle.turns.proofs.SayingLemmas.{shows_has}
+use Rattle.task_tree.specs.Rising.{TurnsRise}
+use Rattle.task_tree.proofs.OwnOrderLemmas.{own_place_iff, arranged_get, arranged_length}
+use Rattle.task_tree.proofs.RenamingLemmas.{renamed_covers, renamed_predecessor}
+use Rattle.task_tree.proofs.RisingLemmas.{own_renaming, untold_rise}
+use Rattle.task_tree.proofs.SayingLemmas.{shows_has}
 use Rattle.checker.specs.declared.verdict.Verdict.{Verdict}
 use Rattle.checker.specs.declared.verdict.Verdict.TheVariants.{Yes, No, Malformed}
 use Rattle.checker.specs.declared.verdict.Why.{Why}

@@ -5,7 +5,7 @@ ghost use Rattle.ompt_events.specs.declared.records.Record.{Record};
 ghost use Rattle.ompt_events.specs.Traces.{IsTraceOf};
 ghost use Rattle.ompt_events.specs.Linearization.{IsLinearization};
 ghost use Rattle.ompt_events.specs.Violations as violations;
-ghost use Rattle.turns.specs.Rising.{TurnsRise};
+ghost use Rattle.task_tree.specs.Rising.{TurnsRise};
 ghost use Rattle.checker.specs.declared.verdict.Verdict.{Verdict};
 ghost use Rattle.checker.specs.Readings.{by_task, by_file, IsRequiredBy};
 ghost use Rattle.checker.specs.Verdicts.{ShowsNone, IsUnfinished, IsMissed, IsVerdict, IsVerdictBy};

@@ -1,5 +1,8 @@
 -- When a family or a tree is that of the records, and what the steps of building one know. What a tree of tasks
--- is, is defined in `ompt_events` (Tree). Read Family and Paths first, then the steps in their order.
+-- is, is defined in `ompt_events` (Tree). Read Family, Own and Paths first, then the steps in their order. The
+-- last five are of turns: records in another order in which each task's own stand as they did, which the laws
+-- speak of; where file order serves already; the turn of each record; the first gap; and the own order. What a
+-- turn and the tasks' own order are, is defined in `ompt_events` (Turns).
 pub mod Family
 pub mod Runs
 pub mod Own
@@ -17,3 +20,9 @@ pub mod Roots
 pub mod Forward
 pub mod Lineage
 pub mod Rootless
+pub mod Renaming
+pub mod Rising
+pub mod TurnTable
+pub mod Gaps
+pub mod OwnOrder
+pub mod Families

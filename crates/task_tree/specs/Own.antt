@@ -1,38 +1,12 @@
 -- The records of a trace in the tasks' own order, and where each of them stands in the file.
 use Rattle.std.specs.Prelude.{ℕ, ◌≡◌, ◌<◌, ⊤, List, length, Option, Some, MatchOption, slice_get}
-use Rattle.std.specs.List.{range_with_len}
 use Rattle.ompt_events.specs.declared.records.Record.{Record}
 use Rattle.ompt_events.specs.declared.cause.Cause.{Cause}
 use Rattle.ompt_events.specs.declared.fault.Fault.{Fault}
 use Rattle.ompt_events.specs.declared.fault.Fault.TheVariants.{Memory, Malformed}
 use Rattle.ompt_events.specs.Causes.{HasCause, IsFreeOf}
 use Rattle.task_tree.specs.Runs.{RunView, IsRun}
-use Rattle.task_tree.specs.declared.own.Order.{Order}
-use Rattle.task_tree.specs.declared.own.Order.TheVariants.{InFile, Arranged}
-
--- the second list has at each place the number at which the first one has the place
-pub record AreInverse (places numbers : List ℕ) : Type 0 where
-  pub all : length numbers ≡ length places
-  pub there : (place number : ℕ) → slice_get numbers place ≡ Some number → slice_get places number ≡ Some place
-  pub back : (place number : ℕ) → slice_get places number ≡ Some place → slice_get numbers place ≡ Some number
-
--- the places, the earliest in the tasks' own order first
-abbrev pub places_of : Order → List ℕ
-places_of (InFile records) = range_with_len 0 records
-places_of (Arranged places numbers) = places.items
-
--- the two lists of an arranged order are inverse
-abbrev pub IsOrder : Order → Type 0
-IsOrder (InFile records) = ⊤
-IsOrder (Arranged places numbers) = AreInverse places.items numbers.items
-
--- each of the first n places stands in the list once, and no other
-pub record AreAllPlaces (places : List ℕ) (n : ℕ) : Type 0 where
-  pub all : length places ≡ n
-  pub below : (number place : ℕ) → slice_get places number ≡ Some place → place < n
-  pub each : (place : ℕ) → place < n → (number : ℕ) × (slice_get places number ≡ Some place)
-  pub apart : (number other place : ℕ) → slice_get places number ≡ Some place
-      → slice_get places other ≡ Some place → number ≡ other
+use Rattle.task_tree.specs.OwnOrder.{AreAllPlaces}
 
 -- what clauses see of a run in its tasks' own order: the run, whose records stand in that order, and by number
 -- in it the place in the file

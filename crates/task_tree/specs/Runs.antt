@@ -10,8 +10,7 @@ use Rattle.ompt_events.specs.declared.names.WaitKind.{WaitKind}
 use Rattle.ompt_events.specs.declared.deps.Dep.{Dep}
 use Rattle.ompt_events.specs.Records.{begun_root, creation, dependences, ended_root, finish, forked, region, running, schedule}
 use Rattle.ompt_events.specs.Places.{at}
-use Rattle.ompt_events.specs.Traces.{IsTrace}
-use Rattle.ompt_events.specs.Turns.{TellsNoTurns}
+use Rattle.ompt_events.specs.Traces.{IsTrace, IsTraceOf}
 use Rattle.ompt_events.specs.Waits.{wait_kind}
 use Rattle.task_tree.specs.Family.{FamilyView, IsFamilyOf}
 use Rattle.task_tree.specs.Subjects.{Calls}
@@ -23,11 +22,11 @@ pub record RunView : Type 0 where
   pub records : List Record
   pub family : FamilyView
 
--- the records are a trace, and the family is theirs; no record tells a turn, so that each task's own order is
--- that of the file
+-- the records are a trace of either version, and the family is theirs
 pub record IsRun (run : RunView) : Type 0 where
   pub trace : IsTrace run.records
-  pub untold : TellsNoTurns run.records
+  pub version : ℕ
+  pub of_version : IsTraceOf version run.records
   pub family : IsFamilyOf run.records run.family
 
 -- the index is that of the task that the record at the place names so; none where it names none

@@ -7,21 +7,32 @@
 //! `forward`) and `rootless`, the steps of a build. `numbering` is the list of ids that they share
 //! (`ranking` searches it), `slot` an index or none in 32 bits, `link_slot` a link or none, `standing_slot`
 //! where a task stands or nothing, and `hints` says where a task is looked for first.
+//!
+//! A task that runs on on another thread has its records in turns. `laws` says what follows from the
+//! definitions of turns alone. `rising` says in one pass whether file order is the tasks' own order already;
+//! where it is not, `turn_table` has the turn of each record, `gaps` searches for the first record that tells
+//! turns which are not those of its tasks, and `own_order` is the tasks' own order.
 #![tactic(auto)]
 
 mod children;
 mod climbing;
+mod copies;
+mod families;
 mod family;
 mod forward;
+mod gaps;
 mod hints;
+pub mod laws;
 mod lineage;
 mod link_slot;
 mod links;
 mod makers;
 mod numbering;
 mod own;
+mod own_order;
 mod paths;
 mod ranking;
+mod rising;
 mod rootless;
 mod roots;
 mod rows;
@@ -30,10 +41,16 @@ mod slot;
 mod standing_slot;
 mod subjects;
 mod tree;
+mod turn_table;
 
+pub use families::Families;
 pub use family::Family;
+pub use gaps::find_gap;
 pub use numbering::Numbering;
-pub use own::{Own, OwnOrder};
+pub use own::Own;
+pub use own_order::{OwnOrder, arrange};
+pub use rising::turns_rise;
 pub use run::{Creation, Finishing, RegionEvent, Run, Schedule, ThreadEvent, WaitEvent};
 pub use slot::Slot;
 pub use tree::{Tree, TreeFault};
+pub use turn_table::turns_of;

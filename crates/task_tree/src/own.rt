@@ -1,82 +1,11 @@
 //! The run of a trace in its tasks' own order, and where each record stands in the file.
 ghost use Rattle.std.specs.Prelude.{◌≡◌, ◌<◌, Some, length, slice_get};
-ghost use Rattle.std.specs.List.{range_with_len};
-ghost use Rattle.task_tree.specs.Own.{AreInverse, AreAllPlaces, IsOwn};
+ghost use Rattle.task_tree.specs.OwnOrder.{AreAllPlaces};
+ghost use Rattle.task_tree.specs.Own.{IsOwn};
 
+use crate::own_order::OwnOrder;
 use crate::run::Run;
 use std::marker::Model;
-
-/// An order of the records of a trace, which contracts see as the list of their places in the file. A record's
-/// number is its place in that order.
-#[derive(Debug, Drop)]
-pub struct OwnOrder {
-    order: Order,
-}
-
-/// An order of records.
-#[derive(Debug, Drop)]
-enum Order {
-    /// So many records as they stand in the file.
-    InFile(usize),
-    /// By number the place in the file, and by place the number.
-    Arranged(Vec<u32>, Vec<u32>),
-}
-
-impl Model for OwnOrder {
-    ghost use Rattle.std.specs.Prelude.{List, ℕ};
-    ghost use Rattle.task_tree.specs.Own.{places_of, IsOrder};
-
-    ghost Value = { List ℕ };
-
-    ghost view = { λ own. places_of own.order };
-
-    ghost invariant = { λ own. IsOrder own.order };
-}
-
-impl OwnOrder {
-    /// So many records as they stand in the file. Takes no memory.
-    pub fn in_file(records: usize) -> OwnOrder
-        ensures { result ≡ range_with_len 0 records }
-    {
-        OwnOrder {
-            order: Order::InFile(records),
-        }
-    }
-
-    /// The order of these places. In the second list stands at each place its number. Takes no memory.
-    pub fn arranged(places: Vec<u32>, numbers: Vec<u32>) -> OwnOrder
-        requires { AreInverse places.items numbers.items }
-        ensures { result ≡ places.items }
-    {
-        OwnOrder {
-            order: Order::Arranged(places, numbers),
-        }
-    }
-
-    /// The place in the file of the record with this number.
-    #[inline(always)]
-    pub fn place(&self, number: usize) -> usize
-        requires { number < length self.now }
-        ensures { slice_get self.now number ≡ Some result }
-    {
-        match &self.order {
-            Order::InFile(_) => number,
-            Order::Arranged(places, _) => places[number] as usize,
-        }
-    }
-
-    /// The number of the record at a place in the file.
-    #[inline(always)]
-    pub fn number(&self, place: usize) -> usize
-        requires { place < length self.now }
-        ensures { slice_get self.now result ≡ Some place }
-    {
-        match &self.order {
-            Order::InFile(_) => place,
-            Order::Arranged(_, numbers) => numbers[place] as usize,
-        }
-    }
-}
 
 /// A run whose records stand in the tasks' own order, and where each of them stands in the file.
 #[derive(Debug, Drop)]

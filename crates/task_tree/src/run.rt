@@ -99,10 +99,9 @@ pub struct WaitEvent {
 }
 
 impl<'a> Run<'a> {
-    /// The run of the records of a trace of version 1. The family must be that of its tasks. Takes no memory.
+    /// The run of the records of a trace. The family must be that of its tasks. Takes no memory.
     pub fn of(trace: &'a Trace, family: &'a Family) -> Run<'a>
-        requires version { trace.now.version ≡ 1 }
-        requires family { IsFamilyOf trace.now.records family.now }
+        requires { IsFamilyOf trace.now.records family.now }
         ensures records { result.records ≡ trace.now.records }
         ensures family { result.family ≡ family.now }
     {

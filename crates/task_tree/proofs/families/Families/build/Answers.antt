@@ -1,0 +1,21 @@
+use Rattle.std.proofs.Common.{◌≡◌, ◌∙◌, List, length, refl, sym, ap}
+use Rattle.std.specs.List.{range_with_len}
+use Rattle.ompt_events.specs.declared.records.Record.{Record}
+use Rattle.task_tree.proofs.FamiliesLemmas.{file_families, arranged_families}
+use Rattle.task_tree.proofs.families.Families.build.Goals as goal
+
+pub of-requires-clause-version : goal.of-requires-clause-version
+of-requires-clause-version c = c.in_ok-is_in_own_order.ensures.version c.if-branch.false
+
+pub returns-then-branch-clause-families : goal.returns-then-branch-clause-families
+returns-then-branch-clause-families c =
+    let rs = c.args.trace.now.records in
+    let own = c.in_ok-is_in_own_order.ensures in
+    file_families rs _ c.in_ok-file.ensures.family (own.rises c.if-branch.true) (own.gapless c.if-branch.true) refl (c.in_file.ensures ∙ ap (λ (l : List Record). range_with_len 0 (length l)) c.records.ensures.value) refl
+
+pub returns-clause-families : goal.returns-clause-families
+returns-clause-families c =
+    let rs = c.args.trace.now.records in
+    let gap = rw c.records-2.ensures.value at c.in_ok-gap.ensures in
+    let order = rw c.records-2.ensures.value at c.in_ok-order.ensures in
+    arranged_families rs _ c.in_ok-of.field-0 c.in_ok-file.ensures.family c.in_ok-of.ensures.records gap refl order

@@ -1,0 +1,19 @@
+use Rattle.std.proofs.Common.{length, ◌≡◌, ◌∙◌, ap, sym, subst}
+use Rattle.std.specs.Prelude.{ℕ, List}
+use Rattle.ompt_events.specs.declared.records.Record.{Record}
+use Rattle.task_tree.specs.OwnOrder.{AreAllPlaces}
+use Rattle.task_tree.specs.Families.{FamiliesView}
+use Rattle.task_tree.proofs.FamiliesLemmas.{file_order_all, own_order_all, file_is_own, arranged_is_own}
+use Rattle.task_tree.proofs.families.Families.own.Goals as goal
+
+pub of-requires-in-None : goal.of-requires-in-None
+of-requires-in-None c =
+    let none = sym (ap (λ (f : FamiliesView). f.arranged) c.self.view_is) ∙ c.in-None.is in
+    let order = ap (λ (f : FamiliesView). f.places) c.self.view_is in
+    rw (order, c.of.ensures.records) (file_order_all c.args.trace.now.records c.args.self.now.arranged c.args.self.now.places none c.requires.own)
+
+pub of-requires-in-Some : goal.of-requires-in-Some
+of-requires-in-Some c =
+    let some = sym (ap (λ (f : FamiliesView). f.arranged) c.self.view_is) ∙ c.in-Some.is in
+    let order = ap (λ (f : FamiliesView). f.places) c.self.view_is in
+    rw (order, c.run.ensures) (own_order_all c.args.trace.now.records c.args.self.now.arranged c.in-Some.arranged c.args.self.now.places some c.requires.own)

@@ -1,0 +1,81 @@
+//! Copies of records. The lists of a record take memory.
+ghost use Rattle.std.specs.Prelude.{◌≡◌, IfOk};
+
+use ompt_events::{Body, Claim, Dep, Deps, Path, Record};
+use std::alloc::{AllocError, Global};
+
+/// The same record once more.
+pub(crate) fn copy_of(alloc: Global, event: &Record) -> Result<Record, AllocError>
+    ensures { IfOk result (λ copy. copy ≡ event.now) }
+{
+    Ok(Record {
+        thread: event.thread,
+        seq: event.seq,
+        seen: event.seen,
+        body: body_of(alloc, &event.body)?,
+    })
+}
+
+// The same variant, by the names of its fields: those that are copied as they are, then one that has a function
+// that copies it.
+macro_rules! same_variant {
+    ($body:ident $alloc:ident $($variant:ident ($($field:ident)*) $($listed:ident by $copy:ident)?;)*) => {
+        match $body {
+            $(Body::$variant { $($field,)* $($listed,)? } => Ok(Body::$variant {
+                $($field: *$field,)*
+                $($listed: $copy($alloc, $listed)?,)?
+            }),)*
+        }
+    };
+}
+
+/// The same body once more.
+fn body_of(alloc: Global, body: &Body) -> Result<Body, AllocError>
+    ensures { IfOk result (λ copy. copy ≡ body.now) }
+{
+    same_variant! {
+        body alloc
+        ThreadBegin (kind);
+        ThreadEnd ();
+        ParallelBegin (requested task parallel);
+        ParallelEnd (task parallel);
+        ImplicitTask (endpoint actual index flags parallel task);
+        TaskCreate (deps flags task child);
+        Dependences (task) list by deps_of;
+        TaskSchedule (status turns prior next) share by share_of;
+        SyncRegion (kind endpoint parallel task);
+        Cancel (flags task) share by share_of;
+    }
+}
+
+/// The same dependences once more.
+fn deps_of(alloc: Global, list: &Deps) -> Result<Deps, AllocError>
+    ensures { IfOk result (λ copy. copy ≡ list.now) }
+{
+    let mut items: Vec<Dep> = Vec::new(alloc);
+    items.extend_from_slice(list.as_slice())?;
+    Ok(Deps::from_vec(items))
+}
+
+/// The same claim once more, if there is one.
+fn share_of(alloc: Global, share: &Option<Claim>) -> Result<Option<Claim>, AllocError>
+    ensures { IfOk result (λ copy. copy ≡ share.now) }
+{
+    let Some(claim) = share else {
+        return Ok(None);
+    };
+    Ok(Some(Claim {
+        kept: claim.kept,
+        root: claim.root,
+        path: path_of(alloc, &claim.path)?,
+    }))
+}
+
+/// The same path once more.
+fn path_of(alloc: Global, path: &Path) -> Result<Path, AllocError>
+    ensures { IfOk result (λ copy. copy ≡ path.now) }
+{
+    let mut numbers = Vec::new(alloc);
+    numbers.extend_from_slice(path.as_slice())?;
+    Ok(Path::from_vec(numbers))
+}

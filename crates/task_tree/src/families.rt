@@ -1,0 +1,176 @@
+//! The tasks of a trace, as the file has them and by their own order.
+ghost use Rattle.std.specs.Prelude.{◌≡◌, ◌∷◌, [], false, IfOk, IfErr, IsTrue, length, slice_get};
+ghost use Rattle.std.specs.List.{filter_map};
+ghost use Rattle.ompt_events.specs.declared.cause.Cause.TheVariants.{CreatedTwice, Rootless, TurnGap};
+ghost use Rattle.ompt_events.specs.declared.fault.Fault.TheVariants.{Memory};
+ghost use Rattle.ompt_events.specs.Causes.{IsFreeOf};
+ghost use Rattle.ompt_events.specs.Faults.{IsFault, FindsFirst};
+ghost use Rattle.ompt_events.specs.Turns.{in_own_order, own_places};
+ghost use Rattle.task_tree.specs.Family.{IsFamilyOf};
+ghost use Rattle.task_tree.specs.Rising.{TurnsRise};
+ghost use Rattle.task_tree.specs.OwnOrder.{AreAllPlaces};
+ghost use Rattle.task_tree.specs.Families.{AreFamiliesOf, IsOwnOf};
+
+use crate::copies::copy_of;
+use crate::family::Family;
+use crate::gaps::find_gap;
+use crate::own::Own;
+use crate::own_order::{OwnOrder, arrange};
+use crate::rising::turns_rise;
+use crate::run::Run;
+use crate::turn_table::turns_of;
+use ompt_events::{Fault, Record, Trace};
+use std::alloc::{AllocError, Global};
+use std::marker::Model;
+
+/// The tasks of a trace: by the order of the file, and by their own order.
+#[derive(Debug, Drop)]
+pub struct Families {
+    file: Family,
+    /// None where file order is the tasks' own order.
+    arranged: Option<Arranged>,
+    order: OwnOrder,
+    gap: Option<usize>,
+}
+
+impl Model for Families {
+    ghost use Rattle.task_tree.specs.Families.{FamiliesView};
+
+    ghost Value = { FamiliesView };
+
+    ghost view = { λ families. record {
+      file = families.file;
+      arranged = families.arranged;
+      places = families.order;
+      gap = families.gap;
+    } };
+}
+
+/// The records of a trace in the tasks' own order, with the family of its tasks by that order.
+#[derive(Debug, Drop)]
+struct Arranged {
+    trace: Trace,
+    family: Family,
+}
+
+impl Model for Arranged {
+    ghost use Rattle.task_tree.specs.Runs.{RunView, IsRun};
+
+    ghost Value = { RunView };
+
+    ghost view = { λ arranged. record { records = arranged.trace.records; family = arranged.family } };
+
+    ghost invariant = { λ arranged. IsRun (record { records = arranged.trace.records; family = arranged.family }) };
+}
+
+impl Families {
+    /// The families of the trace's tasks. Refused are records in which a task or a parallel region is made
+    /// again, or else one is spoken of that has no root or no begin; and any records where memory runs out.
+    /// Where the turns of a task fall along the file, the records are copied and put into the tasks' own order.
+    pub fn build(alloc: Global, trace: &Trace) -> Result<Families, Fault>
+        ensures families { IfOk result (AreFamiliesOf trace.now.records) }
+        ensures fault { IfErr result (IsFault trace.now.records (CreatedTwice ∷ Rootless ∷ [])) }
+    {
+        let file = Family::build(alloc, trace)?;
+        if is_in_own_order(alloc, trace, &file)? {
+            return Ok(Families {
+                file,
+                arranged: None,
+                order: OwnOrder::in_file(trace.records().len()),
+                gap: None,
+            });
+        }
+        let turns = turns_of(alloc, trace.records())?;
+        let gap = find_gap(alloc, trace.records(), turns.as_slice())?;
+        let order = arrange(alloc, trace.records(), turns.as_slice())?;
+        let arranged = Some(Arranged::of(alloc, trace, &order)?);
+        Ok(Families {
+            file,
+            arranged,
+            order,
+            gap,
+        })
+    }
+
+    /// The run of the trace, whose families these must be.
+    pub fn run<'a>(&'a self, trace: &'a Trace) -> Run<'a>
+        requires { AreFamiliesOf trace.now.records self.now }
+        ensures records { result.records ≡ trace.now.records }
+        ensures family { result.family ≡ self.now.file }
+    {
+        Run::of(trace, &self.file)
+    }
+
+    /// The run of the trace in the tasks' own order.
+    pub fn own<'a>(&'a self, trace: &'a Trace) -> Own<'a>
+        requires { AreFamiliesOf trace.now.records self.now }
+        ensures { IsOwnOf trace.now.records result }
+    {
+        match &self.arranged {
+            None => Own::of(Run::of(trace, &self.file), &self.order),
+            Some(arranged) => Own::of(arranged.run(), &self.order),
+        }
+    }
+
+    /// The first record that tells turns which are not those of its tasks.
+    pub fn gap(&self) -> Option<usize>
+        ensures { result ≡ self.now.gap }
+    {
+        self.gap
+    }
+}
+
+/// Whether file order is the tasks' own order already and no record has a turn gap, as in each trace of version 1.
+fn is_in_own_order(alloc: Global, trace: &Trace, family: &Family) -> Result<bool, AllocError>
+    requires { IsFamilyOf trace.now.records family.now }
+    ensures rises { IfOk result (λ own. IsTrue own → TurnsRise trace.now.records) }
+    ensures gapless { IfOk result (λ own. IsTrue own → IsFreeOf trace.now.records TurnGap) }
+    ensures version { IfOk result (λ own. own ≡ false → trace.now.version ≡ 2) }
+{
+    let records = trace.records();
+    if trace.version() == 1 {
+        return Ok(true);
+    }
+    turns_rise(alloc, records, family)
+}
+
+impl Arranged {
+    /// The records of a trace of version 2 in the tasks' own order, where each task and each parallel region is
+    /// made once, and none is spoken of that has no root or no begin.
+    fn of(alloc: Global, trace: &Trace, order: &OwnOrder) -> Result<Arranged, Fault>
+        requires version { trace.now.version ≡ 2 }
+        requires once { IsFreeOf trace.now.records CreatedTwice }
+        requires rooted { IsFreeOf trace.now.records Rootless }
+        requires order { order.now ≡ own_places trace.now.records }
+        ensures records { IfOk result (λ arranged. arranged.records ≡ in_own_order trace.now.records) }
+        ensures memory_alone { IfErr result (λ fault. fault ≡ Memory) }
+    {
+        let records = arranged_records(alloc, trace.records(), order)?;
+        let trace = Trace::from_turns(records).unwrap();
+        let family = Family::build(alloc, &trace)?;
+        Ok(Arranged { trace, family })
+    }
+
+    /// The run of these records.
+    fn run(&self) -> Run<'_>
+        ensures { result ≡ self.now }
+    {
+        Run::of(&self.trace, &self.family)
+    }
+}
+
+/// Copies of the records, in this order.
+fn arranged_records(
+    alloc: Global,
+    records: &[Record],
+    order: &OwnOrder,
+) -> Result<Vec<Record>, AllocError>
+    requires { AreAllPlaces order.now (length records.now) }
+    ensures { IfOk result (λ copies. copies.items ≡ filter_map (slice_get records.now) order.now) }
+{
+    let mut copies = Vec::with_capacity(alloc, records.len())?;
+    for number in 0..records.len() {
+        copies.push(copy_of(alloc, &records[order.place(number)])?)?;
+    }
+    Ok(copies)
+}

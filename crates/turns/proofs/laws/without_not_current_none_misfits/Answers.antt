@@ -1,5 +1,0 @@
-use Rattle.turns.proofs.SuspendedLemmas.{no_misfit}
-use Rattle.turns.proofs.laws.without_not_current_none_misfits.Goals as goal
-
-pub returns : goal.returns
-returns c = λ records none i misfits. no_misfit records i none misfits

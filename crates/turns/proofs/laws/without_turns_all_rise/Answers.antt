@@ -1,5 +1,0 @@
-use Rattle.turns.proofs.RisingLemmas.{untold_rise}
-use Rattle.turns.proofs.laws.without_turns_all_rise.Goals as goal
-
-pub returns : goal.returns
-returns c = untold_rise

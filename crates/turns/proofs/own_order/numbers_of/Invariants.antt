@@ -1,6 +1,0 @@
-use Rattle.turns.specs.OwnOrder.{AreNumbers}
-use Rattle.turns.proofs.own_order.numbers_of.Given as goal
-
--- the numbers of the places so far
-abbrev pub invariant-loop-number : goal.invariant-loop-number
-invariant-loop-number l = AreNumbers l.places l.number l.numbers.items
