@@ -1,11 +1,12 @@
 #!/usr/bin/env python3
 """own_order.py [SIZE]: what turns cost on traces of version 2 of SIZE records (1,048,576): the instructions a record of
-the test that turns rise, of the turn of each record and of the tasks' own order, and the peak memory.
+the test that turns rise, of the turn of each record, of the search for a gap and of the tasks' own order, and the peak
+memory.
 
 The files: a run of traces.py, where no task moves, with the turns that its lines imply, in the order of time and one
 thread after another; and tasks that begin on one thread and go on on another, whose later turns stand first. Callgrind
 counts what each call takes with all that it calls, so the figures are the same on a busy machine; the test has no
-symbol of its own, and is what `told_rising` of timing takes without the family.
+symbol of its own, and is what `told_rising` of timing takes.
 """
 
 import json
@@ -92,17 +93,17 @@ def main():
     files = (("no task moves, in the order of time", trace(size, "time")),
              ("no task moves, one thread after another", trace(size, "threads")),
              ("each task moves, later turns first", moving(size)))
-    print("| File | Records | `turns_rise` | `turns_of` | `arrange` | MB: read | with the test | with the own order |")
-    print("|---|---|---|---|---|---|---|---|", flush=True)
+    print("| File | Records | `turns_rise` | `turns_of` | `find_gap` | `arrange` | MB: read | with the test | with the own order |")
+    print("|---|---|---|---|---|---|---|---|---|", flush=True)
     with tempfile.TemporaryDirectory() as folder:
         path = os.path.join(folder, "trace")
         for name, lines in files:
             with open(path, "w", encoding="utf-8") as file:
                 file.write("".join(line + "\n" for line in lines))
             count = len(lines) - 1
-            rise = counted("rise", "in_turns::told_rising", path) - counted("rise", "family::Family::build", path)
-            turns, arrange = (counted("arrange", call, path) for call in ("turn_table::turns_of", "own_order::arrange"))
-            each = [f"{one / count:.0f}" for one in (rise, turns, arrange)]
+            rise = counted("rise", "in_turns::told_rising", path)
+            calls = ("turn_table::turns_of", "gaps::find_gap", "own_order::arrange")
+            each = [f"{one / count:.0f}" for one in (rise, *(counted("arrange", call, path) for call in calls))]
             memory = [f"{peak(word, path):.0f}" for word in ("read", "rise", "arrange")]
             print(f"| {name} | {count:,} | " + " | ".join(each + memory) + " |", flush=True)
 

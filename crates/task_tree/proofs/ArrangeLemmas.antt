@@ -11,7 +11,8 @@ use Rattle.ompt_events.specs.declared.records.Record.{Record}
 use Rattle.ompt_events.specs.Places.{places}
 use Rattle.ompt_events.specs.Turns.{turn_at, own_places, own_place}
 use Rattle.ompt_events.proofs.ListLemmas.{get_contains, contains_get}
-use Rattle.task_tree.specs.TurnTable.{pair_cmp, AreTurns}
+use Rattle.task_tree.specs.TurnTable.{AreTurns}
+use Rattle.task_tree.specs.GapSearch.{pair_cmp}
 use Rattle.task_tree.specs.OwnOrder.{AreInverse, AreApartBelow, AreNumbers}
 use Rattle.task_tree.proofs.RankedLemmas.{Every, every_get, every_weaker, row_below, Comes}
 use Rattle.task_tree.proofs.SortedLemmas.{ranked_from, ranked_equal, map_range, same_by_index, pair_order, apart_in_order, sorted_order}

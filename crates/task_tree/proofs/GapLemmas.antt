@@ -16,10 +16,10 @@ use Rattle.ompt_events.specs.Turns.{turn_at}
 use Rattle.ompt_events.specs.Tree.{IsRoot}
 use Rattle.ompt_events.specs.Causes.{HasTurnGap, other_turn, begun_again, falling, of_root, missing, BeginsTurn, runs, is_root, TellsStart, HasCause, turn_gap, IsFreeOf, IsFirstWith}
 use Rattle.ompt_events.proofs.PlaceLemmas.{at_within}
-use Rattle.task_tree.specs.declared.gaps.Begins.{Begins}
-use Rattle.task_tree.specs.declared.gaps.Start.{Start}
-use Rattle.task_tree.specs.TurnTable.{pair_cmp, kept_turn}
-use Rattle.task_tree.specs.Gaps.{AreFirst, AreRoots, AreBegins, IsTurnRaised, AreGreatest, BeginsRoot, LacksBefore, IsWrongStart, wrong_again, wrong_falling, wrong_root, wrong_missing}
+use Rattle.task_tree.specs.declared.gap_search.Begins.{Begins}
+use Rattle.task_tree.specs.declared.gap_search.Start.{Start}
+use Rattle.task_tree.specs.GapSearch.{pair_cmp, kept_turn}
+use Rattle.task_tree.specs.GapSearch.{AreFirst, AreRoots, AreBegins, IsTurnRaised, AreGreatest, BeginsRoot, LacksBefore, IsWrongStart, wrong_again, wrong_falling, wrong_root, wrong_missing}
 use Rattle.task_tree.proofs.PairMaps.{pair_here, pair_there}
 
 -- ---- the first begins

@@ -28,9 +28,13 @@ pub mod SuspendedLemmas
 pub mod SayingLemmas
 pub mod PairMaps
 pub mod TurnTableLemmas
+pub mod ChainLemmas
 pub mod SortedLemmas
 pub mod ArrangeLemmas
 pub mod GapLemmas
 pub mod RisingPassLemmas
+pub mod WalkLemmas
+pub mod TurnRowLemmas
+pub mod GapFreeLemmas
 pub mod FamiliesLemmas
 pub mod ArrangedLemmas

@@ -6,7 +6,7 @@ use Rattle.std.specs.Ordering.{nat_cmp, is_eq}
 use Rattle.std.specs.declared.cmp.Ordering.{Ordering}
 use Rattle.std.specs.declared.cmp.Ordering.TheVariants.{Less, Equal, Greater}
 use Rattle.std.specs.BTreeMap.{BTreeMap, get, is_at, Updates}
-use Rattle.task_tree.specs.TurnTable.{pair_cmp}
+use Rattle.task_tree.specs.GapSearch.{pair_cmp}
 
 same_number : (a : ℕ) → nat_cmp a a ≡ Equal
 same_number a = grind (arith, nat_tests)

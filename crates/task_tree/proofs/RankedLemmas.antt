@@ -1,10 +1,10 @@
 -- Facts of each element of a list and of each two; numbers by a key, and then by size.
-use Rattle.std.proofs.Common.{◌≡◌, ◌≢◌, ◌∙◌, ℕ, ◌<◌, ◌≤◌, ◌+◌, zero, suc, List, [], ◌∷◌, ◌++◌, ◌⊎◌, Option, Some, None, true, false, Bool, cond, not, ◌&&◌, ◌||◌, refl, sym, ap, subst, arith, length, inl, inr, eqb, ltb, max, append-nil}
+use Rattle.std.proofs.Common.{◌≡◌, ◌≢◌, ◌∙◌, ℕ, ◌<◌, ◌≤◌, ◌+◌, zero, suc, List, [], ◌∷◌, ◌++◌, ◌⊎◌, Option, Some, None, true, false, Bool, cond, not, ◌&&◌, ◌||◌, refl, sym, ap, subst, arith, length, inl, inr, eqb, ltb, append-nil}
 use Rattle.std.proofs.lemmas.Option.{none-some, same_Some}
 use Rattle.std.proofs.lemmas.Bool.{cases_order, cases_eq, lt-ltb, le-ltb, eq-eqb, ne_eqb, eqb-true}
 use Rattle.std.proofs.lemmas.List.Sorted.{IsPermutation-refl, IsPermutation-sym, IsPermutation-trans, IsPermutation-cons, IsPermutation-middle, IsPermutation-append_left}
 use Rattle.std.proofs.lemmas.List.Concat.{flat_map-append}
-use Rattle.std.specs.Prelude.{◌==◌, ⊤, slice_get, option_and_then, is_some, filter, fold, take, flat_map, filter_map}
+use Rattle.std.specs.Prelude.{◌==◌, ⊤, slice_get, option_and_then, is_some, filter, flat_map, filter_map}
 use Rattle.std.specs.List.{range_with_len, position_or_len, cons_option}
 use Rattle.std.specs.List.Sorted.{IsPermutation}
 pub use Rattle.ompt_events.proofs.EveryLemmas.{Every, every_append, every_weaker, every_of_all, every_if, every_filter, every_passes, every_take, every_get, fold_most}

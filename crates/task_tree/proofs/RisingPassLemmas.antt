@@ -109,7 +109,7 @@ none_starts rs i none = by (at begun_turn rs i) refl
 
 -- ---- the turn of a task on a thread, one record on
 
-after_other : (task turn : ℕ) (r : Record) → ((next : ℕ) → begun_turn r.body ≡ Some (task, next) → ⊥) → turn_after task turn r ≡ turn
+pub after_other : (task turn : ℕ) (r : Record) → ((next : ℕ) → begun_turn r.body ≡ Some (task, next) → ⊥) → turn_after task turn r ≡ turn
 after_other task turn r other = by (begun_turn r.body) refl
   where
     by : (o : Option (ℕ × ℕ)) → begun_turn r.body ≡ o → option_map_or (λ (b : ℕ × ℕ). cond (b.0 == task) b.1 turn) o turn ≡ turn
@@ -119,16 +119,16 @@ after_other task turn r other = by (begun_turn r.body) refl
       | inr apart ↦ ap (λ c. cond c b.1 turn) (ne_eqb b.0 task apart)
     ]
 
-after_own : (task turn next : ℕ) (r : Record) → begun_turn r.body ≡ Some (task, next) → turn_after task turn r ≡ next
+pub after_own : (task turn next : ℕ) (r : Record) → begun_turn r.body ≡ Some (task, next) → turn_after task turn r ≡ next
 after_own task turn next r begins =
     ap (λ (o : Option (ℕ × ℕ)). option_map_or (λ (b : ℕ × ℕ). cond (b.0 == task) b.1 turn) o turn) begins
     ∙ ap (λ c. cond c next turn) (eq-eqb task task refl)
 
-body_begins : (rs : List Record) (i : ℕ) (r : Record) → i < length rs → r ≡ get_or rs i r → at begun_turn rs i ≡ begun_turn r.body
+pub body_begins : (rs : List Record) (i : ℕ) (r : Record) → i < length rs → r ≡ get_or rs i r → at begun_turn rs i ≡ begun_turn r.body
 body_begins rs i r within read = ap (option_and_then (λ (q : Record). begun_turn q.body)) (read_get rs i r within read)
 
 -- where the task does not run next
-silent : (rs : List Record) (i task thread : ℕ) (r : Record) → i < length rs → r ≡ get_or rs i r → ((next : ℕ) → at begun_turn rs i ≡ Some (task, next) → ⊥) → turn_in task (part_of rs thread (i + 1)) ≡ turn_in task (part_of rs thread i)
+pub silent : (rs : List Record) (i task thread : ℕ) (r : Record) → i < length rs → r ≡ get_or rs i r → ((next : ℕ) → at begun_turn rs i ≡ Some (task, next) → ⊥) → turn_in task (part_of rs thread (i + 1)) ≡ turn_in task (part_of rs thread i)
 silent rs i task thread r within read other = elim (cases_eq thread r.thread) [
   | inl same ↦
       ap (λ t. turn_in task (part_of rs t (i + 1))) same
@@ -226,12 +226,12 @@ latest_start rs i index task next r tasks latest known within read apart are beg
 
 -- ---- the turn of the record
 
-turn_here : (rs : List Record) (i task : ℕ) (r : Record) → slice_get rs i ≡ Some r → running r.body ≡ Some task → turn_at rs i ≡ turn_in task (part_of rs r.thread i)
+pub turn_here : (rs : List Record) (i task : ℕ) (r : Record) → slice_get rs i ≡ Some r → running r.body ≡ Some task → turn_at rs i ≡ turn_in task (part_of rs r.thread i)
 turn_here rs i task r stands own =
     ap (λ (o : Option Record). option_map_or (λ (q : Record). turn_of rs q i) o 0) stands
     ∙ ap (λ (o : Option ℕ). option_map_or (λ t. turn_in t (part_of rs r.thread i)) o 0) own
 
-own_body : (rs : List Record) (i task : ℕ) (r : Record) → slice_get rs i ≡ Some r → at running rs i ≡ Some task → running r.body ≡ Some task
+pub own_body : (rs : List Record) (i task : ℕ) (r : Record) → slice_get rs i ≡ Some r → at running rs i ≡ Some task → running r.body ≡ Some task
 own_body rs i task r stands own = sym (ap (option_and_then (λ (q : Record). running q.body)) stands) ∙ own
 
 pub there_some : (rs : List Record) (i task turn : ℕ) (r : Record) (known : Latest) → slice_get rs i ≡ Some r → IsLatest rs i task known → at running rs i ≡ Some task → IsOnTurn known r.thread turn → IsTurnThere rs i turn
@@ -245,7 +245,7 @@ there_some rs i task turn r known stands old own on = record {
 }
 
 -- a turn beyond 0 in which a task is on a thread began on the thread
-turn_began : (rs : List Record) (task thread n : ℕ) → 0 < turn_in task (part_of rs thread n) → (k : ℕ) × (k < n) × (thread_at rs k ≡ Some thread) × (at begun_turn rs k ≡ Some (task, turn_in task (part_of rs thread n)))
+pub turn_began : (rs : List Record) (task thread n : ℕ) → 0 < turn_in task (part_of rs thread n) → (k : ℕ) × (k < n) × (thread_at rs k ≡ Some thread) × (at begun_turn rs k ≡ Some (task, turn_in task (part_of rs thread n)))
 turn_began rs task thread n = part_keeps rs thread P (λ more. absurd (omega (arith, more))) own other n
   where
     P : ℕ → List Record → Type 0
@@ -289,7 +289,7 @@ keeps_gapless rs i turn r stands is right none = by (told_turns r.body) refl
     by None untold = untold_none rs i r stands untold
     by (Some told) tells = no_start_none rs i r told stands tells (told_right (told_turns r.body) turn told right tells ∙ is) (sym (ap (option_and_then (λ (q : Record). begun_turn q.body)) stands) ∙ none)
 
-explicit_not_root : (rs : List Record) (task : ℕ) → IsFreeOf rs CreatedTwice → IsExplicit rs task → IsRoot rs task → ⊥
+pub explicit_not_root : (rs : List Record) (task : ℕ) → IsFreeOf rs CreatedTwice → IsExplicit rs task → IsRoot rs task → ⊥
 explicit_not_root rs task once explicit root = by (slice_get rs explicit.0) explicit.1 (ap (at begun_root rs) (made_once rs task explicit.0 root.0 once (created_at_made task rs explicit.0 explicit.1) (begun_at_made task rs root.0 root.1)) ∙ root.1)
   where
     by : (o : Option Record) → option_and_then (λ (r : Record). created r.body) o ≡ Some task → option_and_then (λ (r : Record). begun_root r.body) o ≡ Some task → ⊥
@@ -430,7 +430,7 @@ other_told rs i turn r stands is other free = by (told_turns r.body) refl other
     by None e never = absurd never
     by (Some told) e apart = free i (turn_gap (other_turn told (ap (option_and_then (λ (q : Record). told_turns q.body)) stands ∙ e) (λ same. apart (same ∙ sym is))))
 
-root_or_explicit : (rs : List Record) (family : FamilyView) (index task : ℕ) → IsFamilyOf rs family → slice_get family.tasks index ≡ Some task → IsRoot rs task ⊎ IsExplicit rs task
+pub root_or_explicit : (rs : List Record) (family : FamilyView) (index task : ℕ) → IsFamilyOf rs family → slice_get family.tasks index ≡ Some task → IsRoot rs task ⊎ IsExplicit rs task
 root_or_explicit rs family index task is stands =
     let made_there = is.noted.only task (get_contains family.tasks task index stands) in
     by (slice_get rs made_there.0) refl made_there.2

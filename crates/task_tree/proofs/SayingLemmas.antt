@@ -3,10 +3,9 @@ use Rattle.std.proofs.Common.{ℕ, List}
 use Rattle.std.specs.Prelude.{◌↔◌}
 use Rattle.ompt_events.specs.declared.records.Record.{Record}
 use Rattle.ompt_events.specs.declared.cause.Cause.{Cause}
-use Rattle.ompt_events.specs.declared.cause.Cause.TheVariants.{TurnGap, RegionOrder, TeamShort, ShareWrong}
-use Rattle.ompt_events.specs.Turns.{TellsNoTurns}
+use Rattle.ompt_events.specs.declared.cause.Cause.TheVariants.{RegionOrder, TeamShort, ShareWrong}
 use Rattle.ompt_events.specs.Violations.{IsRequired, covered, preceding, awaited, MustBeComplete, wait_ends, dependent_starts, taskwait_completes}
-use Rattle.ompt_events.specs.Causes.{HasCause, turn_gap, Shows, IsFreeOf}
+use Rattle.ompt_events.specs.Causes.{HasCause, Shows}
 use Rattle.task_tree.specs.Rising.{TurnsRise}
 use Rattle.task_tree.proofs.RenamingLemmas.{renamed_covers, renamed_predecessor, renamed_order, renamed_short, renamed_share}
 use Rattle.task_tree.proofs.RisingLemmas.{own_renaming}

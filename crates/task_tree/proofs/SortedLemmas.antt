@@ -15,7 +15,7 @@ use Rattle.std.specs.declared.cmp.Ordering.TheVariants.{Less, Equal}
 use Rattle.std.specs.List.{range_with_len, IsDistinct}
 use Rattle.std.specs.List.Sorted.{IsPermutation, IsSorted}
 use Rattle.ompt_events.proofs.ListLemmas.{get_contains, contains_get}
-use Rattle.task_tree.specs.TurnTable.{pair_cmp}
+use Rattle.task_tree.specs.GapSearch.{pair_cmp}
 use Rattle.task_tree.proofs.RankedLemmas.{Every, Ranked}
 use Rattle.task_tree.proofs.RisingListLemmas.{IsIn}
 

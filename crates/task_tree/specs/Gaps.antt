@@ -1,80 +1,19 @@
--- Where turns begin, and what a record tells that begins one which it may not.
-use Rattle.std.specs.Prelude.{ℕ, ◌≡◌, ◌<◌, ◌≤◌, ◌+◌, ◌⊎◌, true, List, length, Some, None}
-use Rattle.std.specs.Ordering.{nat_cmp}
-use Rattle.std.specs.BTreeMap.{BTreeMap, get}
-use Rattle.std.specs.BTreeSet.{BTreeSet, contains}
+-- What a record tells that has no gap: what of it is seen in the record itself and in the turns that begin.
+use Rattle.std.specs.Prelude.{ℕ, ◌≡◌, ◌+◌, List, Some}
 use Rattle.ompt_events.specs.declared.records.Record.{Record}
-use Rattle.ompt_events.specs.Records.{begun_turn, begun_root}
-use Rattle.ompt_events.specs.Places.{at, thread_at}
+use Rattle.ompt_events.specs.declared.records.Turns.{Turns}
+use Rattle.ompt_events.specs.Records.{told_turns, begun_turn}
+use Rattle.ompt_events.specs.Places.{at}
 use Rattle.ompt_events.specs.Tree.{IsRoot}
+use Rattle.ompt_events.specs.Turns.{turn_at}
 use Rattle.ompt_events.specs.Causes.{BeginsTurn}
-use Rattle.task_tree.specs.declared.gaps.Begins.{Begins}
-use Rattle.task_tree.specs.declared.gaps.Start.{Start}
-use Rattle.task_tree.specs.TurnTable.{pair_cmp, kept_turn}
 
--- ---- where turns begin
+-- a task may begin the turn: the one before begins too, and turn 0 is not a root's
+pub record MayBeginThere (rs : List Record) (task turn : ℕ) : Type 0 where
+  pub created : turn ≡ 0 → IsRoot rs task → ⊥
+  pub before : (last : ℕ) → turn ≡ last + 1 → (k : ℕ) × BeginsTurn rs k task last
 
--- by task and turn the first of the first n records after which the task runs in the turn
-pub record AreFirst (rs : List Record) (n : ℕ) (first : BTreeMap (ℕ × ℕ) ℕ) : Type 0 where
-  pub begins : (task turn place : ℕ) → get pair_cmp first (task, turn) ≡ Some place
-      → at begun_turn rs place ≡ Some (task, turn)
-  pub earliest : (task turn place k : ℕ) → get pair_cmp first (task, turn) ≡ Some place
-      → at begun_turn rs k ≡ Some (task, turn) → place ≤ k
-  pub all : (task turn k : ℕ) → get pair_cmp first (task, turn) ≡ None → k < n
-      → at begun_turn rs k ≡ Some (task, turn) → ⊥
-
--- the initial and implicit tasks that begin by the first n records
-pub record AreRoots (rs : List Record) (n : ℕ) (roots : BTreeSet ℕ) : Type 0 where
-  pub only : (task : ℕ) → contains nat_cmp roots task ≡ true → IsRoot rs task
-  pub all : (task k : ℕ) → k < n → at begun_root rs k ≡ Some task → contains nat_cmp roots task ≡ true
-
--- both, by all records
-pub record AreBegins (rs : List Record) (begins : Begins) : Type 0 where
-  pub first : AreFirst rs (length rs) begins.first
-  pub roots : AreRoots rs (length rs) begins.roots
-
--- ---- the greatest turn of a task on a thread
-
--- the turn that the record begins is kept for its thread where it is greater
-pub record IsTurnRaised (old new : BTreeMap (ℕ × ℕ) ℕ) (r : Record) : Type 0 where
-  pub rises : (thread task : ℕ) → kept_turn old thread task ≤ kept_turn new thread task
-  pub raised : (task turn : ℕ) → begun_turn r.body ≡ Some (task, turn) → turn ≤ kept_turn new r.thread task
-  pub only : (thread task : ℕ) → (kept_turn new thread task ≡ kept_turn old thread task)
-      ⊎ ((thread ≡ r.thread) × (begun_turn r.body ≡ Some (task, kept_turn new thread task)))
-
--- for each task on each thread the greatest turn is kept that it began there by the first n records, and 0
--- where it began none
-pub record AreGreatest (rs : List Record) (n : ℕ) (kept : BTreeMap (ℕ × ℕ) ℕ) : Type 0 where
-  pub bound : (k thread task turn : ℕ) → k < n → thread_at rs k ≡ Some thread
-      → at begun_turn rs k ≡ Some (task, turn) → turn ≤ kept_turn kept thread task
-  pub reached : (thread task : ℕ) → 0 < kept_turn kept thread task
-      → (k : ℕ) × (k < n) × (thread_at rs k ≡ Some thread)
-      × (at begun_turn rs k ≡ Some (task, kept_turn kept thread task))
-
--- ---- what is told of a task that runs next
-
--- an earlier record began the same turn
-abbrev pub IsBegunBefore : List Record → Start → Type 0
-IsBegunBefore rs start = (k : ℕ) × (k < start.at) × (at begun_turn rs k ≡ Some (start.task, start.turn))
-
--- an earlier record of the thread began a later turn
-abbrev pub IsFalling : List Record → Start → Type 0
-IsFalling rs start =
-    (k later : ℕ) × (k < start.at) × (thread_at rs k ≡ Some start.thread)
-    × (at begun_turn rs k ≡ Some (start.task, later)) × (start.turn < later)
-
--- it is turn 0 of a root
-abbrev pub BeginsRoot : List Record → ℕ → ℕ → Type 0
-BeginsRoot rs task turn = (turn ≡ 0) × IsRoot rs task
-
--- no record begins the turn before
-abbrev pub LacksBefore : List Record → Start → Type 0
-LacksBefore rs start =
-    (before : ℕ) × (start.turn ≡ before + 1) × ((k : ℕ) → BeginsTurn rs k start.task before → ⊥)
-
--- the task may not begin that turn there
-pub data IsWrongStart (rs : List Record) (start : Start) : Type 0 where
-  wrong_again : IsBegunBefore rs start → IsWrongStart rs start
-  wrong_falling : IsFalling rs start → IsWrongStart rs start
-  wrong_root : BeginsRoot rs start.task start.turn → IsWrongStart rs start
-  wrong_missing : LacksBefore rs start → IsWrongStart rs start
+-- the record tells the turn of its prior task, and a turn of the next one that this may begin
+pub record TellsRightly (rs : List Record) (i : ℕ) : Type 0 where
+  pub prior : (told : Turns) → at told_turns rs i ≡ Some told → told.prior ≡ turn_at rs i
+  pub next : (task turn : ℕ) → at begun_turn rs i ≡ Some (task, turn) → MayBeginThere rs task turn

@@ -1,6 +1,6 @@
 -- When a family or a tree is that of the records, and what the steps of building one know. What a tree of tasks
 -- is, is defined in `ompt_events` (Tree). Read Family, Own and Paths first, then the steps in their order. The
--- last five are of turns: records in another order in which each task's own stand as they did, which the laws
+-- last ones are of turns: records in another order in which each task's own stand as they did, which the laws
 -- speak of; where file order serves already; the turn of each record; the first gap; and the own order. What a
 -- turn and the tasks' own order are, is defined in `ompt_events` (Turns).
 pub mod Family
@@ -22,7 +22,10 @@ pub mod Lineage
 pub mod Rootless
 pub mod Renaming
 pub mod Rising
+pub mod Chains
 pub mod TurnTable
+pub mod TurnRows
 pub mod Gaps
+pub mod GapSearch
 pub mod OwnOrder
 pub mod Families

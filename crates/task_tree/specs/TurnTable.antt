@@ -1,32 +1,72 @@
--- The turn of each record, and what is kept of turns while the records are gone over.
-use Rattle.std.specs.Prelude.{ℕ, ◌≡◌, ◌≢◌, ◌==◌, List, take, filter, map}
-use Rattle.std.specs.Option.{option_map_or}
-use Rattle.std.specs.Ordering.{nat_cmp, ordering_then}
-use Rattle.std.specs.declared.cmp.Ordering.{Ordering}
-use Rattle.std.specs.BTreeMap.{BTreeMap, get}
+-- The turn of each record, and what is kept of turns while the records are gone over thread by thread.
+use Rattle.std.specs.Prelude.{ℕ, ◌≡◌, ◌<◌, ◌≤◌, ◌⊎◌, ◌==◌, Bool, true, List, Some, if◌then◌else◌, length, take, filter, map, slice_get}
 use Rattle.ompt_events.specs.declared.records.Record.{Record}
-use Rattle.ompt_events.specs.Places.{places}
-use Rattle.ompt_events.specs.Turns.{turn_after, turn_in, turn_at}
+use Rattle.ompt_events.specs.Records.{begun_turn}
+use Rattle.ompt_events.specs.Places.{at, thread_at, places}
+use Rattle.ompt_events.specs.Turns.{turn_in, turn_at}
+use Rattle.task_tree.specs.declared.turn_table.Mark.{Mark}
+use Rattle.task_tree.specs.declared.turn_table.Walk.{Walk}
+
+-- what clauses see of the turns of records: the turn of each, and whether turns begin in order
+pub record TurnsView : Type 0 where
+  pub turns : List ℕ
+  pub in_order : Bool
 
 -- the turns are those of the records, by place
 abbrev pub AreTurns : List Record → List ℕ → Type 0
 AreTurns rs turns = turns ≡ map (turn_at rs) (places rs)
 
--- two numbers, in the order of the first and then of the second
-abbrev pub pair_cmp : ℕ × ℕ → ℕ × ℕ → Ordering
-pair_cmp a b = ordering_then (nat_cmp a.0 b.0) (nat_cmp a.1 b.1)
+-- no record begins a turn of a task after an earlier record of its thread that began a later one
+abbrev pub TurnsBeginInOrder : List Record → Type 0
+TurnsBeginInOrder rs =
+    (i k thread task turn later : ℕ) → k < i → thread_at rs i ≡ Some thread → thread_at rs k ≡ Some thread
+    → at begun_turn rs i ≡ Some (task, turn) → at begun_turn rs k ≡ Some (task, later) → later ≤ turn
 
--- the turn that is kept for a task on a thread, and 0 where none is
-abbrev pub kept_turn : BTreeMap (ℕ × ℕ) ℕ → ℕ → ℕ → ℕ
-kept_turn kept thread task = option_map_or (λ (turn : ℕ). turn) (get pair_cmp kept (thread, task)) 0
+-- that they begin in order is told only where they do
+pub record IsOrderTold (rs : List Record) (in_order : Bool) : Type 0 where
+  pub order : in_order ≡ true → TurnsBeginInOrder rs
 
--- for each task on each thread that turn is kept which the task began last there, by the first n records
-abbrev pub AreLastTurns : List Record → ℕ → BTreeMap (ℕ × ℕ) ℕ → Type 0
-AreLastTurns rs n kept =
-    (thread task : ℕ)
-    → kept_turn kept thread task ≡ turn_in task (filter (λ q. q.thread == thread) (take n rs))
+-- ---- the marks
 
--- the turn that the record begins is kept for its thread
-pub record IsTurnKept (old new : BTreeMap (ℕ × ℕ) ℕ) (r : Record) : Type 0 where
-  pub own : (task : ℕ) → kept_turn new r.thread task ≡ turn_after task (kept_turn old r.thread task) r
-  pub others : (thread task : ℕ) → thread ≢ r.thread → kept_turn new thread task ≡ kept_turn old thread task
+-- a task that began no turn
+abbrev pub no_mark : Mark
+no_mark = record { turn = 0; thread = 0 }
+
+-- the turn in which the task with this mark is on the thread
+abbrev pub turn_on : Mark → ℕ → ℕ
+turn_on mark thread = if mark.thread == thread then mark.turn else 0
+
+-- by the thread's records among the first n the marks have the turns of the tasks; by those of later threads,
+-- of which none is gone over, each task is in turn 0
+pub record AreMarks (rs : List Record) (tasks : List ℕ) (thread n : ℕ) (marks : List Mark) : Type 0 where
+  pub all : length marks ≡ length tasks
+  pub here : (index task : ℕ) (mark : Mark) → slice_get tasks index ≡ Some task
+      → slice_get marks index ≡ Some mark
+      → turn_on mark thread ≡ turn_in task (filter (λ q. q.thread == thread) (take n rs))
+  pub later : (index other : ℕ) (mark : Mark) → slice_get marks index ≡ Some mark → thread < other
+      → turn_on mark other ≡ 0
+
+-- ---- the walk
+
+-- the record at the place, of this thread, is of an earlier thread, or one of the first n of the thread
+abbrev pub IsPassed : ℕ → ℕ → ℕ → ℕ → Type 0
+IsPassed thread n own i = (own < thread) ⊎ ((own ≡ thread) × (i < n))
+
+-- the record begins no earlier turn than the one that the task began last on the thread
+abbrev pub BeginsNoEarlier : List Record → ℕ → ℕ → Type 0
+BeginsNoEarlier rs thread i =
+    (task turn : ℕ) → at begun_turn rs i ≡ Some (task, turn)
+    → turn_in task (filter (λ q. q.thread == thread) (take i rs)) ≤ turn
+
+-- the earlier threads are gone over, and of this one the first n records
+pub record IsWalkAt (rs : List Record) (tasks : List ℕ) (thread n : ℕ) (walk : Walk) : Type 0 where
+  pub marks : AreMarks rs tasks thread n walk.marks.items
+  pub all : length walk.turns.items ≡ length rs
+  pub turns : (i own : ℕ) → thread_at rs i ≡ Some own → IsPassed thread n own i
+      → slice_get walk.turns.items i ≡ Some (turn_at rs i)
+  pub order : walk.in_order ≡ true → (i own : ℕ) → thread_at rs i ≡ Some own → IsPassed thread n own i
+      → BeginsNoEarlier rs own i
+
+-- the same of the record's own thread, up to the record
+abbrev pub IsReadAt : List Record → List ℕ → ℕ → Walk → Type 0
+IsReadAt rs tasks i walk = (thread : ℕ) → thread_at rs i ≡ Some thread → IsWalkAt rs tasks thread i walk

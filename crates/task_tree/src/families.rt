@@ -80,8 +80,8 @@ impl Families {
                 gap: None,
             });
         }
-        let turns = turns_of(alloc, trace.records())?;
-        let gap = find_gap(alloc, trace.records(), turns.as_slice())?;
+        let turns = turns_of(alloc, trace.records(), &file)?;
+        let gap = find_gap(alloc, trace.records(), &file, &turns)?;
         let order = arrange(alloc, trace.records(), turns.as_slice())?;
         let arranged = Some(Arranged::of(alloc, trace, &order)?);
         Ok(Families {

@@ -1,234 +1,116 @@
 //! The first record that tells turns which are not those of its tasks.
 //!
-//! A first pass notes where each turn of each task begins, and which tasks are roots. A second pass compares
-//! what each record tells, and keeps the greatest turn that each task began so far on each thread.
-ghost use Rattle.std.specs.Prelude.{ℕ, ◌≡◌, ◌↔◌, ◌<◌, ◌+◌, List, Some, IfOk, OnOk, IsTrue, length, slice_get};
-ghost use Rattle.std.specs.BTreeMap.{get};
-ghost use Rattle.ompt_events.specs.declared.records.Record.{Record};
+//! A few passes see whether no record does. Only where one does, or may, the first is searched for, which
+//! takes longer.
+ghost use Rattle.std.specs.Prelude.{ℕ, ◌≡◌, ◌<◌, IfOk, IsTrue, Some, length, slice_get};
 ghost use Rattle.ompt_events.specs.declared.cause.Cause.TheVariants.{TurnGap};
 ghost use Rattle.ompt_events.specs.Turns.{turn_at};
-ghost use Rattle.ompt_events.specs.Causes.{HasTurnGap, BeginsTurn};
+ghost use Rattle.ompt_events.specs.Causes.{IsFreeOf};
 ghost use Rattle.ompt_events.specs.Faults.{FindsFirst};
-ghost use Rattle.task_tree.specs.TurnTable.{pair_cmp, AreTurns};
-ghost use Rattle.task_tree.specs.Gaps.{AreFirst, AreRoots, AreBegins, IsTurnRaised, AreGreatest, IsBegunBefore, IsFalling, BeginsRoot, LacksBefore, IsWrongStart};
+ghost use Rattle.task_tree.specs.Family.{IsFamilyOf};
+ghost use Rattle.task_tree.specs.TurnTable.{AreTurns, IsOrderTold};
+ghost use Rattle.task_tree.specs.TurnRows.{AreRows};
+ghost use Rattle.task_tree.specs.Gaps.{TellsRightly, MayBeginThere};
 
-use crate::turn_table::kept_turn;
+use crate::family::Family;
+use crate::gap_search::search_gap;
+use crate::rising::{Begin, start_at, tells_other};
+use crate::turn_rows::{TurnRows, find_rows, has_begun};
+use crate::turn_table::RecordTurns;
 use ompt_events::Record;
 use std::alloc::{AllocError, Global};
-use std::collections::{BTreeMap, BTreeSet};
 
-/// Where the turns begin.
-#[derive(Drop)]
-struct Begins {
-    /// By task and turn the first record after which the task runs in the turn.
-    first: BTreeMap<(u64, u32), usize>,
-    /// The initial and implicit tasks, of which turn 0 begins where they do.
-    roots: BTreeSet<u64>,
-}
-
-/// A record tells that a task runs next, and in which turn.
-#[derive(Clone, Copy)]
-struct Start {
-    at: usize,
-    thread: u8,
-    task: u64,
-    turn: u32,
-}
-
-/// Searches for the first record that tells turns which are not those of its tasks, given the turn of each
-/// record. The records need be no trace.
+/// Finds the first record that tells turns which are not those of its tasks, given the turn of each record.
+/// It takes a few steps for each record where no record tells such turns. Of the records nothing is assumed
+/// but that the family is theirs.
 pub fn find_gap(
     alloc: Global,
     records: &[Record],
-    turns: &[u32],
+    family: &Family,
+    turns: &RecordTurns,
 ) -> Result<Option<usize>, AllocError>
-    requires { AreTurns records.now turns.now }
+    requires family { IsFamilyOf records.now family.now }
+    requires turns { AreTurns records.now turns.now.turns }
+    requires order { IsOrderTold records.now turns.now.in_order }
     ensures { IfOk result (FindsFirst records.now TurnGap) }
 {
-    let begins = find_begins(alloc, records)?;
-    let mut greatest = BTreeMap::new(alloc);
-    for at in 0..records.len() {
-        let event = &records[at];
-        if has_gap(&begins, &greatest, event, at, turns[at]) {
-            return Ok(Some(at));
-        }
-        raise_turn(&mut greatest, event)?;
+    if is_gapless(alloc, records, family, turns)? {
+        return Ok(None);
     }
-    Ok(None)
+    search_gap(alloc, records, turns.as_slice())
 }
 
-/// Where the turns of the records begin.
-fn find_begins(alloc: Global, records: &[Record]) -> Result<Begins, AllocError>
-    ensures { IfOk result (AreBegins records.now) }
-{
-    let first = find_first(alloc, records)?;
-    let roots = find_roots(alloc, records)?;
-    Ok(Begins { first, roots })
-}
-
-/// By task and turn the first record after which the task runs in the turn.
-fn find_first(alloc: Global, records: &[Record]) -> Result<BTreeMap<(u64, u32), usize>, AllocError>
-    ensures { IfOk result (AreFirst records.now (length records.now)) }
-{
-    let mut first = BTreeMap::new(alloc);
-    for at in 0..records.len() {
-        note_first(&mut first, records, at)?;
-    }
-    Ok(first)
-}
-
-/// Notes the record at a place, if a task runs after it in a turn in which it did not run before.
-fn note_first(
-    first: &mut BTreeMap<(u64, u32), usize>,
+/// Whether no record tells such turns. It may be false where none does, but only if a task runs next at a
+/// record that tells no turns.
+fn is_gapless(
+    alloc: Global,
     records: &[Record],
-    at: usize,
-) -> Result<(), AllocError>
-    requires within { at < length records.now }
-    requires first { AreFirst records.now at first.old }
-    ensures { OnOk result (AreFirst records.now (at + 1) first.new) }
+    family: &Family,
+    turns: &RecordTurns,
+) -> Result<bool, AllocError>
+    requires family { IsFamilyOf records.now family.now }
+    requires turns { AreTurns records.now turns.now.turns }
+    requires order { IsOrderTold records.now turns.now.in_order }
+    ensures { IfOk result (λ free. IsTrue free → IsFreeOf records.now TurnGap) }
 {
-    let Some(turn) = records[at].body.begun_turn() else {
-        return Ok(());
-    };
-    if first_begin(first, turn).is_none() {
-        first.insert(turn, at)?;
+    if !turns.are_in_order() {
+        return Ok(false);
     }
-    Ok(())
+    match find_rows(alloc, records, family)? {
+        Some(rows) => Ok(tell_rightly(records, family, &rows, turns.as_slice())),
+        None => Ok(false),
+    }
 }
 
-/// The first record after which the task runs in the turn.
-fn first_begin(first: &BTreeMap<(u64, u32), usize>, turn: (u64, u32)) -> Option<usize>
-    ensures { result ≡ get pair_cmp first.now turn }
+/// Whether each record tells the turn of its prior task, and a turn of the next one that may begin there.
+fn tell_rightly(records: &[Record], family: &Family, rows: &TurnRows, turns: &[u32]) -> bool
+    requires family { IsFamilyOf records.now family.now }
+    requires rows { AreRows records.now family.now.tasks rows.now.offsets.items rows.now.begun.items }
+    requires turns { AreTurns records.now turns.now }
+    ensures { IsTrue result → (i : ℕ) → i < length records.now → TellsRightly records.now i }
 {
-    first.get(&turn).copied()
-}
-
-/// The initial and implicit tasks.
-fn find_roots(alloc: Global, records: &[Record]) -> Result<BTreeSet<u64>, AllocError>
-    ensures { IfOk result (AreRoots records.now (length records.now)) }
-{
-    let mut roots = BTreeSet::new(alloc);
     for at in 0..records.len() {
-        note_root(&mut roots, records, at)?;
+        if !tells_rightly(records, family, rows, turns[at], at) {
+            return false;
+        }
     }
-    Ok(roots)
+    true
 }
 
-/// Notes the root that begins at a place, if one does.
-fn note_root(roots: &mut BTreeSet<u64>, records: &[Record], at: usize) -> Result<(), AllocError>
+/// The same of the record at a place, which is in this turn of its task.
+fn tells_rightly(records: &[Record], family: &Family, rows: &TurnRows, turn: u32, at: usize) -> bool
     requires within { at < length records.now }
-    requires roots { AreRoots records.now at roots.old }
-    ensures { OnOk result (AreRoots records.now (at + 1) roots.new) }
+    requires family { IsFamilyOf records.now family.now }
+    requires rows { AreRows records.now family.now.tasks rows.now.offsets.items rows.now.begun.items }
+    requires turn { turn ≡ turn_at records.now at }
+    ensures { IsTrue result → TellsRightly records.now at }
 {
-    if let Some(task) = records[at].body.begun_root() {
-        roots.insert(task)?;
-    }
-    Ok(())
-}
-
-/// Keeps the turn that the record begins, if it is greater than the one that is kept.
-fn raise_turn(kept: &mut BTreeMap<(u8, u64), u32>, event: &Record) -> Result<(), AllocError>
-    ensures { OnOk result (IsTurnRaised kept.old kept.new event.now) }
-{
-    let Some((task, turn)) = event.body.begun_turn() else {
-        return Ok(());
-    };
-    if kept_turn(kept, event.thread, task) < turn {
-        kept.insert((event.thread, task), turn)?;
-    }
-    Ok(())
-}
-
-/// Whether the record at a place, which is in this turn of its task, tells other turns than those of its
-/// tasks.
-fn has_gap(
-    begins: &Begins,
-    greatest: &BTreeMap<(u8, u64), u32>,
-    event: &Record,
-    at: usize,
-    turn: u32,
-) -> bool
-    ensures { (records : List Record) → AreBegins records begins.now → AreGreatest records at greatest.now
-        → slice_get records at ≡ Some event.now → turn ≡ turn_at records at
-        → IsTrue result ↔ HasTurnGap records at }
-{
-    let Some(told) = event.body.told_turns() else {
+    if tells_other(&records[at], turn) {
         return false;
+    }
+    match start_at(records, family, at) {
+        Some(begin) => may_begin(records, family, rows, begin),
+        None => true,
+    }
+}
+
+/// Whether the turn before begins as well. Turn 0 of a root begins where the root does, and there alone.
+fn may_begin(records: &[Record], family: &Family, rows: &TurnRows, begin: Begin) -> bool
+    requires family { IsFamilyOf records.now family.now }
+    requires rows { AreRows records.now family.now.tasks rows.now.offsets.items rows.now.begun.items }
+    requires index { begin.index < length family.now.tasks }
+    ensures { IsTrue result → (task : ℕ) → slice_get family.now.tasks begin.index ≡ Some task
+        → MayBeginThere records.now task begin.turn }
+{
+    if begin.turn == 0 {
+        return family.is_explicit_at(begin.index);
+    }
+    if begin.turn == 1 && !family.is_explicit_at(begin.index) {
+        return true;
+    }
+    let before = Begin {
+        index: begin.index,
+        turn: begin.turn - 1,
     };
-    if told.prior != turn {
-        return true;
-    }
-    let Some((task, next)) = event.body.begun_turn() else {
-        return false;
-    };
-    let start = Start {
-        at,
-        thread: event.thread,
-        task,
-        turn: next,
-    };
-    is_wrong(begins, greatest, start)
-}
-
-/// Whether the task may not begin that turn there.
-fn is_wrong(begins: &Begins, greatest: &BTreeMap<(u8, u64), u32>, start: Start) -> bool
-    ensures { (records : List Record) → AreBegins records begins.now
-        → AreGreatest records start.at greatest.now → IsTrue result ↔ IsWrongStart records start }
-{
-    if is_begun_before(begins, start) {
-        return true;
-    }
-    if is_falling(greatest, start) {
-        return true;
-    }
-    if begins_root(begins, start.task, start.turn) {
-        return true;
-    }
-    lacks_before(begins, start)
-}
-
-/// Whether an earlier record began the same turn of the task.
-fn is_begun_before(begins: &Begins, start: Start) -> bool
-    ensures { (records : List Record) → AreBegins records begins.now
-        → IsTrue result ↔ IsBegunBefore records start }
-{
-    match first_begin(&begins.first, (start.task, start.turn)) {
-        Some(first) => first < start.at,
-        None => false,
-    }
-}
-
-/// Whether an earlier record of the thread began a later turn of the task.
-fn is_falling(greatest: &BTreeMap<(u8, u64), u32>, start: Start) -> bool
-    ensures { (records : List Record) → AreGreatest records start.at greatest.now
-        → IsTrue result ↔ IsFalling records start }
-{
-    start.turn < kept_turn(greatest, start.thread, start.task)
-}
-
-/// Whether no record begins the turn before.
-fn lacks_before(begins: &Begins, start: Start) -> bool
-    ensures { (records : List Record) → AreBegins records begins.now
-        → IsTrue result ↔ LacksBefore records start }
-{
-    start.turn > 0 && !has_begun(begins, start.task, start.turn - 1)
-}
-
-/// Whether a record begins the turn of the task.
-fn has_begun(begins: &Begins, task: u64, turn: u32) -> bool
-    ensures { (records : List Record) → AreBegins records begins.now
-        → IsTrue result ↔ ((k : ℕ) × BeginsTurn records k task turn) }
-{
-    match first_begin(&begins.first, (task, turn)) {
-        Some(_) => true,
-        None => begins_root(begins, task, turn),
-    }
-}
-
-/// Whether it is turn 0 of a root, which begins where the root does.
-fn begins_root(begins: &Begins, task: u64, turn: u32) -> bool
-    ensures { (records : List Record) → AreBegins records begins.now
-        → IsTrue result ↔ BeginsRoot records task turn }
-{
-    turn == 0 && begins.roots.contains(&task)
+    has_begun(rows, before)
 }

@@ -10,16 +10,20 @@
 //!
 //! A task that runs on on another thread has its records in turns. `laws` says what follows from the
 //! definitions of turns alone. `rising` says in one pass whether file order is the tasks' own order already;
-//! where it is not, `turn_table` has the turn of each record, `gaps` searches for the first record that tells
-//! turns which are not those of its tasks, and `own_order` is the tasks' own order.
+//! where it is not, `turn_table` has the turn of each record, `gaps` the first record that tells turns which
+//! are not those of its tasks, and `own_order` is the tasks' own order. `turn_table` goes over the records by
+//! `chains`; `gaps` stands on `turn_rows`, and on `gap_search` where a record has a gap. `families` puts this
+//! together: the tasks by the order of the file and by their own.
 #![tactic(auto)]
 
+mod chains;
 mod children;
 mod climbing;
 mod copies;
 mod families;
 mod family;
 mod forward;
+mod gap_search;
 mod gaps;
 mod hints;
 pub mod laws;
@@ -41,6 +45,7 @@ mod slot;
 mod standing_slot;
 mod subjects;
 mod tree;
+mod turn_rows;
 mod turn_table;
 
 pub use families::Families;
@@ -53,4 +58,4 @@ pub use rising::turns_rise;
 pub use run::{Creation, Finishing, RegionEvent, Run, Schedule, ThreadEvent, WaitEvent};
 pub use slot::Slot;
 pub use tree::{Tree, TreeFault};
-pub use turn_table::turns_of;
+pub use turn_table::{RecordTurns, turns_of};

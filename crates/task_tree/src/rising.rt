@@ -23,9 +23,9 @@ struct Latest {
 
 /// The task at an index begins a turn.
 #[derive(Clone, Copy)]
-struct Begin {
-    index: usize,
-    turn: u32,
+pub(crate) struct Begin {
+    pub(crate) index: usize,
+    pub(crate) turn: u32,
 }
 
 impl Latest {
@@ -135,7 +135,7 @@ fn turn_there(records: &[Record], family: &Family, latest: &[Latest], at: usize)
 }
 
 /// Whether the record tells another turn of the prior task.
-fn tells_other(event: &Record, turn: u32) -> bool
+pub(crate) fn tells_other(event: &Record, turn: u32) -> bool
     ensures { IsTrue result ↔ IsSomeAnd (told_turns event.now.body) (λ told. told.prior ≢ turn) }
 {
     match event.body.told_turns() {
@@ -161,7 +161,7 @@ fn may_begin(event: &Record, family: &Family, known: Latest, begin: Begin) -> bo
 }
 
 /// The index of the task that the record at a place is of, if it is of one.
-fn running_at(records: &[Record], family: &Family, at: usize) -> Option<usize>
+pub(crate) fn running_at(records: &[Record], family: &Family, at: usize) -> Option<usize>
     requires within { at < length records.now }
     requires family { IsFamilyOf records.now family.now }
     ensures { Calls family.now.tasks (says_at running records.now at) result }
@@ -194,7 +194,7 @@ fn begin_at(records: &[Record], family: &Family, at: usize) -> Option<Begin>
 }
 
 /// The task that runs next at a place, if one does, and the turn that it begins.
-fn start_at(records: &[Record], family: &Family, at: usize) -> Option<Begin>
+pub(crate) fn start_at(records: &[Record], family: &Family, at: usize) -> Option<Begin>
     requires within { at < length records.now }
     requires family { IsFamilyOf records.now family.now }
     ensures { MatchOption result (says_at begun_turn records.now at ≡ None)

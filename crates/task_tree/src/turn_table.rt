@@ -1,60 +1,179 @@
 //! The turn of each record.
 //!
-//! One pass over the records keeps, by thread and task, the turn that the task began last on the thread.
-ghost use Rattle.std.specs.Prelude.{◌≡◌, IfOk, OnOk};
-ghost use Rattle.std.specs.Option.{option_map_or};
-ghost use Rattle.ompt_events.specs.Records.{running};
-ghost use Rattle.task_tree.specs.TurnTable.{kept_turn, IsTurnKept, AreTurns};
+//! In which turn a record is depends on the earlier records of its thread alone. So the records are gone over
+//! thread by thread, and for each task that turn is kept which it began last, with the thread on which it
+//! did: on another thread it is in turn 0.
+ghost use Rattle.std.specs.Prelude.{ℕ, ◌≡◌, ◌<◌, ◌≤◌, ◌+◌, ◌↔◌, Some, IfOk, IsTrue, length, replicate};
+ghost use Rattle.ompt_events.specs.Places.{thread_at};
+ghost use Rattle.ompt_events.specs.Turns.{turn_at};
+ghost use Rattle.task_tree.specs.Family.{IsFamilyOf};
+ghost use Rattle.task_tree.specs.Chains.{AreChainsFrom};
+ghost use Rattle.task_tree.specs.TurnTable.{AreTurns, IsOrderTold, no_mark, turn_on, AreMarks, IsReadAt, IsWalkAt};
 
+use crate::family::Family;
+use crate::chains::{Chains, find_chains};
+use crate::rising::{running_at, start_at};
 use ompt_events::Record;
 use std::alloc::{AllocError, Global};
-use std::collections::BTreeMap;
+use std::marker::Model;
+
+/// The turn of each record, and whether turns begin in order on each thread.
+#[derive(Debug, Drop)]
+pub struct RecordTurns {
+    turns: Vec<u32>,
+    in_order: bool,
+}
+
+impl Model for RecordTurns {
+    ghost use Rattle.task_tree.specs.TurnTable.{TurnsView};
+
+    ghost Value = { TurnsView };
+
+    ghost view = { λ found. record { turns = found.turns.items; in_order = found.in_order } };
+}
+
+impl RecordTurns {
+    /// The turn of each record, by its place.
+    pub fn as_slice(&self) -> &[u32]
+        ensures { result.now ≡ self.now.turns }
+    {
+        self.turns.as_slice()
+    }
+
+    /// Whether no thread begins a turn of a task after a later one.
+    pub(crate) fn are_in_order(&self) -> bool
+        ensures { result ≡ self.now.in_order }
+    {
+        self.in_order
+    }
+}
+
+/// The turn that a task began last, and the thread on which it did.
+#[derive(Clone, Copy)]
+struct Mark {
+    turn: u32,
+    thread: u8,
+}
+
+impl Mark {
+    /// The task began none.
+    fn none() -> Mark
+        ensures { result ≡ no_mark }
+    {
+        Mark { turn: 0, thread: 0 }
+    }
+
+    /// The turn in which the task is on this thread.
+    fn turn_on(self, thread: u8) -> u32
+        ensures { result ≡ turn_on self thread }
+    {
+        if self.thread == thread { self.turn } else { 0 }
+    }
+}
+
+/// What is known once some threads are gone over.
+#[derive(Drop)]
+struct Walk {
+    turns: Vec<u32>,
+    marks: Vec<Mark>,
+    in_order: bool,
+}
 
 /// The turn of each record, by its place: that of the task that the record is of, and 0 where it is of none.
-/// The records need be no trace.
-pub fn turns_of(alloc: Global, records: &[Record]) -> Result<Vec<u32>, AllocError>
-    ensures { IfOk result (λ turns. AreTurns records.now turns.items) }
+/// It takes a few steps for each record. Of the records nothing is assumed but that the family is theirs.
+pub fn turns_of(
+    alloc: Global,
+    records: &[Record],
+    family: &Family,
+) -> Result<RecordTurns, AllocError>
+    requires { IsFamilyOf records.now family.now }
+    ensures turns { IfOk result (λ found. AreTurns records.now found.turns) }
+    ensures order { IfOk result (λ found. IsOrderTold records.now found.in_order) }
 {
-    let mut kept = BTreeMap::new(alloc);
-    let mut turns = Vec::with_capacity(alloc, records.len())?;
-    for at in 0..records.len() {
-        let record = &records[at];
-        turns.push(turn_before(&kept, record))?;
-        keep_turn(&mut kept, record)?;
-    }
-    Ok(turns)
-}
-
-/// The turn that is kept for a task on a thread, and 0 where none is.
-pub(crate) fn kept_turn(kept: &BTreeMap<(u8, u64), u32>, thread: u8, task: u64) -> u32
-    ensures { result ≡ kept_turn kept.now thread task }
-{
-    match kept.get(&(thread, task)) {
-        Some(turn) => *turn,
-        None => 0,
-    }
-}
-
-/// The turn of the record's task before the record, and 0 where the record is of no task.
-fn turn_before(kept: &BTreeMap<(u8, u64), u32>, event: &Record) -> u32
-    ensures { result ≡ option_map_or (λ task. kept_turn kept.now event.now.thread task)
-        (running event.now.body) 0 }
-{
-    match event.body.running() {
-        Some(task) => kept_turn(kept, event.thread, task),
-        None => 0,
-    }
-}
-
-/// Keeps the turn that the record begins, if it begins another than the one that is kept.
-fn keep_turn(kept: &mut BTreeMap<(u8, u64), u32>, event: &Record) -> Result<(), AllocError>
-    ensures { OnOk result (IsTurnKept kept.old kept.new event.now) }
-{
-    let Some((task, turn)) = event.body.begun_turn() else {
-        return Ok(());
+    let chains = find_chains(alloc, records)?;
+    let turns = no_turns(alloc, records.len())?;
+    let marks = no_marks(alloc, family.tasks().as_slice().len())?;
+    let mut walk = Walk {
+        turns,
+        marks,
+        in_order: true,
     };
-    if kept_turn(kept, event.thread, task) != turn {
-        kept.insert((event.thread, task), turn)?;
+    for thread in 0..256 {
+        walk_thread(records, family, &chains, thread, &mut walk);
     }
-    Ok(())
+    Ok(RecordTurns {
+        turns: walk.turns,
+        in_order: walk.in_order,
+    })
+}
+
+/// Turn 0 for so many records.
+fn no_turns(alloc: Global, records: usize) -> Result<Vec<u32>, AllocError>
+    ensures { IfOk result (λ turns. turns.items ≡ replicate records 0) }
+{
+    vec![in alloc; 0; records]
+}
+
+/// So many tasks that began no turn.
+fn no_marks(alloc: Global, tasks: usize) -> Result<Vec<Mark>, AllocError>
+    ensures { IfOk result (λ marks. marks.items ≡ replicate tasks no_mark) }
+{
+    vec![in alloc; Mark::none(); tasks]
+}
+
+/// Goes over the records of a thread, where those of the earlier threads are gone over.
+fn walk_thread(records: &[Record], family: &Family, chains: &Chains, thread: usize, walk: &mut Walk)
+    requires family { IsFamilyOf records.now family.now }
+    requires chains { AreChainsFrom records.now 0 chains.now.firsts.items chains.now.nexts.items }
+    requires thread { thread < 256 }
+    requires before { IsWalkAt records.now family.now.tasks thread 0 walk.old }
+    ensures { IsWalkAt records.now family.now.tasks (thread + 1) 0 walk.new }
+{
+    let mut at = chains.firsts[thread];
+    'chain: while at < records.len() {
+        visit(records, family, at, walk);
+        at = chains.nexts[at];
+    }
+}
+
+/// Goes over the record at a place, where the earlier ones of its thread are gone over.
+fn visit(records: &[Record], family: &Family, at: usize, walk: &mut Walk)
+    requires within { at < length records.now }
+    requires family { IsFamilyOf records.now family.now }
+    requires before { IsReadAt records.now family.now.tasks at walk.old }
+    ensures { (thread : ℕ) → thread_at records.now at ≡ Some thread
+        → IsWalkAt records.now family.now.tasks thread (at + 1) walk.new }
+{
+    walk.turns[at] = turn_before(records, family, walk.marks.as_slice(), at);
+    let Some(begin) = start_at(records, family, at) else {
+        return;
+    };
+    let thread = records[at].thread;
+    let last = walk.marks[begin.index].turn_on(thread);
+    walk.in_order = stays_in_order(walk.in_order, last, begin.turn);
+    walk.marks[begin.index] = Mark {
+        turn: begin.turn,
+        thread,
+    };
+}
+
+/// The turn of the record at a place.
+fn turn_before(records: &[Record], family: &Family, marks: &[Mark], at: usize) -> u32
+    requires within { at < length records.now }
+    requires family { IsFamilyOf records.now family.now }
+    requires all { length marks.now ≡ length family.now.tasks }
+    ensures { (thread : ℕ) → thread_at records.now at ≡ Some thread
+        → AreMarks records.now family.now.tasks thread at marks.now → result ≡ turn_at records.now at }
+{
+    match running_at(records, family, at) {
+        Some(index) => marks[index].turn_on(records[at].thread),
+        None => 0,
+    }
+}
+
+/// Whether it was so, and the next turn is no earlier one than the last.
+fn stays_in_order(before: bool, last: u32, next: u32) -> bool
+    ensures { IsTrue result ↔ (IsTrue before × (last ≤ next)) }
+{
+    before && last <= next
 }

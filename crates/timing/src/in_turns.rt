@@ -3,17 +3,27 @@ use crate::lines::any_trace_of_input;
 use anyhow::{Result, bail};
 use ompt_events::Trace;
 use task_tree::Family;
-use turns::{OwnOrder, arrange, find_gap, turns_of, turns_rise};
+
 
 /// Prints of the trace on standard input: its version, the turn of each record, the first record with a turn
 /// gap, the places in the tasks' own order, and whether turns are found to rise along the file.
 pub fn of_input(rt: &HostRuntime) -> Result<()> {
     let trace = any_trace_of_input(rt)?;
-    let turns = turns_of(rt.alloc(), trace.records())?;
-    let gap = find_gap(rt.alloc(), trace.records(), turns.as_slice())?;
+    let family = family_of(rt, &trace)?;
+    let found = turns_of(rt.alloc(), trace.records(), &family)?;
+    let gap = find_gap(rt.alloc(), trace.records(), &family, &found)?;
+    let turns = found.as_slice();
     println!(rt; "version {}, turns {turns:?}, gap {gap:?}", trace.version())?;
-    of_order(rt, &arrange(rt.alloc(), trace.records(), turns.as_slice())?)?;
-    told_rising(rt, &trace)
+    of_order(rt, &arrange(rt.alloc(), trace.records(), turns)?)?;
+    told_rising(rt, &trace, &family)
+}
+
+/// The family of the trace's tasks.
+fn family_of(rt: &HostRuntime, trace: &Trace) -> Result<Family> {
+    match Family::build(rt.alloc(), trace) {
+        Ok(family) => Ok(family),
+        Err(fault) => bail!("no family: {fault}"),
+    }
 }
 
 /// Prints the places in the own order, and the number there of each place.
@@ -29,27 +39,26 @@ fn of_order(rt: &HostRuntime, order: &OwnOrder) -> Result<()> {
 }
 
 /// Prints whether turns are found to rise.
-fn told_rising(rt: &HostRuntime, trace: &Trace) -> Result<()> {
-    match Family::build(rt.alloc(), trace) {
-        Ok(family) => {
-            let rise = turns_rise(rt.alloc(), trace.records(), &family)?;
-            println!(rt; "rise: {rise}")?;
-            Ok(())
-        }
-        Err(fault) => bail!("no family: {fault}"),
-    }
+fn told_rising(rt: &HostRuntime, trace: &Trace, family: &Family) -> Result<()> {
+    let rise = turns_rise(rt.alloc(), trace.records(), family)?;
+    println!(rt; "rise: {rise}")?;
+    Ok(())
 }
 
 /// Reads the trace on standard input and asks whether its turns rise.
 pub fn rise(rt: &HostRuntime) -> Result<()> {
-    told_rising(rt, &any_trace_of_input(rt)?)
+    let trace = any_trace_of_input(rt)?;
+    let family = family_of(rt, &trace)?;
+    told_rising(rt, &trace, &family)
 }
 
-/// Reads the trace on standard input and puts its records into the tasks' own order.
+/// Reads the trace on standard input, searches for a turn gap and puts its records into the tasks' own order.
 pub fn arranged(rt: &HostRuntime) -> Result<()> {
     let trace = any_trace_of_input(rt)?;
-    let turns = turns_of(rt.alloc(), trace.records())?;
+    let family = family_of(rt, &trace)?;
+    let turns = turns_of(rt.alloc(), trace.records(), &family)?;
+    let gap = find_gap(rt.alloc(), trace.records(), &family, &turns)?;
     let order = arrange(rt.alloc(), trace.records(), turns.as_slice())?;
-    println!(rt; "{} records", order.len())?;
+    println!(rt; "{} records, gap {gap:?}", order.len())?;
     Ok(())
 }

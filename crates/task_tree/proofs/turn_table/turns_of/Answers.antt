@@ -1,13 +1,20 @@
-use Rattle.std.proofs.Common.{◌∙◌}
-use Rattle.task_tree.proofs.TurnTableLemmas.{last_turns_more, turn_read, turns_pushed}
+use Rattle.std.proofs.Common.{◌≡◌, arith, rules, subst}
+use Rattle.task_tree.specs.TurnTable.{IsWalkAt}
+use Rattle.task_tree.proofs.WalkLemmas.{walked_turns, walked_order}
 use Rattle.task_tree.proofs.turn_table.turns_of.Goals as goal
 
-pub loop-at-preserved : goal.loop-at-preserved
-loop-at-preserved c =
+pub returns-clause-turns : goal.returns-clause-turns
+returns-clause-turns c =
     let rs = c.args.records.now in
-    let i = c.loop-at.at in
-    let r = c.index-records-at.result in
-    record {
-      kept = last_turns_more rs i r c.loop-at.kept c.keep_turn.new.kept c.loop-at-test.true c.index-records-at.is c.loop-at.invariant.kept c.in_ok-keep_turn.ensures;
-      turns = turns_pushed rs i c.turn_before.result c.loop-at.turns.items c.push.new.self.items c.loop-at.invariant.turns (c.turn_before.ensures ∙ turn_read rs i r c.loop-at.kept c.loop-at-test.true c.index-records-at.is c.loop-at.invariant.kept) c.in_ok-push.ensures.items;
-    }
+    let tasks = c.args.family.now.tasks in
+    let walk = c.loop-thread.walk in
+    let chains = c.in_ok-chains.ensures in
+    walked_turns rs tasks walk (λ i thread is. chains.narrow i thread (omega arith) is) (subst (λ t. IsWalkAt rs tasks t 0 walk) (let last : c.loop-thread.thread ≡ 256 = search rules in last) c.loop-thread.invariant)
+
+pub returns-clause-order : goal.returns-clause-order
+returns-clause-order c =
+    let rs = c.args.records.now in
+    let tasks = c.args.family.now.tasks in
+    let walk = c.loop-thread.walk in
+    let chains = c.in_ok-chains.ensures in
+    record { order = walked_order rs tasks walk (λ i thread is. chains.narrow i thread (omega arith) is) (subst (λ t. IsWalkAt rs tasks t 0 walk) (let last : c.loop-thread.thread ≡ 256 = search rules in last) c.loop-thread.invariant) }

@@ -1,6 +1,0 @@
-use Rattle.task_tree.specs.Gaps.{AreRoots}
-use Rattle.task_tree.proofs.gaps.find_roots.Given as goal
-
--- the roots that begin by the records so far
-abbrev pub invariant-loop-at : goal.invariant-loop-at
-invariant-loop-at l = AreRoots l.records l.at l.roots

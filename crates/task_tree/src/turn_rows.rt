@@ -1,0 +1,184 @@
+//! Which turns of which tasks begin, in a row of slots for each task.
+//!
+//! A task that runs next so many times has one slot more than that. Where no record has a gap, each turn that
+//! it begins has a slot: turns begin once each, and none is left out.
+ghost use Rattle.std.specs.Prelude.{ℕ, ◌≡◌, ◌<◌, ◌≤◌, ◌+◌, ◌^◌, false, List, Some, IfOk, IfSome, IsTrue, length, replicate, slice_get, sum};
+ghost use Rattle.ompt_events.specs.declared.records.Record.{Record};
+ghost use Rattle.ompt_events.specs.Records.{begun_turn};
+ghost use Rattle.ompt_events.specs.Places.{at};
+ghost use Rattle.task_tree.specs.Family.{IsFamilyOf};
+ghost use Rattle.task_tree.specs.TurnRows.{AreRising, AreWithin, IsSlot, AreRows, AreMarkedUpTo, BeginsAnew};
+
+use crate::family::Family;
+use crate::rising::{Begin, start_at};
+use ompt_events::Record;
+use std::alloc::{AllocError, Global};
+
+/// The rows of all tasks.
+#[derive(Drop)]
+pub(crate) struct TurnRows {
+    /// By index of the task where its row begins, and behind the last one where that ends.
+    offsets: Vec<usize>,
+    /// By slot whether the turn begins.
+    begun: Vec<bool>,
+}
+
+/// The turns that begin, if each has a slot and none begins twice.
+pub(crate) fn find_rows(
+    alloc: Global,
+    records: &[Record],
+    family: &Family,
+) -> Result<Option<TurnRows>, AllocError>
+    requires { IsFamilyOf records.now family.now }
+    ensures { IfOk result (λ found. IfSome found (λ rows.
+        AreRows records.now family.now.tasks rows.offsets.items rows.begun.items)) }
+{
+    let counts = count_starts(alloc, records, family)?;
+    let offsets = find_offsets(alloc, counts.as_slice())?;
+    let mut begun = none_begun(alloc, offsets[counts.len()])?;
+    if begin_once(records, family, offsets.as_slice(), begun.as_mut_slice()) {
+        Ok(Some(TurnRows { offsets, begun }))
+    } else {
+        Ok(None)
+    }
+}
+
+/// By index of each task how many records tell that it runs next.
+fn count_starts(
+    alloc: Global,
+    records: &[Record],
+    family: &Family,
+) -> Result<Vec<usize>, AllocError>
+    requires { IsFamilyOf records.now family.now }
+    ensures all { IfOk result (λ counts. length counts.items ≡ length family.now.tasks) }
+    ensures few { IfOk result (λ counts. sum counts.items ≤ length records.now) }
+{
+    let mut counts = no_counts(alloc, family.tasks().as_slice().len())?;
+    for at in 0..records.len() {
+        count_start(records, family, at, &mut counts);
+    }
+    Ok(counts)
+}
+
+/// Counts the task that runs next at a place, if one does.
+fn count_start(records: &[Record], family: &Family, at: usize, counts: &mut Vec<usize>)
+    requires within { at < length records.now }
+    requires family { IsFamilyOf records.now family.now }
+    requires all { length counts.old.items ≡ length family.now.tasks }
+    requires few { sum counts.old.items ≤ at }
+    ensures all { length counts.new.items ≡ length family.now.tasks }
+    ensures few { sum counts.new.items ≤ at + 1 }
+{
+    let Some(begin) = start_at(records, family, at) else {
+        return;
+    };
+    counts[begin.index] += 1;
+}
+
+/// No start of so many tasks.
+fn no_counts(alloc: Global, tasks: usize) -> Result<Vec<usize>, AllocError>
+    ensures { IfOk result (λ counts. counts.items ≡ replicate tasks 0) }
+{
+    vec![in alloc; 0; tasks]
+}
+
+/// Where the row of each task begins, and where the last one ends.
+fn find_offsets(alloc: Global, counts: &[usize]) -> Result<Vec<usize>, AllocError>
+    requires few { sum counts.now + length counts.now < 2 ^ 64 }
+    ensures all { IfOk result (λ offsets. length offsets.items ≡ length counts.now + 1) }
+    ensures rising { IfOk result (λ offsets. AreRising offsets.items) }
+{
+    let mut offsets = Vec::with_capacity(alloc, counts.len() + 1)?;
+    let mut end = 0usize;
+    offsets.push(end)?;
+    for count in counts {
+        end += *count + 1;
+        offsets.push(end)?;
+    }
+    Ok(offsets)
+}
+
+/// So many slots of turns of which none is known to begin.
+fn none_begun(alloc: Global, slots: usize) -> Result<Vec<bool>, AllocError>
+    ensures { IfOk result (λ begun. begun.items ≡ replicate slots false) }
+{
+    vec![in alloc; false; slots]
+}
+
+/// Marks the turns that begin, until one begins twice or has no slot. Whether there was no such turn.
+fn begin_once(records: &[Record], family: &Family, offsets: &[usize], begun: &mut [bool]) -> bool
+    requires family { IsFamilyOf records.now family.now }
+    requires all { length offsets.now ≡ length family.now.tasks + 1 }
+    requires rising { AreRising offsets.now }
+    requires slots { AreWithin offsets.now (length begun.old) }
+    requires fresh { AreMarkedUpTo records.now 0 family.now.tasks offsets.now begun.old }
+    ensures { IsTrue result → AreRows records.now family.now.tasks offsets.now begun.new }
+{
+    for at in 0..records.len() {
+        if !begins_anew(records, family, offsets, begun, at) {
+            return false;
+        }
+    }
+    true
+}
+
+/// Marks the turn that begins at a place, if one does; whether it has a slot and did not begin before.
+fn begins_anew(
+    records: &[Record],
+    family: &Family,
+    offsets: &[usize],
+    begun: &mut [bool],
+    at: usize,
+) -> bool
+    requires within { at < length records.now }
+    requires family { IsFamilyOf records.now family.now }
+    requires all { length offsets.now ≡ length family.now.tasks + 1 }
+    requires rising { AreRising offsets.now }
+    requires slots { AreWithin offsets.now (length begun.old) }
+    requires before { AreMarkedUpTo records.now at family.now.tasks offsets.now begun.old }
+    ensures marked { IsTrue result
+        → AreMarkedUpTo records.now (at + 1) family.now.tasks offsets.now begun.new }
+    ensures anew { IsTrue result → BeginsAnew records.now at }
+{
+    let Some(begin) = start_at(records, family, at) else {
+        return true;
+    };
+    let Some(slot) = slot_of(offsets, begin) else {
+        return false;
+    };
+    if begun[slot] {
+        return false;
+    }
+    begun[slot] = true;
+    true
+}
+
+/// The slot of the turn, if the row of the task is long enough.
+fn slot_of(offsets: &[usize], begin: Begin) -> Option<usize>
+    requires all { begin.index + 1 < length offsets.now }
+    ensures { (slot : ℕ) → result ≡ Some slot → IsSlot offsets.now begin.index begin.turn slot }
+{
+    let first = offsets[begin.index];
+    let end = offsets[begin.index + 1];
+    let turn = begin.turn as usize;
+    if first < end && turn < end - first {
+        Some(first + turn)
+    } else {
+        None
+    }
+}
+
+/// Whether a record tells that the task begins the turn.
+pub(crate) fn has_begun(rows: &TurnRows, begin: Begin) -> bool
+    requires all { begin.index + 1 < length rows.now.offsets.items }
+    requires slots { AreWithin rows.now.offsets.items (length rows.now.begun.items) }
+    ensures { (records : List Record) (tasks : List ℕ) (task : ℕ)
+        → AreMarkedUpTo records (length records) tasks rows.now.offsets.items rows.now.begun.items
+        → slice_get tasks begin.index ≡ Some task → IsTrue result
+        → (k : ℕ) × (at begun_turn records k ≡ Some (task, begin.turn)) }
+{
+    match slot_of(rows.offsets.as_slice(), begin) {
+        Some(slot) => rows.begun[slot],
+        None => false,
+    }
+}
