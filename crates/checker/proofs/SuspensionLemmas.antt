@@ -3,7 +3,7 @@ use Rattle.std.proofs.Common.{◌≡◌, ◌≢◌, ◌∙◌, ℕ, zero, suc, �
 use Rattle.std.proofs.lemmas.Bool.{cases_eq, cases_lt, cases_order}
 use Rattle.std.proofs.lemmas.Option.{none-some, same_Some, some_pair_parts, slice_get_within}
 use Rattle.std.proofs.lemmas.List.{length_push, length-set, length-replicate, get_or-set_same, get_or-set_other, get_or-replicate, get_or_past}
-use Rattle.std.specs.Prelude.{◌↔◌, slice_get, slice_index, option_and_then, option_map}
+use Rattle.std.specs.Prelude.{◌↔◌, MatchOption, slice_get, slice_index, option_and_then, option_map}
 use Rattle.std.specs.Option.{option_map_or}
 use Rattle.ompt_events.specs.declared.records.Record.{Record}
 use Rattle.ompt_events.specs.declared.records.Turns.{Turns}
@@ -27,7 +27,7 @@ use Rattle.checker.proofs.ScheduleLemmas.{later_awaits_none, created_suspends, b
 -- ---- rows
 
 -- an index with a slot is one of the rows
-has_row : (rows : List ℕ) (index turn : ℕ) → HasSlot rows index turn → index + 1 < length rows
+pub has_row : (rows : List ℕ) (index turn : ℕ) → HasSlot rows index turn → index + 1 < length rows
 has_row rows index turn has = elim (cases_lt (index + 1) (length rows)) [
   | inl inside ↦ inside
   | inr past ↦ let none : slice_index rows (index + 1) ≡ 0 = get_or_past rows (index + 1) 0 past in absurd (omega (arith, has, none))
@@ -80,6 +80,20 @@ ends_other rs n tasks rows places none are = record {
     | inr apart ↦ are.all i slot (omega (arith, below, apart)) is
   ];
 }
+
+-- the slot that is looked for is the one behind the end
+pub slot_found : (rs : List Record) (tasks rows : List ℕ) (i index turn : ℕ) (found : Option ℕ) → AreApart tasks → (end : IsEndOf rs tasks i index turn) → IsExplicit rs end.task
+    → MatchOption found (HasSlot rows index (turn + 1) → ⊥) (λ slot. HasSlot rows index (turn + 1) × (slot ≡ slice_index rows index + (turn + 1)))
+    → MatchOption found (HasNoSlotBehind rs tasks rows i) (IsSlotBehind rs tasks rows i)
+slot_found rs tasks rows i index turn (Some slot) apart end explicit (has, is) = record { index = index; turn = turn; end_of = end; explicit = explicit; has = has; is = is }
+slot_found rs tasks rows i index turn None apart end explicit none = λ slot behind.
+    let parts = some_pair_parts behind.end_of.task end.task behind.turn turn (sym behind.end_of.suspends ∙ end.suspends) in
+    let same = apart behind.index index end.task (behind.end_of.indexed ∙ ap Some parts.0) end.indexed in
+    let has = behind.has in
+    let row = ap (slice_index rows) same in
+    let next = ap (λ k. slice_index rows (k + 1)) same in
+    let own = parts.1 in
+    none (omega (arith, has, row, next, own))
 
 -- two ends at one place have one slot
 slot_once : (rs : List Record) (tasks rows : List ℕ) (i one other : ℕ) → AreApart tasks → IsSlotBehind rs tasks rows i one → IsSlotBehind rs tasks rows i other → one ≡ other

@@ -1,5 +1,5 @@
 //! Whether the records of a file stand in an order that also shows that the ledger is right.
-ghost use Rattle.std.specs.Prelude.{ℕ, ◌<◌, ◌≤◌, ◌≡◌, ◌+◌, List, IsTrue, IfOk, OnOk, length, replicate};
+ghost use Rattle.std.specs.Prelude.{ℕ, ◌<◌, ◌≤◌, ◌≡◌, ◌+◌, ◌^◌, List, IsTrue, IfOk, OnOk, length, replicate};
 ghost use Rattle.ompt_events.specs.declared.records.Record.{Record};
 ghost use Rattle.ompt_events.specs.declared.cause.Cause.TheVariants.{EntryTwice, LengthAhead, LengthBack};
 ghost use Rattle.ompt_events.specs.Places.{seen_at};
@@ -74,6 +74,7 @@ fn follows_awaited(
     at: usize,
 ) -> Result<bool, AllocError>
     requires within { at < length run.now.records }
+    requires few { length run.now.records ≤ 2 ^ 22 }
     requires facts { EachAwaitsOne run.now.records }
     requires lasts { AreLast run.now.records run.now.family.tasks lasts.old.items }
     ensures follows { IfOk result (λ follows. IsTrue follows → (c : ℕ) → Awaits run.now.records at c
@@ -121,10 +122,10 @@ fn follows_end(run: &Run, lasts: &[Suspension], at: usize, begin: Begin) -> bool
     if !run.is_explicit(begin.index) {
         return true;
     }
-    match lasts.get(begin.index) {
-        Some(last) => ended_before(run, *last, at, begin.turn),
-        None => false,
+    if begin.index >= lasts.len() {
+        return false;
     }
+    ended_before(run, lasts[begin.index], at, begin.turn)
 }
 
 /// Whether this is the suspension before the turn, and stands before the place and names no greater length.
@@ -147,6 +148,7 @@ fn note_end(
     at: usize,
 ) -> Result<(), AllocError>
     requires within { at < length run.now.records }
+    requires few { length run.now.records ≤ 2 ^ 22 }
     requires lasts { AreLast run.now.records run.now.family.tasks lasts.old.items }
     ensures { OnOk result (AreLast run.now.records run.now.family.tasks lasts.new.items) }
 {
@@ -168,6 +170,7 @@ fn keep_end(
     end: End,
 ) -> Result<(), AllocError>
     requires within { at < length run.now.records }
+    requires few { length run.now.records ≤ 2 ^ 22 }
     requires lasts { AreLast run.now.records run.now.family.tasks lasts.old.items }
     requires end { IsEndOf run.now.records run.now.family.tasks at end.index end.turn }
     ensures { OnOk result (AreLast run.now.records run.now.family.tasks lasts.new.items) }

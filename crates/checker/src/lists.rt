@@ -82,16 +82,19 @@ fn last_thread(run: &Run) -> u8
 }
 
 /// The records that await others, by key.
-pub(crate) fn lists_of_keys(alloc: Global, makers: &Makers) -> Result<Lists, AllocError>
-    ensures lists { IfOk result (λ lists. AreLists (key_of makers.now.run.family.tasks makers.now.run.records
-        makers.now.suspensions.rows.items) (length makers.now.run.records) 0
-        lists.firsts.items lists.nexts.items) }
+pub(crate) fn lists_of_keys(
+    alloc: Global,
+    run: &Run,
+    suspensions: &Suspensions,
+) -> Result<Lists, AllocError>
+    requires { AreSuspensions run.now.records run.now.family.tasks suspensions.now }
+    ensures lists { IfOk result (λ lists. AreLists
+        (key_of run.now.family.tasks run.now.records suspensions.now.rows.items)
+        (length run.now.records) 0 lists.firsts.items lists.nexts.items) }
     ensures keys { IfOk result (λ lists. length lists.firsts.items
-        ≡ length makers.now.run.family.tasks + length makers.now.suspensions.places.items) }
-    ensures rising { IfOk result (λ lists. IsRising (length makers.now.run.records) lists.nexts.items) }
+        ≡ length run.now.family.tasks + length suspensions.now.places.items) }
+    ensures rising { IfOk result (λ lists. IsRising (length run.now.records) lists.nexts.items) }
 {
-    let run = makers.run();
-    let suspensions = makers.suspensions();
     let count = run.len();
     let keys = run.task_count() + suspensions.slot_count();
     let mut lists = Lists::new(alloc, keys, count)?;
@@ -113,9 +116,10 @@ fn key_at(run: &Run, suspensions: &Suspensions, at: usize) -> Option<usize>
     ensures low { IfSome result (λ key. key
         < length run.now.family.tasks + length suspensions.now.places.items) }
 {
+    let tasks = run.task_count();
     match awaited_by(run, at)? {
         Awaited::Creation(index) => Some(index),
-        Awaited::Turn(begin) => Some(run.task_count() + suspensions.slot_of(begin)),
+        Awaited::Turn(begin) => Some(tasks + suspensions.slot_of(begin)),
     }
 }
 
@@ -129,11 +133,12 @@ pub(crate) fn key_behind(run: &Run, suspensions: &Suspensions, at: usize) -> Opt
     ensures low { IfSome result (λ key. key
         < length run.now.family.tasks + length suspensions.now.places.items) }
 {
+    let tasks = run.task_count();
     if let Some(index) = run.created(at) {
         return Some(index);
     }
     let slot = suspensions.slot_behind(run, at)?;
-    Some(run.task_count() + slot)
+    Some(tasks + slot)
 }
 
 /// The records that name each length of the ledger.

@@ -1,7 +1,8 @@
 //! Where the explicit tasks are suspended, turn by turn.
-ghost use Rattle.std.specs.Prelude.{ℕ, ◌≡◌, ◌<◌, ◌≤◌, ◌^◌, ◌*◌, ◌+◌, ◌↔◌, false, List, Some, None, MatchOption, IfOk, IfSome, All, length, slice_index};
+ghost use Rattle.std.specs.Prelude.{ℕ, ◌≡◌, ◌<◌, ◌≤◌, ◌^◌, ◌*◌, ◌+◌, ◌↔◌, false, List, Some, None, MatchOption, IfOk, All, length, replicate, slice_index};
 ghost use Rattle.ompt_events.specs.Records.{suspended_turn};
 ghost use Rattle.ompt_events.specs.Places.{at as says_at};
+ghost use Rattle.task_tree.specs.Runs.{IsRun};
 ghost use Rattle.turns.specs.Rising.{IsStartOf};
 ghost use Rattle.checker.specs.Schedule.{EachAwaitsOne, Awaits};
 ghost use Rattle.checker.specs.Suspensions.{IsEndOf, BeginsNoLater, HasSlot, AreRows, HaveRoom, AreLengths, IsSlotBehind, HasNoSlotBehind, AreEnds, AreSuspensions};
@@ -59,6 +60,8 @@ impl Suspensions {
             < length self.now.places.items }
         ensures { result ≡ slice_index self.now.rows.items begin.index + begin.turn }
     {
+        // Tells that a slot is a number in range. Compiled, it is nothing.
+        let _count = self.places.len();
         self.rows[begin.index] + begin.turn as usize
     }
 
@@ -79,7 +82,8 @@ impl Suspensions {
 
     /// The slot of the turn behind the one in which an explicit task is suspended at a place.
     pub(crate) fn slot_behind(&self, run: &Run, at: usize) -> Option<usize>
-        requires { at < length run.now.records }
+        requires within { at < length run.now.records }
+        requires is_run { IsRun run.now }
         ensures { MatchOption result (HasNoSlotBehind run.now.records run.now.family.tasks self.now.rows.items at)
             (IsSlotBehind run.now.records run.now.family.tasks self.now.rows.items at) }
     {
@@ -118,6 +122,7 @@ fn tells_turns(run: &Run) -> bool
 /// By index of the task one more than the greatest turn that it begins, and 0 where it begins none.
 fn row_lengths(alloc: Global, run: &Run) -> Result<Vec<u64>, AllocError>
     ensures all { IfOk result (λ lengths. length lengths.items ≡ length run.now.family.tasks) }
+    ensures few { IfOk result (λ lengths. length lengths.items ≤ 2 ^ 22) }
     ensures low { IfOk result (λ lengths. All (λ n. n ≤ 2 ^ 32) lengths.items) }
     ensures lengths { IfOk result (λ lengths.
         AreLengths run.now.records (length run.now.records) run.now.family.tasks lengths.items) }
@@ -132,6 +137,7 @@ fn row_lengths(alloc: Global, run: &Run) -> Result<Vec<u64>, AllocError>
 /// Makes a row long enough for the turn that a task begins at a place.
 fn note_begin(run: &Run, lengths: &mut Vec<u64>, at: usize)
     requires within { at < length run.now.records }
+    requires is_run { IsRun run.now }
     requires all { length lengths.old.items ≡ length run.now.family.tasks }
     requires low { All (λ n. n ≤ 2 ^ 32) lengths.old.items }
     requires before { AreLengths run.now.records at run.now.family.tasks lengths.old.items }
@@ -169,16 +175,24 @@ fn find_ends(alloc: Global, run: &Run, rows: &[usize]) -> Result<Vec<u32>, Alloc
     ensures ends { IfOk result (λ places.
         AreEnds run.now.records (length run.now.records) run.now.family.tasks rows.now places.items) }
 {
-    let mut places = vec![in alloc; run.len() as u32; rows[rows.len() - 1]]?;
+    let mut places = no_ends(alloc, run, rows[rows.len() - 1])?;
     for at in 0..run.len() {
         note_end(run, rows, &mut places, at);
     }
     Ok(places)
 }
 
+/// So many empty slots.
+fn no_ends(alloc: Global, run: &Run, slots: usize) -> Result<Vec<u32>, AllocError>
+    ensures { IfOk result (λ places. places.items ≡ replicate slots (length run.now.records)) }
+{
+    vec![in alloc; run.len() as u32; slots]
+}
+
 /// Fills the slot behind the turn that ends at a place.
 fn note_end(run: &Run, rows: &[usize], places: &mut Vec<u32>, at: usize)
     requires at { at < length run.now.records }
+    requires is_run { IsRun run.now }
     requires rows { AreRows rows.now }
     requires within { (index : ℕ) → slice_index rows.now index ≤ length places.old.items }
     requires before { AreEnds run.now.records at run.now.family.tasks rows.now places.old.items }
@@ -192,7 +206,8 @@ fn note_end(run: &Run, rows: &[usize], places: &mut Vec<u32>, at: usize)
 
 /// The slot of the turn behind the one in which an explicit task is suspended at a place.
 fn slot_behind(run: &Run, rows: &[usize], at: usize) -> Option<usize>
-    requires { at < length run.now.records }
+    requires within { at < length run.now.records }
+    requires is_run { IsRun run.now }
     ensures { MatchOption result (HasNoSlotBehind run.now.records run.now.family.tasks rows.now at)
         (IsSlotBehind run.now.records run.now.family.tasks rows.now at) }
 {

@@ -35,7 +35,7 @@ impl Waiting {
             makers.now.suspensions) }
     {
         Ok(Waiting {
-            by_key: lists_of_keys(alloc, makers)?,
+            by_key: lists_of_keys(alloc, makers.run(), makers.suspensions())?,
             by_length: lists_of_lengths(alloc, makers)?,
         })
     }

@@ -6,29 +6,26 @@ use Rattle.checker.proofs.lists.lists_of_keys.Goals.{in-Some, in_default}
 
 pub loop-step-init : goal.loop-step-init
 loop-step-init c =
-    let run = c.run-run.result.now in
+    let run = c.args.run.now in
     let new = rw c.len-count.ensures.value at c.in_ok-lists.ensures.lists in
     record {
       keys = rw (c.task_count.ensures.value, c.slot_count.ensures) at c.in_ok-lists.ensures.keys;
-      lists = λ from is. let end : from ≡ length run.records = omega (arith, is) in rw end (new (key_of run.family.tasks run.records c.suspensions-suspensions.result.now.rows.items));
+      lists = λ from is. let end : from ≡ length run.records = omega (arith, is) in rw end (new (key_of run.family.tasks run.records c.args.suspensions.now.rows.items));
       rising = rw c.len-count.ensures.value at c.in_ok-lists.ensures.rising;
     }
-
-pub key_at-requires-clause-known : goal.key_at-requires-clause-known
-key_at-requires-clause-known c = rw (c.suspensions-suspensions.ensures.value, c.run-run.ensures.value) c.run-run.ensures.is_ledger.suspended
 
 pub put_first-requires-clause-key : goal.put_first-requires-clause-key
 put_first-requires-clause-key c = rw c.loop-step.invariant.keys c.in-Some.ensures.low
 
 pub loop-step-preserved : goal.loop-step-preserved
 loop-step-preserved c =
-    let rs = c.run-run.result.now.records in
-    let tasks = c.run-run.result.now.family.tasks in
+    let rs = c.args.run.now.records in
+    let tasks = c.args.run.now.family.tasks in
     let n = length rs in
     let at = c.len-count.result - 1 - c.loop-step.step in
     let inside = c.loop-step-test.true in
     let count = c.len-count.ensures.value in
-    let key : ℕ → Option ℕ = key_of tasks rs c.suspensions-suspensions.result.now.rows.items in
+    let key : ℕ → Option ℕ = key_of tasks rs c.args.suspensions.now.rows.items in
     let read : key at ≡ c.key_at.result = sym c.key_at.ensures.key in
     let was = c.loop-step.invariant.lists (at + 1) (omega (arith, inside, count)) in
     elim c.match-key_at.branch [

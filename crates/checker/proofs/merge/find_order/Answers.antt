@@ -1,4 +1,4 @@
-use Rattle.std.proofs.Common.{true, ◌≡◌, ◌∙◌, ◌<◌, ◌≤◌, ◌++◌, [], ◌∷◌, ℕ, length, ap, arith}
+use Rattle.std.proofs.Common.{true, ◌≡◌, ◌∙◌, ◌<◌, ◌≤◌, ◌++◌, [], ◌∷◌, ℕ, length, refl, ap, arith}
 use Rattle.std.proofs.Math.ListN.{set}
 use Rattle.std.proofs.lemmas.List.{get_or_default, get_or-set_same}
 use Rattle.std.proofs.lemmas.Result.{err_from_is_err_and}
@@ -17,7 +17,7 @@ first_ready-requires c =
     let makers = c.places-places.result.now in
     let passed : (k : ℕ) → 0 ≤ k → k < c.first_missing-low.result → slice_index makers k < length placed → Stands placed (slice_index makers k) = rw c.deref.ensures.value at c.first_missing-low.ensures.passed in
     let missing : c.first_missing-low.result < length makers → IsUnplaced placed (slice_index makers c.first_missing-low.result) = rw c.deref.ensures.value at c.first_missing-low.ensures.missing in
-    front_of c.args.makers.now c.run-run.result.now makers c.suspensions.result.now placed c.in_ok-standing.standing.heads.items c.in_ok-standing.standing.links.items c.args.base.items c.first_missing-low.result c.run-run.ensures.is_ledger c.run-run.ensures.value c.places-places.ensures c.suspensions.ensures.value (rw c.as_slice.ensures.value at c.in_ok-standing.ensures) c.first_missing-low.ensures.within (λ k. passed k (omega arith)) missing
+    front_of c.args.makers.now c.args.makers.now.run makers c.args.makers.now.suspensions placed c.in_ok-standing.standing.heads.items c.in_ok-standing.standing.links.items c.args.base.items c.first_missing-low.result c.run-run.ensures.is_ledger refl c.places-places.ensures refl (rw (c.run-run.ensures.value, c.as_slice.ensures.value) at c.in_ok-standing.ensures) c.first_missing-low.ensures.within (λ k. passed k (omega arith)) missing
 
 pub merge-init : goal.merge-init
 merge-init c =
@@ -30,7 +30,7 @@ merge-init c =
       within = c.first_missing-low.ensures.within;
       passed = λ k. passed k (omega arith);
       missing = missing;
-      ready = c.in_ok-ready.ensures;
+      ready = rw c.run-run.ensures.value c.in_ok-ready.ensures;
     }
 
 pub release-requires-clause-front : goal.release-requires-clause-front
@@ -91,7 +91,7 @@ merge-preserved c =
       within = c.first_missing-low-in-Some.ensures.within;
       passed = now_passed;
       missing = missing;
-      ready = rw placed_is (ready_more rs c.run-run.result.now.family placed heads low now_low place runs.0 (slice_index links place) c.take_first.new.ready c.release.new.ready was (rw (placed_is, heads_are) at front) runs.1 is_next (rw merging.standing.all taken.next.within) taken (rw (c.as_slice-in-Some.ensures.value, placed_is) at c.in_ok-release.ensures.more) (rw (c.as_slice-in-Some.ensures.value, placed_is, next_is) at c.in_ok-release.ensures.next) (rw (c.as_slice-in-Some.ensures.value, placed_is) at c.in_ok-release.ensures.awaiting) (λ i k above below. (rw (c.as_slice-in-Some.ensures.value, placed_is) at c.in_ok-release.ensures.naming) i k (omega (arith, above)) (omega (arith, below))));
+      ready = rw placed_is (ready_more rs c.run-run.result.now.family c.suspensions.result.now placed heads low now_low place runs.0 (slice_index links place) c.take_first.new.ready c.release.new.ready was (rw (placed_is, heads_are) at front) runs.1 is_next (rw merging.standing.all taken.next.within) taken (rw (c.as_slice-in-Some.ensures.value, placed_is) at c.in_ok-release.ensures.more) (rw (c.as_slice-in-Some.ensures.value, placed_is, next_is) at c.in_ok-release.ensures.next) (rw (c.as_slice-in-Some.ensures.value, placed_is) at c.in_ok-release.ensures.awaiting) (λ i k above below. (rw (c.as_slice-in-Some.ensures.value, placed_is) at c.in_ok-release.ensures.naming) i k (omega (arith, above)) (omega (arith, below))));
     }
 
 pub returns-in_err-exclude-clause-fault : goal.returns-in_err-exclude-clause-fault
