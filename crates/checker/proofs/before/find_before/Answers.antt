@@ -31,7 +31,7 @@ returns c =
     let seen = rw run at c.seen.ensures in
     let earlier : AreEarlierInThread rs i own = rw run at c.in_ok-found.ensures.earlier in
     let to_makers : AreRaisedTo rs (MakesBelow rs (seen_at rs i)) own makers = rw (same, seen, c.as_mut_slice-bounds.ensures.value) at c.raise_to_makers.ensures in
-    let to_awaited : AreRaisedTo rs (Awaits rs i) makers here = rw run at c.raise_to_awaited.ensures in
+    let to_awaited : AreRaisedTo rs (Awaits rs i) makers here = rw same at c.raise_to_awaited.ensures in
     let threads = all_kept rs own all len (rw run at c.in_ok-found.ensures.all) in
     let whole : c.in_ok-found.found.len ≡ length all = c.in_ok-found.found.ok.0 ∙ sym len in
     rw (whole, take-append_seam) (found_bounds c.args.ordered.now i own makers here all c.run-run.ensures.is_ordered c.requires threads earlier to_makers to_awaited c.raise_to_all_awaited.ensures.kept c.raise_to_all_awaited.ensures.closed c.raise_to_all_awaited.ensures.before)

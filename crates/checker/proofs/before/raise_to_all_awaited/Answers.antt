@@ -29,7 +29,7 @@ loop-step-preserved c =
     let read : x ≡ slice_index order p = same_Some x (slice_index order p) (sym there ∙ slice_get-get_or order p 0 inside) in
     elim c.if-is_below.branch [
       | then-is_below w ↦
-          let raised : AreRaisedTo rs (Awaits rs (slice_index order p)) old w.raise_to_awaited.new.bounds = rw (c.run-run.ensures.value, read) at w.raise_to_awaited.ensures in
+          let raised : AreRaisedTo rs (Awaits rs (slice_index order p)) old w.raise_to_awaited.new.bounds = rw (ap (λ (o : OrderedView). o.ledger.run.records) c.ordered.view_is, read) at w.raise_to_awaited.ensures in
           let below : IsBelow rs old (slice_index order p) = rw (c.run-run.ensures.value, read) at c.is_below.ensures.0 w.if-is_below.true in
           rw w.bounds-is (record {
             kept = λ a is_old. raised.kept a (was.kept a is_old);

@@ -21,7 +21,7 @@ loop-at-init c = record {
     is_known = known_start c.args.run.now.records;
     free = λ k below is. absurd (omega (arith, below));
   };
-  lasts = no_last c.args.run.now.records c.args.run.now.family.tasks;
+  lasts = rw c.new-lasts.ensures.items (no_last c.args.run.now.records c.args.run.now.family.tasks);
 }
 
 pub loop-at-preserved : goal.loop-at-preserved

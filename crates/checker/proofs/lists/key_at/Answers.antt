@@ -12,13 +12,13 @@ pub returns-in-Creation-clause-key : goal.returns-in-Creation-clause-key
 returns-in-Creation-clause-key c =
     let P : Awaited → Type 0 = IsAwaited c.args.run.now c.args.at in
     sym (key_creation c.args.run.now.records c.args.run.now.family.tasks c.args.suspensions.now.rows.items c.args.at c.in-Creation.index c.task_count-tasks.ensures.is_run.family.makers.apart
-    (subst P c.in-Creation.is c.in_ok-tasks.ensures))
+    (subst P c.in-Creation.is c.in_ok-index.ensures))
 
 pub returns-in-Creation-clause-low : goal.returns-in-Creation-clause-low
 returns-in-Creation-clause-low c =
     let P : Awaited → Type 0 = IsAwaited c.args.run.now c.args.at in
     let tasks = c.args.run.now.family.tasks in
-    let calls : Calls tasks (says_at awaited c.args.run.now.records c.args.at) (Some c.in-Creation.index) = subst P c.in-Creation.is c.in_ok-tasks.ensures in
+    let calls : Calls tasks (says_at awaited c.args.run.now.records c.args.at) (Some c.in-Creation.index) = subst P c.in-Creation.is c.in_ok-index.ensures in
     let called = call_task tasks (says_at awaited c.args.run.now.records c.args.at) (Some c.in-Creation.index) c.in-Creation.index calls refl in
     let inside = slice_get_within tasks c.in-Creation.index called.0 called.2 in
     omega (arith, inside)
