@@ -1,6 +1,6 @@
 -- Each record awaits one other at most: where no record tells a turn, and where those of a trace of version 2
 -- have no gap.
-use Rattle.std.proofs.Common.{◌≡◌, ◌≢◌, ◌∙◌, ℕ, zero, suc, ◌<◌, ◌≤◌, ◌+◌, List, [], ◌∷◌, ◌++◌, length, Option, Some, None, Bool, true, false, cond, refl, sym, ap, subst, arith, inl, inr, ◌⊎◌}
+use Rattle.std.proofs.Common.{◌≡◌, ◌≢◌, ◌∙◌, ℕ, zero, suc, ◌<◌, ◌≤◌, ◌+◌, List, [], ◌∷◌, ◌++◌, Option, Some, None, Bool, true, false, cond, refl, sym, ap, subst, arith, inl, inr, ◌⊎◌}
 use Rattle.std.proofs.lemmas.Bool.{cases_eq, cases_order, cases_lt, false≢true, eq-eqb, ne_eqb}
 use Rattle.std.proofs.lemmas.Option.{none-some, same_Some, some_pair_parts, slice_get_within}
 use Rattle.std.proofs.lemmas.List.Sums.{fold-append}
@@ -13,11 +13,11 @@ use Rattle.ompt_events.specs.declared.names.Endpoint.TheVariants.{Begin, End, Be
 use Rattle.ompt_events.specs.declared.names.Status.TheVariants as status
 use Rattle.ompt_events.specs.declared.cause.Cause.TheVariants.{CreatedTwice, NotCurrent, Moved, TurnGap}
 use Rattle.ompt_events.specs.Names.{demands_next}
-use Rattle.ompt_events.specs.Records.{begun_root, created, started, running, begun_turn, suspended_turn, told_turns, next_turn, fulfilled}
+use Rattle.ompt_events.specs.Records.{begun_root, started, begun_turn, suspended_turn, told_turns, fulfilled}
 use Rattle.ompt_events.specs.Places.{at, thread_at}
 use Rattle.ompt_events.specs.Tree.{IsRoot, IsExplicit}
 use Rattle.ompt_events.specs.Threads.{Walk, at_start, after_body, after_record, walk_of, other_root}
-use Rattle.ompt_events.specs.Turns.{TellsNoTurns, turn_after, turn_in, turn_at}
+use Rattle.ompt_events.specs.Turns.{TellsNoTurns, turn_after, turn_in}
 use Rattle.ompt_events.specs.Traces.{IsTrace, IsTraceOf, IsSound, HasItsNext, HasItsTurns}
 use Rattle.ompt_events.specs.HappensBefore.{IsStart, IsResumption}
 use Rattle.ompt_events.specs.Causes.{IsFreeOf, moved, turn_gap, begun_again, falling}
@@ -27,7 +27,7 @@ use Rattle.ompt_events.proofs.RecordLemmas.{begun_at_made}
 use Rattle.task_tree.specs.Family.{FamilyView, IsFamilyOf}
 use Rattle.task_tree.proofs.OnceLemmas.{made_once}
 use Rattle.turns.proofs.RankedLemmas.{Every, every_get}
-use Rattle.turns.proofs.SuspendedLemmas.{all_get, no_misfit, runs_there, part_of, part_keeps, told_right, turn_is, begun_once, begun_told, Suspended, suspended_parts, suspended_once}
+use Rattle.turns.proofs.SuspendedLemmas.{all_get, no_misfit, runs_there, part_of, part_keeps, told_right, turn_is, begun_told, Suspended, suspended_parts, suspended_once}
 use Rattle.task_tree.specs.Runs.{RunView}
 use Rattle.checker.specs.Search.{IsSound as IsSoundRun}
 use Rattle.checker.specs.Schedule.{IsEarlierOnThread, EachAwaitsOne}
@@ -92,11 +92,15 @@ untold_awaits_one rs trace untold still = record {
   where
     home : (i task : ℕ) → IsExplicit rs task → at started rs i ≡ Some task → ((s : ℕ) × (s < i) × IsStart rs s task) ⊎ ((k : ℕ) → k < i → at started rs k ≢ Some task) → IsStart rs i task ⊎ ((s : ℕ) × IsEarlierOnThread rs s i × IsStart rs s task)
     home i task explicit starts (inr none) = inl (is_start_untold rs i task untold starts none)
-    home i task explicit starts (inl (s, below, first)) = inr (s, record {
-      earlier = below;
-      within = at_within started rs i task starts;
-      same = same_option (thread_at rs s) (thread_at rs i) (λ other. still i (moved (task, s, explicit, starts, below, start_starts rs s task first, other, untold i)));
-    }, first)
+    home i task explicit starts (inl (s, below, first)) = inr (
+      s,
+      record {
+        earlier = below;
+        within = at_within started rs i task starts;
+        same = same_option (thread_at rs s) (thread_at rs i) (λ other. still i (moved (task, s, explicit, starts, below, start_starts rs s task first, other, untold i)));
+      },
+      first,
+    )
 
 -- ---- in a trace of version 2: where a root runs
 

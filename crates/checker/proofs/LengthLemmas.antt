@@ -1,6 +1,6 @@
 -- What each thread knows of the ledger, and which record is the first that names less than was known.
-use Rattle.std.proofs.Common.{◌≡◌, ◌≢◌, ◌∙◌, ℕ, ◌<◌, ◌≤◌, ◌+◌, Bool, true, false, cond, List, length, get_or, set, replicate, Option, Some, None, refl, sym, ap, arith, inl, inr, ◌⊎◌, ltb, get_or-set_same, get_or-set_other}
-use Rattle.std.specs.Prelude.{◌↔◌, IsTrue, is_some, slice_get}
+use Rattle.std.proofs.Common.{◌≡◌, ◌≢◌, ◌∙◌, ℕ, ◌<◌, ◌≤◌, ◌+◌, Bool, true, false, cond, List, length, get_or, set, replicate, Option, Some, None, sym, ap, arith, inl, inr, ◌⊎◌, ltb, get_or-set_same, get_or-set_other}
+use Rattle.std.specs.Prelude.{◌↔◌, IsTrue, is_some}
 use Rattle.std.proofs.lemmas.Bool.{false≢true, cases_eq, cases_lt, ltb-true, lt-ltb}
 use Rattle.std.proofs.lemmas.Option.{none-some, same_Some}
 use Rattle.std.proofs.lemmas.List.{length-set, length-replicate, get_or-replicate}

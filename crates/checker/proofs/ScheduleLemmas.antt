@@ -1,5 +1,5 @@
 -- What each record awaits, by tasks and by their indices; and when file order is an order.
-use Rattle.std.proofs.Common.{◌≡◌, ◌≢◌, ◌∙◌, ℕ, zero, suc, ◌<◌, ◌+◌, List, length, get_or, Option, Some, None, Bool, true, false, cond, refl, sym, ap, subst, arith, inl, inr, ◌⊎◌}
+use Rattle.std.proofs.Common.{◌≡◌, ◌∙◌, ℕ, ◌<◌, ◌+◌, List, length, get_or, Option, Some, None, Bool, cond, refl, sym, ap, subst, arith, inl, inr, ◌⊎◌}
 use Rattle.std.proofs.lemmas.Bool.{cases_eq, eq-eqb, ne_eqb, lt-ltb}
 use Rattle.std.proofs.lemmas.List.Sums.{position_or_len_is}
 use Rattle.std.specs.List.{position, position_or_len}
@@ -13,11 +13,11 @@ use Rattle.ompt_events.specs.declared.names.Status.TheVariants as status
 use Rattle.ompt_events.specs.Records.{created, started, next_turn, begun_turn, suspended_turn, discarded, fulfilled, finish}
 use Rattle.ompt_events.specs.Places.{at, seen_at}
 use Rattle.ompt_events.specs.Tree.{IsRoot, IsExplicit}
-use Rattle.ompt_events.specs.HappensBefore.{IsStart, IsResumption, IsFinishing, IsProgramStep, thread_order, creation, resumption, discard, fulfilment, IsStep, program, ledger, HappensBefore, step, chain}
+use Rattle.ompt_events.specs.HappensBefore.{IsResumption, IsFinishing, IsProgramStep, thread_order, creation, resumption, discard, fulfilment, IsStep, program, ledger, HappensBefore, step, chain}
 use Rattle.ompt_events.specs.Causes.{known_after}
 use Rattle.ompt_events.proofs.TurnLemmas.{begun_started}
 use Rattle.ompt_events.proofs.PlaceLemmas.{at_within}
-use Rattle.ompt_events.proofs.RecordLemmas.{at_through, begun_at_made, created_at_made, made_cases}
+use Rattle.ompt_events.proofs.RecordLemmas.{at_through, made_cases}
 use Rattle.task_tree.specs.Numbering.{AreApart}
 use Rattle.task_tree.specs.Subjects.{object, Calls}
 use Rattle.task_tree.specs.Family.{FamilyView, IsFamilyOf}
@@ -26,7 +26,7 @@ use Rattle.task_tree.proofs.NamedLemmas.{started_object}
 use Rattle.task_tree.proofs.LookupLemmas.{object_calls, root_or_explicit}
 use Rattle.turns.specs.Rising.{IsStartOf}
 use Rattle.checker.specs.Schedule.{first_started, awaited, Awaits, awaits_creation, awaits_end, IsEarlierOnThread, EachAwaitsOne, AwaitsNone}
-use Rattle.checker.specs.Merge.{task_of, turn_of, key_of}
+use Rattle.checker.specs.Merge.{turn_of, key_of}
 
 -- ---- single records
 

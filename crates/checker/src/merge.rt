@@ -108,12 +108,7 @@ impl Standing {
     }
 
     /// The records that may stand next.
-    fn first_ready(
-        &self,
-        alloc: Global,
-        makers: &Makers,
-        low: usize,
-    ) -> Result<Queue, AllocError>
+    fn first_ready(&self, alloc: Global, makers: &Makers, low: usize) -> Result<Queue, AllocError>
         requires { IsFront makers.now.run.records makers.now.run.family makers.now.suspensions
             self.now.placed.items self.now.heads.items low }
         ensures { IfOk result (AreOffered makers.now.run.records self.now.placed.items) }

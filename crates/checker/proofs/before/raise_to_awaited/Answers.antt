@@ -1,6 +1,5 @@
-use Rattle.std.proofs.Common.{◌≡◌, ◌∙◌, ℕ, Some, sym, ap, arith}
+use Rattle.std.proofs.Common.{◌≡◌, ◌∙◌, Some, sym, ap, arith}
 use Rattle.std.proofs.lemmas.Option.{none-some, same_Some}
-use Rattle.std.specs.Prelude.{◌↔◌}
 use Rattle.checker.specs.Schedule.{Awaits}
 use Rattle.checker.proofs.LengthLemmas.{awaited_within}
 use Rattle.checker.proofs.ListsLemmas.{no_some}

@@ -3,8 +3,6 @@ use Rattle.std.specs.Prelude.{is_some, cond}
 use Rattle.ompt_events.specs.declared.records.Record.{Record}
 use Rattle.ompt_events.specs.Records.{finish}
 use Rattle.ompt_events.specs.Places.{at, thread_at, seen_at}
-use Rattle.ompt_events.proofs.PlaceLemmas.{at_within}
-use Rattle.checker.specs.Schedule.{EachAwaitsOne}
 use Rattle.checker.specs.InOrder.{AreInOrder, FitsBehind}
 use Rattle.checker.proofs.LengthLemmas.{known_start, known_more, not_behind, free_of_back}
 use Rattle.checker.proofs.ScheduleLemmas.{steps_less, waits_within}

@@ -1,4 +1,4 @@
-use Rattle.std.proofs.Common.{Some, ◌<◌, length, refl, sym, subst, arith}
+use Rattle.std.proofs.Common.{Some, refl, sym, subst, arith}
 use Rattle.std.proofs.lemmas.Option.{slice_get_within}
 use Rattle.ompt_events.specs.Places.{at as says_at}
 use Rattle.task_tree.specs.Subjects.{Calls}

@@ -1,4 +1,4 @@
-use Rattle.std.proofs.Common.{Some, None, length, refl, arith}
+use Rattle.std.proofs.Common.{Some, refl, arith}
 use Rattle.std.proofs.lemmas.Option.{slice_get_within}
 use Rattle.ompt_events.specs.Records.{created}
 use Rattle.ompt_events.specs.Places.{at as says_at}

@@ -1,4 +1,4 @@
-use Rattle.std.proofs.Common.{Some, subst}
+use Rattle.std.proofs.Common.{subst}
 use Rattle.checker.specs.Schedule.{IsAwaited}
 use Rattle.checker.specs.declared.schedule.Awaited.{Awaited}
 use Rattle.checker.proofs.ScheduleLemmas.{creation_called}

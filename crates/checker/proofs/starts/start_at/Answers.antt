@@ -1,8 +1,7 @@
-use Rattle.std.proofs.Common.{◌≡◌, ◌∙◌, ◌<◌, ℕ, Some, sym, refl, subst}
+use Rattle.std.proofs.Common.{◌≡◌, ◌∙◌, ℕ, Some, sym, refl, subst}
 use Rattle.std.proofs.lemmas.Bool.{false≢true}
 use Rattle.std.proofs.lemmas.Option.{some_pair_parts, slice_get_within}
 use Rattle.std.specs.Prelude.{slice_get}
-use Rattle.ompt_events.specs.Records.{begun_turn}
 use Rattle.ompt_events.specs.Places.{at}
 use Rattle.ompt_events.specs.Tree.{IsExplicit}
 use Rattle.task_tree.proofs.SubjectLemmas.{call_task}
@@ -29,8 +28,12 @@ pub returns-then-is_explicit : goal.returns-then-is_explicit
 returns-then-is_explicit c =
     let run = c.args.run.now in
     let found = call_task run.family.tasks (at first_started run.records c.args.at) (Some c.in_ok-index.index) c.in_ok-index.index c.in_ok-index.ensures refl in
-    let explicit : IsExplicit run.records found.0 = (c.is_explicit.ensures found.0 found.2).0 c.if-is_explicit.true in
-    (found.0, found.2, explicit, record {
-      starts = first_begun run.records c.args.at found.0 found.1;
-      first = λ k below begins. false≢true (sym c.if-started-index.false ∙ (c.requires.started.each c.in_ok-index.index found.0 found.2).1 (k, below, begins));
-    })
+    let explicit : IsExplicit run.records found.0 = (c.is_explicit.ensures found.0 found.2).0 c.if-is_explicit.true in (
+      found.0,
+      found.2,
+      explicit,
+      record {
+        starts = first_begun run.records c.args.at found.0 found.1;
+        first = λ k below begins. false≢true (sym c.if-started-index.false ∙ (c.requires.started.each c.in_ok-index.index found.0 found.2).1 (k, below, begins));
+      },
+    )

@@ -1,4 +1,4 @@
-use Rattle.std.proofs.Common.{ℕ, ◌≡◌, ◌≤◌, ◌^◌, length}
+use Rattle.std.proofs.Common.{◌≡◌, ◌≤◌, ◌^◌, length}
 use Rattle.std.specs.Prelude.{All}
 use Rattle.checker.specs.Suspensions.{AreLengths}
 use Rattle.checker.proofs.suspensions.row_lengths.Given as goal

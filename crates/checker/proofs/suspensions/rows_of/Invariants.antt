@@ -1,4 +1,4 @@
-use Rattle.std.proofs.Common.{ℕ, ◌≡◌, ◌≤◌, ◌*◌, ◌^◌}
+use Rattle.std.proofs.Common.{◌≡◌, ◌≤◌, ◌*◌, ◌^◌}
 use Rattle.std.specs.Prelude.{slice_index}
 use Rattle.checker.proofs.SuspensionLemmas.{AreLaid}
 use Rattle.checker.proofs.suspensions.rows_of.Given as goal

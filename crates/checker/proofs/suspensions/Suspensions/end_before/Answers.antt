@@ -1,4 +1,4 @@
-use Rattle.std.proofs.Common.{◌≡◌, ◌<◌, length, arith, rules}
+use Rattle.std.proofs.Common.{◌<◌, length, arith, rules}
 use Rattle.checker.proofs.SuspensionLemmas.{slot_within}
 use Rattle.checker.proofs.suspensions.Suspensions.end_before.Goals as goal
 
