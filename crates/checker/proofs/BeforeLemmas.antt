@@ -6,22 +6,21 @@ use Rattle.std.proofs.lemmas.Option.{none-some, same_Some, slice_get_within, sli
 use Rattle.std.proofs.lemmas.List.{get_or_default, get_or_past, length-replicate, get_or-set_same, get_or-set_other, get_or-replicate}
 use Rattle.std.proofs.lemmas.List.Sorted.{Contains-permutation}
 use Rattle.ompt_events.specs.declared.records.Record.{Record}
-use Rattle.ompt_events.specs.declared.cause.Cause.TheVariants.{Moved, LengthBack}
+use Rattle.ompt_events.specs.declared.cause.Cause.TheVariants.{LengthBack}
 use Rattle.ompt_events.specs.Places.{thread_at, seen_at, places}
 use Rattle.ompt_events.specs.Traces.{IsTrace}
-use Rattle.ompt_events.specs.HappensBefore.{IsFinishing, thread_order, creation, resumption, discard, fulfilment, IsStep, program, ledger, HappensBefore, step, chain}
+use Rattle.ompt_events.specs.HappensBefore.{IsFinishing, thread_order, IsStep, program, ledger, HappensBefore, step, chain}
 use Rattle.ompt_events.specs.Linearization.{IsLinearization}
 use Rattle.ompt_events.specs.Causes.{IsFreeOf}
-use Rattle.ompt_events.proofs.TurnLemmas.{start_starts, no_resumption}
 use Rattle.ompt_events.proofs.PlaceLemmas.{contains_place}
 use Rattle.ompt_events.proofs.HappensBeforeLemmas.{before_from, finishing_within}
 use Rattle.checker.specs.Entries.{AreMakers}
-use Rattle.checker.specs.Merge.{Awaits, StartsOrFulfils, StaysAtHome}
+use Rattle.checker.specs.Schedule.{Awaits, EachAwaitsOne}
 use Rattle.checker.specs.Counter.{OrderedView, IsOrdered, AreBounds, HaveAllThreads, IsBelow, AreAllBefore, AreEarlierInThread, MakesBelow, AreRaisedTo}
 use Rattle.checker.proofs.EarlierLemmas.{order_apart}
 use Rattle.checker.proofs.LengthLemmas.{known_least}
 use Rattle.checker.proofs.MissedLemmas.{before_known}
-use Rattle.checker.proofs.ScheduleLemmas.{awaits_before, step_awaits, trace_apart}
+use Rattle.checker.proofs.ScheduleLemmas.{awaits_before, program_awaits}
 
 -- ---- a bound for each thread
 
@@ -180,15 +179,15 @@ stands_before rs order p q linear p_in q_in before =
     omega (arith, low, first, second)
 
 -- what comes below by the next record stands before it, and so is not among those that were passed
-pub passed_more : (rs : List Record) (order : List ℕ) (passed p : ℕ) (old new : List ℕ) → StaysAtHome rs → IsLinearization rs order → p + 1 + passed ≡ length order → AreRaisedTo rs (Awaits rs (slice_index order p)) old new → HavePassed rs order passed old → HavePassed rs order (passed + 1) new
-passed_more rs order passed p old new at_home linear here are was q c end inside is awaits = elim (cases_eq q p) [
+pub passed_more : (rs : List Record) (order : List ℕ) (passed p : ℕ) (old new : List ℕ) → EachAwaitsOne rs → IsLinearization rs order → p + 1 + passed ≡ length order → AreRaisedTo rs (Awaits rs (slice_index order p)) old new → HavePassed rs order passed old → HavePassed rs order (passed + 1) new
+passed_more rs order passed p old new facts linear here are was q c end inside is awaits = elim (cases_eq q p) [
   | inl same ↦
       let P : ℕ → Type 0 = λ k. Awaits rs (slice_index order k) c in
       are.raised c (subst P same awaits)
   | inr apart ↦ elim (are.only (slice_index order q) is) [
     | inl below ↦ are.kept c (was q c (omega (arith, end, here, apart)) inside below awaits)
     | inr (other, holds, most, same_thread) ↦
-        let less = stands_before rs order p q linear (omega (arith, here)) inside (earlier_before rs (slice_index order q) other (slice_index order p) most same_thread (awaits_before rs (slice_index order p) other at_home holds)) in
+        let less = stands_before rs order p q linear (omega (arith, here)) inside (earlier_before rs (slice_index order q) other (slice_index order p) most same_thread (awaits_before rs (slice_index order p) other facts holds)) in
         absurd (omega (arith, less, end, here))
   ]
 ]
@@ -234,9 +233,9 @@ seen_most : (rs : List Record) (i b : ℕ) → IsFreeOf rs LengthBack → (b ≡
 seen_most rs i b rise (inl same) = let is = ap (seen_at rs) same in omega (arith, is)
 seen_most rs i b rise (inr before) = let low = known_least rs b in let high = before_known rs b i rise before in omega (arith, low, high)
 
-creation_below : (rs : List Record) (i b c : ℕ) (bounds : List ℕ) → AreClosedAt rs i bounds → (b ≡ i) ⊎ IsBelow rs bounds b → Awaits rs b c → IsBelow rs bounds c
-creation_below rs i b c bounds are (inl same) awaits = let P : ℕ → Type 0 = λ k. Awaits rs k c in are.here c (subst P same awaits)
-creation_below rs i b c bounds are (inr is) awaits = are.below b c is awaits
+awaited_below : (rs : List Record) (i b c : ℕ) (bounds : List ℕ) → AreClosedAt rs i bounds → (b ≡ i) ⊎ IsBelow rs bounds b → Awaits rs b c → IsBelow rs bounds c
+awaited_below rs i b c bounds are (inl same) awaits = let P : ℕ → Type 0 = λ k. Awaits rs k c in are.here c (subst P same awaits)
+awaited_below rs i b c bounds are (inr is) awaits = are.below b c is awaits
 
 thread_below : (rs : List Record) (i a b : ℕ) (bounds : List ℕ) → AreClosedAt rs i bounds → (b ≡ i) ⊎ IsBelow rs bounds b → a < b → thread_at rs a ≡ thread_at rs b → IsBelow rs bounds a
 thread_below rs i a b bounds are (inl is) less same = are.own a (omega (arith, less, is)) (same ∙ ap (thread_at rs) is)
@@ -250,26 +249,25 @@ maker_below rs i a b bounds rise are there finishes less =
     ]) in
     are.makers a (finishes, omega (arith, less, most))
 
-step_below : (rs : List Record) (i a b : ℕ) (bounds : List ℕ) → StartsOrFulfils rs → IsFreeOf rs LengthBack → AreClosedAt rs i bounds → (b ≡ i) ⊎ IsBelow rs bounds b → IsStep rs a b → IsBelow rs bounds a
-step_below rs i a b bounds apart rise are there (program (thread_order less within same)) = thread_below rs i a b bounds are there less same
-step_below rs i a b bounds apart rise are there (program (creation task creates start)) = creation_below rs i b a bounds are there (step_awaits rs apart a b (inr (inl (task, creates, start_starts rs b task start))))
-step_below rs i a b bounds apart rise are there (program (resumption again)) = absurd (no_resumption rs a b apart.untold again)
-step_below rs i a b bounds apart rise are there (program (discard task creates gone)) = creation_below rs i b a bounds are there (step_awaits rs apart a b (inr (inr (task, creates, gone))))
-step_below rs i a b bounds apart rise are there (program (fulfilment task creates done)) = creation_below rs i b a bounds are there (step_awaits rs apart a b (inl (task, creates, done)))
-step_below rs i a b bounds apart rise are there (ledger finishes less) = maker_below rs i a b bounds rise are there finishes less
+step_below : (rs : List Record) (i a b : ℕ) (bounds : List ℕ) → EachAwaitsOne rs → IsFreeOf rs LengthBack → AreClosedAt rs i bounds → (b ≡ i) ⊎ IsBelow rs bounds b → IsStep rs a b → IsBelow rs bounds a
+step_below rs i a b bounds facts rise are there (program taken) = elim (program_awaits rs a b facts taken) [
+  | inl earlier ↦ thread_below rs i a b bounds are there earlier.earlier earlier.same
+  | inr awaits ↦ awaited_below rs i b a bounds are there awaits
+]
+step_below rs i a b bounds facts rise are there (ledger finishes less) = maker_below rs i a b bounds rise are there finishes less
 
-all_below : (rs : List Record) (i a b : ℕ) (bounds : List ℕ) → StartsOrFulfils rs → IsFreeOf rs LengthBack → AreClosedAt rs i bounds → (b ≡ i) ⊎ IsBelow rs bounds b → HappensBefore rs a b → IsBelow rs bounds a
-all_below rs i a b bounds apart rise are there (step taken) = step_below rs i a b bounds apart rise are there taken
-all_below rs i a b bounds apart rise are there (chain {b = mid} first second) = all_below rs i a mid bounds apart rise are (inr (all_below rs i mid b bounds apart rise are there second)) first
+all_below : (rs : List Record) (i a b : ℕ) (bounds : List ℕ) → EachAwaitsOne rs → IsFreeOf rs LengthBack → AreClosedAt rs i bounds → (b ≡ i) ⊎ IsBelow rs bounds b → HappensBefore rs a b → IsBelow rs bounds a
+all_below rs i a b bounds facts rise are there (step taken) = step_below rs i a b bounds facts rise are there taken
+all_below rs i a b bounds facts rise are there (chain {b = mid} first second) = all_below rs i a mid bounds facts rise are (inr (all_below rs i mid b bounds facts rise are there second)) first
 
 -- so just what happens before i is below
-closed_bounds : (rs : List Record) (i : ℕ) (bounds : List ℕ) → StartsOrFulfils rs → IsFreeOf rs LengthBack → HaveAllThreads rs bounds → AreClosedAt rs i bounds → AreBounds rs i bounds
-closed_bounds rs i bounds apart rise all are = record {
+closed_bounds : (rs : List Record) (i : ℕ) (bounds : List ℕ) → EachAwaitsOne rs → IsFreeOf rs LengthBack → HaveAllThreads rs bounds → AreClosedAt rs i bounds → AreBounds rs i bounds
+closed_bounds rs i bounds facts rise all are = record {
   all = all;
   each = λ a thread on. (
     λ less. are.before a (record { thread = thread; is_on = on; below = less }),
     λ before.
-        let is = all_below rs i a i bounds apart rise are (inl refl) before in
+        let is = all_below rs i a i bounds facts rise are (inl refl) before in
         let same : is.thread ≡ thread = same_Some is.thread thread (sym is.is_on ∙ on) in
         let P : ℕ → Type 0 = λ t. a < slice_index bounds t in
         subst P same is.below,
@@ -279,23 +277,23 @@ closed_bounds rs i bounds apart rise all are = record {
 -- ---- the steps together
 
 -- what a record awaits happens before it, and so do the makers of the entries that it sees
-here_before : (rs : List Record) (i : ℕ) (own makers here : List ℕ) → i < length rs → StaysAtHome rs → AreEarlierInThread rs i own → AreRaisedTo rs (MakesBelow rs (seen_at rs i)) own makers → AreRaisedTo rs (Awaits rs i) makers here → AreAllBefore rs i here
-here_before rs i own makers here within at_home earlier to_makers to_creation =
-    before_raised rs (Awaits rs i) i makers here (λ c waits. awaits_before rs i c at_home waits) to_creation
+here_before : (rs : List Record) (i : ℕ) (own makers here : List ℕ) → i < length rs → EachAwaitsOne rs → AreEarlierInThread rs i own → AreRaisedTo rs (MakesBelow rs (seen_at rs i)) own makers → AreRaisedTo rs (Awaits rs i) makers here → AreAllBefore rs i here
+here_before rs i own makers here within facts earlier to_makers to_awaited =
+    before_raised rs (Awaits rs i) i makers here (λ c waits. awaits_before rs i c facts waits) to_awaited
     (before_raised rs (MakesBelow rs (seen_at rs i)) i own makers (λ c (finishes, low). step (ledger finishes low)) to_makers
     (λ a is. let (less, same) = earlier.only a is in step (program (thread_order less within same))))
 
--- bounds of the thread, raised to the makers of what is seen and to the creation that is awaited, and then to
+-- bounds of the thread, raised to the makers of what is seen and to what is awaited, and then to
 -- what those below await
 pub found_bounds : (ordered : OrderedView) (i : ℕ) (own makers here all : List ℕ) → IsOrdered ordered → i < length ordered.ledger.run.records → HaveAllThreads ordered.ledger.run.records all → AreEarlierInThread ordered.ledger.run.records i own → AreRaisedTo ordered.ledger.run.records (MakesBelow ordered.ledger.run.records (seen_at ordered.ledger.run.records i)) own makers → AreRaisedTo ordered.ledger.run.records (Awaits ordered.ledger.run.records i) makers here → ((a : ℕ) → IsBelow ordered.ledger.run.records here a → IsBelow ordered.ledger.run.records all a) → ((b c : ℕ) → IsBelow ordered.ledger.run.records all b → Awaits ordered.ledger.run.records b c → IsBelow ordered.ledger.run.records all c) → ((j : ℕ) → AreAllBefore ordered.ledger.run.records j here → AreAllBefore ordered.ledger.run.records j all) → AreBounds ordered.ledger.run.records i all
-found_bounds ordered i own makers here all is within threads earlier to_makers to_creation kept closed before =
+found_bounds ordered i own makers here all is within threads earlier to_makers to_awaited kept closed before =
     let rs = ordered.ledger.run.records in
-    let at_home : StaysAtHome rs = record { still = is.well_formed Moved (4, omega arith, refl); untold = is.ledger.run.untold } in
+    let facts : EachAwaitsOne rs = is.ledger.suspended.facts in
     let rise : IsFreeOf rs LengthBack = is.well_formed LengthBack (14, omega arith, refl) in
-    closed_bounds rs i all (trace_apart rs is.ledger.run.trace is.ledger.run.untold) rise threads (record {
-      before = before i (here_before rs i own makers here within at_home earlier to_makers to_creation);
-      own = λ a less same. kept a (to_creation.kept a (to_makers.kept a (earlier.earlier a less same)));
-      makers = λ c makes. kept c (to_creation.kept c (to_makers.raised c makes));
-      here = λ c waits. kept c (to_creation.raised c waits);
+    closed_bounds rs i all facts rise threads (record {
+      before = before i (here_before rs i own makers here within facts earlier to_makers to_awaited);
+      own = λ a less same. kept a (to_awaited.kept a (to_makers.kept a (earlier.earlier a less same)));
+      makers = λ c makes. kept c (to_awaited.kept c (to_makers.raised c makes));
+      here = λ c waits. kept c (to_awaited.raised c waits);
       below = closed;
     })

@@ -10,24 +10,24 @@ use Rattle.std.specs.Option.{option_map_or}
 use Rattle.std.specs.Prelude.{Contains, IsPermutation, slice_get, slice_index, option_map}
 use Rattle.ompt_events.specs.declared.records.Record.{Record}
 use Rattle.ompt_events.specs.Places.{thread_at, seen_at}
-use Rattle.ompt_events.specs.declared.cause.Cause.TheVariants.{Moved}
-use Rattle.ompt_events.specs.Causes.{IsFreeOf}
-use Rattle.checker.specs.Merge.{AreStanding, Awaits, Stands, IsUnplaced, MayFollow, AreHeads, IsFront, IsReadyHead, AreOffered, AreMore, IsTaken, length_of}
+use Rattle.checker.specs.declared.suspensions.Suspensions.{Suspensions}
+use Rattle.checker.specs.Schedule.{Awaits}
+use Rattle.checker.specs.Merge.{AreStanding, Stands, IsUnplaced, MayFollow, AreHeads, IsFront, IsReadyHead, AreOffered, AreMore, IsTaken, length_of}
 use Rattle.task_tree.specs.Family.{FamilyView}
 use Rattle.task_tree.specs.Runs.{RunView}
 use Rattle.checker.specs.Entries.{MakersView, IsLedger}
 use Rattle.checker.proofs.MakerLemmas.{low_reached}
-use Rattle.checker.proofs.ScheduleLemmas.{awaits_or_not, trace_apart}
+use Rattle.checker.proofs.ScheduleLemmas.{awaits_or_not}
 use Rattle.checker.proofs.MergeLemmas.{may_follow, ready_head, is_head, thread_of}
 use Rattle.checker.proofs.MergingLemmas.{standing_closed, stands_here, stands_still, stands_cases}
 
 -- ---- the test
 
-pub follows : (rs : List Record) (family : FamilyView) (placed : List Bool) (heads : List ℕ) (low thread i : ℕ) → IsFront rs family placed heads low → thread_at rs i ≡ Some thread → slice_index heads thread ≡ i → IsReadyHead rs placed low i → MayFollow rs placed i
-follows rs family placed heads low thread i front runs is ready = may_follow rs front.apart placed heads low thread i front.are_heads front.is_low (front.are_heads.all i thread runs) is ready
+pub follows : (rs : List Record) (family : FamilyView) (known : Suspensions) (placed : List Bool) (heads : List ℕ) (low thread i : ℕ) → IsFront rs family known placed heads low → thread_at rs i ≡ Some thread → slice_index heads thread ≡ i → IsReadyHead rs placed low i → MayFollow rs placed i
+follows rs family known placed heads low thread i front runs is ready = may_follow rs front.suspended.facts placed heads low thread i front.are_heads front.is_low (front.are_heads.all i thread runs) is ready
 
-pub passes : (rs : List Record) (family : FamilyView) (placed : List Bool) (heads : List ℕ) (low i : ℕ) → IsFront rs family placed heads low → MayFollow rs placed i → IsReadyHead rs placed low i
-passes rs family placed heads low i front may = ready_head rs placed low i front.at_home front.closed front.is_low may
+pub passes : (rs : List Record) (family : FamilyView) (known : Suspensions) (placed : List Bool) (heads : List ℕ) (low i : ℕ) → IsFront rs family known placed heads low → MayFollow rs placed i → IsReadyHead rs placed low i
+passes rs family known placed heads low i front may = ready_head rs placed low i front.suspended.facts front.closed front.is_low may
 
 -- ---- the queue
 
@@ -121,8 +121,8 @@ length_named rs i within = named (slice_get rs i) refl
 
 -- one that may stand next once the place does could do so before, or follows it in its thread, or awaits it,
 -- or names a ledger length that was not reached
-let_stand : (rs : List Record) (family : FamilyView) (placed : List Bool) (heads : List ℕ) (low now_low place thread next i : ℕ) → IsFront rs family placed heads low → IsFront rs family (set placed place true) (set heads thread next) now_low → thread_at rs place ≡ Some thread → slice_index (set heads thread next) thread ≡ next → place < length placed → MayFollow rs (set placed place true) i → (i ≡ next) ⊎ ((Awaits rs i place) ⊎ (((k : ℕ) × (low < k) × (k ≤ now_low) × (length_of rs i ≡ Some k)) ⊎ MayFollow rs placed i))
-let_stand rs family placed heads low now_low place thread next i before after runs is_next inside may = elim (cases_eq own.0 thread) [
+let_stand : (rs : List Record) (family : FamilyView) (known : Suspensions) (placed : List Bool) (heads : List ℕ) (low now_low place thread next i : ℕ) → IsFront rs family known placed heads low → IsFront rs family known (set placed place true) (set heads thread next) now_low → thread_at rs place ≡ Some thread → slice_index (set heads thread next) thread ≡ next → place < length placed → MayFollow rs (set placed place true) i → (i ≡ next) ⊎ ((Awaits rs i place) ⊎ (((k : ℕ) × (low < k) × (k ≤ now_low) × (length_of rs i ≡ Some k)) ⊎ MayFollow rs placed i))
+let_stand rs family known placed heads low now_low place thread next i before after runs is_next inside may = elim (cases_eq own.0 thread) [
   | inl same ↦ inl (sym head_is ∙ ap (slice_index (set heads thread next)) same ∙ is_next)
   | inr apart ↦ of_another apart
 ]
@@ -134,33 +134,33 @@ let_stand rs family placed heads low now_low place thread next i before after ru
     head_is = is_head rs (set placed place true) (set heads thread next) i own.0 after.are_heads own.1 may
 
     passes_now : IsReadyHead rs (set placed place true) now_low i
-    passes_now = passes rs family (set placed place true) (set heads thread next) now_low i after may
+    passes_now = passes rs family known (set placed place true) (set heads thread next) now_low i after may
 
     stood : (Awaits rs i place → ⊥) → (c : ℕ) → Awaits rs i c → Stands placed c
-    stood other c awaits = elim (stands_cases placed place c (passes_now.is_created c awaits)) [
+    stood other c awaits = elim (stands_cases placed place c (passes_now.is_let c awaits)) [
       | inl old ↦ old
       | inr same ↦ let P : ℕ → Type 0 = λ d. Awaits rs i d in absurd (other (subst P same awaits))
     ]
 
     of_another : own.0 ≢ thread → (i ≡ next) ⊎ ((Awaits rs i place) ⊎ (((k : ℕ) × (low < k) × (k ≤ now_low) × (length_of rs i ≡ Some k)) ⊎ MayFollow rs placed i))
-    of_another apart = elim (awaits_or_not rs i place) [
+    of_another apart = elim (awaits_or_not rs family i place before.suspended.facts before.family_of) [
       | inl awaits ↦ inr (inl awaits)
       | inr other ↦ elim (cases_lt low (seen_at rs i)) [
         | inl more ↦ inr (inr (inl (seen_at rs i, more, passes_now.is_entered, length_named rs i may.within)))
-        | inr reached ↦ inr (inr (inr (follows rs family placed heads low own.0 i before own.1 (sym (get_or-set_other heads thread own.0 next 0 apart) ∙ head_is) (record {
+        | inr reached ↦ inr (inr (inr (follows rs family known placed heads low own.0 i before own.1 (sym (get_or-set_other heads thread own.0 next 0 apart) ∙ head_is) (record {
           within = may.within;
-          is_created = stood other;
+          is_let = stood other;
           is_entered = reached;
         }))))
       ]
     ]
 
 -- all that may stand next are among those that were ready and those that were offered
-pub ready_more : (rs : List Record) (family : FamilyView) (placed : List Bool) (heads : List ℕ) (low now_low place thread next : ℕ) (rest ready : List ℕ) → IsFront rs family placed heads low → IsFront rs family (set placed place true) (set heads thread next) now_low → thread_at rs place ≡ Some thread → slice_index (set heads thread next) thread ≡ next → place < length placed → IsTaken rs placed place rest → AreMore rs (set placed place true) rest ready → (MayFollow rs (set placed place true) next → Contains ready next) → ((i : ℕ) → Awaits rs i place → MayFollow rs (set placed place true) i → Contains ready i) → ((i k : ℕ) → low + 1 ≤ k → k < now_low + 1 → length_of rs i ≡ Some k → MayFollow rs (set placed place true) i → Contains ready i) → AreOffered rs (set placed place true) ready
-ready_more rs family placed heads low now_low place thread next rest ready before after runs is_next inside taken more of_thread of_creation of_length = record {
-  all = λ i may. elim (let_stand rs family placed heads low now_low place thread next i before after runs is_next inside may) [
+pub ready_more : (rs : List Record) (family : FamilyView) (known : Suspensions) (placed : List Bool) (heads : List ℕ) (low now_low place thread next : ℕ) (rest ready : List ℕ) → IsFront rs family known placed heads low → IsFront rs family known (set placed place true) (set heads thread next) now_low → thread_at rs place ≡ Some thread → slice_index (set heads thread next) thread ≡ next → place < length placed → IsTaken rs placed place rest → AreMore rs (set placed place true) rest ready → (MayFollow rs (set placed place true) next → Contains ready next) → ((i : ℕ) → Awaits rs i place → MayFollow rs (set placed place true) i → Contains ready i) → ((i k : ℕ) → low + 1 ≤ k → k < now_low + 1 → length_of rs i ≡ Some k → MayFollow rs (set placed place true) i → Contains ready i) → AreOffered rs (set placed place true) ready
+ready_more rs family known placed heads low now_low place thread next rest ready before after runs is_next inside taken more of_thread of_awaited of_length = record {
+  all = λ i may. elim (let_stand rs family known placed heads low now_low place thread next i before after runs is_next inside may) [
     | inl same ↦ let P : ℕ → Type 0 = λ j. Contains ready j in subst P (sym same) (of_thread (rw same at may))
-    | inr (inl awaits) ↦ of_creation i awaits may
+    | inr (inl awaits) ↦ of_awaited i awaits may
     | inr (inr (inl names)) ↦ of_length i names.0 (let l = names.1 in omega (arith, l)) (let l = names.2 in omega (arith, l)) names.3 may
     | inr (inr (inr could)) ↦ more.kept i (taken.kept i (λ same. may.missing (rw same (stands_here placed place inside))) could)
   ];
@@ -195,14 +195,11 @@ ready_first rs placed none ready empty more all = record {
 }
 
 -- what is known of a ledger's run while it is put in order
-pub front_of : (ledger : MakersView) (run : RunView) (makers : List ℕ) (placed : List Bool) (heads links order : List ℕ) (low : ℕ) → IsLedger ledger → run ≡ ledger.run → makers ≡ ledger.places → IsFreeOf ledger.run.records Moved → AreStanding run.records placed heads links order → low ≤ length makers → ((k : ℕ) → k < low → slice_index makers k < length placed → Stands placed (slice_index makers k)) → (low < length makers → IsUnplaced placed (slice_index makers low)) → IsFront run.records run.family placed heads low
-front_of ledger run makers placed heads links order low is same_run same_places at_home standing within passed missing =
-    let trace = rw (← same_run) at is.run.trace in
-    let untold = rw (← same_run) at is.run.untold in
+pub front_of : (ledger : MakersView) (run : RunView) (makers : List ℕ) (known : Suspensions) (placed : List Bool) (heads links order : List ℕ) (low : ℕ) → IsLedger ledger → run ≡ ledger.run → makers ≡ ledger.places → known ≡ ledger.suspensions → AreStanding run.records placed heads links order → low ≤ length makers → ((k : ℕ) → k < low → slice_index makers k < length placed → Stands placed (slice_index makers k)) → (low < length makers → IsUnplaced placed (slice_index makers low)) → IsFront run.records run.family known placed heads low
+front_of ledger run makers known placed heads links order low is same_run same_places same_known standing within passed missing =
     record {
       family_of = rw (← same_run) at is.run.family;
-      apart = trace_apart run.records trace untold;
-      at_home = record { still = rw (← same_run) at at_home; untold = untold };
+      suspended = rw (← same_run, ← same_known) at is.suspended;
       closed = standing_closed run.records placed heads links order standing;
       are_heads = standing.are_heads;
       is_low = low_reached run.records placed makers low (rw (← same_run, ← same_places) at is.makers) (rw (← same_run, ← same_places) at is.entries) (rw (← same_run) at is.reached) standing.all within passed missing;

@@ -1,21 +1,27 @@
--- From the records so far in the order of the ledger to the causes that this excludes.
-use Rattle.std.proofs.Common.{[], ◌∷◌, ◌≡◌, ◌∙◌, ℕ, ◌<◌, ◌≤◌, ◌+◌, Bool, true, false, cond, List, length, get_or, take, Option, Some, None, refl, sym, ap, subst, arith, inl, inr}
+-- From the records so far in the order of the ledger to the causes that this excludes; and what is kept of the
+-- tasks.
+use Rattle.std.proofs.Common.{[], ◌∷◌, ◌≡◌, ◌∙◌, ℕ, ◌<◌, ◌≤◌, ◌+◌, Bool, true, false, cond, List, length, get_or, set, replicate, take, Option, Some, None, refl, sym, ap, subst, arith, inl, inr}
 use Rattle.std.specs.Prelude.{◌↔◌, is_some, slice_get, option_and_then}
 use Rattle.std.proofs.lemmas.Bool.{false≢true, cases_eq, cases_lt}
-use Rattle.std.proofs.lemmas.Option.{none-some, same_Some, slice_get-get_or}
-use Rattle.std.proofs.lemmas.List.{take-take}
+use Rattle.std.proofs.lemmas.Option.{none-some, same_Some, some_pair_parts, slice_get_within, slice_get-get_or}
+use Rattle.std.proofs.lemmas.List.{take-take, length-set, length-replicate, get_or-set_same, get_or-set_other, get_or-replicate}
 use Rattle.std.proofs.Math.Nat.{max-eq_left, max-eq_right}
 use Rattle.std.specs.Prelude.{max}
 use Rattle.std.proofs.lemmas.List.Sums.{sum_by-take-le, count_by_more_yes, count_by_more_no}
 use Rattle.ompt_events.specs.declared.records.Record.{Record}
 use Rattle.ompt_events.specs.declared.cause.Cause.TheVariants.{EntryTwice, LengthAhead}
-use Rattle.ompt_events.specs.Records.{finish}
+use Rattle.ompt_events.specs.Records.{finish, suspended_turn}
 use Rattle.ompt_events.specs.Places.{at, seen_at}
 use Rattle.ompt_events.specs.HappensBefore.{IsFinishing}
 use Rattle.ompt_events.specs.Causes.{known_after, RepeatsEntry, IsAhead, entry, ledger_length, entries_in, IsFreeOf}
 use Rattle.ompt_events.proofs.PlaceLemmas.{seen_within}
-use Rattle.checker.specs.Merge.{Awaits}
-use Rattle.checker.specs.InOrder.{entries_before, FitsBehind}
+use Rattle.checker.specs.declared.in_order.Suspension.{Suspension}
+use Rattle.checker.specs.Schedule.{Awaits, awaits_creation, awaits_end, EachAwaitsOne}
+use Rattle.checker.specs.Suspensions.{IsEndOf}
+use Rattle.turns.specs.Rising.{IsStartOf}
+use Rattle.ompt_events.specs.Tree.{IsExplicit}
+use Rattle.checker.proofs.ScheduleLemmas.{later_awaits_none}
+use Rattle.checker.specs.InOrder.{entries_before, FitsBehind, AreLast}
 use Rattle.checker.proofs.EntryLemmas.{finishing_within, free_of_repeats, free_of_ahead}
 
 -- ---- how many entries there are before a record
@@ -100,8 +106,8 @@ entries_by_known rs i after entries knows fits = of (is_some (at finish rs i)) r
         max-eq_right (omega (arith, own, knows')) ∙ omega (arith, own, knows')
     of false is knows' = let low = fits.named in max-eq_left (omega (arith, low, knows'))
 
-pub created_more : (rs : List Record) (n : ℕ) → ((i c : ℕ) → i < n → Awaits rs i c → c < i) → ((c : ℕ) → Awaits rs n c → c < n) → (i c : ℕ) → i < n + 1 → Awaits rs i c → c < i
-created_more rs n before here i c below waits = elim (cases_eq i n) [
+pub awaited_more : (rs : List Record) (n : ℕ) → ((i c : ℕ) → i < n → Awaits rs i c → c < i) → ((c : ℕ) → Awaits rs n c → c < n) → (i c : ℕ) → i < n + 1 → Awaits rs i c → c < i
+awaited_more rs n before here i c below waits = elim (cases_eq i n) [
   | inl same ↦
       let less = here c (let P : ℕ → Type 0 = λ j. Awaits rs j c in subst P same waits) in
       omega (arith, less, same)
@@ -148,13 +154,64 @@ fit_entered rs fit a b makes less = elim (cases_lt a b) [
       absurd (omega (arith, own, named, most, less))
 ]
 
--- ---- the creation that a record awaits
+-- ---- what a record awaits
 
-pub creation_follows : (rs : List Record) (i place own other : ℕ) (found : Option ℕ) → ((c : ℕ) → (found ≡ Some c) ↔ Awaits rs i c) → found ≡ Some place → place < i → seen_at rs place ≡ other → seen_at rs i ≡ own → other ≤ own → (c : ℕ) → Awaits rs i c → (c < i) × (seen_at rs c ≤ seen_at rs i)
-creation_follows rs i place own other found awaits is less there here low c waits =
+pub awaited_follows : (rs : List Record) (i place own other : ℕ) (found : Option ℕ) → ((c : ℕ) → (found ≡ Some c) ↔ Awaits rs i c) → found ≡ Some place → place < i → seen_at rs place ≡ other → seen_at rs i ≡ own → other ≤ own → (c : ℕ) → Awaits rs i c → (c < i) × (seen_at rs c ≤ seen_at rs i)
+awaited_follows rs i place own other found awaits is less there here low c waits =
     let same : c ≡ place = same_Some c place (sym ((awaits c).1 waits) ∙ is) in
     let P : ℕ → Type 0 = λ k. (k < i) × (seen_at rs k ≤ seen_at rs i) in
     subst P (sym same) (less, omega (arith, there, here, low))
 
 pub nothing_follows : (rs : List Record) (i : ℕ) (found : Option ℕ) → ((c : ℕ) → (found ≡ Some c) ↔ Awaits rs i c) → found ≡ None → (c : ℕ) → Awaits rs i c → (c < i) × (seen_at rs c ≤ seen_at rs i)
 nothing_follows rs i found awaits is c waits = absurd (none-some c (sym is ∙ (awaits c).1 waits))
+
+-- ---- what is kept of the tasks
+
+pub no_last : (rs : List Record) (tasks : List ℕ) → AreLast rs tasks []
+no_last rs tasks index task last indexed kept = absurd (none-some last kept)
+
+-- a table that has the number of records everywhere
+pub none_last : (rs : List Record) (tasks : List ℕ) (n : ℕ) → AreLast rs tasks (replicate n (record { turn = 0; place = length rs }))
+none_last rs tasks n index task last indexed kept low =
+    let none : Suspension = record { turn = 0; place = length rs } in
+    let within : index < n = rw (length-replicate n none) at (slice_get_within (replicate n none) index last kept) in
+    let same : none ≡ last = sym (get_or-replicate n index none none within) ∙ same_Some (get_or (replicate n none) index none) last (sym (slice_get-get_or (replicate n none) index none (slice_get_within (replicate n none) index last kept)) ∙ kept) in
+    let place = ap (λ (s : Suspension). s.place) same in
+    absurd (omega (arith, low, place))
+
+pub last_more : (rs : List Record) (tasks : List ℕ) (lasts : List Suspension) (i index turn : ℕ) → IsEndOf rs tasks i index turn → AreLast rs tasks lasts → AreLast rs tasks (set lasts index (record { turn = turn; place = i }))
+last_more rs tasks lasts i index turn end are other task last indexed kept low = elim (cases_eq other index) [
+  | inl same ↦
+      let new : Suspension = record { turn = turn; place = i } in
+      let inside : index < length lasts = let within = slice_get_within (set lasts index new) other last kept in let all = length-set lasts index new in omega (arith, within, all, same) in
+      let here : slice_get (set lasts index new) other ≡ Some new = ap (slice_get (set lasts index new)) same ∙ slice_get-get_or (set lasts index new) index new (let all = length-set lasts index new in omega (arith, inside, all)) ∙ ap Some (get_or-set_same lasts index new new inside) in
+      let is : new ≡ last = same_Some new last (sym here ∙ kept) in
+      let own : end.task ≡ task = same_Some end.task task (sym end.indexed ∙ ap (slice_get tasks) (sym same) ∙ indexed) in
+      let P : Suspension → Type 0 = λ s. at suspended_turn rs s.place ≡ Some (task, s.turn) in
+      subst P is (end.suspends ∙ ap (λ t. Some (t, turn)) own)
+  | inr apart ↦
+      let new : Suspension = record { turn = turn; place = i } in
+      let inside : other < length lasts = let within = slice_get_within (set lasts index new) other last kept in let all = length-set lasts index new in omega (arith, within, all) in
+      let old : slice_get (set lasts index new) other ≡ slice_get lasts other =
+      slice_get-get_or (set lasts index new) other new (slice_get_within (set lasts index new) other last kept)
+      ∙ ap Some (get_or-set_other lasts index other new new apart) ∙ sym (slice_get-get_or lasts other new inside) in
+      are other task last indexed (sym old ∙ kept) low
+]
+
+-- the end that is kept is the one that is awaited
+pub end_follows : (rs : List Record) (tasks : List ℕ) (lasts : List Suspension) (i index turn : ℕ) (last : Suspension) → EachAwaitsOne rs → AreLast rs tasks lasts → IsStartOf rs tasks i index turn → 0 < turn → slice_get lasts index ≡ Some last → turn ≡ last.turn + 1 → last.place < i → i < length rs → seen_at rs last.place ≤ seen_at rs i → (c : ℕ) → Awaits rs i c → (c < i) × (seen_at rs c ≤ seen_at rs i)
+end_follows rs tasks lasts i index turn last facts are begins later kept next before within low c (awaits_creation task waits creates) = absurd (none-some task (sym (later_awaits_none rs i begins.task turn facts begins.starts later) ∙ waits))
+end_follows rs tasks lasts i index turn last facts are begins later kept next before within low c (awaits_end again explicit) =
+    let parts = some_pair_parts begins.task again.task turn (again.turn + 1) (sym begins.starts ∙ again.resumes) in
+    let same : last.turn ≡ again.turn = omega (arith, parts.1, next) in
+    let suspends : at suspended_turn rs last.place ≡ Some (again.task, again.turn) = are index begins.task last begins.indexed kept (omega (arith, before, within)) ∙ ap (λ t. Some (t, last.turn)) parts.0 ∙ ap (λ t. Some (again.task, t)) same in
+    let one : last.place ≡ c = sym (facts.once c last.place i again explicit suspends) in
+    let P : ℕ → Type 0 = λ k. (k < i) × (seen_at rs k ≤ seen_at rs i) in
+    subst P one (before, low)
+
+-- a task that is not explicit awaits nothing where it runs on
+pub root_follows : (rs : List Record) (tasks : List ℕ) (i index turn : ℕ) → EachAwaitsOne rs → (begins : IsStartOf rs tasks i index turn) → 0 < turn → (IsExplicit rs begins.task → ⊥) → (c : ℕ) → Awaits rs i c → (c < i) × (seen_at rs c ≤ seen_at rs i)
+root_follows rs tasks i index turn facts begins later root c (awaits_creation task waits creates) = absurd (none-some task (sym (later_awaits_none rs i begins.task turn facts begins.starts later) ∙ waits))
+root_follows rs tasks i index turn facts begins later root c (awaits_end again explicit) =
+    let parts = some_pair_parts begins.task again.task turn (again.turn + 1) (sym begins.starts ∙ again.resumes) in
+    absurd (root (subst (IsExplicit rs) (sym parts.0) explicit))

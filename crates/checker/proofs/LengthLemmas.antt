@@ -1,22 +1,20 @@
 -- What each thread knows of the ledger, and which record is the first that names less than was known.
-use Rattle.std.proofs.Common.{◌≡◌, ◌≢◌, ◌∙◌, ℕ, ◌<◌, ◌≤◌, ◌+◌, Bool, true, false, cond, List, length, get_or, set, replicate, Option, Some, None, refl, sym, ap, arith, inl, inr, ◌⊎◌, ltb, get_or-set_same, get_or-set_other}
-use Rattle.std.specs.Prelude.{◌↔◌, IsTrue, is_some, slice_get}
+use Rattle.std.proofs.Common.{◌≡◌, ◌≢◌, ◌∙◌, ℕ, ◌<◌, ◌≤◌, ◌+◌, Bool, true, false, cond, List, length, get_or, set, replicate, Option, Some, None, sym, ap, arith, inl, inr, ◌⊎◌, ltb, get_or-set_same, get_or-set_other}
+use Rattle.std.specs.Prelude.{◌↔◌, IsTrue, is_some}
 use Rattle.std.proofs.lemmas.Bool.{false≢true, cases_eq, cases_lt, ltb-true, lt-ltb}
 use Rattle.std.proofs.lemmas.Option.{none-some, same_Some}
 use Rattle.std.proofs.lemmas.List.{length-set, length-replicate, get_or-replicate}
 use Rattle.ompt_events.specs.declared.records.Record.{Record}
-use Rattle.ompt_events.specs.declared.records.Body.{Body}
-use Rattle.ompt_events.specs.declared.records.Body.TheVariants.{TaskCreate}
 use Rattle.ompt_events.specs.declared.cause.Cause.TheVariants.{LengthBack}
-use Rattle.ompt_events.specs.Records.{created, finish}
+use Rattle.ompt_events.specs.Records.{finish}
 use Rattle.ompt_events.specs.Places.{at, thread_at, seen_at}
-use Rattle.ompt_events.specs.HappensBefore.{IsStart, IsProgramStep, thread_order, creation, resumption, discard, fulfilment}
-use Rattle.ompt_events.specs.Causes.{HasCause, IsBehind, known_after, moved, length_back, IsFreeOf, IsFirstWith}
-use Rattle.ompt_events.proofs.TurnLemmas.{start_starts, is_start_untold, no_resumption}
+use Rattle.ompt_events.specs.HappensBefore.{IsProgramStep, thread_order, creation, resumption, discard, fulfilment}
+use Rattle.ompt_events.specs.Causes.{HasCause, IsBehind, known_after, length_back, IsFreeOf, IsFirstWith}
+use Rattle.ompt_events.proofs.TurnLemmas.{start_starts}
 use Rattle.ompt_events.proofs.PlaceLemmas.{at_within}
-use Rattle.checker.specs.Lengths.{PrecedesCreation, AreKnown}
-use Rattle.checker.specs.Merge.{Awaits, StartsOrFulfils, StaysAtHome}
-use Rattle.checker.proofs.ScheduleLemmas.{awaited_at, step_awaits, starts_below, same_option}
+use Rattle.checker.specs.Lengths.{PrecedesAwaited, AreKnown}
+use Rattle.checker.specs.Schedule.{Awaits, EachAwaitsOne}
+use Rattle.checker.proofs.ScheduleLemmas.{program_awaits, awaits_program, known_awaited, awaits_within}
 
 -- ---- what a record knows
 
@@ -26,18 +24,6 @@ known_least rs i = of (is_some (at finish rs i))
     of : (b : Bool) → seen_at rs i ≤ cond b (seen_at rs i + 1) (seen_at rs i)
     of true = omega arith
     of false = omega arith
-
-created_finishes : (task : ℕ) (b : Body) → created b ≡ Some task → is_some (finish b) ≡ false
-created_finishes task (TaskCreate deps flags own child) is = refl
-created_finishes task _ is = absurd (none-some task is)
-
--- a creation knows the length that it names
-known_created : (rs : List Record) (c task : ℕ) → at created rs c ≡ Some task → known_after rs c ≡ seen_at rs c
-known_created rs c task creates = ap (λ b. cond b (seen_at rs c + 1) (seen_at rs c)) (there (slice_get rs c) creates)
-  where
-    there : (o : Option Record) → Rattle.std.specs.Option.option_and_then (λ (r : Record). created r.body) o ≡ Some task → is_some (Rattle.std.specs.Option.option_and_then (λ (r : Record). finish r.body) o) ≡ false
-    there None is = absurd (none-some task is)
-    there (Some r) is = created_finishes task r.body is
 
 -- ---- what a thread knows
 
@@ -107,40 +93,23 @@ behind_known rs n thread known within own less are =
     let value = last.3 in
     (last.0, thread_order last.1 within (last.2 ∙ sym own), omega (arith, less, value))
 
-creation_behind : (rs : List Record) (c i : ℕ) → IsProgramStep rs c i → seen_at rs i < seen_at rs c → IsBehind rs i
-creation_behind rs c i step less = (c, step, let least = known_least rs c in omega (arith, least, less))
+step_behind : (rs : List Record) (c i : ℕ) → IsProgramStep rs c i → seen_at rs i < seen_at rs c → IsBehind rs i
+step_behind rs c i step less = (c, step, let least = known_least rs c in omega (arith, least, less))
 
-pub behind_creation : (rs : List Record) (n : ℕ) → StaysAtHome rs → ((k : ℕ) → k < n → IsBehind rs k → ⊥) → PrecedesCreation rs n → IsBehind rs n
-behind_creation rs n at_home free (c, (task, awaits, creates), less) = elim (awaited_at rs n task awaits) [
-  | inl fulfils ↦ creation_behind rs c n (fulfilment task creates fulfils) less
-  | inr (inr starts) ↦ started starts (starts_below rs task n at_home.untold)
-  | inr (inl gone) ↦ creation_behind rs c n (discard task creates gone) less
+pub behind_awaited : (rs : List Record) (n : ℕ) → EachAwaitsOne rs → ((k : ℕ) → k < n → IsBehind rs k → ⊥) → PrecedesAwaited rs n → IsBehind rs n
+behind_awaited rs n facts free (c, awaits, less) = elim (awaits_program rs n c facts awaits) [
+  | inl is ↦ step_behind rs c n is less
+  | inr (s, is, earlier) ↦ elim (cases_lt (seen_at rs s) (seen_at rs c)) [
+    | inl back ↦ absurd (free s earlier.earlier (step_behind rs c s is back))
+    | inr on ↦ let least = known_least rs s in (s, thread_order earlier.earlier earlier.within earlier.same, omega (arith, least, on, less))
+  ]
 ]
-  where
-    started : at Rattle.ompt_events.specs.Records.started rs n ≡ Some task → ((s : ℕ) × (s < n) × IsStart rs s task) ⊎ ((k : ℕ) → k < n → at Rattle.ompt_events.specs.Records.started rs k ≢ Some task) → IsBehind rs n
-    started starts (inr none) = creation_behind rs c n (creation task creates (is_start_untold rs n task at_home.untold starts none)) less
-    started starts (inl (s, below, first)) = elim (cases_lt (seen_at rs s) (seen_at rs c)) [
-      | inl back ↦ absurd (free s below (creation_behind rs c s (creation task creates first) back))
-      | inr on ↦
-          let same = same_option (thread_at rs s) (thread_at rs n) (λ other. at_home.still n (moved (task, s, (c, creates), starts, below, start_starts rs s task first, other, at_home.untold n))) in
-          let least = known_least rs s in
-          (s, thread_order below (at_within Rattle.ompt_events.specs.Records.started rs n task starts) same, omega (arith, least, on, less))
-    ]
 
-pub not_behind : (rs : List Record) (n thread : ℕ) (known : List ℕ) → StartsOrFulfils rs → thread_at rs n ≡ Some thread → get_or known thread 0 ≤ seen_at rs n → (PrecedesCreation rs n → ⊥) → AreKnown rs n known → IsBehind rs n → ⊥
-not_behind rs n thread known apart own more none are (k, thread_order below within same, less) =
-    let most = are.most k thread below (same ∙ own) in
-    omega (arith, most, more, less)
-not_behind rs n thread known apart own more none are (k, creation task creates start, less) =
-    let knows = known_created rs k task creates in
-    none (k, step_awaits rs apart k n (inr (inl (task, creates, start_starts rs n task start))), omega (arith, knows, less))
-not_behind rs n thread known apart own more none are (k, resumption again, less) = absurd (no_resumption rs k n apart.untold again)
-not_behind rs n thread known apart own more none are (k, discard task creates gone, less) =
-    let knows = known_created rs k task creates in
-    none (k, step_awaits rs apart k n (inr (inr (task, creates, gone))), omega (arith, knows, less))
-not_behind rs n thread known apart own more none are (k, fulfilment task creates fulfils, less) =
-    let knows = known_created rs k task creates in
-    none (k, step_awaits rs apart k n (inl (task, creates, fulfils)), omega (arith, knows, less))
+pub not_behind : (rs : List Record) (n thread : ℕ) (known : List ℕ) → EachAwaitsOne rs → thread_at rs n ≡ Some thread → get_or known thread 0 ≤ seen_at rs n → (PrecedesAwaited rs n → ⊥) → AreKnown rs n known → IsBehind rs n → ⊥
+not_behind rs n thread known facts own more none are (k, is, less) = elim (program_awaits rs k n facts is) [
+  | inl earlier ↦ let most = are.most k thread earlier.earlier (earlier.same ∙ own) in omega (arith, most, more, less)
+  | inr awaits ↦ let knows = known_awaited rs n k awaits in none (k, awaits, omega (arith, knows, less))
+]
 
 pub first_back : (rs : List Record) (n : ℕ) → n < length rs → IsBehind rs n → ((k : ℕ) → k < n → IsBehind rs k → ⊥) → IsFirstWith rs LengthBack n
 first_back rs n within is free = record {
@@ -162,9 +131,9 @@ free_of_back rs n free end i has =
     let within = step_within rs is.0 i is.1 in
     free i (omega (arith, within, end)) is
 
--- ---- the creation that a record awaits
+-- ---- what a record awaits
 
-pub precedes_is : (rs : List Record) (i place own other : ℕ) (found : Option ℕ) → ((c : ℕ) → (found ≡ Some c) ↔ Awaits rs i c) → found ≡ Some place → own ≡ seen_at rs i → other ≡ seen_at rs place → IsTrue (ltb own other) ↔ PrecedesCreation rs i
+pub precedes_is : (rs : List Record) (i place own other : ℕ) (found : Option ℕ) → ((c : ℕ) → (found ≡ Some c) ↔ Awaits rs i c) → found ≡ Some place → own ≡ seen_at rs i → other ≡ seen_at rs place → IsTrue (ltb own other) ↔ PrecedesAwaited rs i
 precedes_is rs i place own other found awaits is seen there = (
   λ less. (place, (awaits place).0 is, let lt = ltb-true own other less in omega (arith, lt, seen, there)),
   λ (c, waits, less).
@@ -173,8 +142,8 @@ precedes_is rs i place own other found awaits is seen there = (
       lt-ltb own other (omega (arith, less, value, seen, there)),
 )
 
-pub precedes_none : (rs : List Record) (i : ℕ) (found : Option ℕ) → ((c : ℕ) → (found ≡ Some c) ↔ Awaits rs i c) → found ≡ None → IsTrue false ↔ PrecedesCreation rs i
+pub precedes_none : (rs : List Record) (i : ℕ) (found : Option ℕ) → ((c : ℕ) → (found ≡ Some c) ↔ Awaits rs i c) → found ≡ None → IsTrue false ↔ PrecedesAwaited rs i
 precedes_none rs i found awaits is = (λ no. absurd (false≢true no), λ (c, waits, less). absurd (none-some c (sym is ∙ (awaits c).1 waits)))
 
 pub awaited_within : (rs : List Record) (i place : ℕ) (found : Option ℕ) → ((c : ℕ) → (found ≡ Some c) ↔ Awaits rs i c) → found ≡ Some place → place < length rs
-awaited_within rs i place found awaits is = let waits = (awaits place).0 is in at_within created rs place waits.0 waits.2
+awaited_within rs i place found awaits is = awaits_within rs i place ((awaits place).0 is)

@@ -12,6 +12,8 @@ mod MergingLemmas
 mod EarlierLemmas
 mod FrontLemmas
 mod ScheduleLemmas
+mod AwaitsOneLemmas
+mod SuspensionLemmas
 mod InOrderLemmas
 mod StartLemmas
 mod LateLemmas

@@ -5,10 +5,10 @@ use Rattle.std.proofs.lemmas.Option.{none-some, same_Some}
 use Rattle.std.specs.Prelude.{slice_get, slice_index, option_map}
 use Rattle.ompt_events.specs.declared.records.Record.{Record}
 use Rattle.ompt_events.specs.Places.{thread_at, seen_at}
-use Rattle.ompt_events.specs.HappensBefore.{thread_order, creation, resumption, discard, fulfilment, IsStep, program, ledger, HappensBefore, step, chain}
-use Rattle.ompt_events.proofs.TurnLemmas.{start_starts, no_resumption}
-use Rattle.checker.proofs.ScheduleLemmas.{step_awaits, awaits_before}
-use Rattle.checker.specs.Merge.{AreClosed, StartsOrFulfils, StaysAtHome, Stands, MayFollow, AreHeads, IsLow, IsReadyHead}
+use Rattle.ompt_events.specs.HappensBefore.{thread_order, IsStep, program, ledger, HappensBefore, step, chain}
+use Rattle.checker.proofs.ScheduleLemmas.{program_awaits, awaits_before}
+use Rattle.checker.specs.Schedule.{EachAwaitsOne}
+use Rattle.checker.specs.Merge.{AreClosed, Stands, MayFollow, AreHeads, IsLow, IsReadyHead}
 
 pub stands_same : (placed : List Bool) (a b : ℕ) → a ≡ b → Stands placed a → Stands placed b
 stands_same placed a b same stands = ap (slice_get placed) (sym same) ∙ stands
@@ -23,8 +23,8 @@ stands_or_not placed i = stands (slice_get placed i)
     stands (Some false) = inr (λ e. let b : false ≡ true = same_Some false true e in cc)
 
 -- the head of a thread that passes the test may stand next
-pub may_follow : (rs : List Record) → StartsOrFulfils rs → (placed : List Bool) (heads : List ℕ) (low : ℕ) (thread head : ℕ) → AreHeads rs placed heads → IsLow rs placed low → thread < length heads → slice_index heads thread ≡ head → IsReadyHead rs placed low head → MayFollow rs placed head
-may_follow rs apart placed heads low thread head are is_low inside is ready = record {
+pub may_follow : (rs : List Record) → EachAwaitsOne rs → (placed : List Bool) (heads : List ℕ) (low : ℕ) (thread head : ℕ) → AreHeads rs placed heads → IsLow rs placed low → thread < length heads → slice_index heads thread ≡ head → IsReadyHead rs placed low head → MayFollow rs placed head
+may_follow rs facts placed heads low thread head are is_low inside is ready = record {
   within = ready.within;
   missing = λ standing. are.missing thread inside (stands_same placed head (slice_index heads thread) (sym is) standing);
   steps = λ a step. stands_before a step;
@@ -34,11 +34,10 @@ may_follow rs apart placed heads low thread head are is_low inside is ready = re
     runs = ap (thread_at rs) (sym is) ∙ are.head thread inside (rw is ready.within)
 
     stands_before : (a : ℕ) → IsStep rs a head → Stands placed a
-    stands_before a (program (thread_order earlier within same)) = are.below thread a (same ∙ runs) (rw is earlier)
-    stands_before a (program (creation task creates starts)) = ready.is_created a (step_awaits rs apart a head (inr (inl (task, creates, start_starts rs head task starts))))
-    stands_before a (program (resumption again)) = absurd (no_resumption rs a head apart.untold again)
-    stands_before a (program (discard task creates gone)) = ready.is_created a (step_awaits rs apart a head (inr (inr (task, creates, gone))))
-    stands_before a (program (fulfilment task creates done)) = ready.is_created a (step_awaits rs apart a head (inl (task, creates, done)))
+    stands_before a (program taken) = elim (program_awaits rs a head facts taken) [
+      | inl earlier ↦ are.below thread a (earlier.same ∙ runs) (rw is earlier.earlier)
+      | inr awaits ↦ ready.is_let a awaits
+    ]
     stands_before a (ledger finishes less) = is_low.below a finishes (let bound = ready.is_entered in omega (arith, bound, less))
 
 -- where each step leads from a record that stands, all that happens before stands
@@ -47,10 +46,10 @@ all_before rs placed a i closed steps (step s) = steps a s
 all_before rs placed a i closed steps (chain {b = mid} first second) = closed a mid first (all_before rs placed mid i closed steps second)
 
 -- a record that may stand next passes the test
-pub ready_head : (rs : List Record) (placed : List Bool) (low : ℕ) (i : ℕ) → StaysAtHome rs → AreClosed rs placed → IsLow rs placed low → MayFollow rs placed i → IsReadyHead rs placed low i
-ready_head rs placed low i at_home closed is_low may = record {
+pub ready_head : (rs : List Record) (placed : List Bool) (low : ℕ) (i : ℕ) → EachAwaitsOne rs → AreClosed rs placed → IsLow rs placed low → MayFollow rs placed i → IsReadyHead rs placed low i
+ready_head rs placed low i facts closed is_low may = record {
   within = may.within;
-  is_created = λ c awaits. all_before rs placed c i closed may.steps (awaits_before rs i c at_home awaits);
+  is_let = λ c awaits. all_before rs placed c i closed may.steps (awaits_before rs i c facts awaits);
   is_entered = elim (cases_lt low (seen_at rs i)) [
     | inl less ↦
         let next = is_low.next i less in

@@ -1,178 +1,262 @@
--- Which creations are awaited, and when file order is an order.
-use Rattle.std.proofs.Common.{◌≡◌, ◌≢◌, ◌∙◌, ℕ, zero, suc, ◌<◌, List, length, get_or, Option, Some, None, Bool, true, false, cond, refl, sym, ap, subst, arith, inl, inr, ◌⊎◌}
-use Rattle.std.proofs.lemmas.Bool.{cases_eq, false≢true, eq-eqb, eqb-true, lt-ltb}
+-- What each record awaits, by tasks and by their indices; and when file order is an order.
+use Rattle.std.proofs.Common.{◌≡◌, ◌∙◌, ℕ, ◌<◌, ◌+◌, List, length, get_or, Option, Some, None, Bool, cond, refl, sym, ap, subst, arith, inl, inr, ◌⊎◌}
+use Rattle.std.proofs.lemmas.Bool.{cases_eq, eq-eqb, ne_eqb, lt-ltb}
 use Rattle.std.proofs.lemmas.List.Sums.{position_or_len_is}
 use Rattle.std.specs.List.{position, position_or_len}
-use Rattle.std.proofs.lemmas.Option.{none-some, same_Some, slice_get_within, slice_get-get_or}
-use Rattle.std.specs.Prelude.{◌↔◌, ◌==◌, is_some, slice_get, option_and_then}
+use Rattle.std.proofs.lemmas.Option.{none-some, same_Some, some_pair_parts, slice_get_within, slice_get-get_or}
+use Rattle.std.specs.Prelude.{◌↔◌, ◌==◌, is_some, slice_get, slice_index, option_and_then, option_map}
 use Rattle.std.specs.Option.{option_or}
 use Rattle.ompt_events.specs.declared.records.Record.{Record}
 use Rattle.ompt_events.specs.declared.records.Body.{Body}
-use Rattle.ompt_events.specs.declared.records.Body.TheVariants.{TaskSchedule, Cancel}
+use Rattle.ompt_events.specs.declared.records.Body.TheVariants.{TaskCreate, TaskSchedule, Cancel}
 use Rattle.ompt_events.specs.declared.names.Status.TheVariants as status
-use Rattle.ompt_events.specs.Flags as flag
-use Rattle.ompt_events.specs.Flags.{has_flag}
-use Rattle.ompt_events.specs.Records.{made, created, started, discarded, fulfilled}
-use Rattle.ompt_events.specs.Places.{at, thread_at, seen_at}
-use Rattle.ompt_events.specs.Traces.{IsTrace, IsSound, HasItsNext}
-use Rattle.ompt_events.specs.Tree.{IsExplicit}
-use Rattle.ompt_events.specs.HappensBefore.{IsStart, IsFinishing, thread_order, creation, resumption, discard, fulfilment, IsStep, program, ledger, HappensBefore, step, chain}
-use Rattle.ompt_events.specs.Causes.{moved}
-use Rattle.ompt_events.proofs.TurnLemmas.{start_starts, is_start_untold, no_resumption}
-use Rattle.ompt_events.proofs.PlaceLemmas.{at_within, at_read}
-use Rattle.ompt_events.proofs.RecordLemmas.{created_at_made}
+use Rattle.ompt_events.specs.Records.{created, started, next_turn, begun_turn, suspended_turn, discarded, fulfilled, finish}
+use Rattle.ompt_events.specs.Places.{at, seen_at}
+use Rattle.ompt_events.specs.Tree.{IsRoot, IsExplicit}
+use Rattle.ompt_events.specs.HappensBefore.{IsResumption, IsFinishing, IsProgramStep, thread_order, creation, resumption, discard, fulfilment, IsStep, program, ledger, HappensBefore, step, chain}
+use Rattle.ompt_events.specs.Causes.{known_after}
+use Rattle.ompt_events.proofs.TurnLemmas.{begun_started}
+use Rattle.ompt_events.proofs.PlaceLemmas.{at_within}
+use Rattle.ompt_events.proofs.RecordLemmas.{at_through, made_cases}
 use Rattle.task_tree.specs.Numbering.{AreApart}
-use Rattle.task_tree.specs.Subjects.{subject, object, Calls}
+use Rattle.task_tree.specs.Subjects.{object, Calls}
 use Rattle.task_tree.specs.Family.{FamilyView, IsFamilyOf}
-use Rattle.task_tree.proofs.SubjectLemmas.{call_task, call_none}
-use Rattle.task_tree.proofs.OnceLemmas.{made_once}
-use Rattle.ompt_events.specs.Turns.{TellsNoTurns}
-use Rattle.checker.specs.Merge.{awaited, Awaits, StartsOrFulfils, StaysAtHome, task_of}
+use Rattle.task_tree.proofs.SubjectLemmas.{call_task, call_index}
+use Rattle.task_tree.proofs.NamedLemmas.{started_object}
+use Rattle.task_tree.proofs.LookupLemmas.{object_calls, root_or_explicit}
+use Rattle.turns.specs.Rising.{IsStartOf}
+use Rattle.checker.specs.Schedule.{first_started, awaited, Awaits, awaits_creation, awaits_end, IsEarlierOnThread, EachAwaitsOne, AwaitsNone}
+use Rattle.checker.specs.Merge.{turn_of, key_of}
 
--- ---- what a record awaits
+-- ---- single records
 
 started_keeps : (b : Body) (task : ℕ) → started b ≡ Some task → discarded b ≡ None
 started_keeps (Cancel flags own share) task starts = absurd (none-some task starts)
 started_keeps _ task starts = refl
 
-awaited_start : (b : Body) (task : ℕ) (o : Option ℕ) → fulfilled b ≡ o → ((other : ℕ) → o ≡ Some other → ⊥) → started b ≡ Some task → awaited b ≡ Some task
-awaited_start b task None e apart starts = ap (λ o. option_or o (option_or (discarded b) (started b))) e ∙ ap (λ o. option_or o (started b)) (started_keeps b task starts) ∙ starts
-awaited_start b task (Some other) e apart starts = absurd (apart other refl)
+begun_starts : (b : Body) (task turn : ℕ) → begun_turn b ≡ Some (task, turn) → started b ≡ Some task
+begun_starts b task turn begins = by (started b) begins
+  where
+    by : (s : Option ℕ) → option_map {U = ℕ × ℕ} (λ t. (t, next_turn b)) s ≡ Some (task, turn) → s ≡ Some task
+    by None is = absurd (none-some (task, turn) is)
+    by (Some t) is = ap Some (some_pair_parts t task (next_turn b) turn is).0
+
+first_begins : (b : Body) (task : ℕ) → first_started b ≡ Some task → begun_turn b ≡ Some (task, 0)
+first_begins b task starts = by (begun_turn b) starts
+  where
+    by : (o : Option (ℕ × ℕ)) → option_and_then {U = ℕ} (λ (p : ℕ × ℕ). cond (p.1 == 0) (Some p.0) None) o ≡ Some task → o ≡ Some (task, 0)
+    by None is = absurd (none-some task is)
+    by (Some (t, turn)) is = elim (cases_eq turn 0) [
+      | inl first ↦
+          let Q : Bool → Type 0 = λ b. cond b (Some t) None ≡ Some task in
+          ap (λ u. Some (t, u)) first ∙ ap (λ u. Some (u, 0)) (same_Some t task (subst Q (eq-eqb turn 0 first) is))
+      | inr later ↦
+          let Q : Bool → Type 0 = λ b. cond b (Some t) None ≡ Some task in
+          absurd (none-some task (subst Q (ne_eqb turn 0 later) is))
+    ]
+
+begins_first : (b : Body) (task : ℕ) → begun_turn b ≡ Some (task, 0) → first_started b ≡ Some task
+begins_first b task begins = ap (option_and_then {U = ℕ} (λ (p : ℕ × ℕ). cond (p.1 == 0) (Some p.0) None)) begins
+
+awaited_fulfilled : (b : Body) (task : ℕ) → fulfilled b ≡ Some task → awaited b ≡ Some task
+awaited_fulfilled b task fulfils = ap (λ o. option_or o (option_or (discarded b) (first_started b))) fulfils
 
 awaited_discard : (b : Body) (task : ℕ) → discarded b ≡ Some task → awaited b ≡ Some task
 awaited_discard (Cancel flags own share) task gone = ap (λ o. option_or o None) gone
 awaited_discard _ task gone = absurd (none-some task gone)
 
+awaited_start : (b : Body) (task : ℕ) (o : Option ℕ) → fulfilled b ≡ o → ((other : ℕ) → o ≡ Some other → ⊥) → begun_turn b ≡ Some (task, 0) → awaited b ≡ Some task
+awaited_start b task None e apart begins =
+    ap (λ o. option_or o (option_or (discarded b) (first_started b))) e
+    ∙ ap (λ o. option_or o (first_started b)) (started_keeps b task (begun_starts b task 0 begins))
+    ∙ begins_first b task begins
+awaited_start b task (Some other) e apart begins = absurd (apart other refl)
+
 option_cases : (a b : Option ℕ) (x : ℕ) → option_or a b ≡ Some x → (a ≡ Some x) ⊎ (b ≡ Some x)
 option_cases None b x is = inr is
 option_cases (Some y) b x is = inl is
 
-awaited_of : (b : Body) (task : ℕ) → awaited b ≡ Some task → (fulfilled b ≡ Some task) ⊎ ((discarded b ≡ Some task) ⊎ (started b ≡ Some task))
-awaited_of b task is = elim (option_cases (fulfilled b) (option_or (discarded b) (started b)) task is) [
+awaited_of : (b : Body) (task : ℕ) → awaited b ≡ Some task → (fulfilled b ≡ Some task) ⊎ ((discarded b ≡ Some task) ⊎ (begun_turn b ≡ Some (task, 0)))
+awaited_of b task is = elim (option_cases (fulfilled b) (option_or (discarded b) (first_started b)) task is) [
   | inl fulfils ↦ inl fulfils
-  | inr rest ↦ inr (option_cases (discarded b) (started b) task rest)
+  | inr rest ↦ elim (option_cases (discarded b) (first_started b) task rest) [
+    | inl gone ↦ inr (inl gone)
+    | inr starts ↦ inr (inr (first_begins b task starts))
+  ]
 ]
 
--- the same at a place
-pub awaited_at : (rs : List Record) (i task : ℕ) → at awaited rs i ≡ Some task → (at fulfilled rs i ≡ Some task) ⊎ ((at discarded rs i ≡ Some task) ⊎ (at started rs i ≡ Some task))
+-- a record at which a task is suspended creates none, and finishes none
+created_goes_on : (b : Body) (task : ℕ) → created b ≡ Some task → suspended_turn b ≡ None
+created_goes_on (TaskCreate deps flags own child) task creates = refl
+created_goes_on _ task creates = absurd (none-some task creates)
+
+created_finishes : (b : Body) (task : ℕ) → created b ≡ Some task → finish b ≡ None
+created_finishes (TaskCreate deps flags own child) task creates = refl
+created_finishes _ task creates = absurd (none-some task creates)
+
+suspended_finishes : (b : Body) (task turn : ℕ) → suspended_turn b ≡ Some (task, turn) → finish b ≡ None
+suspended_finishes (TaskSchedule status.Yield turns prior next share) task turn suspends = refl
+suspended_finishes (TaskSchedule status.Switch turns prior next share) task turn suspends = refl
+suspended_finishes _ task turn suspends = absurd (none-some (task, turn) suspends)
+
+-- ---- records at places
+
+pub first_begun : (rs : List Record) (i task : ℕ) → at first_started rs i ≡ Some task → at begun_turn rs i ≡ Some (task, 0)
+first_begun rs i task starts = at_through first_started begun_turn task (task, 0) rs i (λ b. first_begins b task) starts
+
+-- what a record says, where each that says one thing says no other
+silent : {X Y : Type 0} (f : Body → Option X) (g : Body → Option Y) (x : X) (rs : List Record) (i : ℕ) → ((b : Body) → f b ≡ Some x → g b ≡ None) → at f rs i ≡ Some x → at g rs i ≡ None
+silent {X} {Y} f g x rs i each is = by (slice_get rs i) is
+  where
+    by : (o : Option Record) → option_and_then (λ (r : Record). f r.body) o ≡ Some x → option_and_then (λ (r : Record). g r.body) o ≡ None
+    by None is' = refl
+    by (Some r) is' = each r.body is'
+
+pub awaited_at : (rs : List Record) (i task : ℕ) → at awaited rs i ≡ Some task → (at fulfilled rs i ≡ Some task) ⊎ ((at discarded rs i ≡ Some task) ⊎ (at begun_turn rs i ≡ Some (task, 0)))
 awaited_at rs i task is = there (slice_get rs i) is
   where
-    there : (o : Option Record) → option_and_then (λ (r : Record). awaited r.body) o ≡ Some task → (option_and_then (λ (r : Record). fulfilled r.body) o ≡ Some task) ⊎ ((option_and_then (λ (r : Record). discarded r.body) o ≡ Some task) ⊎ (option_and_then (λ (r : Record). started r.body) o ≡ Some task))
+    there : (o : Option Record) → option_and_then (λ (r : Record). awaited r.body) o ≡ Some task → (option_and_then (λ (r : Record). fulfilled r.body) o ≡ Some task) ⊎ ((option_and_then (λ (r : Record). discarded r.body) o ≡ Some task) ⊎ (option_and_then (λ (r : Record). begun_turn r.body) o ≡ Some (task, 0)))
     there None is' = absurd (none-some task is')
     there (Some r) is' = awaited_of r.body task is'
 
--- a step from a creation that is none of the thread's order
-abbrev pub IsCreationStep : List Record → ℕ → ℕ → Type 0
-IsCreationStep rs c i =
-    ((task : ℕ) × (at created rs c ≡ Some task) × (at fulfilled rs i ≡ Some task)) ⊎ (((task : ℕ) × (at created rs c ≡ Some task) × (at started rs i ≡ Some task)) ⊎ ((task : ℕ) × (at created rs c ≡ Some task) × (at discarded rs i ≡ Some task)))
+start_awaits : (rs : List Record) (i task : ℕ) → EachAwaitsOne rs → at begun_turn rs i ≡ Some (task, 0) → at awaited rs i ≡ Some task
+start_awaits rs i task facts begins = there (slice_get rs i) (facts.apart i) begins
+  where
+    there : (o : Option Record) → ((t other : ℕ) → option_and_then (λ (r : Record). fulfilled r.body) o ≡ Some t → option_and_then (λ (r : Record). started r.body) o ≡ Some other → ⊥) → option_and_then (λ (r : Record). begun_turn r.body) o ≡ Some (task, 0) → option_and_then (λ (r : Record). awaited r.body) o ≡ Some task
+    there None none is = absurd (none-some (task, 0) is)
+    there (Some r) none is = awaited_start r.body task (fulfilled r.body) refl (λ other fulfils. none other task fulfils (begun_starts r.body task 0 is)) is
 
-pub step_awaits : (rs : List Record) → StartsOrFulfils rs → (c i : ℕ) → IsCreationStep rs c i → Awaits rs i c
-step_awaits rs apart c i (inl (task, creates, fulfils)) = (task, there (slice_get rs i) fulfils, creates)
+-- a record that begins a later turn awaits no creation
+pub later_awaits_none : (rs : List Record) (i task turn : ℕ) → EachAwaitsOne rs → at begun_turn rs i ≡ Some (task, turn) → 0 < turn → at awaited rs i ≡ None
+later_awaits_none rs i task turn facts begins later = by (at awaited rs i) refl
   where
-    there : (o : Option Record) → option_and_then (λ (r : Record). fulfilled r.body) o ≡ Some task → option_and_then (λ (r : Record). awaited r.body) o ≡ Some task
-    there None is = absurd (none-some task is)
-    there (Some r) is = ap (λ o. option_or o (option_or (discarded r.body) (started r.body))) is
-step_awaits rs apart c i (inr (inl (task, creates, starts))) = (task, there (slice_get rs i) (apart.apart i) starts, creates)
-  where
-    there : (o : Option Record) → ((t other : ℕ) → option_and_then (λ (r : Record). fulfilled r.body) o ≡ Some t → option_and_then (λ (r : Record). started r.body) o ≡ Some other → ⊥) → option_and_then (λ (r : Record). started r.body) o ≡ Some task → option_and_then (λ (r : Record). awaited r.body) o ≡ Some task
-    there None none is = absurd (none-some task is)
-    there (Some r) none is = awaited_start r.body task (fulfilled r.body) refl (λ other fulfils. none other task fulfils is) is
-step_awaits rs apart c i (inr (inr (task, creates, gone))) = (task, there (slice_get rs i) gone, creates)
-  where
-    there : (o : Option Record) → option_and_then (λ (r : Record). discarded r.body) o ≡ Some task → option_and_then (λ (r : Record). awaited r.body) o ≡ Some task
-    there None is = absurd (none-some task is)
-    there (Some r) is = awaited_discard r.body task is
-
--- ---- what is awaited happens before
-
-pub starts_below : (rs : List Record) (task n : ℕ) → TellsNoTurns rs → ((s : ℕ) × (s < n) × IsStart rs s task) ⊎ ((k : ℕ) → k < n → at started rs k ≢ Some task)
-starts_below rs task zero untold = inr (λ k below. absurd (omega arith))
-starts_below rs task (suc n) untold = elim (starts_below rs task n untold) [
-  | inl found ↦ inl (found.0, omega (arith, found.1), found.2)
-  | inr none ↦ here (at started rs n) refl none
-]
-  where
-    here : (o : Option ℕ) → at started rs n ≡ o → ((k : ℕ) → k < n → at started rs k ≢ Some task) → ((s : ℕ) × (s < suc n) × IsStart rs s task) ⊎ ((k : ℕ) → k < suc n → at started rs k ≢ Some task)
-    here None e none = inr (λ k below starts. elim (cases_eq k n) [
-      | inl same ↦ none-some task (sym e ∙ ap (at started rs) (sym same) ∙ starts)
-      | inr apart ↦ none k (omega arith) starts
-    ])
-    here (Some other) e none = elim (cases_eq other task) [
-      | inl same ↦ inl (n, omega arith, is_start_untold rs n task untold (e ∙ ap Some same) none)
-      | inr different ↦ inr (λ k below starts. elim (cases_eq k n) [
-        | inl is ↦ different (same_Some other task (sym e ∙ ap (at started rs) (sym is) ∙ starts))
-        | inr apart ↦ none k (omega arith) starts
-      ])
+    by : (o : Option ℕ) → at awaited rs i ≡ o → o ≡ None
+    by None is = refl
+    by (Some own) is = elim (awaited_at rs i own is) [
+      | inl fulfils ↦ absurd (facts.apart i own task fulfils (begun_started rs i task turn begins))
+      | inr (inl gone) ↦ absurd (none-some own (sym (silent started discarded task rs i (λ b. started_keeps b task) (begun_started rs i task turn begins)) ∙ gone))
+      | inr (inr first) ↦ let parts = some_pair_parts own task 0 turn (sym first ∙ begins) in absurd (omega (arith, later, parts.1))
     ]
 
-pub same_option : (a b : Option ℕ) → (a ≢ b → ⊥) → a ≡ b
-same_option None None both = refl
-same_option None (Some y) both = absurd (both (λ e. none-some y e))
-same_option (Some x) None both = absurd (both (λ e. none-some x (sym e)))
-same_option (Some x) (Some y) both = elim (cases_eq x y) [
-  | inl same ↦ ap Some same
-  | inr apart ↦ absurd (both (λ e. apart (same_Some x y e)))
+pub created_suspends : (rs : List Record) (c task other turn : ℕ) → at created rs c ≡ Some task → at suspended_turn rs c ≡ Some (other, turn) → ⊥
+created_suspends rs c task other turn creates suspends = none-some (other, turn) (sym (silent created suspended_turn task rs c (λ b. created_goes_on b task) creates) ∙ suspends)
+
+known_unfinished : (rs : List Record) (c : ℕ) → at finish rs c ≡ None → known_after rs c ≡ seen_at rs c
+known_unfinished rs c none = ap (λ o. cond (is_some o) (seen_at rs c + 1) (seen_at rs c)) none
+
+-- a record that is awaited knows the length that it names
+pub known_awaited : (rs : List Record) (i c : ℕ) → Awaits rs i c → known_after rs c ≡ seen_at rs c
+known_awaited rs i c (awaits_creation task waits creates) = known_unfinished rs c (silent created finish task rs c (λ b. created_finishes b task) creates)
+known_awaited rs i c (awaits_end again explicit) = known_unfinished rs c (silent suspended_turn finish (again.task, again.turn) rs c (λ b. suspended_finishes b again.task again.turn) again.suspends)
+
+pub awaits_within : (rs : List Record) (i c : ℕ) → Awaits rs i c → c < length rs
+awaits_within rs i c (awaits_creation task waits creates) = at_within created rs c task creates
+awaits_within rs i c (awaits_end again explicit) = at_within suspended_turn rs c (again.task, again.turn) again.suspends
+
+pub waits_within : (rs : List Record) (i c : ℕ) → Awaits rs i c → i < length rs
+waits_within rs i c (awaits_creation task waits creates) = at_within awaited rs i task waits
+waits_within rs i c (awaits_end again explicit) = at_within begun_turn rs i (again.task, again.turn + 1) again.resumes
+
+-- ---- steps
+
+-- a step of the program is one along a thread, or it is awaited
+pub program_awaits : (rs : List Record) (a b : ℕ) → EachAwaitsOne rs → IsProgramStep rs a b → IsEarlierOnThread rs a b ⊎ Awaits rs b a
+program_awaits rs a b facts (thread_order earlier within same) = inl (record { earlier = earlier; within = within; same = same })
+program_awaits rs a b facts (creation task creates start) = inr (awaits_creation task (start_awaits rs b task facts start.starts) creates)
+program_awaits rs a b facts (resumption again) = elim (facts.on_thread a b again) [
+  | inl explicit ↦ inr (awaits_end again explicit)
+  | inr earlier ↦ inl earlier
+]
+program_awaits rs a b facts (discard task creates gone) = inr (awaits_creation task (at_through discarded awaited task task rs b (λ body. awaited_discard body task) gone) creates)
+program_awaits rs a b facts (fulfilment task creates fulfils) = inr (awaits_creation task (at_through fulfilled awaited task task rs b (λ body. awaited_fulfilled body task) fulfils) creates)
+
+-- from what a record awaits a step leads to it, or to an earlier one of its thread
+pub awaits_program : (rs : List Record) (i c : ℕ) → EachAwaitsOne rs → Awaits rs i c → IsProgramStep rs c i ⊎ ((s : ℕ) × IsProgramStep rs c s × IsEarlierOnThread rs s i)
+awaits_program rs i c facts (awaits_creation task waits creates) = elim (awaited_at rs i task waits) [
+  | inl fulfils ↦ inl (fulfilment task creates fulfils)
+  | inr (inl gone) ↦ inl (discard task creates gone)
+  | inr (inr begins) ↦ elim (facts.at_home i task (c, creates) begins) [
+    | inl start ↦ inl (creation task creates start)
+    | inr (s, earlier, start) ↦ inr (s, creation task creates start, earlier)
+  ]
+]
+awaits_program rs i c facts (awaits_end again explicit) = inl (resumption again)
+
+along_thread : (rs : List Record) (a b : ℕ) → IsEarlierOnThread rs a b → HappensBefore rs a b
+along_thread rs a b is = step (program (thread_order is.earlier is.within is.same))
+
+pub awaits_before : (rs : List Record) (i c : ℕ) → EachAwaitsOne rs → Awaits rs i c → HappensBefore rs c i
+awaits_before rs i c facts awaits = elim (awaits_program rs i c facts awaits) [
+  | inl is ↦ step (program is)
+  | inr (s, is, earlier) ↦ chain (step (program is)) (along_thread rs s i earlier)
 ]
 
--- a task starts on one thread, so each of its starts is behind its creation
-start_before : (rs : List Record) (task c i : ℕ) → StaysAtHome rs → at created rs c ≡ Some task → at started rs i ≡ Some task → HappensBefore rs c i
-start_before rs task c i at_home creates starts = elim (starts_below rs task i at_home.untold) [
-  | inr none ↦ step (program (creation task creates (is_start_untold rs i task at_home.untold starts none)))
-  | inl (s, below, first) ↦
-      let same = same_option (thread_at rs s) (thread_at rs i) (λ other. at_home.still i (moved (task, s, (c, creates), starts, below, start_starts rs s task first, other, at_home.untold i))) in
-      chain (step (program (creation task creates first))) (step (program (thread_order below (at_within started rs i task starts) same)))
-]
+-- ---- whether a record awaits another
 
-pub awaits_before : (rs : List Record) (i c : ℕ) → StaysAtHome rs → Awaits rs i c → HappensBefore rs c i
-awaits_before rs i c at_home (task, waits, creates) = elim (awaited_at rs i task waits) [
-  | inl fulfils ↦ step (program (fulfilment task creates fulfils))
-  | inr (inl gone) ↦ step (program (discard task creates gone))
-  | inr (inr starts) ↦ start_before rs task c i at_home creates starts
-]
+-- a task that starts somewhere is one of the tasks
+pub begun_index : (rs : List Record) (family : FamilyView) (i task turn : ℕ) → IsFamilyOf rs family → at begun_turn rs i ≡ Some (task, turn) → (index : ℕ) × (slice_get family.tasks index ≡ Some task)
+begun_index rs family i task turn are begins =
+    let found = call_index family.tasks (at object rs i) _ task (object_calls rs family i are) (at_through started object task task rs i (λ b. started_object task b) (begun_started rs i task turn begins)) in
+    (found.0, found.2)
 
--- ---- from a trace
-
-sound_apart : (b : Body) → HasItsNext b → (task other : ℕ) → fulfilled b ≡ Some task → started b ≡ Some other → ⊥
-sound_apart (TaskSchedule status.EarlyFulfill turns prior next share) sound task other fulfils starts = false≢true (sym sound ∙ ap is_some starts)
-sound_apart (TaskSchedule status.LateFulfill turns prior next share) sound task other fulfils starts = false≢true (sym sound ∙ ap is_some starts)
-sound_apart _ sound task other fulfils starts = none-some task fulfils
-
-pub trace_apart : (rs : List Record) → IsTrace rs → TellsNoTurns rs → StartsOrFulfils rs
-trace_apart rs trace untold = record {
-  apart = λ i task other fulfils starts. there i task other (slice_get rs i) refl fulfils starts;
-  untold = untold;
-}
+-- and either explicit or not
+pub begun_root_or_explicit : (rs : List Record) (family : FamilyView) (i task turn : ℕ) → IsFamilyOf rs family → at begun_turn rs i ≡ Some (task, turn) → IsRoot rs task ⊎ IsExplicit rs task
+begun_root_or_explicit rs family i task turn are begins =
+    let found = begun_index rs family i task turn are begins in
+    let within = slice_get_within family.tasks found.0 task found.1 in
+    let same = same_Some (get_or family.tasks found.0 task) task (sym (slice_get-get_or family.tasks found.0 task within) ∙ found.1) in
+    let makes = are.noted.only task (found.0, within, same) in
+    by makes.0 (slice_get rs makes.0) refl makes.2
   where
-    sound_at : (i : ℕ) (r : Record) → slice_get rs i ≡ Some r → IsSound r.body
-    sound_at i r e =
-        let within = slice_get_within rs i r e in
-        let P : Record → Type 0 = λ q. IsSound q.body in
-        subst P (same_Some (get_or rs i r) r (sym (slice_get-get_or rs i r within) ∙ e)) (trace.sound i r within)
+    by : (k : ℕ) (o : Option Record) → slice_get rs k ≡ o → option_and_then (λ (r : Record). Rattle.ompt_events.specs.Records.made r.body) o ≡ Some task → IsRoot rs task ⊎ IsExplicit rs task
+    by k None stands is = absurd (none-some task is)
+    by k (Some r) stands is = elim (made_cases task r.body is) [
+      | inl begins' ↦ inl (k, ap (option_and_then (λ (q : Record). Rattle.ompt_events.specs.Records.begun_root q.body)) stands ∙ begins')
+      | inr creates ↦ inr (k, ap (option_and_then (λ (q : Record). created q.body)) stands ∙ creates)
+    ]
 
-    there : (i task other : ℕ) (o : Option Record) → slice_get rs i ≡ o → option_and_then (λ (r : Record). fulfilled r.body) o ≡ Some task → option_and_then (λ (r : Record). started r.body) o ≡ Some other → ⊥
-    there i task other None e fulfils' starts' = none-some task fulfils'
-    there i task other (Some r) e fulfils' starts' = sound_apart r.body (sound_at i r e).next task other fulfils' starts'
-
--- a record awaits the creation or not
-pub awaits_or_not : (rs : List Record) (i c : ℕ) → Awaits rs i c ⊎ (Awaits rs i c → ⊥)
-awaits_or_not rs i c = decide (at awaited rs i) (at created rs c) refl refl
+pub awaits_or_not : (rs : List Record) (family : FamilyView) (i c : ℕ) → EachAwaitsOne rs → IsFamilyOf rs family → Awaits rs i c ⊎ (Awaits rs i c → ⊥)
+awaits_or_not rs family i c facts are = decide (at awaited rs i) (at created rs c) refl refl
   where
+    of_end : (begins : Option (ℕ × ℕ)) (suspends : Option (ℕ × ℕ)) → at begun_turn rs i ≡ begins → at suspended_turn rs c ≡ suspends → Awaits rs i c ⊎ ((again : IsResumption rs c i) → IsExplicit rs again.task → ⊥)
+    of_end None suspends e f = inr (λ again explicit. none-some (again.task, again.turn + 1) (sym e ∙ again.resumes))
+    of_end (Some begun) None e f = inr (λ again explicit. none-some (again.task, again.turn) (sym f ∙ again.suspends))
+    of_end (Some (task, turn)) (Some (other, before)) e f = elim (cases_eq other task) [
+      | inr apart ↦ inr (λ again explicit. apart ((some_pair_parts other again.task before again.turn (sym f ∙ again.suspends)).0 ∙ sym (some_pair_parts task again.task turn (again.turn + 1) (sym e ∙ again.resumes)).0))
+      | inl same ↦ elim (cases_eq turn (before + 1)) [
+        | inr apart ↦ inr (λ again explicit.
+            let one = (some_pair_parts other again.task before again.turn (sym f ∙ again.suspends)).1 in
+            let two = (some_pair_parts task again.task turn (again.turn + 1) (sym e ∙ again.resumes)).1 in
+            apart (omega (arith, one, two)))
+        | inl next ↦ elim (cases_eq c i) [
+          | inl here ↦ inr (λ again explicit. again.another here)
+          | inr another ↦ elim (begun_root_or_explicit rs family i task turn are e) [
+            | inr explicit ↦ inl (awaits_end (record { task = task; turn = before; suspends = f ∙ ap (λ t. Some (t, before)) same; resumes = e ∙ ap (λ t. Some (task, t)) next; another = another }) explicit)
+            | inl root ↦ inr (λ again explicit. root_or_explicit rs task are.once root (subst (IsExplicit rs) (sym (some_pair_parts task again.task turn (again.turn + 1) (sym e ∙ again.resumes)).0) explicit))
+          ]
+        ]
+      ]
+    ]
+
+    both : (((task : ℕ) → at awaited rs i ≡ Some task → at created rs c ≡ Some task → ⊥)) → Awaits rs i c ⊎ (Awaits rs i c → ⊥)
+    both no_creation = elim (of_end (at begun_turn rs i) (at suspended_turn rs c) refl refl) [
+      | inl awaits ↦ inl awaits
+      | inr no_end ↦ inr (λ awaits. neither awaits no_end)
+    ]
+      where
+        neither : Awaits rs i c → ((again : IsResumption rs c i) → IsExplicit rs again.task → ⊥) → ⊥
+        neither (awaits_creation task waits creates) no_end = no_creation task waits creates
+        neither (awaits_end again explicit) no_end = no_end again explicit
+
     decide : (waits creates : Option ℕ) → at awaited rs i ≡ waits → at created rs c ≡ creates → Awaits rs i c ⊎ (Awaits rs i c → ⊥)
-    decide None creates e f = inr (λ (task, own, other). none-some task (sym e ∙ own))
-    decide (Some own) None e f = inr (λ (task, first, other). none-some task (sym f ∙ other))
+    decide None creates e f = both (λ task own other. none-some task (sym e ∙ own))
+    decide (Some own) None e f = both (λ task first other. none-some task (sym f ∙ other))
     decide (Some own) (Some other) e f = elim (cases_eq own other) [
-      | inl same ↦ inl (own, e, f ∙ ap Some (sym same))
-      | inr apart ↦ inr (λ (task, first, second). apart (same_Some own task (sym e ∙ first) ∙ sym (same_Some other task (sym f ∙ second))))
+      | inl same ↦ inl (awaits_creation own e (f ∙ ap Some (sym same)))
+      | inr apart ↦ both (λ task first second. apart (same_Some own task (sym e ∙ first) ∙ sym (same_Some other task (sym f ∙ second))))
     ]
 
--- ---- by the index of the task
-
-other_eqb : (a b : ℕ) → a ≢ b → (a == b) ≡ false
-other_eqb a b apart = of (a == b) refl
-  where
-    of : (test : Bool) → (a == b) ≡ test → (a == b) ≡ false
-    of true is = absurd (apart (eqb-true a b is))
-    of false is = is
+-- ---- by indices of tasks
 
 -- an index is the first at which its task stands, since each stands once
 index_first : (tasks : List ℕ) (index task : ℕ) → AreApart tasks → slice_get tasks index ≡ Some task → position (λ t. t == task) tasks ≡ Some index
@@ -181,85 +265,45 @@ index_first tasks index task apart is =
     let here : get_or tasks index 0 ≡ task = same_Some (get_or tasks index 0) task (sym (slice_get-get_or tasks index 0 inside) ∙ is) in
     let first : position_or_len (λ t. t == task) tasks ≡ index =
     position_or_len_is (λ t. t == task) tasks index 0 (omega arith)
-    (λ k below. other_eqb (get_or tasks k 0) task (λ same. (let one = apart k index task (slice_get-get_or tasks k 0 (omega arith) ∙ ap Some same) is in omega (arith, below, one))))
+    (λ k below. ne_eqb (get_or tasks k 0) task (λ same. (let one = apart k index task (slice_get-get_or tasks k 0 (omega arith) ∙ ap Some same) is in omega (arith, below, one))))
     (λ low. eq-eqb (get_or tasks index 0) task here) in
     rw (first, lt-ltb index (length tasks) inside) refl
 
--- what is called is so
-pub task_called : (rs : List Record) (tasks : List ℕ) (i : ℕ) (slot : Option ℕ) → AreApart tasks → Calls tasks (at awaited rs i) slot → task_of tasks rs i ≡ slot
-task_called rs tasks i slot apart calls = of (at awaited rs i) calls
-  where
-    of : (o : Option ℕ) → Calls tasks o slot → option_and_then (λ task. position (λ t. t == task) tasks) o ≡ slot
-    of None is = sym is
-    of (Some task) (index, is, there) = index_first tasks index task apart there ∙ sym is
-
--- the record awaits the creation of the task at the index that the creation has
-pub awaits_task : (rs : List Record) (tasks : List ℕ) (i c : ℕ) (slot : Option ℕ) → AreApart tasks → Calls tasks (at created rs c) slot → Awaits rs i c → (index : ℕ) × (slot ≡ Some index) × (task_of tasks rs i ≡ Some index)
-awaits_task rs tasks i c slot apart calls (task, waits, creates) =
-    let found : Calls tasks (Some task) slot = let P : Option ℕ → Type 0 = λ o. Calls tasks o slot in subst P creates calls in
-    (found.0, found.1, ap (option_and_then (λ t. position (λ u. u == t) tasks)) waits ∙ index_first tasks found.0 task apart found.2)
-
--- ---- by the family
-
-fulfilled_awaited : (b : Body) → is_some (fulfilled b) ≡ true → awaited b ≡ subject b
-fulfilled_awaited (TaskSchedule status.EarlyFulfill turns prior next share) is = refl
-fulfilled_awaited (TaskSchedule status.LateFulfill turns prior next share) is = refl
-fulfilled_awaited _ is = absurd (false≢true is)
-
-discarded_awaited : (b : Body) → is_some (discarded b) ≡ true → awaited b ≡ subject b
-discarded_awaited (Cancel flags own share) is = flagged (has_flag flags.0 flag.discarded_task) is
-  where
-    flagged : (test : Bool) → is_some (cond test (Some own) None) ≡ true → option_or (cond test (Some own) None) None ≡ Some own
-    flagged true is' = refl
-    flagged false is' = absurd (false≢true is')
-discarded_awaited _ is = absurd (false≢true is)
-
-started_awaited : (b : Body) → is_some (started b) ≡ true → started b ≡ object b
-started_awaited (TaskSchedule status turns prior next share) is = refl
-started_awaited _ is = absurd (false≢true is)
-
-none_of : {X : Type 0} (o : Option X) → is_some o ≡ false → o ≡ None
-none_of None is = refl
-none_of (Some x) is = absurd (false≢true (sym is))
-
--- which of the two tasks of the record is awaited, by what the record says
-pub awaited_subject : (rs : List Record) (i : ℕ) (r : Record) → i < length rs → r ≡ get_or rs i r → (is_some (fulfilled r.body) ≡ true) ⊎ (is_some (discarded r.body) ≡ true) → at awaited rs i ≡ at subject rs i
-awaited_subject rs i r within read (inl is) = at_read awaited rs i r within read ∙ fulfilled_awaited r.body is ∙ sym (at_read subject rs i r within read)
-awaited_subject rs i r within read (inr is) = at_read awaited rs i r within read ∙ discarded_awaited r.body is ∙ sym (at_read subject rs i r within read)
-
-rest_awaited : (b : Body) → is_some (fulfilled b) ≡ false → is_some (discarded b) ≡ false → awaited b ≡ started b
-rest_awaited b no_fulfilment no_discard = ap (λ o. option_or o (option_or (discarded b) (started b))) (none_of (fulfilled b) no_fulfilment) ∙ ap (λ o. option_or o (started b)) (none_of (discarded b) no_discard)
-
-pub awaited_object : (rs : List Record) (i : ℕ) (r : Record) → i < length rs → r ≡ get_or rs i r → is_some (fulfilled r.body) ≡ false → is_some (discarded r.body) ≡ false → is_some (started r.body) ≡ true → at awaited rs i ≡ at object rs i
-awaited_object rs i r within read no_fulfilment no_discard is = at_read awaited rs i r within read ∙ rest_awaited r.body no_fulfilment no_discard ∙ started_awaited r.body is ∙ sym (at_read object rs i r within read)
-
-pub awaited_none : (rs : List Record) (i : ℕ) (r : Record) → i < length rs → r ≡ get_or rs i r → is_some (fulfilled r.body) ≡ false → is_some (discarded r.body) ≡ false → is_some (started r.body) ≡ false → at awaited rs i ≡ None
-awaited_none rs i r within read no_fulfilment no_discard no_start = at_read awaited rs i r within read ∙ rest_awaited r.body no_fulfilment no_discard ∙ none_of (started r.body) no_start
-
--- the creation of the awaited task is where it was made
-pub creation_found : (rs : List Record) (family : FamilyView) (i index place : ℕ) (slot : Option ℕ) → IsFamilyOf rs family → Calls family.tasks (at awaited rs i) slot → slot ≡ Some index → ((task : ℕ) → slice_get family.tasks index ≡ Some task → IsExplicit rs task) → at made rs place ≡ slice_get family.tasks index → (c : ℕ) → (Some place ≡ Some c) ↔ Awaits rs i c
-creation_found rs family i index place slot are calls is explicit makes c =
-    let called = call_task family.tasks (at awaited rs i) slot index calls is in
-    let by = explicit called.0 called.2 in
-    let same : by.0 ≡ place = made_once rs called.0 by.0 place are.once (created_at_made called.0 rs by.0 by.1) (makes ∙ called.2) in (
-      λ here. (called.0, called.1, ap (at created rs) (sym (same ∙ same_Some place c here)) ∙ by.1),
-      λ (task, waits, creates).
-          let creates_it : at created rs c ≡ Some called.0 = creates ∙ sym waits ∙ called.1 in
-          ap Some (sym same ∙ made_once rs called.0 by.0 c are.once (created_at_made called.0 rs by.0 by.1) (created_at_made called.0 rs c creates_it)),
+-- the creation of the task that is called is where it was made
+pub creation_called : (rs : List Record) (tasks : List ℕ) (i index : ℕ) (place : Option ℕ) → EachAwaitsOne rs → Calls tasks (at awaited rs i) (Some index) → ((task c : ℕ) → slice_get tasks index ≡ Some task → (place ≡ Some c) ↔ (at created rs c ≡ Some task)) → (c : ℕ) → (place ≡ Some c) ↔ Awaits rs i c
+creation_called rs tasks i index place facts calls is c =
+    let called = call_task tasks (at awaited rs i) (Some index) index calls refl in (
+      λ here. awaits_creation called.0 called.1 ((is called.0 c called.2).0 here),
+      λ awaits. of called.0 called.1 called.2 awaits,
     )
+  where
+    of : (task : ℕ) → at awaited rs i ≡ Some task → slice_get tasks index ≡ Some task → Awaits rs i c → place ≡ Some c
+    of task waits there (awaits_creation other waits' creates) = (is task c there).1 (creates ∙ sym waits' ∙ waits)
+    of task waits there (awaits_end again explicit) = absurd (none-some task (sym (later_awaits_none rs i again.task (again.turn + 1) facts again.resumes (omega arith)) ∙ waits))
 
-pub creation_none : (rs : List Record) (family : FamilyView) (i index : ℕ) (slot : Option ℕ) → Calls family.tasks (at awaited rs i) slot → slot ≡ Some index → ((task : ℕ) → slice_get family.tasks index ≡ Some task → IsExplicit rs task → ⊥) → (c : ℕ) → (None ≡ Some c) ↔ Awaits rs i c
-creation_none rs family i index slot calls is never c =
-    let called = call_task family.tasks (at awaited rs i) slot index calls is in (
-      λ here. absurd (none-some c here),
-      λ (task, waits, creates). absurd (never called.0 called.2 (c, creates ∙ sym waits ∙ called.1)),
-    )
+pub none_awaited : (rs : List Record) (i c : ℕ) → AwaitsNone rs i → Awaits rs i c → ⊥
+none_awaited rs i c none (awaits_creation task waits creates) = none-some task (sym none.0 ∙ waits)
+none_awaited rs i c none (awaits_end again explicit) = none-some (again.task, again.turn + 1) (sym none.1 ∙ again.resumes)
 
-pub nothing_awaited : (rs : List Record) (family : FamilyView) (i : ℕ) (slot : Option ℕ) → Calls family.tasks (at awaited rs i) slot → slot ≡ None → (c : ℕ) → (None ≡ Some c) ↔ Awaits rs i c
-nothing_awaited rs family i slot calls is c = (
-  λ here. absurd (none-some c here),
-  λ (task, waits, creates). absurd (none-some task (sym (call_none family.tasks (at awaited rs i) slot calls is) ∙ waits)),
-)
+-- ---- keys
+
+called_position : (tasks : List ℕ) (found : Option ℕ) (index : ℕ) → AreApart tasks → Calls tasks found (Some index) → option_and_then (λ task. position (λ t. t == task) tasks) found ≡ Some index
+called_position tasks None index apart is = absurd (none-some index (sym is))
+called_position tasks (Some task) index apart (k, is, there) = index_first tasks k task apart there ∙ sym is
+
+pub key_creation : (rs : List Record) (tasks rows : List ℕ) (i index : ℕ) → AreApart tasks → Calls tasks (at awaited rs i) (Some index) → key_of tasks rs rows i ≡ Some index
+key_creation rs tasks rows i index apart calls = ap (λ o. option_or o (turn_of tasks rs rows i)) (called_position tasks (at awaited rs i) index apart calls)
+
+pub key_turn : (rs : List Record) (tasks rows : List ℕ) (i index turn : ℕ) → EachAwaitsOne rs → AreApart tasks → IsStartOf rs tasks i index turn → 0 < turn → key_of tasks rs rows i ≡ Some (length tasks + (slice_index rows index + turn))
+key_turn rs tasks rows i index turn facts apart begins later =
+    ap (λ o. option_or (option_and_then (λ task. position (λ t. t == task) tasks) o) (turn_of tasks rs rows i)) (later_awaits_none rs i begins.task turn facts begins.starts later)
+    ∙ ap (option_and_then (λ (b : ℕ × ℕ). option_map (λ k. length tasks + (slice_index rows k + b.1)) (position (λ t. t == b.0) tasks))) begins.starts
+    ∙ ap (option_map (λ k. length tasks + (slice_index rows k + turn))) (index_first tasks index begins.task apart begins.indexed)
+
+pub key_none : (rs : List Record) (tasks rows : List ℕ) (i : ℕ) → AwaitsNone rs i → key_of tasks rs rows i ≡ None
+key_none rs tasks rows i none =
+    ap (λ o. option_or (option_and_then (λ task. position (λ t. t == task) tasks) o) (turn_of tasks rs rows i)) none.0
+    ∙ ap (option_and_then (λ (b : ℕ × ℕ). option_map (λ k. length tasks + (slice_index rows k + b.1)) (position (λ t. t == b.0) tasks))) none.1
 
 -- ---- when file order is an order
 
@@ -272,10 +316,9 @@ before_less rs steps a b (chain {b = mid} first second) =
     omega (arith, one, two)
 
 -- each kind of step, as the two tests have it
-pub steps_less : (rs : List Record) → StartsOrFulfils rs → ((i c : ℕ) → Awaits rs i c → c < i) → ((a b : ℕ) → IsFinishing rs a → seen_at rs a < seen_at rs b → a < b) → (a b : ℕ) → IsStep rs a b → a < b
-steps_less rs apart by_creation by_entry a b (program (thread_order earlier within same)) = earlier
-steps_less rs apart by_creation by_entry a b (program (creation task creates start)) = by_creation b a (step_awaits rs apart a b (inr (inl (task, creates, start_starts rs b task start))))
-steps_less rs apart by_creation by_entry a b (program (resumption again)) = absurd (no_resumption rs a b apart.untold again)
-steps_less rs apart by_creation by_entry a b (program (discard task creates gone)) = by_creation b a (step_awaits rs apart a b (inr (inr (task, creates, gone))))
-steps_less rs apart by_creation by_entry a b (program (fulfilment task creates done)) = by_creation b a (step_awaits rs apart a b (inl (task, creates, done)))
-steps_less rs apart by_creation by_entry a b (ledger finishes less) = by_entry a b finishes less
+pub steps_less : (rs : List Record) → EachAwaitsOne rs → ((i c : ℕ) → Awaits rs i c → c < i) → ((a b : ℕ) → IsFinishing rs a → seen_at rs a < seen_at rs b → a < b) → (a b : ℕ) → IsStep rs a b → a < b
+steps_less rs facts by_awaited by_entry a b (program is) = elim (program_awaits rs a b facts is) [
+  | inl earlier ↦ earlier.earlier
+  | inr awaits ↦ by_awaited b a awaits
+]
+steps_less rs facts by_awaited by_entry a b (ledger finishes less) = by_entry a b finishes less

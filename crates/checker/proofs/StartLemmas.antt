@@ -1,7 +1,7 @@
 -- Which predecessors are finished where a task starts.
 use Rattle.std.proofs.Common.{cond, ◌≡◌, ◌∙◌, ℕ, ◌<◌, ◌≤◌, ◌+◌, ◌^◌, Bool, List, length, get_or, Option, Some, None, refl, sym, ap, subst, arith, inl, inr, true, false}
 use Rattle.std.proofs.lemmas.Bool.{false≢true, cases_eq, cases_lt, ltb-true, lt-ltb}
-use Rattle.std.proofs.lemmas.Option.{none-some, same_Some, slice_get_within, slice_get-get_or}
+use Rattle.std.proofs.lemmas.Option.{none-some, same_Some, some_pair_parts, slice_get_within, slice_get-get_or}
 use Rattle.std.proofs.lemmas.List.{length-set, get_or-set_same, get_or-set_other}
 use Rattle.std.proofs.lemmas.List.Sums.{count_by-le-length}
 use Rattle.std.proofs.Math.ListN.{set}
@@ -12,7 +12,7 @@ use Rattle.ompt_events.specs.declared.records.Part.{Part}
 use Rattle.ompt_events.specs.declared.records.Part.TheVariants.{Whole, Body, Event}
 use Rattle.ompt_events.specs.declared.records.Body.{Body as RecordBody}
 use Rattle.ompt_events.specs.declared.records.Body.TheVariants.{TaskSchedule}
-use Rattle.ompt_events.specs.Records.{started, finish}
+use Rattle.ompt_events.specs.Records.{started, begun_turn, finish}
 use Rattle.ompt_events.specs.declared.cause.Cause.TheVariants.{EntryTwice, LengthAhead}
 use Rattle.ompt_events.specs.Causes.{IsFreeOf, entries_in, entry_twice, length_ahead, entry, ledger_length, known_after}
 use Rattle.ompt_events.specs.Places.{at, seen_at}
@@ -135,7 +135,7 @@ started_there rs i task starts is = of (slice_get rs i) starts is
     of None starts is = absurd (false≢true starts)
     of (Some r) starts is = object_starts task r.body starts is
 
-pub started_more : (rs : List Record) (n index own : ℕ) (tasks : List ℕ) (marks : List Bool) → AreApart tasks → slice_get tasks index ≡ Some own → at started rs n ≡ Some own → AreStarted rs n tasks marks → AreStarted rs (n + 1) tasks (set marks index true)
+pub started_more : (rs : List Record) (n index own : ℕ) (tasks : List ℕ) (marks : List Bool) → AreApart tasks → slice_get tasks index ≡ Some own → at begun_turn rs n ≡ Some (own, 0) → AreStarted rs n tasks marks → AreStarted rs (n + 1) tasks (set marks index true)
 started_more rs n index own tasks marks once is says are = record {
   all = length-set marks index true ∙ are.all;
   each = λ other task there. elim (cases_eq other index) [
@@ -144,13 +144,13 @@ started_more rs n index own tasks marks once is says are = record {
         let all = are.all in
         let there_is : slice_index_or (set marks index true) other false ≡ true = ap (λ k. get_or (set marks index true) k false) same ∙ get_or-set_same marks index true false (omega (arith, inside, all)) in
         let task_is = same_Some own task (sym is ∙ ap (slice_get tasks) (sym same) ∙ there) in
-        ((λ marked. (n, omega arith, says ∙ ap Some task_is)), (λ known. there_is))
+        ((λ marked. (n, omega arith, says ∙ ap (λ t. Some (t, 0)) task_is)), (λ known. there_is))
     | inr apart ↦
         let kept : slice_index_or (set marks index true) other false ≡ slice_index_or marks other false = get_or-set_other marks index other true false apart in
         let known = are.each other task there in (
           (λ marked. let found = known.0 (sym kept ∙ marked) in let less = found.1 in (found.0, omega (arith, less), found.2)),
           (λ (k, below, starts). elim (cases_eq k n) [
-            | inl last ↦ absurd (apart (once other index task there (is ∙ ap Some (same_Some own task (sym says ∙ ap (at started rs) (sym last) ∙ starts)))))
+            | inl last ↦ absurd (apart (once other index task there (is ∙ ap Some (some_pair_parts own task 0 0 (sym says ∙ ap (at begun_turn rs) (sym last) ∙ starts)).0)))
             | inr earlier ↦ kept ∙ known.1 (k, omega (arith, below, earlier), starts)
           ]),
         )

@@ -6,6 +6,8 @@ use Rattle.ompt_events.specs.declared.cause.Cause.TheVariants.{EntryTwice, Lengt
 use Rattle.ompt_events.specs.HappensBefore.{IsFinishing}
 use Rattle.ompt_events.specs.Causes.{entries_in, IsFreeOf}
 use Rattle.task_tree.specs.Runs.{RunView, IsRun}
+use Rattle.checker.specs.Suspensions.{AreSuspensions}
+use Rattle.checker.specs.declared.suspensions.Suspensions.{Suspensions}
 
 -- of the first n records each finishing one stands at its entry, where the table has it; where no record
 -- stands, the number of records does
@@ -15,10 +17,11 @@ pub record AreMakers (rs : List Record) (n : ℕ) (makers : List ℕ) : Type 0 w
   pub only : (entry : ℕ) → entry < length makers → slice_index makers entry < length rs
       → IsFinishing rs (slice_index makers entry) × (seen_at rs (slice_index makers entry) ≡ entry)
 
--- what clauses see of the ledger of a run
+-- what clauses see of the ledger of a run, and of where its tasks are suspended
 pub record MakersView : Type 0 where
   pub run : RunView
   pub places : List ℕ
+  pub suspensions : Suspensions
 
 -- the table has each entry of the run's ledger, whose lengths are those that records name
 pub record IsLedger (ledger : MakersView) : Type 0 where
@@ -27,3 +30,4 @@ pub record IsLedger (ledger : MakersView) : Type 0 where
   pub entries : length ledger.places ≡ entries_in ledger.run.records
   pub once : IsFreeOf ledger.run.records EntryTwice
   pub reached : IsFreeOf ledger.run.records LengthAhead
+  pub suspended : AreSuspensions ledger.run.records ledger.run.family.tasks ledger.suspensions

@@ -1,11 +1,13 @@
--- What a file in the order of time shows of the ledger.
-use Rattle.std.specs.Prelude.{ℕ, ◌≡◌, ◌<◌, ◌≤◌, List, take}
+-- What a file in the order of time shows of the ledger, and what is kept of its tasks.
+use Rattle.std.specs.Prelude.{ℕ, ◌≡◌, ◌<◌, ◌≤◌, List, Some, length, slice_get, take}
 use Rattle.ompt_events.specs.declared.records.Record.{Record}
-use Rattle.ompt_events.specs.Places.{seen_at}
+use Rattle.ompt_events.specs.Records.{suspended_turn}
+use Rattle.ompt_events.specs.Places.{at, seen_at}
 use Rattle.ompt_events.specs.HappensBefore.{IsFinishing}
 use Rattle.ompt_events.specs.Causes.{entries_in, IsBehind}
+use Rattle.checker.specs.declared.in_order.Suspension.{Suspension}
 use Rattle.checker.specs.Lengths.{AreKnown}
-use Rattle.checker.specs.Merge.{Awaits}
+use Rattle.checker.specs.Schedule.{Awaits}
 
 -- how many entries the records before this place make
 abbrev pub entries_before : List Record → ℕ → ℕ
@@ -21,6 +23,13 @@ pub record AreInOrder (rs : List Record) (n entries : ℕ) (known : List ℕ) : 
   pub count : entries ≡ entries_before rs n
   pub short : entries ≤ n
   pub fit : (i : ℕ) → i < n → FitsBehind rs i (entries_before rs i)
-  pub created : (i c : ℕ) → i < n → Awaits rs i c → c < i
+  pub awaited : (i c : ℕ) → i < n → Awaits rs i c → c < i
   pub is_known : AreKnown rs n known
   pub free : (k : ℕ) → k < n → IsBehind rs k → ⊥
+
+-- what is kept of a task is a record at which it is suspended, and the turn that ends there; or the number of
+-- records
+abbrev pub AreLast : List Record → List ℕ → List Suspension → Type 0
+AreLast rs tasks lasts =
+    (index task : ℕ) (last : Suspension) → slice_get tasks index ≡ Some task → slice_get lasts index ≡ Some last
+    → last.place < length rs → at suspended_turn rs last.place ≡ Some (task, last.turn)

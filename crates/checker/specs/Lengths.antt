@@ -3,11 +3,11 @@ use Rattle.std.specs.Prelude.{◌≡◌, ◌<◌, ◌≤◌, ℕ, List, length, 
 use Rattle.ompt_events.specs.declared.records.Record.{Record}
 use Rattle.ompt_events.specs.Places.{thread_at, seen_at}
 use Rattle.ompt_events.specs.Causes.{known_after}
-use Rattle.checker.specs.Merge.{Awaits}
+use Rattle.checker.specs.Schedule.{Awaits}
 
--- the record names a lesser length than the creation that it awaits
-abbrev pub PrecedesCreation : List Record → ℕ → Type 0
-PrecedesCreation rs i = (c : ℕ) × Awaits rs i c × (seen_at rs i < seen_at rs c)
+-- the record names a lesser length than the one that it awaits
+abbrev pub PrecedesAwaited : List Record → ℕ → Type 0
+PrecedesAwaited rs i = (c : ℕ) × Awaits rs i c × (seen_at rs i < seen_at rs c)
 
 -- what each thread knew last, by its first n records: none of these knew more
 pub record AreKnown (rs : List Record) (n : ℕ) (known : List ℕ) : Type 0 where

@@ -8,6 +8,8 @@ pub mod Makers
 pub mod Lengths
 pub mod Entries
 pub mod Orders
+pub mod Schedule
+pub mod Suspensions
 pub mod Lists
 pub mod Queue
 pub mod Merge

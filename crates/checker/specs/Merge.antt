@@ -4,35 +4,17 @@ use Rattle.std.specs.Option.{option_or}
 use Rattle.std.specs.List.{position}
 use Rattle.std.specs.List.Sorted.{IsPermutation}
 use Rattle.ompt_events.specs.declared.records.Record.{Record}
-use Rattle.ompt_events.specs.declared.records.Body.{Body}
-use Rattle.ompt_events.specs.Records.{created, started, discarded, fulfilled}
+use Rattle.ompt_events.specs.Records.{begun_turn}
 use Rattle.ompt_events.specs.Places.{at, thread_at, seen_at, places}
 use Rattle.ompt_events.specs.HappensBefore.{IsFinishing, IsStep, HappensBefore}
 use Rattle.ompt_events.specs.Linearization.{IsReady, IsGreedyAfter}
-use Rattle.ompt_events.specs.declared.cause.Cause.TheVariants.{Moved}
-use Rattle.ompt_events.specs.Causes.{entries_in, IsFreeOf}
+use Rattle.ompt_events.specs.Causes.{entries_in}
 use Rattle.task_tree.specs.Family.{FamilyView, IsFamilyOf}
-use Rattle.ompt_events.specs.Turns.{TellsNoTurns}
 use Rattle.checker.specs.Lists.{AreLists, IsNextWith, IsRising}
+use Rattle.checker.specs.Schedule.{awaited, Awaits}
+use Rattle.checker.specs.Suspensions.{AreSuspensions}
+use Rattle.checker.specs.declared.suspensions.Suspensions.{Suspensions}
 use Rattle.checker.specs.declared.waiting.Waiting.{Waiting}
-
--- the task that the record fulfils, discards or starts: it was created before
-abbrev pub awaited : Body → Option ℕ
-awaited body = option_or (fulfilled body) (option_or (discarded body) (started body))
-
--- the record at i awaits the creation at c
-abbrev pub Awaits : List Record → ℕ → ℕ → Type 0
-Awaits rs i c = (task : ℕ) × (at awaited rs i ≡ Some task) × (at created rs c ≡ Some task)
-
--- no record fulfils one task and starts another, and none tells a turn
-pub record StartsOrFulfils (rs : List Record) : Type 0 where
-  pub apart : (i task other : ℕ) → at fulfilled rs i ≡ Some task → at started rs i ≡ Some other → ⊥
-  pub untold : TellsNoTurns rs
-
--- each explicit task runs on one thread, and no record tells a turn
-pub record StaysAtHome (rs : List Record) : Type 0 where
-  pub still : IsFreeOf rs Moved
-  pub untold : TellsNoTurns rs
 
 -- the record stands in the order already
 abbrev pub Stands : List Bool → ℕ → Type 0
@@ -103,16 +85,15 @@ pub record IsLow (rs : List Record) (placed : List Bool) (low : ℕ) : Type 0 wh
 -- what is tested of the head of a thread
 pub record IsReadyHead (rs : List Record) (placed : List Bool) (low i : ℕ) : Type 0 where
   pub within : i < length rs
-  pub is_created : (c : ℕ) → Awaits rs i c → Stands placed c
+  pub is_let : (c : ℕ) → Awaits rs i c → Stands placed c
   pub is_entered : seen_at rs i ≤ low
 
--- what is known while records are put in order: their tasks, which stand, the head of each thread, and the
--- ledger length that is reached
-pub record IsFront (rs : List Record) (family : FamilyView) (placed : List Bool) (heads : List ℕ)
-    (low : ℕ) : Type 0 where
+-- what is known while records are put in order: their tasks, where these are suspended, which records stand,
+-- the head of each thread, and the ledger length that is reached
+pub record IsFront (rs : List Record) (family : FamilyView) (known : Suspensions) (placed : List Bool)
+    (heads : List ℕ) (low : ℕ) : Type 0 where
   pub family_of : IsFamilyOf rs family
-  pub apart : StartsOrFulfils rs
-  pub at_home : StaysAtHome rs
+  pub suspended : AreSuspensions rs family.tasks known
   pub closed : AreClosed rs placed
   pub are_heads : AreHeads rs placed heads
   pub is_low : IsLow rs placed low
@@ -138,17 +119,28 @@ pub record IsTaken (rs : List Record) (placed : List Bool) (place : ℕ) (ready 
 abbrev pub task_of : List ℕ → List Record → ℕ → Option ℕ
 task_of tasks rs i = option_and_then (λ task. position (λ t. t == task) tasks) (at awaited rs i)
 
+-- behind the indices of all tasks, the slot of the turn that a task begins at each record
+abbrev pub turn_of : List ℕ → List Record → List ℕ → ℕ → Option ℕ
+turn_of tasks rs rows i =
+    option_and_then
+    (λ (b : ℕ × ℕ). option_map (λ index. length tasks + (slice_index rows index + b.1)) (position (λ t. t == b.0) tasks))
+    (at begun_turn rs i)
+
+-- the key of what each record awaits
+abbrev pub key_of : List ℕ → List Record → List ℕ → ℕ → Option ℕ
+key_of tasks rs rows i = option_or (task_of tasks rs i) (turn_of tasks rs rows i)
+
 -- the ledger length that each record names
 abbrev pub length_of : List Record → ℕ → Option ℕ
 length_of rs i = option_map (λ (r : Record). r.seen) (slice_get rs i)
 
--- the lists are those of the records that await the creation of each task, and that name each ledger length
-pub record AreWaiting (rs : List Record) (tasks : List ℕ) (waiting : Waiting) : Type 0 where
-  pub awaiting : AreLists (task_of tasks rs) (length rs) 0 waiting.by_task.firsts.items
-      waiting.by_task.nexts.items
+-- the lists are those of the records that await each other one, and that name each ledger length
+pub record AreWaiting (rs : List Record) (tasks : List ℕ) (known : Suspensions) (waiting : Waiting) : Type 0 where
+  pub awaiting : AreLists (key_of tasks rs known.rows.items) (length rs) 0 waiting.by_key.firsts.items
+      waiting.by_key.nexts.items
   pub naming : AreLists (length_of rs) (length rs) 0 waiting.by_length.firsts.items
       waiting.by_length.nexts.items
-  pub tasks_rise : IsRising (length rs) waiting.by_task.nexts.items
+  pub keys_rise : IsRising (length rs) waiting.by_key.nexts.items
   pub lengths_rise : IsRising (length rs) waiting.by_length.nexts.items
-  pub keys : length waiting.by_task.firsts.items ≡ length tasks
+  pub keys : length waiting.by_key.firsts.items ≡ length tasks + length known.places.items
   pub lengths : length waiting.by_length.firsts.items ≡ entries_in rs + 1

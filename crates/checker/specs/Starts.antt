@@ -1,7 +1,7 @@
 -- Which tasks start, and which taskwaits are complete, before one of their predecessors is finished.
 use Rattle.std.specs.Prelude.{ℕ, ◌≡◌, ◌<◌, ◌↔◌, ◌⊎◌, Bool, false, IsTrue, List, length, Some, slice_get, slice_index_or}
 use Rattle.ompt_events.specs.declared.records.Record.{Record}
-use Rattle.ompt_events.specs.Records.{created, started, wait_completed}
+use Rattle.ompt_events.specs.Records.{created, begun_turn, wait_completed}
 use Rattle.ompt_events.specs.Places.{at}
 use Rattle.ompt_events.specs.Tree.{IsExplicit}
 use Rattle.ompt_events.specs.HappensBefore.{IsStart}
@@ -45,11 +45,11 @@ pub record IsFirstLateStart (rs : List Record) (i task : ℕ) : Type 0 where
 abbrev pub IsBound : List Record → ℕ → ℕ → Type 0
 IsBound rs i bound = (task : ℕ) → IsCompleteAt rs task i ↔ IsDone rs bound task
 
--- by index of the task whether one of the first n records starts it
+-- by index of the task whether one of the first n records begins its turn 0
 pub record AreStarted (rs : List Record) (n : ℕ) (tasks : List ℕ) (marks : List Bool) : Type 0 where
   pub all : length marks ≡ length tasks
   pub each : (index task : ℕ) → slice_get tasks index ≡ Some task
-      → IsTrue (slice_index_or marks index false) ↔ ((k : ℕ) × (k < n) × (at started rs k ≡ Some task))
+      → IsTrue (slice_index_or marks index false) ↔ ((k : ℕ) × (k < n) × (at begun_turn rs k ≡ Some (task, 0)))
 
 -- an explicit task starts at i, which stands at the index
 abbrev pub StartsAt : List Record → List ℕ → ℕ → ℕ → Type 0

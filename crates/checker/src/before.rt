@@ -2,11 +2,11 @@
 ghost use Rattle.std.specs.Prelude.{ℕ, ◌≡◌, ◌<◌, ◌≤◌, ◌^◌, ◌↔◌, Some, IfOk, IsTrue, length};
 ghost use Rattle.ompt_events.specs.Traces.{IsTrace};
 ghost use Rattle.checker.specs.Counter.{AreBounds, HaveAllThreads, IsBelow, AreEarlierInThread, MakesBelow, AreRaisedTo, AreAllBefore};
-ghost use Rattle.checker.specs.Merge.{Awaits};
+ghost use Rattle.checker.specs.Schedule.{Awaits};
 
 use crate::makers::Makers;
 use crate::ordered::Ordered;
-use crate::schedule::creation_awaited;
+use crate::schedule::awaited_at;
 use std::alloc::{AllocError, Global};
 use task_tree::Run;
 
@@ -24,8 +24,8 @@ pub(crate) fn find_before(
     let mut found = bounds_in_thread(alloc, run, at)?;
     let bounds = found.as_mut_slice();
     raise_to_makers(bounds, ordered.makers, run.seen(at) as usize);
-    raise_to_creation(bounds, run, at);
-    raise_to_creations(bounds, ordered);
+    raise_to_awaited(bounds, ordered.makers, at);
+    raise_to_all_awaited(bounds, ordered);
     Ok(found)
 }
 
@@ -58,9 +58,9 @@ fn raise_to_makers(bounds: &mut [u32], makers: &Makers, seen: usize)
     }
 }
 
-/// Raises the bounds to the creation that each record below them awaits, until those are below them too. A
-/// record awaits one that stands before it in the order, so one pass from the end serves.
-fn raise_to_creations(bounds: &mut [u32], ordered: &Ordered)
+/// Raises the bounds to what each record below them awaits, until that is below them too. A record awaits one
+/// that stands before it in the order, so one pass from the end serves.
+fn raise_to_all_awaited(bounds: &mut [u32], ordered: &Ordered)
     requires { HaveAllThreads ordered.now.ledger.run.records bounds.old }
     ensures kept { (a : ℕ) → IsBelow ordered.now.ledger.run.records bounds.old a
         → IsBelow ordered.now.ledger.run.records bounds.new a }
@@ -74,20 +74,20 @@ fn raise_to_creations(bounds: &mut [u32], ordered: &Ordered)
     for step in 0..count {
         let place = ordered.order.place_at(count - 1 - step).unwrap();
         if is_below(bounds, run, place) {
-            raise_to_creation(bounds, run, place);
+            raise_to_awaited(bounds, ordered.makers, place);
         }
     }
 }
 
-/// Raises the bounds to the creation that the record at a place awaits.
-fn raise_to_creation(bounds: &mut [u32], run: &Run, at: usize)
-    requires within { at < length run.now.records }
-    requires few { length run.now.records ≤ 2 ^ 22 }
-    requires all { HaveAllThreads run.now.records bounds.old }
-    ensures { AreRaisedTo run.now.records (Awaits run.now.records at) bounds.old bounds.new }
+/// Raises the bounds to what the record at a place awaits.
+fn raise_to_awaited(bounds: &mut [u32], makers: &Makers, at: usize)
+    requires within { at < length makers.now.run.records }
+    requires all { HaveAllThreads makers.now.run.records bounds.old }
+    ensures { AreRaisedTo makers.now.run.records (Awaits makers.now.run.records at) bounds.old bounds.new }
 {
-    if let Some(creation) = creation_awaited(run, at) {
-        raise(bounds, run, creation);
+    let run = makers.run();
+    if let Some(awaited) = awaited_at(run, makers.suspensions(), at) {
+        raise(bounds, run, awaited);
     }
 }
 

@@ -3,11 +3,14 @@ ghost use Rattle.std.specs.Prelude.{ℕ, ◌≡◌, ◌<◌, ◌≤◌, ◌↔�
 ghost use Rattle.ompt_events.specs.declared.records.Record.{Record};
 ghost use Rattle.ompt_events.specs.Places.{thread_at};
 ghost use Rattle.checker.specs.Lists.{AreLists, IsRising};
-ghost use Rattle.checker.specs.Merge.{Awaits, Stands, MayFollow, IsFront, IsReadyHead, AreOffered, AreMore, IsTaken};
+ghost use Rattle.checker.specs.Schedule.{Awaits};
+ghost use Rattle.checker.specs.Suspensions.{AreSuspensions};
+ghost use Rattle.checker.specs.Merge.{Stands, MayFollow, IsFront, IsReadyHead, AreOffered, AreMore, IsTaken};
 
 use crate::lists::Lists;
 use crate::queue::Queue;
-use crate::schedule::creation_awaited;
+use crate::schedule::awaited_at;
+use crate::suspensions::Suspensions;
 use std::alloc::AllocError;
 use task_tree::Run;
 
@@ -16,6 +19,7 @@ use task_tree::Run;
 #[derive(Clone, Copy)]
 pub(crate) struct Front<'a, 'r> {
     pub(crate) run: &'a Run<'r>,
+    pub(crate) suspensions: &'a Suspensions,
     pub(crate) placed: &'a [bool],
     pub(crate) heads: &'a [u32],
     pub(crate) low: usize,
@@ -24,7 +28,7 @@ pub(crate) struct Front<'a, 'r> {
 impl Front<'_, '_> {
     /// Puts each record that may stand next to the others.
     pub(crate) fn offer_heads(&self, ready: &mut Queue) -> Result<(), AllocError>
-        requires front { IsFront self.now.run.now.records self.now.run.now.family
+        requires front { IsFront self.now.run.now.records self.now.run.now.family self.now.suspensions.now
             self.now.placed.now self.now.heads.now self.now.low }
         ensures more { OnOk result (AreMore self.now.run.now.records self.now.placed.now ready.old ready.new) }
         ensures all { OnOk result ((i : ℕ) → MayFollow self.now.run.now.records self.now.placed.now i
@@ -40,7 +44,7 @@ impl Front<'_, '_> {
     /// offered two in five may not.
     #[inline(always)]
     pub(crate) fn offer(&self, ready: &mut Queue, place: usize) -> Result<(), AllocError>
-        requires front { IsFront self.now.run.now.records self.now.run.now.family
+        requires front { IsFront self.now.run.now.records self.now.run.now.family self.now.suspensions.now
             self.now.placed.now self.now.heads.now self.now.low }
         ensures more { OnOk result (AreMore self.now.run.now.records self.now.placed.now ready.old ready.new) }
         ensures offered { OnOk result (MayFollow self.now.run.now.records self.now.placed.now place
@@ -59,7 +63,7 @@ impl Front<'_, '_> {
         lists: &Lists,
         key: usize,
     ) -> Result<(), AllocError>
-        requires front { IsFront self.now.run.now.records self.now.run.now.family
+        requires front { IsFront self.now.run.now.records self.now.run.now.family self.now.suspensions.now
             self.now.placed.now self.now.heads.now self.now.low }
         requires key { key < length lists.now.firsts.items }
         requires rising { IsRising (length self.now.run.now.records) lists.now.nexts.items }
@@ -85,7 +89,7 @@ impl Front<'_, '_> {
         from: usize,
         to: usize,
     ) -> Result<(), AllocError>
-        requires front { IsFront self.now.run.now.records self.now.run.now.family
+        requires front { IsFront self.now.run.now.records self.now.run.now.family self.now.suspensions.now
             self.now.placed.now self.now.heads.now self.now.low }
         requires keys { to ≤ length lists.now.firsts.items }
         requires rising { IsRising (length self.now.run.now.records) lists.now.nexts.items }
@@ -101,11 +105,11 @@ impl Front<'_, '_> {
         Ok(())
     }
 
-    /// Whether the record at a place is the first of its thread that does not stand, the creation that it
-    /// awaits stands, and the ledger length that it names is reached.
+    /// Whether the record at a place is the first of its thread that does not stand, the one that it awaits
+    /// stands, and the ledger length that it names is reached.
     fn may_follow(&self, place: usize) -> bool
         requires within { place < length self.now.run.now.records }
-        requires front { IsFront self.now.run.now.records self.now.run.now.family
+        requires front { IsFront self.now.run.now.records self.now.run.now.family self.now.suspensions.now
             self.now.placed.now self.now.heads.now self.now.low }
         ensures { IsTrue result ↔ MayFollow self.now.run.now.records self.now.placed.now place }
     {
@@ -123,12 +127,28 @@ impl Front<'_, '_> {
         self.heads[usize::from(self.run.thread(place))] as usize == place
     }
 
-    /// Whether the creation that the record awaits stands, and the ledger length that it names is reached.
+    /// Whether the record that this one awaits stands, and the ledger length that it names is reached.
     fn is_ready(&self, place: usize) -> bool
-        requires { place < length self.now.run.now.records }
+        requires within { place < length self.now.run.now.records }
+        requires known { AreSuspensions self.now.run.now.records self.now.run.now.family.tasks
+            self.now.suspensions.now }
         ensures { IsTrue result ↔ IsReadyHead self.now.run.now.records self.now.placed.now self.now.low place }
     {
-        self.run.seen(place) as usize <= self.low && is_created(self.run, self.placed, place)
+        self.run.seen(place) as usize <= self.low && self.is_let(place)
+    }
+
+    /// Whether the record that this one awaits stands.
+    fn is_let(&self, place: usize) -> bool
+        requires within { place < length self.now.run.now.records }
+        requires known { AreSuspensions self.now.run.now.records self.now.run.now.family.tasks
+            self.now.suspensions.now }
+        ensures { IsTrue result
+            ↔ ((c : ℕ) → Awaits self.now.run.now.records place c → Stands self.now.placed.now c) }
+    {
+        match awaited_at(self.run, self.suspensions, place) {
+            Some(awaited) => stands(self.placed, awaited),
+            None => true,
+        }
     }
 }
 
@@ -145,17 +165,6 @@ pub(crate) fn take_first(ready: &mut Queue, placed: &[bool]) -> Option<usize>
         }
     }
     None
-}
-
-/// Whether the creation that the record awaits stands.
-fn is_created(run: &Run, placed: &[bool], place: usize) -> bool
-    requires { place < length run.now.records }
-    ensures { IsTrue result ↔ ((c : ℕ) → Awaits run.now.records place c → Stands placed.now c) }
-{
-    match creation_awaited(run, place) {
-        Some(creation) => stands(placed, creation),
-        None => true,
-    }
 }
 
 /// Whether the record stands.

@@ -1,26 +1,28 @@
-//! Whether the ledger lengths that records name rise along each thread and from each creation on.
+//! Whether the ledger lengths that records name rise along each thread and from what each record awaits.
 ghost use Rattle.std.specs.Prelude.{◌≡◌, ◌<◌, ◌↔◌, IsTrue, length};
-ghost use Rattle.ompt_events.specs.declared.cause.Cause.TheVariants.{Moved, LengthBack};
-ghost use Rattle.ompt_events.specs.Causes.{IsFreeOf};
+ghost use Rattle.ompt_events.specs.declared.cause.Cause.TheVariants.{LengthBack};
 ghost use Rattle.ompt_events.specs.Faults.{FindsFirst};
-ghost use Rattle.checker.specs.Lengths.{PrecedesCreation};
+ghost use Rattle.checker.specs.Lengths.{PrecedesAwaited};
+ghost use Rattle.checker.specs.Suspensions.{AreSuspensions};
 
-use crate::schedule::creation_awaited;
+use crate::makers::Makers;
+use crate::schedule::awaited_at;
+use crate::suspensions::Suspensions;
 use task_tree::Run;
 
 /// The first record that names a lesser length than was known at a step before: at an earlier record of its
-/// thread, or at the creation of the task that it starts, discards or fulfils. Takes no memory from the
-/// heap.
-pub(crate) fn find_back(run: &Run) -> Option<usize>
-    requires { IsFreeOf run.now.records Moved }
-    ensures { FindsFirst run.now.records LengthBack result }
+/// thread, or at the record that it awaits. Takes no memory from the heap.
+pub(crate) fn find_back(makers: &Makers) -> Option<usize>
+    ensures { FindsFirst makers.now.run.records LengthBack result }
 {
+    let run = makers.run();
+    let suspensions = makers.suspensions();
     let mut known = [0u64; 256];
     for at in 0..run.len() {
         let thread = usize::from(run.thread(at));
         let seen = u64::from(run.seen(at));
         let after = run.known_after(at);
-        if precedes_creation(run, at) || seen < known[thread] {
+        if precedes_awaited(run, suspensions, at) || seen < known[thread] {
             return Some(at);
         }
         known[thread] = after;
@@ -28,12 +30,13 @@ pub(crate) fn find_back(run: &Run) -> Option<usize>
     None
 }
 
-/// Whether the record at a place names a lesser length than the creation that it awaits.
-fn precedes_creation(run: &Run, at: usize) -> bool
-    requires { at < length run.now.records }
-    ensures { IsTrue result ↔ PrecedesCreation run.now.records at }
+/// Whether the record at a place names a lesser length than the one that it awaits.
+fn precedes_awaited(run: &Run, suspensions: &Suspensions, at: usize) -> bool
+    requires within { at < length run.now.records }
+    requires known { AreSuspensions run.now.records run.now.family.tasks suspensions.now }
+    ensures { IsTrue result ↔ PrecedesAwaited run.now.records at }
 {
-    match creation_awaited(run, at) {
+    match awaited_at(run, suspensions, at) {
         Some(place) => run.seen(at) < run.seen(place),
         None => false,
     }

@@ -24,6 +24,7 @@ mod queue;
 mod schedule;
 mod sound;
 mod starts;
+mod suspensions;
 mod verdict;
 mod waiting;
 

@@ -1,12 +1,15 @@
-//! Places of records in lists: those of one thread, those that await the creation of one task, and those that
-//! name one ledger length.
-ghost use Rattle.std.specs.Prelude.{ℕ, ◌≡◌, ◌<◌, ◌≤◌, ◌^◌, ◌+◌, Option, Some, IfOk, length};
+//! Places of records in lists: those of one thread, those that await one record, and those that name one ledger
+//! length.
+ghost use Rattle.std.specs.Prelude.{ℕ, ◌≡◌, ◌<◌, ◌≤◌, ◌^◌, ◌+◌, Option, Some, IfOk, IfSome, length};
 ghost use Rattle.ompt_events.specs.Places.{thread_at};
 ghost use Rattle.checker.specs.Lists.{AreLists, IsRising};
-ghost use Rattle.checker.specs.Merge.{task_of, length_of};
+ghost use Rattle.checker.specs.Merge.{key_of, length_of};
+ghost use Rattle.checker.specs.Schedule.{Awaits};
+ghost use Rattle.checker.specs.Suspensions.{AreSuspensions};
 
 use crate::makers::Makers;
-use crate::schedule::awaited;
+use crate::schedule::{Awaited, awaited_by};
+use crate::suspensions::Suspensions;
 use std::alloc::{AllocError, Global};
 use task_tree::Run;
 
@@ -78,22 +81,64 @@ fn last_thread(run: &Run) -> u8
     last
 }
 
-/// The records that await the creation of each task, by its index.
-pub(crate) fn lists_of_tasks(alloc: Global, run: &Run) -> Result<Lists, AllocError>
-    ensures lists { IfOk result (λ lists. AreLists (task_of run.now.family.tasks run.now.records)
+/// The records that await others, by key.
+pub(crate) fn lists_of_keys(
+    alloc: Global,
+    run: &Run,
+    suspensions: &Suspensions,
+) -> Result<Lists, AllocError>
+    requires { AreSuspensions run.now.records run.now.family.tasks suspensions.now }
+    ensures lists { IfOk result (λ lists. AreLists
+        (key_of run.now.family.tasks run.now.records suspensions.now.rows.items)
         (length run.now.records) 0 lists.firsts.items lists.nexts.items) }
-    ensures keys { IfOk result (λ lists. length lists.firsts.items ≡ length run.now.family.tasks) }
+    ensures keys { IfOk result (λ lists. length lists.firsts.items
+        ≡ length run.now.family.tasks + length suspensions.now.places.items) }
     ensures rising { IfOk result (λ lists. IsRising (length run.now.records) lists.nexts.items) }
 {
     let count = run.len();
-    let mut lists = Lists::new(alloc, run.task_count(), count)?;
+    let keys = run.task_count() + suspensions.slot_count();
+    let mut lists = Lists::new(alloc, keys, count)?;
     for step in 0..count {
         let at = count - 1 - step;
-        if let Some(index) = awaited(run, at) {
-            lists.put_first(index, at);
+        if let Some(key) = key_at(run, suspensions, at) {
+            lists.put_first(key, at);
         }
     }
     Ok(lists)
+}
+
+/// The key under which the record at a place stands: the index of the task whose creation it awaits, or, behind
+/// those of all tasks, the slot of the turn that a task begins there.
+fn key_at(run: &Run, suspensions: &Suspensions, at: usize) -> Option<usize>
+    requires within { at < length run.now.records }
+    requires known { AreSuspensions run.now.records run.now.family.tasks suspensions.now }
+    ensures key { result ≡ key_of run.now.family.tasks run.now.records suspensions.now.rows.items at }
+    ensures low { IfSome result (λ key. key
+        < length run.now.family.tasks + length suspensions.now.places.items) }
+{
+    let tasks = run.task_count();
+    match awaited_by(run, at)? {
+        Awaited::Creation(index) => Some(index),
+        Awaited::Turn(begin) => Some(tasks + suspensions.slot_of(begin)),
+    }
+}
+
+/// The key of the records that await the one at a place, if that creates a task, or if an explicit task is
+/// suspended there.
+pub(crate) fn key_behind(run: &Run, suspensions: &Suspensions, at: usize) -> Option<usize>
+    requires within { at < length run.now.records }
+    requires known { AreSuspensions run.now.records run.now.family.tasks suspensions.now }
+    ensures key { (i : ℕ) → Awaits run.now.records i at → (key : ℕ) × (result ≡ Some key)
+        × (key_of run.now.family.tasks run.now.records suspensions.now.rows.items i ≡ Some key) }
+    ensures low { IfSome result (λ key. key
+        < length run.now.family.tasks + length suspensions.now.places.items) }
+{
+    let tasks = run.task_count();
+    if let Some(index) = run.created(at) {
+        return Some(index);
+    }
+    let slot = suspensions.slot_behind(run, at)?;
+    Some(tasks + slot)
 }
 
 /// The records that name each length of the ledger.

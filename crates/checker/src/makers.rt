@@ -5,19 +5,22 @@ ghost use Rattle.ompt_events.specs.Causes.{RepeatsEntry, entries_in, IsAhead, Is
 ghost use Rattle.ompt_events.specs.Faults.{FindsFirst, IsFault};
 ghost use Rattle.checker.specs.Entries.{AreMakers, IsLedger};
 ghost use Rattle.checker.specs.Makers.{is_named, IsNaming};
+ghost use Rattle.checker.specs.Schedule.{EachAwaitsOne};
 
+use crate::suspensions::Suspensions;
 use ompt_events::{Cause, Fault, exclude, finish};
 use std::alloc::{AllocError, Global};
 use std::collections::BTreeSet;
 use std::marker::Model;
 use task_tree::Run;
 
-/// The ledger of a run: by entry the record that makes it. No entry is made twice, and no record names a greater
-/// length than the ledger ever has.
+/// The ledger of a run: by entry the record that makes it; and where the run's tasks are suspended. No entry is
+/// made twice, and no record names a greater length than the ledger ever has.
 #[derive(Drop)]
 pub(crate) struct Makers<'a> {
     run: Run<'a>,
     places: Vec<u32>,
+    suspensions: Suspensions,
 }
 
 impl<'a> Model for Makers<'a> {
@@ -25,23 +28,34 @@ impl<'a> Model for Makers<'a> {
 
     ghost Value = { MakersView };
 
-    ghost view = { λ makers. record { run = makers.run; places = makers.places.items } };
+    ghost view = { λ makers. record {
+      run = makers.run;
+      places = makers.places.items;
+      suspensions = makers.suspensions;
+    } };
 
-    ghost invariant = { λ makers. IsLedger (record { run = makers.run; places = makers.places.items }) };
+    ghost invariant = { λ makers. IsLedger (record {
+      run = makers.run;
+      places = makers.places.items;
+      suspensions = makers.suspensions;
+    }) };
 }
 
 impl<'a> Makers<'a> {
     /// The ledger of the run. Refused is a finishing record that names the entry of an earlier one; or else a
     /// record that names more than the ledger ever has.
     pub(crate) fn in_run(alloc: Global, run: &Run<'a>) -> Result<Makers<'a>, Fault>
+        requires { EachAwaitsOne run.now.records }
         ensures run { IfOk result (λ makers. makers.run ≡ run.now) }
         ensures fault { IfErr result (IsFault run.now.records (EntryTwice ∷ LengthAhead ∷ [])) }
     {
         let places = find_makers(alloc, run)?;
         exclude(Cause::LengthAhead, find_ahead(run, places.len()))?;
+        let suspensions = Suspensions::of(alloc, run)?;
         Ok(Makers {
             run: run.again(),
             places,
+            suspensions,
         })
     }
 
@@ -58,6 +72,14 @@ impl<'a> Makers<'a> {
         ensures { result.now ≡ self.now.places }
     {
         self.places.as_slice()
+    }
+
+    /// Where the tasks are suspended.
+    pub(crate) fn suspensions(&self) -> &Suspensions
+        ensures value { result.now ≡ self.now.suspensions }
+        ensures is_ledger { IsLedger self.now }
+    {
+        &self.suspensions
     }
 }
 

@@ -1,6 +1,6 @@
 //! The greedy order of the records.
 ghost use Rattle.std.specs.Prelude.{ℕ, ◌≡◌, ◌∷◌, [], ◌<◌, ◌≤◌, ◌↔◌, List, Some, MatchOption, IfOk, IfErr, IsTrue, OnOk, false, true, length, replicate, slice_index, slice_set};
-ghost use Rattle.ompt_events.specs.declared.cause.Cause.TheVariants.{Moved, NoOrder};
+ghost use Rattle.ompt_events.specs.declared.cause.Cause.TheVariants.{NoOrder};
 ghost use Rattle.ompt_events.specs.Places.{thread_at};
 ghost use Rattle.ompt_events.specs.Linearization.{IsLinearization};
 ghost use Rattle.ompt_events.specs.Causes.{IsFreeOf};
@@ -20,8 +20,7 @@ use task_tree::Run;
 /// file order of which all that happens before it stands already. Searches for the first record that has no
 /// place in it.
 pub(crate) fn find_order(alloc: Global, makers: &Makers, base: Vec<u32>) -> Result<Vec<u32>, Fault>
-    requires home { IsFreeOf makers.now.run.records Moved }
-    requires base { AreInTurn makers.now.run.records base.items }
+    requires { AreInTurn makers.now.run.records base.items }
     ensures linearization { IfOk result (λ order. IsLinearization makers.now.run.records order.items) }
     ensures greedy { IfOk result (λ order. IsGreedyBehind makers.now.run.records base.items order.items) }
     ensures free { OnOk result (IsFreeOf makers.now.run.records NoOrder) }
@@ -32,7 +31,7 @@ pub(crate) fn find_order(alloc: Global, makers: &Makers, base: Vec<u32>) -> Resu
     let mut standing = Standing::of(alloc, run, base.as_slice())?;
     let waiting = Waiting::of(alloc, makers)?;
     let mut low = first_missing(&standing.placed, places, 0);
-    let mut ready = standing.first_ready(alloc, run, low)?;
+    let mut ready = standing.first_ready(alloc, makers, low)?;
     let mut order = base;
     'merge: while let Some(place) = take_first(&mut ready, &standing.placed) {
         order.push(place as u32)?;
@@ -41,6 +40,7 @@ pub(crate) fn find_order(alloc: Global, makers: &Makers, base: Vec<u32>) -> Resu
         low = first_missing(&standing.placed, places, low);
         let front = Front {
             run,
+            suspensions: makers.suspensions(),
             placed: standing.placed.as_slice(),
             heads: standing.heads.as_slice(),
             low,
@@ -108,13 +108,15 @@ impl Standing {
     }
 
     /// The records that may stand next.
-    fn first_ready(&self, alloc: Global, run: &Run, low: usize) -> Result<Queue, AllocError>
-        requires { IsFront run.now.records run.now.family self.now.placed.items self.now.heads.items low }
-        ensures { IfOk result (AreOffered run.now.records self.now.placed.items) }
+    fn first_ready(&self, alloc: Global, makers: &Makers, low: usize) -> Result<Queue, AllocError>
+        requires { IsFront makers.now.run.records makers.now.run.family makers.now.suspensions
+            self.now.placed.items self.now.heads.items low }
+        ensures { IfOk result (AreOffered makers.now.run.records self.now.placed.items) }
     {
         let mut ready = Queue::new(alloc);
         let front = Front {
-            run,
+            run: makers.run(),
+            suspensions: makers.suspensions(),
             placed: self.placed.as_slice(),
             heads: self.heads.as_slice(),
             low,

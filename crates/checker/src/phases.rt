@@ -84,7 +84,7 @@ fn order_of(alloc: Global, sound: &Sound) -> Result<Order, Fault>
 {
     let run = sound.run();
     // A file in the order of time costs one pass.
-    if is_in_order(run) {
+    if is_in_order(alloc, run)? {
         return Ok(Order::in_file(run.len()));
     }
     order_by_merge(alloc, sound)
@@ -99,7 +99,7 @@ fn order_by_merge(alloc: Global, sound: &Sound) -> Result<Order, Fault>
 {
     let run = sound.run();
     let makers = Makers::in_run(alloc, run)?;
-    exclude(Cause::LengthBack, find_back(run))?;
+    exclude(Cause::LengthBack, find_back(&makers))?;
     let none = Vec::with_capacity(alloc, run.len())?;
     Ok(Order::from_vec(find_order(alloc, &makers, none)?))
 }

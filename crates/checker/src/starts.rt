@@ -7,9 +7,9 @@ ghost use Rattle.ompt_events.specs.Causes.{IsFreeOf};
 ghost use Rattle.depend_edges.specs.Edges.{ArePredecessors};
 ghost use Rattle.wait_coverage.specs.Done.{AreOwn};
 ghost use Rattle.trace_ledger.specs.Entries.{IsDone};
-ghost use Rattle.task_tree.specs.Runs.{IsRun};
 ghost use Rattle.checker.specs.Starts.{IsLate, AreReady, IsPrecededByNone, IsDependentAt, IsFirstLateAt, IsFirstLateStart, IsBound, AreStarted, StartsAt, StartsNoneAt, IsBehind, AreDoneBefore, IsFirstBehind};
 
+use crate::schedule::first_started;
 use depend_edges::Edges;
 use ompt_events::Fault;
 use std::alloc::{AllocError, Global};
@@ -134,13 +134,12 @@ fn no_starts(alloc: Global, tasks: usize) -> Result<Vec<bool>, AllocError>
 
 /// The index of the explicit task that starts at the place.
 fn start_at(run: &Run, started: &[bool], at: usize) -> Option<usize>
-    requires is_run { IsRun run.now }
     requires within { at < length run.now.records }
     requires started { AreStarted run.now.records at run.now.family.tasks started.now }
     ensures { MatchOption result (StartsNoneAt run.now.records at)
         (StartsAt run.now.records run.now.family.tasks at) }
 {
-    let index = run.started(at)?;
+    let index = first_started(run, at)?;
     if started[index] {
         return None;
     }
@@ -167,7 +166,7 @@ impl Precedence<'_, '_> {
         are_all_zero(&self.latest)
     }
 
-    /// By index of the task whether a record before the place starts it.
+    /// By index of the task whether a record before the place begins its turn 0.
     fn find_started(&self, alloc: Global, at: usize) -> Result<Vec<bool>, AllocError>
         requires { at < length self.now.run.records }
         ensures { IfOk result (λ started.
@@ -180,13 +179,13 @@ impl Precedence<'_, '_> {
         Ok(started)
     }
 
-    /// Notes the task that runs after the record at the place.
+    /// Notes the task of which the record at the place begins turn 0.
     fn note_start(&self, started: &mut Vec<bool>, at: usize)
         requires within { at < length self.now.run.records }
         requires started { AreStarted self.now.run.records at self.now.run.family.tasks started.old.items }
         ensures { AreStarted self.now.run.records (at + 1) self.now.run.family.tasks started.new.items }
     {
-        if let Some(index) = self.run.started(at) {
+        if let Some(index) = first_started(self.run, at) {
             started[index] = true;
         }
     }

@@ -1,18 +1,19 @@
 //! What each record lets stand once it stands itself.
 ghost use Rattle.std.specs.Prelude.{ℕ, ◌≡◌, ◌<◌, ◌≤◌, Some, IfOk, OnOk, Contains, length};
 ghost use Rattle.ompt_events.specs.Causes.{entries_in};
-ghost use Rattle.checker.specs.Merge.{Awaits, IsFront, MayFollow, AreMore, AreWaiting, length_of};
+ghost use Rattle.checker.specs.Schedule.{Awaits};
+ghost use Rattle.checker.specs.Merge.{IsFront, MayFollow, AreMore, AreWaiting, length_of};
 
 use crate::front::Front;
-use crate::lists::{Lists, lists_of_lengths, lists_of_tasks};
+use crate::lists::{Lists, key_behind, lists_of_keys, lists_of_lengths};
 use crate::makers::Makers;
 use crate::queue::Queue;
 use std::alloc::{AllocError, Global};
 
-/// The records that await the creation of each task, and those that name each ledger length.
+/// The records that await each other one, and those that name each ledger length.
 #[derive(Drop)]
 pub(crate) struct Waiting {
-    by_task: Lists,
+    by_key: Lists,
     by_length: Lists,
 }
 
@@ -30,10 +31,11 @@ pub(crate) struct Placed {
 impl Waiting {
     /// Those of all records.
     pub(crate) fn of(alloc: Global, makers: &Makers) -> Result<Waiting, AllocError>
-        ensures { IfOk result (AreWaiting makers.now.run.records makers.now.run.family.tasks) }
+        ensures { IfOk result (AreWaiting makers.now.run.records makers.now.run.family.tasks
+            makers.now.suspensions) }
     {
         Ok(Waiting {
-            by_task: lists_of_tasks(alloc, makers.run())?,
+            by_key: lists_of_keys(alloc, makers.run(), makers.suspensions())?,
             by_length: lists_of_lengths(alloc, makers)?,
         })
     }
@@ -47,9 +49,10 @@ impl Waiting {
         ready: &mut Queue,
         placed: Placed,
     ) -> Result<(), AllocError>
-        requires front { IsFront front.now.run.now.records front.now.run.now.family
+        requires front { IsFront front.now.run.now.records front.now.run.now.family front.now.suspensions.now
             front.now.placed.now front.now.heads.now front.now.low }
-        requires waiting { AreWaiting front.now.run.now.records front.now.run.now.family.tasks self.now }
+        requires waiting { AreWaiting front.now.run.now.records front.now.run.now.family.tasks
+            front.now.suspensions.now self.now }
         requires within { placed.place < length front.now.run.now.records }
         requires low { front.now.low ≤ entries_in front.now.run.now.records }
         requires was_low { placed.was_low ≤ front.now.low }
@@ -75,16 +78,17 @@ impl Waiting {
         ready: &mut Queue,
         place: usize,
     ) -> Result<(), AllocError>
-        requires front { IsFront front.now.run.now.records front.now.run.now.family
+        requires front { IsFront front.now.run.now.records front.now.run.now.family front.now.suspensions.now
             front.now.placed.now front.now.heads.now front.now.low }
-        requires waiting { AreWaiting front.now.run.now.records front.now.run.now.family.tasks self.now }
+        requires waiting { AreWaiting front.now.run.now.records front.now.run.now.family.tasks
+            front.now.suspensions.now self.now }
         requires within { place < length front.now.run.now.records }
         ensures more { OnOk result (AreMore front.now.run.now.records front.now.placed.now ready.old ready.new) }
         ensures awaiting { OnOk result ((i : ℕ) → Awaits front.now.run.now.records i place
             → MayFollow front.now.run.now.records front.now.placed.now i → Contains ready.new i) }
     {
-        match front.run.created(place) {
-            Some(index) => front.offer_list(ready, &self.by_task, index),
+        match key_behind(front.run, front.suspensions, place) {
+            Some(key) => front.offer_list(ready, &self.by_key, key),
             None => Ok(()),
         }
     }

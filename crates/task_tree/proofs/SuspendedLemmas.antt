@@ -29,7 +29,7 @@ use Rattle.task_tree.proofs.RankedLemmas.{Every, every_get}
 
 -- ---- what no record has
 
-all_get : {X : Type 0} (P : X → Type 0) (xs : List X) (i : ℕ) (x : X) → All P xs → slice_get xs i ≡ Some x → P x
+pub all_get : {X : Type 0} (P : X → Type 0) (xs : List X) (i : ℕ) (x : X) → All P xs → slice_get xs i ≡ Some x → P x
 all_get P xs i x all is = subst P (get_or_from_slice_get xs i x x is) (all i x (slice_get_within xs i x is))
 
 -- a record that misfits is the first of its thread that does, or comes after one
@@ -41,7 +41,7 @@ pub no_misfit : (rs : List Record) (i : ℕ) → IsFreeOf rs NotCurrent → Misf
 no_misfit rs i none misfits = no_misfit_below rs none (i + 1) i (omega arith) misfits
 
 -- the task that a record is of is the one that its thread runs there
-runs_there : (rs : List Record) (i task : ℕ) (r : Record) → IsFreeOf rs NotCurrent → slice_get rs i ≡ Some r → running r.body ≡ Some task → (walk_of r.thread (take i rs)).current ≡ Some task
+pub runs_there : (rs : List Record) (i task : ℕ) (r : Record) → IsFreeOf rs NotCurrent → slice_get rs i ≡ Some r → running r.body ≡ Some task → (walk_of r.thread (take i rs)).current ≡ Some task
 runs_there rs i task r none stands runs = by (walk_of r.thread (take i rs)).current refl
   where
     misfit : (walk_of r.thread (take i rs)).current ≢ Some task → ⊥
@@ -146,7 +146,7 @@ walked : (walk : Walk) (l : List Record) (r : Record) → fold after_record walk
 walked walk l r = fold-append after_record walk l (r ∷ [])
 
 -- the open roots of a thread are roots
-roots_are : (rs : List Record) (thread n : ℕ) → Every (IsRoot rs) (walk_of thread (take n rs)).roots
+pub roots_are : (rs : List Record) (thread n : ℕ) → Every (IsRoot rs) (walk_of thread (take n rs)).roots
 roots_are rs thread n = part_keeps rs thread (λ m l. Every (IsRoot rs) (fold after_record at_start l).roots) tt
     (λ m r stands same before.
     subst (λ (w : Walk). Every (IsRoot rs) w.roots) (sym (walked at_start (part_of rs thread m) r))
@@ -223,14 +223,14 @@ last_start rs thread sound once n = part_keeps rs thread P (λ task explicit is.
 
 -- ---- suspensions
 
-record Suspended (b : Body) (task turn : ℕ) : Type 0 where
-  told : Turns
-  tells : told_turns b ≡ Some told
-  turn_told : told.prior ≡ turn
-  runs : running b ≡ Some task
-  stops : stopped b ≡ Some task
+pub record Suspended (b : Body) (task turn : ℕ) : Type 0 where
+  pub told : Turns
+  pub tells : told_turns b ≡ Some told
+  pub turn_told : told.prior ≡ turn
+  pub runs : running b ≡ Some task
+  pub stops : stopped b ≡ Some task
 
-suspended_parts : (b : Body) (task turn : ℕ) → HasItsNext b → HasItsTurns 2 b → suspended_turn b ≡ Some (task, turn) → Suspended b task turn
+pub suspended_parts : (b : Body) (task turn : ℕ) → HasItsNext b → HasItsTurns 2 b → suspended_turn b ≡ Some (task, turn) → Suspended b task turn
 suspended_parts (TaskSchedule Yield None prior None share) task turn fits told is = cc
 suspended_parts (TaskSchedule Yield (Some t) prior None share) task turn fits told is = cc
 suspended_parts (TaskSchedule Yield None prior (Some q) share) task turn fits told is = cc
@@ -253,13 +253,13 @@ record Suspension (rs : List Record) (i task turn : ℕ) : Type 0 where
   last : LastStart rs thread i task turn
 
 -- the turn that is told is the one in which the record is
-told_right : (rs : List Record) (i : ℕ) (told : Turns) → IsFreeOf rs TurnGap → at told_turns rs i ≡ Some told → told.prior ≡ turn_at rs i
+pub told_right : (rs : List Record) (i : ℕ) (told : Turns) → IsFreeOf rs TurnGap → at told_turns rs i ≡ Some told → told.prior ≡ turn_at rs i
 told_right rs i told gap tells = elim (cases_eq told.prior (turn_at rs i)) [
   | inl same ↦ same
   | inr apart ↦ absurd (gap i (turn_gap (other_turn told tells apart)))
 ]
 
-turn_is : (rs : List Record) (i task : ℕ) (r : Record) → slice_get rs i ≡ Some r → running r.body ≡ Some task → turn_at rs i ≡ turn_in task (part_of rs r.thread i)
+pub turn_is : (rs : List Record) (i task : ℕ) (r : Record) → slice_get rs i ≡ Some r → running r.body ≡ Some task → turn_at rs i ≡ turn_in task (part_of rs r.thread i)
 turn_is rs i task r stands runs =
     ap (λ (o : Option Record). option_map_or (λ (q : Record). turn_of rs q i) o 0) stands
     ∙ ap (λ (t : Option ℕ). option_map_or (λ u. turn_in u (part_of rs r.thread i)) t 0) runs
@@ -284,7 +284,7 @@ suspension rs trace once current gap task turn i explicit suspends = by (slice_g
         }
 
 -- in version 2 each record that begins a turn tells it
-begun_told : (rs : List Record) (i task turn : ℕ) → IsTraceOf 2 rs → at begun_turn rs i ≡ Some (task, turn) → at told_turns rs i ≢ None
+pub begun_told : (rs : List Record) (i task turn : ℕ) → IsTraceOf 2 rs → at begun_turn rs i ≡ Some (task, turn) → at told_turns rs i ≢ None
 begun_told rs i task turn trace begins untold = by (slice_get rs i) refl (begun_started rs i task turn begins) untold
   where
     by : (o : Option Record) → slice_get rs i ≡ o → option_and_then (λ (r : Record). started r.body) o ≡ Some task → option_and_then (λ (r : Record). told_turns r.body) o ≡ None → ⊥
@@ -294,7 +294,7 @@ begun_told rs i task turn trace begins untold = by (slice_get rs i) refl (begun_
         true≢false (sym (turned ∙ ap is_some starts) ∙ ap is_some none)
 
 -- no two records begin the same turn
-begun_once : (rs : List Record) → IsTraceOf 2 rs → IsFreeOf rs TurnGap → (task turn a b : ℕ) → at begun_turn rs a ≡ Some (task, turn) → at begun_turn rs b ≡ Some (task, turn) → a ≡ b
+pub begun_once : (rs : List Record) → IsTraceOf 2 rs → IsFreeOf rs TurnGap → (task turn a b : ℕ) → at begun_turn rs a ≡ Some (task, turn) → at begun_turn rs b ≡ Some (task, turn) → a ≡ b
 begun_once rs trace gap task turn a b one other = elim (cases_order a b) [
   | inl same ↦ same
   | inr (inl less) ↦ absurd (gap b (turn_gap (begun_again task turn a (begun_told rs b task turn trace other, other) less one)))

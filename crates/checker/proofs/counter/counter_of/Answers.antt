@@ -1,8 +1,12 @@
 use Rattle.std.proofs.Common.{[], ◌∷◌, refl, arith}
 use Rattle.std.proofs.lemmas.Result.{err_from_is_err_and}
 use Rattle.ompt_events.specs.declared.cause.Cause.TheVariants.{EntryTwice, LengthAhead}
+use Rattle.checker.proofs.AwaitsOneLemmas.{sound_awaits_one}
 use Rattle.checker.proofs.PhaseLemmas.{memory_alone, one_clear, only_clear}
 use Rattle.checker.proofs.counter.counter_of.Goals as goal
+
+pub in_run-requires : goal.in_run-requires
+in_run-requires c = rw c.run.ensures.value (sound_awaits_one c.sound.result.now c.run.ensures.is_sound)
 
 pub returns-in_err-makers-clause-memory_alone : goal.returns-in_err-makers-clause-memory_alone
 returns-in_err-makers-clause-memory_alone c =

@@ -1,17 +1,14 @@
 use Rattle.std.proofs.Common.{◌≡◌, ◌∷◌, [], ◌++◌, arith, refl, rules}
 use Rattle.std.proofs.lemmas.Result.{err_from_is_err_and}
 use Rattle.std.specs.Prelude.{filter}
-use Rattle.ompt_events.specs.declared.cause.Cause.TheVariants.{Moved, NoOrder}
+use Rattle.ompt_events.specs.declared.cause.Cause.TheVariants.{NoOrder}
 use Rattle.checker.specs.Counter.{is_below}
 use Rattle.checker.proofs.PhaseLemmas.{memory_alone, only_clear}
 use Rattle.checker.proofs.CounterLemmas.{base_in_turn, earliest_behind}
 use Rattle.checker.proofs.earliest.earliest_order.Goals as goal
 
-pub find_order-requires-clause-home : goal.find_order-requires-clause-home
-find_order-requires-clause-home c = rw c.makers-makers.ensures.value (c.makers-makers.ensures.is_ordered.well_formed Moved (4, omega arith, refl))
-
-pub find_order-requires-clause-base : goal.find_order-requires-clause-base
-find_order-requires-clause-base c =
+pub find_order-requires : goal.find_order-requires
+find_order-requires c =
     let is = c.makers-makers.ensures.is_ordered in
     let base : c.push.new.self.items ≡ filter (is_below c.args.ordered.now.ledger.run.records c.in_ok-bounds.bounds.items) c.args.ordered.now.order ++ c.args.at ∷ [] = rw (c.in_ok-base.ensures, c.as_slice.ensures.value) at c.in_ok-push.ensures.items in
     rw (c.makers-makers.ensures.value, base) (base_in_turn c.args.ordered.now.ledger.run.records c.args.ordered.now.order c.in_ok-bounds.bounds.items c.args.at is.linearization is.greedy c.in_ok-bounds.ensures c.requires)

@@ -1,12 +1,13 @@
-use Rattle.ompt_events.specs.Records.{started}
 use Rattle.ompt_events.specs.Places.{at}
+use Rattle.checker.specs.Schedule.{first_started}
 use Rattle.task_tree.proofs.SubjectLemmas.{call_task}
 use Rattle.checker.proofs.StartLemmas.{started_more}
+use Rattle.checker.proofs.ScheduleLemmas.{first_begun}
 use Rattle.checker.proofs.starts.Precedence.note_start.Goals as goal
 
 pub returns-in-Some : goal.returns-in-Some
 returns-in-Some c =
     let run = c.self.inside.run.now in
     let tasks = run.family.tasks in
-    let found = call_task tasks (at started run.records c.args.at) c.started.result c.in-Some.index c.started.ensures c.in-Some.is in
-    rw (← c.self.view_is) (started_more run.records c.args.at c.in-Some.index found.0 tasks c.args.started.now.items c.self.invariant.run.family.makers.apart found.2 found.1 (rw (← c.self.view_is) at c.requires.started))
+    let found = call_task tasks (at first_started run.records c.args.at) c.first_started.result c.in-Some.index c.first_started.ensures c.in-Some.is in
+    rw (← c.self.view_is) (started_more run.records c.args.at c.in-Some.index found.0 tasks c.args.started.now.items c.self.invariant.run.family.makers.apart found.2 (first_begun run.records c.args.at found.0 found.1) (rw (← c.self.view_is) at c.requires.started))

@@ -1,15 +1,14 @@
-use Rattle.std.proofs.Common.{◌≡◌, ◌∙◌, ◌<◌, ◌+◌, ◌-◌, length, Some, refl, sym, ap, arith}
+use Rattle.std.proofs.Common.{◌≡◌, ◌∙◌, ◌<◌, ◌+◌, ◌-◌, length, Some, sym, ap, arith}
 use Rattle.std.proofs.lemmas.Bool.{false≢true}
 use Rattle.std.proofs.lemmas.Option.{same_Some, slice_get-get_or}
 use Rattle.std.specs.Prelude.{slice_get, slice_index}
-use Rattle.ompt_events.specs.declared.cause.Cause.TheVariants.{Moved}
 use Rattle.ompt_events.specs.HappensBefore.{chain}
-use Rattle.checker.specs.Merge.{Awaits, StaysAtHome}
+use Rattle.checker.specs.Schedule.{Awaits, EachAwaitsOne}
 use Rattle.checker.specs.Counter.{OrderedView, IsBelow, AreRaisedTo}
 use Rattle.checker.proofs.BeforeLemmas.{passed_more, passed_other, passed_all, before_raised}
 use Rattle.checker.proofs.ScheduleLemmas.{awaits_before}
-use Rattle.checker.proofs.before.raise_to_creations.Goals as goal
-use Rattle.checker.proofs.before.raise_to_creations.Goals.{then-is_below, else-is_below}
+use Rattle.checker.proofs.before.raise_to_all_awaited.Goals as goal
+use Rattle.checker.proofs.before.raise_to_all_awaited.Goals.{then-is_below, else-is_below}
 
 pub loop-step-preserved : goal.loop-step-preserved
 loop-step-preserved c =
@@ -21,7 +20,7 @@ loop-step-preserved c =
     let x = c.unwrap-place.result in
     let old = c.loop-step.bounds in
     let was = c.loop-step.invariant in
-    let at_home : StaysAtHome rs = record { still = is.well_formed Moved (4, omega arith, refl); untold = is.ledger.run.untold } in
+    let facts : EachAwaitsOne rs = is.ledger.suspended.facts in
     let same : c.ordered.inside.order.now ≡ order = ap (λ (o : OrderedView). o.order) c.ordered.view_is in
     let count : c.len-count.result ≡ length order = c.len-count.ensures ∙ ap length same in
     let inside : p < length order = let test = c.loop-step-test.true in omega (arith, test, count) in
@@ -30,12 +29,12 @@ loop-step-preserved c =
     let read : x ≡ slice_index order p = same_Some x (slice_index order p) (sym there ∙ slice_get-get_or order p 0 inside) in
     elim c.if-is_below.branch [
       | then-is_below w ↦
-          let raised : AreRaisedTo rs (Awaits rs (slice_index order p)) old w.raise_to_creation.new.bounds = rw (c.run-run.ensures.value, read) at w.raise_to_creation.ensures in
+          let raised : AreRaisedTo rs (Awaits rs (slice_index order p)) old w.raise_to_awaited.new.bounds = rw (ap (λ (o : OrderedView). o.ledger.run.records) c.ordered.view_is, read) at w.raise_to_awaited.ensures in
           let below : IsBelow rs old (slice_index order p) = rw (c.run-run.ensures.value, read) at c.is_below.ensures.0 w.if-is_below.true in
           rw w.bounds-is (record {
             kept = λ a is_old. raised.kept a (was.kept a is_old);
-            before = λ i before. before_raised rs (Awaits rs (slice_index order p)) i old w.raise_to_creation.new.bounds (λ k waits. chain (awaits_before rs (slice_index order p) k at_home waits) (was.before i before (slice_index order p) below)) raised (was.before i before);
-            passed = passed_more rs order step p old w.raise_to_creation.new.bounds at_home is.linearization here raised was.passed;
+            before = λ i before. before_raised rs (Awaits rs (slice_index order p)) i old w.raise_to_awaited.new.bounds (λ k waits. chain (awaits_before rs (slice_index order p) k facts waits) (was.before i before (slice_index order p) below)) raised (was.before i before);
+            passed = passed_more rs order step p old w.raise_to_awaited.new.bounds facts is.linearization here raised was.passed;
           })
       | else-is_below w ↦
           rw w.bounds-is (record {

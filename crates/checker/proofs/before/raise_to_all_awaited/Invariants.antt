@@ -1,7 +1,7 @@
 use Rattle.std.proofs.Common.{ℕ}
 use Rattle.checker.specs.Counter.{IsBelow, AreAllBefore}
 use Rattle.checker.proofs.BeforeLemmas.{HavePassed}
-use Rattle.checker.proofs.before.raise_to_creations.Given as goal
+use Rattle.checker.proofs.before.raise_to_all_awaited.Given as goal
 
 -- of the last records of the order those that are below have what they await below
 abbrev pub invariant-loop-step : goal.invariant-loop-step

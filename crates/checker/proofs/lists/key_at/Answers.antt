@@ -1,0 +1,24 @@
+use Rattle.std.proofs.Common.{Some, refl, sym, subst, arith}
+use Rattle.std.proofs.lemmas.Option.{slice_get_within}
+use Rattle.ompt_events.specs.Places.{at as says_at}
+use Rattle.task_tree.specs.Subjects.{Calls}
+use Rattle.task_tree.proofs.SubjectLemmas.{call_task}
+use Rattle.checker.specs.Schedule.{awaited, IsAwaited}
+use Rattle.checker.specs.declared.schedule.Awaited.{Awaited}
+use Rattle.checker.proofs.ScheduleLemmas.{key_creation}
+use Rattle.checker.proofs.lists.key_at.Goals as goal
+
+pub returns-in-Creation-clause-key : goal.returns-in-Creation-clause-key
+returns-in-Creation-clause-key c =
+    let P : Awaited → Type 0 = IsAwaited c.args.run.now c.args.at in
+    sym (key_creation c.args.run.now.records c.args.run.now.family.tasks c.args.suspensions.now.rows.items c.args.at c.in-Creation.index c.task_count-tasks.ensures.is_run.family.makers.apart
+    (subst P c.in-Creation.is c.in_ok-index.ensures))
+
+pub returns-in-Creation-clause-low : goal.returns-in-Creation-clause-low
+returns-in-Creation-clause-low c =
+    let P : Awaited → Type 0 = IsAwaited c.args.run.now c.args.at in
+    let tasks = c.args.run.now.family.tasks in
+    let calls : Calls tasks (says_at awaited c.args.run.now.records c.args.at) (Some c.in-Creation.index) = subst P c.in-Creation.is c.in_ok-index.ensures in
+    let called = call_task tasks (says_at awaited c.args.run.now.records c.args.at) (Some c.in-Creation.index) c.in-Creation.index calls refl in
+    let inside = slice_get_within tasks c.in-Creation.index called.0 called.2 in
+    omega (arith, inside)
