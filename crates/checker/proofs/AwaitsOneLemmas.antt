@@ -26,8 +26,8 @@ use Rattle.ompt_events.proofs.PlaceLemmas.{at_within}
 use Rattle.ompt_events.proofs.RecordLemmas.{begun_at_made}
 use Rattle.task_tree.specs.Family.{FamilyView, IsFamilyOf}
 use Rattle.task_tree.proofs.OnceLemmas.{made_once}
-use Rattle.turns.proofs.RankedLemmas.{Every, every_get}
-use Rattle.turns.proofs.SuspendedLemmas.{all_get, no_misfit, runs_there, part_of, part_keeps, told_right, turn_is, begun_told, Suspended, suspended_parts, suspended_once}
+use Rattle.task_tree.proofs.RankedLemmas.{Every, every_get}
+use Rattle.task_tree.proofs.SuspendedLemmas.{all_get, no_misfit, runs_there, part_of, part_keeps, told_right, turn_is, begun_told, Suspended, suspended_parts, suspended_once}
 use Rattle.task_tree.specs.Runs.{RunView}
 use Rattle.checker.specs.Search.{IsSound as IsSoundRun}
 use Rattle.checker.specs.Schedule.{IsEarlierOnThread, EachAwaitsOne}
@@ -290,7 +290,12 @@ told_awaits_one rs family trace are current gap = record {
 
 -- ---- the facts of a run
 
--- where none of the causes before those of the ledger occurs. Here alone it is used that no record of a run
--- tells a turn; for those that do there is `told_awaits_one`.
+-- where none of the causes before those of the ledger occurs: a run is of a trace of either version
 pub sound_awaits_one : (run : RunView) → IsSoundRun run → EachAwaitsOne run.records
-sound_awaits_one run sound = untold_awaits_one run.records sound.is_run.trace sound.is_run.untold (sound.clear Moved (4, omega arith, refl))
+sound_awaits_one run sound = elim sound.is_run.of_version.known [
+  | inl first ↦ untold_awaits_one rs sound.is_run.trace (first_version_tells_none rs (subst (λ v. IsTraceOf v rs) first sound.is_run.of_version)) (sound.clear Moved (4, omega arith, refl))
+  | inr second ↦ told_awaits_one rs run.family (subst (λ v. IsTraceOf v rs) second sound.is_run.of_version) sound.is_run.family (sound.clear NotCurrent (3, omega arith, refl)) (sound.clear TurnGap (5, omega arith, refl))
+]
+  where
+    rs : List Record
+    rs = run.records

@@ -18,7 +18,7 @@ use Rattle.ompt_events.proofs.PlaceLemmas.{seen_within}
 use Rattle.checker.specs.declared.in_order.Suspension.{Suspension}
 use Rattle.checker.specs.Schedule.{Awaits, awaits_creation, awaits_end, EachAwaitsOne}
 use Rattle.checker.specs.Suspensions.{IsEndOf}
-use Rattle.turns.specs.Rising.{IsStartOf}
+use Rattle.task_tree.specs.Rising.{IsStartOf}
 use Rattle.ompt_events.specs.Tree.{IsExplicit}
 use Rattle.checker.proofs.ScheduleLemmas.{later_awaits_none}
 use Rattle.checker.specs.InOrder.{entries_before, FitsBehind, AreLast}

@@ -21,7 +21,6 @@ use Rattle.ompt_events.specs.Violations as violations
 use Rattle.ompt_events.specs.Causes.{IsMalformed}
 use Rattle.ompt_events.proofs.PlaceLemmas.{at_within}
 use Rattle.ompt_events.proofs.TurnLemmas.{first_version_tells_none}
-use Rattle.task_tree.specs.Runs.{RunView, IsRun}
 use Rattle.task_tree.specs.Rising.{TurnsRise}
 use Rattle.task_tree.proofs.OwnOrderLemmas.{own_place_iff, arranged_get, arranged_length}
 use Rattle.task_tree.proofs.RenamingLemmas.{renamed_covers, renamed_predecessor}
@@ -222,10 +221,6 @@ file_required rs i task = (to, from)
     from (violations.awaited {dependent = dependent} completes after) = inr (inr (dependent, completes, after))
 
 -- ---- from the searches over the file
-
--- a run reads alike by each task's own order and by the order of the file
-pub run_alike : (run : RunView) → IsRun run → AreAlike (by_file run.records) (by_task run.records)
-run_alike run is = alike_back (by_task run.records) (by_file run.records) (rising_alike run.records (untold_rise run.records is.untold))
 
 -- the least cause of the file, found by its records, is the least that they show by the order of the file
 least_shown : (rs : List Record) (i : ℕ) (cause : Cause) → IsMalformed rs all_causes i cause → IsLeastShown (by_file rs) i cause

@@ -24,7 +24,7 @@ use Rattle.task_tree.specs.Family.{FamilyView, IsFamilyOf}
 use Rattle.task_tree.proofs.SubjectLemmas.{call_task, call_index}
 use Rattle.task_tree.proofs.NamedLemmas.{started_object}
 use Rattle.task_tree.proofs.LookupLemmas.{object_calls, root_or_explicit}
-use Rattle.turns.specs.Rising.{IsStartOf}
+use Rattle.task_tree.specs.Rising.{IsStartOf}
 use Rattle.checker.specs.Schedule.{first_started, awaited, Awaits, awaits_creation, awaits_end, IsEarlierOnThread, EachAwaitsOne, AwaitsNone}
 use Rattle.checker.specs.Merge.{turn_of, key_of}
 

@@ -17,7 +17,7 @@ use Rattle.task_tree.specs.Subjects.{Calls}
 use Rattle.task_tree.proofs.SubjectLemmas.{call_task}
 use Rattle.task_tree.specs.Family.{FamilyView, IsFamilyOf}
 use Rattle.task_tree.proofs.RowLemmas.{read_pushed, read_last}
-use Rattle.turns.specs.Rising.{IsStartOf}
+use Rattle.task_tree.specs.Rising.{IsStartOf}
 use Rattle.checker.specs.declared.suspensions.Suspensions.{Suspensions}
 use Rattle.checker.specs.Schedule.{Awaits, awaits_creation, awaits_end, EachAwaitsOne}
 use Rattle.checker.specs.Suspensions.{IsEndOf, BeginsNoLater, HasSlot, AreRows, HaveRoom, AreLengths, IsSlotBehind, HasNoSlotBehind, IsEndBefore, AreEnds, AreSuspensions}

@@ -8,7 +8,7 @@ use Rattle.ompt_events.specs.Places.{at, thread_at}
 use Rattle.ompt_events.specs.Tree.{IsExplicit}
 use Rattle.ompt_events.specs.HappensBefore.{IsStart, IsResumption}
 use Rattle.task_tree.specs.Runs.{RunView, IsIndexOf}
-use Rattle.turns.specs.Rising.{IsStartOf}
+use Rattle.task_tree.specs.Rising.{IsStartOf}
 use Rattle.checker.specs.declared.schedule.Awaited.{Awaited}
 use Rattle.checker.specs.declared.schedule.Awaited.TheVariants.{Creation, Turn}
 

@@ -11,6 +11,7 @@ use Rattle.ompt_events.specs.Faults.{IsFault}
 use Rattle.ompt_events.specs.Linearization.{IsLinearization, IsGreedy}
 use Rattle.ompt_events.specs.Completion.{IsCompleteAt}
 use Rattle.task_tree.specs.Runs.{RunView, IsRun}
+use Rattle.task_tree.specs.Rising.{TurnsRise}
 use Rattle.checker.specs.Readings.{Reading, IsPrecededBy}
 use Rattle.checker.specs.Verdicts.{IsLeastShown, task_of, IsReason, IsOpenBy, IsLateBy, IsFirstSo, IsFirstUnfinished}
 use Rattle.checker.specs.declared.verdict.Why.{Why}
@@ -28,9 +29,10 @@ abbrev pub IsShownFault : Reading → Fault → Type 0
 IsShownFault reading Memory = ⊤
 IsShownFault reading (Malformed i cause) = IsLeastShown reading i cause
 
--- none of the causes before those of the ledger occurs in the run
+-- none of the causes before those of the ledger occurs in the run, whose tasks' turns rise along the file
 pub record IsSound (run : RunView) : Type 0 where
   pub is_run : IsRun run
+  pub rises : TurnsRise run.records
   pub clear : IsClear run.records (before EntryTwice)
 
 -- the run is of these records, and the edges are between its tasks
@@ -73,9 +75,11 @@ pub record ClearView : Type 0 where
   pub run : RunView
   pub order : List ℕ
 
--- no cause occurs in the run, and the order of its records is the greedy one
+-- no cause occurs in the run, whose tasks' turns rise along the file, and the order of its records is the greedy
+-- one
 pub record IsClearView (view : ClearView) : Type 0 where
   pub is_run : IsRun view.run
+  pub rises : TurnsRise view.run.records
   pub well_formed : IsClear view.run.records all_causes
   pub linearization : IsLinearization view.run.records view.order
   pub greedy : IsGreedy view.run.records view.order

@@ -4,7 +4,7 @@ use Rattle.ompt_events.specs.declared.records.Record.{Record}
 use Rattle.ompt_events.specs.Records.{begun_turn, suspended_turn}
 use Rattle.ompt_events.specs.Places.{at}
 use Rattle.ompt_events.specs.Tree.{IsExplicit}
-use Rattle.turns.specs.Rising.{IsStartOf}
+use Rattle.task_tree.specs.Rising.{IsStartOf}
 use Rattle.checker.specs.Schedule.{EachAwaitsOne}
 use Rattle.checker.specs.declared.suspensions.Suspensions.{Suspensions}
 

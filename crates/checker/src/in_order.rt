@@ -5,7 +5,7 @@ ghost use Rattle.ompt_events.specs.declared.cause.Cause.TheVariants.{EntryTwice,
 ghost use Rattle.ompt_events.specs.Places.{seen_at};
 ghost use Rattle.ompt_events.specs.HappensBefore.{IsStep};
 ghost use Rattle.ompt_events.specs.Causes.{IsFreeOf, known_after};
-ghost use Rattle.turns.specs.Rising.{IsStartOf};
+ghost use Rattle.task_tree.specs.Rising.{IsStartOf};
 ghost use Rattle.checker.specs.InOrder.{AreLast, FitsBehind};
 ghost use Rattle.checker.specs.Schedule.{Awaits, EachAwaitsOne, IsAwaited};
 ghost use Rattle.checker.specs.Suspensions.{IsEndOf};

@@ -3,7 +3,7 @@ ghost use Rattle.std.specs.Prelude.{ℕ, ◌≡◌, ◌<◌, ◌↔◌, None, So
 ghost use Rattle.ompt_events.specs.Records.{begun_turn};
 ghost use Rattle.ompt_events.specs.Places.{at as says_at};
 ghost use Rattle.task_tree.specs.Runs.{IsIndexOf};
-ghost use Rattle.turns.specs.Rising.{IsStartOf};
+ghost use Rattle.task_tree.specs.Rising.{IsStartOf};
 ghost use Rattle.checker.specs.Schedule.{first_started as starts_first, Awaits, IsAwaited, AwaitsNone};
 ghost use Rattle.checker.specs.Suspensions.{AreSuspensions};
 

@@ -3,7 +3,7 @@ ghost use Rattle.std.specs.Prelude.{ℕ, ◌≡◌, ◌<◌, ◌≤◌, ◌^◌,
 ghost use Rattle.ompt_events.specs.Records.{suspended_turn};
 ghost use Rattle.ompt_events.specs.Places.{at as says_at};
 ghost use Rattle.task_tree.specs.Runs.{IsRun};
-ghost use Rattle.turns.specs.Rising.{IsStartOf};
+ghost use Rattle.task_tree.specs.Rising.{IsStartOf};
 ghost use Rattle.checker.specs.Schedule.{EachAwaitsOne, Awaits};
 ghost use Rattle.checker.specs.Suspensions.{IsEndOf, BeginsNoLater, HasSlot, AreRows, HaveRoom, AreLengths, IsSlotBehind, HasNoSlotBehind, AreEnds, AreSuspensions};
 

@@ -56,6 +56,16 @@ impl OwnOrder {
         }
     }
 
+    /// How many records there are.
+    pub fn len(&self) -> usize
+        ensures { result ≡ length self.now }
+    {
+        match &self.order {
+            Order::InFile(records) => *records,
+            Order::Arranged(places, _) => places.len(),
+        }
+    }
+
     /// The place in the file of the record with this number.
     #[inline(always)]
     pub fn place(&self, number: usize) -> usize

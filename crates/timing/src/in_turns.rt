@@ -2,8 +2,7 @@
 use crate::lines::any_trace_of_input;
 use anyhow::{Result, bail};
 use ompt_events::Trace;
-use task_tree::Family;
-
+use task_tree::{Family, OwnOrder, arrange, find_gap, turns_of, turns_rise};
 
 /// Prints of the trace on standard input: its version, the turn of each record, the first record with a turn
 /// gap, the places in the tasks' own order, and whether turns are found to rise along the file.
@@ -32,7 +31,7 @@ fn of_order(rt: &HostRuntime, order: &OwnOrder) -> Result<()> {
     let mut numbers = Vec::with_capacity(rt.alloc(), order.len())?;
     for number in 0..order.len() {
         places.push(order.place(number))?;
-        numbers.push(order.own_place(number))?;
+        numbers.push(order.number(number))?;
     }
     println!(rt; "own order {places:?}, in it {numbers:?}")?;
     Ok(())
