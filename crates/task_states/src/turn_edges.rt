@@ -1,0 +1,110 @@
+//! Where tasks that moved begin and end their turns.
+ghost use Rattle.std.specs.Prelude.{ℕ, ◌≡◌, ◌<◌, IfOk, length};
+ghost use Rattle.std.specs.Option.{option_map_or};
+ghost use Rattle.ompt_events.specs.Records.{begun_turn};
+ghost use Rattle.ompt_events.specs.Turns.{turns_in};
+ghost use Rattle.task_states.specs.declared.turn_edges.Edge.TheVariants.{Begins, Ends};
+ghost use Rattle.task_states.specs.TurnEdges.{moved_turn, AreEdges};
+
+use crate::origins::Origins;
+use ompt_events::Record;
+use std::alloc::{AllocError, Global};
+use task_tree::Run;
+
+/// Which edge of a turn.
+#[derive(Clone, Copy)]
+pub(crate) enum Edge {
+    Begins,
+    Ends,
+}
+
+/// How many turns there are: one more than the greatest that begins.
+pub(crate) fn turn_count(run: &Run) -> usize
+    ensures { result ≡ turns_in run.now.records }
+{
+    let mut most = 0;
+    for event in run.records() {
+        most = begun_turn(event).max(most);
+    }
+    most as usize + 1
+}
+
+/// The turn that begins at the record, and 0 where none does.
+fn begun_turn(event: &Record) -> u32
+    ensures { result ≡ option_map_or (λ (b : ℕ × ℕ). b.1) (begun_turn event.now.body) 0 }
+{
+    match event.body.begun_turn() {
+        Some((_, turn)) => turn,
+        None => 0,
+    }
+}
+
+/// By turn the places at which tasks that moved begin it, or end it, in file order.
+pub(crate) fn find_edges(
+    alloc: Global,
+    origins: &Origins,
+    edge: Edge,
+    turns: usize,
+) -> Result<Vec<Vec<u32>>, AllocError>
+    ensures { IfOk result (λ rows.
+        AreEdges edge origins.now.records (length origins.now.records) turns rows.items) }
+{
+    let mut rows = no_places(alloc, turns)?;
+    for at in 0..origins.run().len() {
+        if let Some(turn) = moved_turn(origins, edge, at) {
+            if turn < turns {
+                rows[turn].push(at as u32)?;
+            }
+        }
+    }
+    Ok(rows)
+}
+
+/// So many rows with no place.
+fn no_places(alloc: Global, turns: usize) -> Result<Vec<Vec<u32>>, AllocError>
+    ensures { IfOk result (λ rows. (edge : Edge) → (rs : List Record)
+        → AreEdges edge rs 0 turns rows.items) }
+{
+    let mut rows = Vec::with_capacity(alloc, turns)?;
+    for _turn in 0..turns {
+        rows.push(Vec::new(alloc))?;
+    }
+    Ok(rows)
+}
+
+/// The turn that a task which moved begins, or ends, at the place.
+fn moved_turn(origins: &Origins, edge: Edge, at: usize) -> Option<usize>
+    requires { at < length origins.now.records }
+    ensures { result ≡ moved_turn edge origins.now.records at }
+{
+    match edge {
+        Edge::Begins => begun_there(origins, at),
+        Edge::Ends => ended_there(origins, at),
+    }
+}
+
+/// The turn that a task which moved begins there.
+fn begun_there(origins: &Origins, at: usize) -> Option<usize>
+    requires { at < length origins.now.records }
+    ensures { result ≡ moved_turn Begins origins.now.records at }
+{
+    let index = origins.run().started(at)?;
+    if !origins.has_moved(index) {
+        return None;
+    }
+    let (_, turn) = origins.run().record(at).body.begun_turn()?;
+    Some(turn as usize)
+}
+
+/// The turn that a task which moved ends there.
+fn ended_there(origins: &Origins, at: usize) -> Option<usize>
+    requires { at < length origins.now.records }
+    ensures { result ≡ moved_turn Ends origins.now.records at }
+{
+    let event = origins.run().schedule(at)?;
+    if !origins.has_moved(event.prior) {
+        return None;
+    }
+    let (_, turn) = origins.run().record(at).body.ended_turn()?;
+    Some(turn as usize)
+}
