@@ -341,7 +341,7 @@ has_not_moved rs task stays_there = ap is_some (found_none (is_away rs task) (pl
         false≢true (sym (ap not (stays_there i (is_the_task task (at started rs i) is) tells)) ∙ off)
 
 -- whether a record of the one thread is on the other
-on_thread : (rs : List Record) (home : Option ℕ) (i thread own : ℕ) → home ≡ Some own → thread_at rs i ≡ Some thread → is_on rs home i ≡ (thread == own)
+pub on_thread : (rs : List Record) (home : Option ℕ) (i thread own : ℕ) → home ≡ Some own → thread_at rs i ≡ Some thread → is_on rs home i ≡ (thread == own)
 on_thread rs home i thread own is runs =
     ap (λ o. is_on rs o i) is ∙ ap (λ (o : Option ℕ). option_map_or (λ t. t == own) o false) runs
 

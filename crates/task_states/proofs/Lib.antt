@@ -7,5 +7,6 @@ mod ProgressLemmas
 mod OriginLemmas
 mod PassLemmas
 mod HomeLemmas
+mod RootLemmas
 mod RegionLemmas
 mod StateLemmas

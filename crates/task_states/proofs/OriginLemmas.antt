@@ -248,6 +248,9 @@ root_made rs task place makes not = there (slice_get rs place) refl
       | inr creates ↦ absurd (not (read_made created rs place r e ∙ creates))
     ]
 
+pub root_begins : (rs : List Record) (tasks : List ℕ) (index task place : ℕ) → at made rs place ≡ slice_get tasks index → slice_get tasks index ≡ Some task → (IsExplicit rs task → ⊥) → at begun_root rs place ≡ Some task
+root_begins rs tasks index task place is is_task not_explicit = root_made rs task place (is ∙ is_task) (λ creates. not_explicit (place, creates))
+
 pub home_there : (rs : List Record) (tasks : List ℕ) (index task place : ℕ) → IsFreeOf rs CreatedTwice → at made rs place ≡ slice_get tasks index → slice_get tasks index ≡ Some task → (IsExplicit rs task → ⊥) → thread_at rs place ≡ home_of rs task
 home_there rs tasks index task place once is is_task not_explicit = of (thread_at rs place) refl
   where
@@ -255,7 +258,7 @@ home_there rs tasks index task place once is is_task not_explicit = of (thread_a
     makes = is ∙ is_task
 
     begins : at begun_root rs place ≡ Some task
-    begins = root_made rs task place makes (λ creates. not_explicit (place, creates))
+    begins = root_begins rs tasks index task place is is_task not_explicit
 
     of : (o : Option ℕ) → thread_at rs place ≡ o → o ≡ home_of rs task
     of None e = absurd (none-some task (sym (thread_none made rs place e) ∙ makes))

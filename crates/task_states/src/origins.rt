@@ -1,5 +1,6 @@
 //! What each task is, and where it runs.
 ghost use Rattle.std.specs.Prelude.{ℕ, ◌≡◌, ◌<◌, IfOk, length, slice_get, Some, false};
+ghost use Rattle.std.specs.List.{list_any};
 ghost use Rattle.ompt_events.specs.declared.cause.Cause.TheVariants.{NotCurrent};
 ghost use Rattle.ompt_events.specs.Causes.{IsFreeOf};
 ghost use Rattle.ompt_events.specs.States.{nature_of, has_moved};
@@ -91,7 +92,7 @@ impl<'a> Origins<'a> {
         ensures { (task : ℕ) → slice_get self.now.family.tasks index ≡ Some task
             → result ≡ has_moved self.now.records task }
     {
-        is_many(self.homes[index])
+        is_many(self.home(index))
     }
 
     /// Whether any task has moved.
