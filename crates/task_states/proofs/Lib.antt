@@ -8,5 +8,7 @@ mod OriginLemmas
 mod PassLemmas
 mod HomeLemmas
 mod RootLemmas
+mod MovedLemmas
+mod TurnEdgeLemmas
 mod RegionLemmas
 mod StateLemmas

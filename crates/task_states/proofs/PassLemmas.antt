@@ -53,11 +53,11 @@ said_there f rs i r stands = ap (option_and_then (λ (q : Record). f q.body)) st
 -- ---- which moves are early
 
 -- whether the body fulfils the task's event early
-abbrev early_for : ℕ → Body → Bool
+abbrev pub early_for : ℕ → Body → Bool
 early_for task (TaskSchedule EarlyFulfill turns prior next share) = prior == task
 early_for task _ = false
 
-early_there : (rs : List Record) (i task : ℕ) (r : Record) → slice_get rs i ≡ Some r → is_early rs task i ≡ early_for task r.body
+pub early_there : (rs : List Record) (i task : ℕ) (r : Record) → slice_get rs i ≡ Some r → is_early rs task i ≡ early_for task r.body
 early_there rs i task r stands = ap (λ (o : Option Record). option_map_or (λ (q : Record). early_for task q.body) o false) stands
 
 -- of the prior task what the status says
@@ -99,7 +99,7 @@ discard_early rs i task says =
 
 -- ---- which moves begin or end a turn
 
-switch_there : (rs : List Record) (i : ℕ) (r : Record) → slice_get rs i ≡ Some r → is_switch rs i ≡ option_map_or demands_next (says_status r.body) false
+pub switch_there : (rs : List Record) (i : ℕ) (r : Record) → slice_get rs i ≡ Some r → is_switch rs i ≡ option_map_or demands_next (says_status r.body) false
 switch_there rs i r stands = ap (λ (o : Option Status). option_map_or demands_next o false) (said_there says_status rs i r stands)
 
 -- of the prior task what the status says

@@ -1,10 +1,10 @@
 //! Where tasks that moved begin and end their turns.
-ghost use Rattle.std.specs.Prelude.{ℕ, ◌≡◌, ◌<◌, IfOk, length};
+ghost use Rattle.std.specs.Prelude.{ℕ, ◌≡◌, ◌<◌, [], IfOk, length};
 ghost use Rattle.std.specs.Option.{option_map_or};
 ghost use Rattle.ompt_events.specs.Records.{begun_turn};
 ghost use Rattle.ompt_events.specs.Turns.{turns_in};
 ghost use Rattle.task_states.specs.declared.turn_edges.Edge.TheVariants.{Begins, Ends};
-ghost use Rattle.task_states.specs.TurnEdges.{moved_turn, AreEdges};
+ghost use Rattle.task_states.specs.TurnEdges.{moved_turn, row_at, AreEdges};
 
 use crate::origins::Origins;
 use ompt_events::Record;
@@ -24,7 +24,7 @@ pub(crate) fn turn_count(run: &Run) -> usize
 {
     let mut most = 0;
     for event in run.records() {
-        most = begun_turn(event).max(most);
+        most = most.max(begun_turn(event));
     }
     most as usize + 1
 }
@@ -62,8 +62,8 @@ pub(crate) fn find_edges(
 
 /// So many rows with no place.
 fn no_places(alloc: Global, turns: usize) -> Result<Vec<Vec<u32>>, AllocError>
-    ensures { IfOk result (λ rows. (edge : Edge) → (rs : List Record)
-        → AreEdges edge rs 0 turns rows.items) }
+    ensures all { IfOk result (λ rows. length rows.items ≡ turns) }
+    ensures empty { IfOk result (λ rows. (turn : ℕ) → row_at rows.items turn ≡ []) }
 {
     let mut rows = Vec::with_capacity(alloc, turns)?;
     for _turn in 0..turns {
