@@ -57,15 +57,15 @@ passing p moves = filter (λ (step : ℕ × Move). p step.1) moves
 
 -- a stop and a start of which neither passes
 neither : (p : Move → Bool) (i : ℕ) (s : Status) → p (Stopped s) ≡ false → p Started ≡ false → (a b : Bool) → passing p (map (λ move. (i, move)) ((cond a (Stopped s ∷ []) [] ++ cond b (Started ∷ []) []) ++ [])) ≡ []
-neither p i s no none true true = ap (λ c. cond c ((i, Stopped s) ∷ cond (p Started) ((i, Started) ∷ []) []) (cond (p Started) ((i, Started) ∷ []) [])) no ∙ ap (λ c. cond c ((i, Started) ∷ []) []) none
-neither p i s no none true false = ap (λ c. cond c ((i, Stopped s) ∷ []) []) no
-neither p i s no none false true = ap (λ c. cond c ((i, Started) ∷ []) []) none
-neither p i s no none false false = refl
+neither p i s stop start true true = ap (λ c. cond c ((i, Stopped s) ∷ cond (p Started) ((i, Started) ∷ []) []) (cond (p Started) ((i, Started) ∷ []) [])) stop ∙ ap (λ c. cond c ((i, Started) ∷ []) []) start
+neither p i s stop start true false = ap (λ c. cond c ((i, Stopped s) ∷ []) []) stop
+neither p i s stop start false true = ap (λ c. cond c ((i, Started) ∷ []) []) start
+neither p i s stop start false false = refl
 
 -- a stop alone, which passes
 alone : (p : Move → Bool) (i : ℕ) (s : Status) → p (Stopped s) ≡ true → (a : Bool) → passing p (map (λ move. (i, move)) ((cond a (Stopped s ∷ []) [] ++ []) ++ [])) ≡ map (λ move. (i, move)) ((cond a (Stopped s ∷ []) [] ++ []) ++ [])
-alone p i s yes true = ap (λ c. cond c ((i, Stopped s) ∷ []) []) yes
-alone p i s yes false = refl
+alone p i s stop true = ap (λ c. cond c ((i, Stopped s) ∷ []) []) stop
+alone p i s stop false = refl
 
 -- early fulfilments
 early_by : (task i : ℕ) (b : Body) → HasItsNext b → passing is_early_move (made_by task i b) ≡ cond (early_for task b) (made_by task i b) []

@@ -1,11 +1,12 @@
 -- Where tasks that moved begin and end their turns, one record on, and the moves that they make there.
-use Rattle.std.proofs.Common.{◌≡◌, ◌≢◌, ◌∙◌, ℕ, ◌<◌, ◌≤◌, ◌+◌, List, [], ◌∷◌, ◌++◌, length, Option, Some, None, Bool, true, false, cond, refl, sym, ap, subst, arith, inl, inr, set}
+use Rattle.std.proofs.Common.{◌≡◌, ◌≢◌, ◌∙◌, ℕ, ◌<◌, ◌≤◌, ◌+◌, List, [], ◌∷◌, ◌++◌, length, Option, Some, None, Bool, true, false, cond, get_or, refl, sym, ap, arith, inl, inr, set}
 use Rattle.std.proofs.lemmas.Bool.{cases_eq, eq-eqb, ne_eqb, eqb-true, false≢true}
-use Rattle.std.proofs.lemmas.Option.{none-some, same_Some, slice_get_within}
+use Rattle.std.proofs.lemmas.Option.{none-some, same_Some, slice_get_within, slice_get_read, slice_get-get_or}
 use Rattle.std.proofs.lemmas.List.{append-nil, append_assoc, length-set}
-use Rattle.std.proofs.lemmas.List.Elements.{filter-append}
+use Rattle.std.proofs.lemmas.List.Elements.{filter-append, All-filter}
+use Rattle.std.proofs.lemmas.List.FromFn.{length-range_with_len, get_or-range_with_len}
 use Rattle.std.proofs.lemmas.Grind.{flat_map-append}
-use Rattle.std.specs.Prelude.{◌==◌, ◌&&◌, map, filter, slice_get, option_and_then, option_map}
+use Rattle.std.specs.Prelude.{◌==◌, ◌&&◌, All, map, filter, slice_get, option_and_then, option_map}
 use Rattle.std.specs.List.{flat_map, range_with_len}
 use Rattle.std.specs.Option.{option_map_or}
 use Rattle.std.specs.Global.{Vec}
@@ -19,6 +20,7 @@ use Rattle.ompt_events.specs.Places.{at, places}
 use Rattle.ompt_events.specs.Turns.{is_turn}
 use Rattle.ompt_events.specs.States.{Move, Stopped, Started, stops, has_moved, turn_starts_at, turn_ends_at, turn_moves}
 use Rattle.ompt_events.proofs.PlaceLemmas.{range_more}
+use Rattle.ompt_events.proofs.EveryLemmas.{every_get, every_passes}
 use Rattle.task_tree.proofs.LinkLemmas.{get_set_same, get_set_other}
 use Rattle.task_states.specs.declared.turn_edges.Edge.{Edge}
 use Rattle.task_states.specs.declared.turn_edges.Edge.TheVariants.{Begins, Ends}
@@ -213,7 +215,36 @@ row_moves edge rs task turn ks = by (has_moved rs task) refl ks
     by true e (k ∷ ks) = one k (filter q ks) (q k) true refl e refl ∙ ap (λ l. f k ++ l) (by true e ks)
     by false e (k ∷ ks) = one k (filter q ks) (q k) false refl e refl ∙ by false e ks
 
+-- a row that was read
+pub row_is : (edge : Edge) (rs : List Record) (n turns turn : ℕ) (rows : List (Vec ℕ)) (row : Vec ℕ) → AreEdges edge rs n turns rows → turn < turns → row ≡ get_or rows turn row → row.items ≡ filter (is_edge edge rs turn) (range_with_len 0 n)
+row_is edge rs n turns turn rows row are low read =
+    sym (ap row_items (slice_get_read rows (length rows) turn row refl (omega (arith, low, are.all)) read)) ∙ are.each turn low
+
+pub row_within : (edge : Edge) (rs : List Record) (turn n : ℕ) → All (λ place. place < n) (filter (is_edge edge rs turn) (range_with_len 0 n))
+row_within edge rs turn n =
+    All-filter (is_edge edge rs turn) (λ place. place < n) (range_with_len 0 n) (λ k d low.
+        let inside : k < n = rw (length-range_with_len 0 n) at low in
+        let same = get_or-range_with_len 0 n k d inside in
+        omega (arith, inside, same))
+
+pub row_edges : (edge : Edge) (rs : List Record) (turn : ℕ) (ks : List ℕ) → All (λ place. is_edge edge rs turn place ≡ true) (filter (is_edge edge rs turn) ks)
+row_edges edge rs turn ks = λ k d low.
+    let row = filter (is_edge edge rs turn) ks in
+    every_get (λ place. is_edge edge rs turn place ≡ true) row k (get_or row k d) (every_passes (is_edge edge rs turn) ks) (slice_get-get_or row k d low)
+
 -- ---- one turn more
+
+-- before the first turn there are no moves
+pub turned_none : (rs : List Record) (task : ℕ) → turned rs 0 task ≡ []
+turned_none rs task = by (has_moved rs task)
+  where
+    by : (m : Bool) → cond {A = List (ℕ × Move)} m [] [] ≡ []
+    by true = refl
+    by false = refl
+
+-- of a task that has not moved none are made at all
+pub turned_never : (rs : List Record) (n task : ℕ) → has_moved rs task ≡ false → turned rs n task ≡ []
+turned_never rs n task stays = ap (λ b. cond b (flat_map (turn_moves rs task) (range_with_len 0 n)) []) stays
 
 pub turned_more : (rs : List Record) (task turn : ℕ) (before : List (ℕ × Move)) (begins ends : List ℕ) → begins ≡ filter (is_edge Begins rs turn) (places rs) → ends ≡ filter (is_edge Ends rs turn) (places rs)
     → before ++ turned rs (turn + 1) task ≡ (before ++ turned rs turn task ++ flat_map (edge_moves Begins rs task turn) begins) ++ flat_map (edge_moves Ends rs task turn) ends

@@ -1,15 +1,15 @@
 //! What each task is, and where it runs.
-ghost use Rattle.std.specs.Prelude.{ℕ, ◌≡◌, ◌<◌, IfOk, length, slice_get, Some, false};
+ghost use Rattle.std.specs.Prelude.{ℕ, ◌≡◌, ◌<◌, ◌&&◌, IfOk, length, slice_get, Some, false};
 ghost use Rattle.std.specs.List.{list_any};
 ghost use Rattle.ompt_events.specs.declared.cause.Cause.TheVariants.{NotCurrent};
 ghost use Rattle.ompt_events.specs.Causes.{IsFreeOf};
 ghost use Rattle.ompt_events.specs.States.{nature_of, has_moved};
 ghost use Rattle.task_tree.specs.Runs.{IsRun};
 ghost use Rattle.task_states.specs.Homes.{home_at};
-ghost use Rattle.task_states.specs.Progress.{is_many, is_wait_made, the_nature, AreNatures, AreHomes};
+ghost use Rattle.task_states.specs.Progress.{is_at, is_many, is_turn_move, is_wait_made, the_nature, AreNatures, AreHomes};
 
 use crate::homes::{Home, Schedules};
-use crate::moves::Nature;
+use crate::moves::{Move, Nature, is_turn_move};
 use bitflags::Flags;
 use ompt_events::TaskFlags;
 use std::alloc::{AllocError, Global};
@@ -118,6 +118,23 @@ pub(crate) fn is_many(home: Home) -> bool
         Home::Many => true,
         Home::Nowhere | Home::On(_) => false,
     }
+}
+
+/// Whether a record of this thread is at the home.
+pub(crate) fn is_at(home: Home, thread: u8) -> bool
+    ensures { result ≡ is_at home thread }
+{
+    match home {
+        Home::On(own) => thread == own,
+        Home::Nowhere | Home::Many => false,
+    }
+}
+
+/// Whether the move begins or ends a turn, and the home is that of a task that moved.
+pub(crate) fn is_turned(home: Home, step: Move) -> bool
+    ensures { result ≡ is_many home && is_turn_move step }
+{
+    is_many(home) && is_turn_move(step)
 }
 
 /// What each task is.

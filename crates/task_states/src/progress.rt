@@ -1,5 +1,5 @@
 //! How far each task comes by the moves that its state allows.
-ghost use Rattle.std.specs.Prelude.{ℕ, ◌≡◌, ◌<◌, ◌++◌, List, Some, None, [], true, ◌&&◌, IsTrue, IfOk, OnOk, MatchOption, All, length, set, get_or, slice_get};
+ghost use Rattle.std.specs.Prelude.{ℕ, ◌≡◌, ◌<◌, ◌++◌, List, Some, None, [], true, IsTrue, IfOk, OnOk, MatchOption, All, length, set, get_or, slice_get};
 ghost use Rattle.std.specs.List.{flat_map};
 ghost use Rattle.ompt_events.specs.declared.cause.Cause.TheVariants.{NotCurrent, StatusOrder};
 ghost use Rattle.ompt_events.specs.Causes.{IsFreeOf};
@@ -11,11 +11,11 @@ ghost use Rattle.ompt_events.specs.States.{first_state, state_after, all_moves_o
 ghost use Rattle.task_tree.specs.Runs.{IsRun, IsIndexOf};
 ghost use Rattle.task_states.specs.TurnEdges.{is_edge, edge_moves, IsNoEdge, IsEdgeMove};
 ghost use Rattle.task_states.specs.declared.progress.Pass.TheVariants.{Early, Home, Rest};
-ghost use Rattle.task_states.specs.Progress.{the_nature, the_move, earlier, refused_after, reads, is_read, is_read_for, is_at, is_many, is_turn_move, and_move, and_record, moves_before, IsMoveOf, IsReadWhole, AreLeft, HasCome};
+ghost use Rattle.task_states.specs.Progress.{the_nature, the_move, earlier, refused_after, reads, is_read, is_read_for, and_move, and_record, moves_before, IsMoveOf, IsReadWhole, AreLeft, HasCome};
 
-use crate::homes::{Home, Schedules};
-use crate::moves::{Move, Nature, after_move, fulfils_early, is_early_move, is_turn_move};
-use crate::origins::{Origins, is_many};
+use crate::homes::Schedules;
+use crate::moves::{Move, Nature, after_move, fulfils_early, is_early_move};
+use crate::origins::{Origins, is_at, is_turned};
 use crate::turn_edges::{Edge, find_edges, turn_count};
 use ompt_events::State;
 use std::alloc::{AllocError, Global};
@@ -236,10 +236,10 @@ impl Progress {
             → HasCome origins.now.records origins.now.family.tasks
             (λ task. moves task ++ edge_moves edge origins.now.records task turn at) self.new }
     {
-        let Some(moved) = edge_move(origins.run(), edge, at) else {
+        let Some((index, step)) = edge_move(origins.run(), edge, at) else {
             return;
         };
-        self.go_on(origins.nature(moved.index), moved);
+        self.go_on(origins.nature(index), TaskMove { at, index, step });
     }
 
     /// Goes on by all that is left to read, which stands at these places alone.
@@ -319,24 +319,21 @@ fn first_state(nature: Nature) -> State
     }
 }
 
-/// The move with which a task begins a turn there, or ends it.
-fn edge_move(run: &Run, edge: Edge, at: usize) -> Option<TaskMove>
+/// The move with which a task begins a turn there, or ends it, and the task's index.
+fn edge_move(run: &Run, edge: Edge, at: usize) -> Option<(usize, Move)>
     requires within { at < length run.now.records }
     requires is_run { IsRun run.now }
     ensures { MatchOption result (IsNoEdge run.now.records edge at)
-        (λ moved. IsEdgeMove run.now edge at moved.at moved.index moved.step) }
+        (λ found. IsEdgeMove run.now edge at found.0 found.1) }
 {
     match edge {
         Edge::Begins => {
             let index = run.started(at)?;
-            let step = Move::Started;
-            Some(TaskMove { at, index, step })
+            Some((index, Move::Started))
         }
         Edge::Ends => {
             let event = run.schedule(at)?;
-            let index = event.prior;
-            let step = Move::Stopped(event.status);
-            Some(TaskMove { at, index, step })
+            Some((event.prior, Move::Stopped(event.status)))
         }
     }
 }
@@ -351,23 +348,6 @@ fn reads(pass: Pass, is_early: bool, is_home: bool, is_turned: bool) -> bool
         Pass::Home => is_home,
         Pass::Rest => !is_early && !is_home && !is_turned,
     }
-}
-
-/// Whether a record of this thread is at the home.
-fn is_at(home: Home, thread: u8) -> bool
-    ensures { result ≡ is_at home thread }
-{
-    match home {
-        Home::On(own) => thread == own,
-        Home::Nowhere | Home::Many => false,
-    }
-}
-
-/// Whether the move begins or ends a turn, and the home is that of a task that moved.
-fn is_turned(home: Home, step: Move) -> bool
-    ensures { result ≡ is_many home && is_turn_move step }
-{
-    is_many(home) && is_turn_move(step)
 }
 
 /// Keeps the first place at which a move was not allowed, after one at this place that led to this state.
