@@ -79,8 +79,7 @@ pub homes_start : (rs : List Record) (tasks : List ℕ) (homes : List Home) → 
 homes_start rs tasks homes are = record {
   all = ap length are ∙ length-replicate (length tasks) Nowhere;
   each = λ index task stands explicit.
-      let low : index < length tasks = slice_get_within tasks index task stands in
-      (
+      let low : index < length tasks = slice_get_within tasks index task stands in (
         Nowhere,
         ap (λ l. slice_get l index) are ∙ slice_get-get_or (replicate (length tasks) Nowhere) index Nowhere (rw (length-replicate (length tasks) Nowhere) low) ∙ ap Some (get_or-replicate (length tasks) index Nowhere Nowhere low),
         λ k below. absurd (omega arith),
@@ -244,16 +243,14 @@ homes_more rs i index thread told home new tasks homes once apart_all are start 
         let is : start.task ≡ task = same_Some start.task task (sym start.indexed ∙ ap (slice_get tasks) (sym same) ∙ stands) in
         let (before, there, ran) = are.each index start.task start.indexed start.explicit in
         let ran_here : HasRun rs i start.task home = subst (HasRun rs i start.task) (same_Some before home (sym there ∙ old)) ran in
-        let P : ℕ → Type 0 = λ t. HasRun rs (i + 1) t new in
-        (
+        let P : ℕ → Type 0 = λ t. HasRun rs (i + 1) t new in (
           new,
           ap (slice_get (set homes index new)) same ∙ get_set_same homes index new (slice_get_within homes index home old),
           subst P is (ran_more rs i start.task thread told home new once start.explicit start.starts runs tells ran_here goes),
         )
     | inr apart ↦
         let (before, there, ran) = are.each other task stands explicit in
-        let differs : start.task ≢ task = λ same. apart (apart_all other index task stands (start.indexed ∙ ap Some same)) in
-        (
+        let differs : start.task ≢ task = λ same. apart (apart_all other index task stands (start.indexed ∙ ap Some same)) in (
           before,
           get_set_other homes index other new apart ∙ there,
           ran_still rs i task before (λ starts. differs (same_Some start.task task (sym start.starts ∙ starts))) ran,
@@ -351,7 +348,7 @@ ran_all rs n task Nowhere once explicit all ran =
     let never = λ (i : ℕ) (starts : at started rs i ≡ Some task).
     ran i (let inside = at_within started rs i task starts in omega (arith, inside, all)) starts in
     let none : home_of rs task ≡ None = explicit_home rs task (explicit_not_root rs task once explicit)
-        ∙ ap (option_and_then (thread_at rs)) (found_none (λ i. is_task task (at started rs i)) (places rs) (λ i passes. never i (is_the_task task (at started rs i) passes))) in
+    ∙ ap (option_and_then (thread_at rs)) (found_none (λ i. is_task task (at started rs i)) (places rs) (λ i passes. never i (is_the_task task (at started rs i) passes))) in
     let still : has_moved rs task ≡ false = has_not_moved rs task (λ i starts tells. absurd (never i starts)) in
     sym (ap (λ b. home_told b (home_of rs task)) still ∙ ap (home_told false) none)
 ran_all rs n task (On thread) once explicit all ran =

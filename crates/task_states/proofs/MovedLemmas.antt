@@ -1,11 +1,11 @@
 -- All moves of a task are those that the passes read.
-use Rattle.std.proofs.Common.{◌≡◌, ◌∙◌, ℕ, List, [], ◌∷◌, ◌++◌, length, Option, Some, None, Bool, true, false, cond, refl, sym, ap, subst, get_or}
+use Rattle.std.proofs.Common.{◌≡◌, ◌∙◌, ℕ, List, [], ◌∷◌, ◌++◌, length, Option, Some, None, Bool, true, false, cond, refl, sym, ap, subst}
 use Rattle.std.proofs.lemmas.Bool.{false≢true}
 use Rattle.std.proofs.lemmas.List.{append-nil}
 use Rattle.std.proofs.lemmas.List.Elements.{filter-append}
 use Rattle.std.proofs.lemmas.Grind.{flat_map-append}
 use Rattle.std.proofs.lemmas.Option.{slice_get_within, get_or_from_slice_get}
-use Rattle.std.specs.Prelude.{◌==◌, ◌&&◌, not, map, filter, is_some, slice_get}
+use Rattle.std.specs.Prelude.{◌==◌, ◌&&◌, not, map, filter, slice_get}
 use Rattle.std.specs.List.{flat_map, range_with_len}
 use Rattle.std.specs.Option.{option_map_or}
 use Rattle.ompt_events.specs.declared.records.Record.{Record}
@@ -19,7 +19,7 @@ use Rattle.ompt_events.specs.Flags.{has_flag}
 use Rattle.ompt_events.specs.Places.{places}
 use Rattle.ompt_events.specs.Traces.{IsTrace, HasItsNext}
 use Rattle.ompt_events.specs.Turns.{turns_in}
-use Rattle.ompt_events.specs.States.{Move, Stopped, Started, Discarded, is_task, is_on, is_early, home_of, has_moved, moves_by, moves_at, moves_of, moves_by_file, moved_moves, all_moves_of, turn_moves, is_early_move, is_turn_move, is_apart}
+use Rattle.ompt_events.specs.States.{Move, Stopped, Started, Discarded, is_task, is_on, is_early, home_of, has_moved, moves_by, moves_at, moves_of, moves_by_file, moved_moves, all_moves_of, turn_moves, is_early_move, is_apart}
 use Rattle.task_tree.specs.Runs.{status as says_status}
 use Rattle.task_states.specs.declared.progress.Pass.TheVariants.{Early, Home, Rest}
 use Rattle.task_states.specs.Progress.{is_home, is_switch, is_read, moves_in, turned, moves_before}
@@ -168,10 +168,10 @@ apart_at rs task is_trace moves i = there (slice_get rs i) refl
     there (Some r) e =
         ap (λ l. passing is_apart l) (moves_there rs task i (Some r) e) ∙ apart_by task i r.body (next_there rs i r is_trace e)
         ∙ ap (λ b. cond b (made_by task i r.body) []) (
-          ap (λ b. not b && not (switches r.body)) (sym (early_there rs i task r e)) ∙ ap (λ b. not (is_early rs task i) && not b) (sym (switch_there rs i r e))
-          ∙ rest (is_early rs task i) (is_switch rs i)
-          ∙ ap (λ b. not (is_early rs task i) && not b && not (true && is_switch rs i)) (sym (away rs task i moves))
-          ∙ ap (λ b. not (is_early rs task i) && not (is_home rs task i) && not (b && is_switch rs i)) (sym moves))
+        ap (λ b. not b && not (switches r.body)) (sym (early_there rs i task r e)) ∙ ap (λ b. not (is_early rs task i) && not b) (sym (switch_there rs i r e))
+        ∙ rest (is_early rs task i) (is_switch rs i)
+        ∙ ap (λ b. not (is_early rs task i) && not b && not (true && is_switch rs i)) (sym (away rs task i moves))
+        ∙ ap (λ b. not (is_early rs task i) && not (is_home rs task i) && not (b && is_switch rs i)) (sym moves))
         ∙ ap (λ l. cond (is_read Rest rs task i) l []) (sym (moves_there rs task i (Some r) e))
 
 -- ---- all moves

@@ -2,7 +2,7 @@
 use Rattle.std.proofs.Common.{◌≡◌, ◌∙◌, ℕ, zero, suc, ◌<◌, ◌≤◌, List, [], ◌∷◌, ◌++◌, length, Option, Some, None, Bool, true, false, cond, refl, sym, ap, subst, arith, inl, inr, ◌⊎◌}
 use Rattle.std.proofs.lemmas.Bool.{eqb-true, and_parts, false≢true}
 use Rattle.std.proofs.lemmas.Option.{none-some, same_Some, slice_get_within, slice_get-get_or}
-use Rattle.std.specs.Prelude.{◌==◌, ◌↔◌, ◌&&◌, map, filter, slice_get, Contains, IsSomeAnd, option_and_then, slice_index_or, MatchOption}
+use Rattle.std.specs.Prelude.{◌==◌, ◌↔◌, map, filter, slice_get, Contains, IsSomeAnd, option_and_then, slice_index_or, MatchOption}
 use Rattle.std.specs.Option.{option_map_or}
 use Rattle.std.specs.List.{flat_map, range_with_len}
 use Rattle.std.proofs.lemmas.List.Elements.{Contains-append_cases, Contains-append_left}
@@ -21,7 +21,7 @@ use Rattle.ompt_events.specs.Records.{made, region, started, begun_turn, ended_t
 use Rattle.ompt_events.specs.Places.{at, places}
 use Rattle.ompt_events.specs.States.{Move, Stopped, Started, Discarded, is_task, stops, moves_by, moves_at, places_of, moves_of, has_moved, turn_starts_at, turn_ends_at, turn_moves, moves_by_file, moved_moves, all_moves_of, is_early_move, is_apart, nature_of, state_of}
 use Rattle.ompt_events.proofs.PlaceLemmas.{at_within}
-use Rattle.ompt_events.proofs.TurnLemmas.{begun_started, free_of_gaps}
+use Rattle.ompt_events.proofs.TurnLemmas.{begun_started}
 use Rattle.ompt_events.proofs.ListLemmas.{get_contains, contains_get}
 use Rattle.task_tree.specs.Family.{FamilyView, IsFamilyOf}
 use Rattle.task_tree.specs.Subjects.{subject, object}

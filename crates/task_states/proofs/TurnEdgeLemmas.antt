@@ -1,5 +1,5 @@
 -- Where tasks that moved begin and end their turns, one record on, and the moves that they make there.
-use Rattle.std.proofs.Common.{◌≡◌, ◌≢◌, ◌∙◌, ℕ, ◌<◌, ◌≤◌, ◌+◌, List, [], ◌∷◌, ◌++◌, length, Option, Some, None, Bool, true, false, cond, get_or, refl, sym, ap, arith, inl, inr, set}
+use Rattle.std.proofs.Common.{◌≡◌, ◌∙◌, ℕ, ◌<◌, ◌≤◌, ◌+◌, List, [], ◌∷◌, ◌++◌, length, Option, Some, None, Bool, true, false, cond, get_or, refl, sym, ap, arith, inl, inr, set}
 use Rattle.std.proofs.lemmas.Bool.{cases_eq, eq-eqb, ne_eqb, eqb-true, false≢true}
 use Rattle.std.proofs.lemmas.Option.{none-some, same_Some, slice_get_within, slice_get_read, slice_get-get_or}
 use Rattle.std.proofs.lemmas.List.{append-nil, append_assoc, length-set}
@@ -25,7 +25,7 @@ use Rattle.task_tree.proofs.LinkLemmas.{get_set_same, get_set_other}
 use Rattle.task_states.specs.declared.turn_edges.Edge.{Edge}
 use Rattle.task_states.specs.declared.turn_edges.Edge.TheVariants.{Begins, Ends}
 use Rattle.task_states.specs.Progress.{turned}
-use Rattle.task_states.specs.TurnEdges.{edge_turn, moved_turn, is_edge, edge_moves, row_items, row_at, AreEdges, IsNoEdge}
+use Rattle.task_states.specs.TurnEdges.{edge_turn, moved_turn, is_edge, edge_moves, row_items, AreEdges, IsNoEdge}
 use Rattle.task_states.proofs.PassLemmas.{record_there}
 
 -- ---- the turn at a place
@@ -223,9 +223,9 @@ row_is edge rs n turns turn rows row are low read =
 pub row_within : (edge : Edge) (rs : List Record) (turn n : ℕ) → All (λ place. place < n) (filter (is_edge edge rs turn) (range_with_len 0 n))
 row_within edge rs turn n =
     All-filter (is_edge edge rs turn) (λ place. place < n) (range_with_len 0 n) (λ k d low.
-        let inside : k < n = rw (length-range_with_len 0 n) at low in
-        let same = get_or-range_with_len 0 n k d inside in
-        omega (arith, inside, same))
+    let inside : k < n = rw (length-range_with_len 0 n) at low in
+    let same = get_or-range_with_len 0 n k d inside in
+    omega (arith, inside, same))
 
 pub row_edges : (edge : Edge) (rs : List Record) (turn : ℕ) (ks : List ℕ) → All (λ place. is_edge edge rs turn place ≡ true) (filter (is_edge edge rs turn) ks)
 row_edges edge rs turn ks = λ k d low.

@@ -110,8 +110,7 @@ impl<'a> States<'a> {
 fn gapless(run: &Run)
     requires { IsRun run.now }
     ensures { IsFreeOf run.now.records TurnGap }
-{
-}
+{}
 
 /// The state of each task after all its records. Searches for the first record that changes a task in a way
 /// that its state does not allow.

@@ -1,4 +1,4 @@
-use Rattle.std.proofs.Common.{ℕ, ◌≡◌, ◌+◌, Some, arith}
+use Rattle.std.proofs.Common.{ℕ, ◌≡◌, Some, arith}
 use Rattle.std.specs.Prelude.{slice_get}
 use Rattle.task_states.specs.declared.homes.Home.{Home}
 use Rattle.task_states.specs.Homes.{home_at}

@@ -1,6 +1,5 @@
-use Rattle.std.proofs.Common.{◌≡◌, ◌∙◌, ◌+◌, length, ap, refl, sym, arith, subst}
+use Rattle.std.proofs.Common.{◌∙◌, length, refl, sym, arith}
 use Rattle.std.proofs.lemmas.Option.{slice_get_read}
-use Rattle.task_states.specs.TurnEdges.{AreEdges}
 use Rattle.task_states.proofs.TurnEdgeLemmas.{edges_passed, edges_pushed, edge_past, edge_none}
 use Rattle.task_states.proofs.turn_edges.find_edges.Goals as goal
 use Rattle.task_states.proofs.turn_edges.find_edges.Goals.{in-Some+then-turn-turns+in_ok-push, in-Some+else-turn-turns, in_default}

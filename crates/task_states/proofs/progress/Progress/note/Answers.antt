@@ -1,6 +1,5 @@
-use Rattle.std.proofs.Common.{◌≡◌, ◌∙◌, ℕ, Some, sym, ap}
-use Rattle.std.specs.Prelude.{◌&&◌, slice_get}
-use Rattle.task_states.specs.Progress.{reads, is_read, is_at, is_many, is_early_move}
+use Rattle.std.proofs.Common.{◌∙◌, sym, ap}
+use Rattle.task_states.specs.Progress.{reads, is_at, is_early_move}
 use Rattle.task_states.proofs.ProgressLemmas.{come_read, come_unread}
 use Rattle.task_states.proofs.PassLemmas.{read_told}
 use Rattle.task_states.proofs.progress.Progress.note.Goals as goal
