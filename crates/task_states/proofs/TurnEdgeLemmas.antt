@@ -1,8 +1,8 @@
 -- Where tasks that moved begin and end their turns, one record on, and the moves that they make there.
 use Rattle.std.proofs.Common.{◌≡◌, ◌∙◌, ℕ, ◌<◌, ◌≤◌, ◌+◌, List, [], ◌∷◌, ◌++◌, length, Option, Some, None, Bool, true, false, cond, get_or, refl, sym, ap, arith, inl, inr, set}
-use Rattle.std.proofs.lemmas.Bool.{cases_eq, eq-eqb, ne_eqb, eqb-true, false≢true}
-use Rattle.std.proofs.lemmas.Option.{none-some, same_Some, slice_get_within, slice_get_read, slice_get-get_or}
-use Rattle.std.proofs.lemmas.List.{append-nil, append_assoc, length-set}
+use Rattle.std.proofs.lemmas.Bool.{cases_eq, cases_lt, eq-eqb, ne_eqb, eqb-true, false≢true}
+use Rattle.std.proofs.lemmas.Option.{none-some, same_Some, slice_get_within, slice_get_past, slice_get-get_or}
+use Rattle.std.proofs.lemmas.List.{append-nil, append_assoc, length_push}
 use Rattle.std.proofs.lemmas.List.Elements.{filter-append, All-filter}
 use Rattle.std.proofs.lemmas.List.FromFn.{length-range_with_len, get_or-range_with_len}
 use Rattle.std.proofs.lemmas.Grind.{flat_map-append}
@@ -21,11 +21,12 @@ use Rattle.ompt_events.specs.Turns.{is_turn}
 use Rattle.ompt_events.specs.States.{Move, Stopped, Started, stops, has_moved, turn_starts_at, turn_ends_at, turn_moves}
 use Rattle.ompt_events.proofs.PlaceLemmas.{range_more}
 use Rattle.ompt_events.proofs.EveryLemmas.{every_get, every_passes}
+use Rattle.ompt_events.proofs.ListLemmas.{get_pushed, get_last}
 use Rattle.task_tree.proofs.LinkLemmas.{get_set_same, get_set_other}
 use Rattle.task_states.specs.declared.turn_edges.Edge.{Edge}
 use Rattle.task_states.specs.declared.turn_edges.Edge.TheVariants.{Begins, Ends}
 use Rattle.task_states.specs.Progress.{turned}
-use Rattle.task_states.specs.TurnEdges.{edge_turn, moved_turn, is_edge, edge_moves, row_items, AreEdges, IsNoEdge}
+use Rattle.task_states.specs.TurnEdges.{edge_turn, moved_turn, is_edge, edge_moves, row_items, row_at, AreEdges, IsNoted, IsNoEdge}
 use Rattle.task_states.proofs.PassLemmas.{record_there}
 
 -- ---- the turn at a place
@@ -83,30 +84,49 @@ edges_more : (edge : Edge) (rs : List Record) (turn n : ℕ) → filter (is_edge
 edges_more edge rs turn n = ap (filter (is_edge edge rs turn)) (range_more n) ∙ filter-append (is_edge edge rs turn) (range_with_len 0 n) (n ∷ [])
 
 pub edges_passed : (edge : Edge) (rs : List Record) (n turns : ℕ) (rows : List (Vec ℕ)) → AreEdges edge rs n turns rows → ((turn : ℕ) → turn < turns → is_edge edge rs turn n ≡ false) → AreEdges edge rs (n + 1) turns rows
-edges_passed edge rs n turns rows are none = record {
-  all = are.all;
-  each = λ turn low. are.each turn low ∙ sym (edges_more edge rs turn n ∙ ap (λ b. filter (is_edge edge rs turn) (range_with_len 0 n) ++ cond b (n ∷ []) []) (none turn low) ∙ append-nil (filter (is_edge edge rs turn) (range_with_len 0 n)));
-}
+edges_passed edge rs n turns rows are none turn low =
+    are turn low ∙ sym (edges_more edge rs turn n ∙ ap (λ b. filter (is_edge edge rs turn) (range_with_len 0 n) ++ cond b (n ∷ []) []) (none turn low) ∙ append-nil (filter (is_edge edge rs turn) (range_with_len 0 n)))
 
-pub edges_pushed : (edge : Edge) (rs : List Record) (n turns turn : ℕ) (rows : List (Vec ℕ)) (old new : Vec ℕ) → AreEdges edge rs n turns rows → moved_turn edge rs n ≡ Some turn → turn < turns → slice_get rows turn ≡ Some old → new.items ≡ old.items ++ n ∷ [] → AreEdges edge rs (n + 1) turns (set rows turn new)
-edges_pushed edge rs n turns turn rows old new are is low stands pushed = record {
-  all = length-set rows turn new ∙ are.all;
-  each = λ other below. elim (cases_eq other turn) [
-    | inl same ↦
-        let row = filter (is_edge edge rs other) (range_with_len 0 n) in
-        let before : old.items ≡ row = sym (ap row_items (ap (slice_get rows) same ∙ stands)) ∙ are.each other below in
-        ap row_items (ap (slice_get (set rows turn new)) same ∙ get_set_same rows turn new (slice_get_within rows turn old stands)) ∙ pushed
-        ∙ ap (λ l. l ++ n ∷ []) before
-        ∙ sym (edges_more edge rs other n ∙ ap (λ b. row ++ cond b (n ∷ []) []) (here other ∙ eq-eqb turn other (sym same)))
-    | inr apart ↦
-        let row = filter (is_edge edge rs other) (range_with_len 0 n) in
-        ap row_items (get_set_other rows turn other new apart) ∙ are.each other below
-        ∙ sym (edges_more edge rs other n ∙ ap (λ b. row ++ cond b (n ∷ []) []) (here other ∙ ne_eqb turn other (λ same. apart (sym same))) ∙ append-nil row)
-  ];
-}
+pub edges_noted : (edge : Edge) (rs : List Record) (n turns turn : ℕ) (before after : List (Vec ℕ)) → AreEdges edge rs n turns before → moved_turn edge rs n ≡ Some turn → IsNoted before after turn n → AreEdges edge rs (n + 1) turns after
+edges_noted edge rs n turns turn before after are is noted other below = elim (cases_eq other turn) [
+  | inl same ↦
+      ap (row_at after) same ∙ noted.here ∙ ap (λ t. row_at before t ++ n ∷ []) (sym same) ∙ ap (λ l. l ++ n ∷ []) (are other below)
+      ∙ sym (edges_more edge rs other n ∙ ap (λ b. row ++ cond b (n ∷ []) []) (here ∙ eq-eqb turn other (sym same)))
+  | inr apart ↦
+      noted.others other apart ∙ are other below
+      ∙ sym (edges_more edge rs other n ∙ ap (λ b. row ++ cond b (n ∷ []) []) (here ∙ ne_eqb turn other (λ same. apart (sym same))) ∙ append-nil row)
+]
   where
-    here : (other : ℕ) → is_edge edge rs other n ≡ (turn == other)
-    here other = ap (λ o. option_map_or (λ t. t == other) o false) is
+    row : List ℕ
+    row = filter (is_edge edge rs other) (range_with_len 0 n)
+
+    here : is_edge edge rs other n ≡ (turn == other)
+    here = ap (λ o. option_map_or (λ t. t == other) o false) is
+
+-- before any place there is none
+pub edges_none : (edge : Edge) (rs : List Record) (turns : ℕ) (rows : List (Vec ℕ)) → rows ≡ [] → AreEdges edge rs 0 turns rows
+edges_none edge rs turns rows empty turn low = ap (λ l. row_at l turn) empty
+
+-- an empty row changes nothing
+pub row_made : (rows : List (Vec ℕ)) (new : Vec ℕ) (index : ℕ) → new.items ≡ [] → row_at (rows ++ new ∷ []) index ≡ row_at rows index
+row_made rows new index empty = elim (cases_lt index (length rows)) [
+  | inl within ↦
+      let there = slice_get-get_or rows index new within in
+      ap row_items (get_pushed rows new _ index there ∙ sym there)
+  | inr past ↦ elim (cases_eq index (length rows)) [
+    | inl last ↦ ap row_items (get_last rows new index last) ∙ empty ∙ sym (ap row_items (slice_get_past rows index past))
+    | inr apart ↦
+        let long = length_push rows new in
+        ap row_items (slice_get_past (rows ++ new ∷ []) index (omega (arith, past, apart, long)) ∙ sym (slice_get_past rows index past))
+  ]
+]
+
+-- a place is noted in a row
+pub row_noted : (before rows : List (Vec ℕ)) (turn place : ℕ) (old new : Vec ℕ) → ((other : ℕ) → row_at rows other ≡ row_at before other) → slice_get rows turn ≡ Some old → new.items ≡ old.items ++ place ∷ [] → IsNoted before (set rows turn new) turn place
+row_noted before rows turn place old new same stands pushed = record {
+  here = ap row_items (get_set_same rows turn new (slice_get_within rows turn old stands)) ∙ pushed ∙ ap (λ l. l ++ place ∷ []) (sym (ap row_items stands) ∙ same turn);
+  others = λ other apart. ap row_items (get_set_other rows turn other new apart) ∙ same other;
+}
 
 -- a turn that is not among those that are asked for, or none
 pub edge_past : (edge : Edge) (rs : List Record) (n turns turn : ℕ) → moved_turn edge rs n ≡ Some turn → turns ≤ turn → (other : ℕ) → other < turns → is_edge edge rs other n ≡ false
@@ -215,11 +235,7 @@ row_moves edge rs task turn ks = by (has_moved rs task) refl ks
     by true e (k ∷ ks) = one k (filter q ks) (q k) true refl e refl ∙ ap (λ l. f k ++ l) (by true e ks)
     by false e (k ∷ ks) = one k (filter q ks) (q k) false refl e refl ∙ by false e ks
 
--- a row that was read
-pub row_is : (edge : Edge) (rs : List Record) (n turns turn : ℕ) (rows : List (Vec ℕ)) (row : Vec ℕ) → AreEdges edge rs n turns rows → turn < turns → row ≡ get_or rows turn row → row.items ≡ filter (is_edge edge rs turn) (range_with_len 0 n)
-row_is edge rs n turns turn rows row are low read =
-    sym (ap row_items (slice_get_read rows (length rows) turn row refl (omega (arith, low, are.all)) read)) ∙ are.each turn low
-
+-- the places of a row
 pub row_within : (edge : Edge) (rs : List Record) (turn n : ℕ) → All (λ place. place < n) (filter (is_edge edge rs turn) (range_with_len 0 n))
 row_within edge rs turn n =
     All-filter (is_edge edge rs turn) (λ place. place < n) (range_with_len 0 n) (λ k d low.

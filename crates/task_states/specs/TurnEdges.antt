@@ -1,5 +1,5 @@
 -- Where tasks that moved begin and end their turns.
-use Rattle.std.specs.Prelude.{ℕ, ◌≡◌, ◌<◌, ◌==◌, Bool, true, false, List, [], ◌∷◌, Option, Some, None, if◌then◌else◌, length, filter, option_and_then, slice_get}
+use Rattle.std.specs.Prelude.{ℕ, ◌≡◌, ◌≢◌, ◌<◌, ◌++◌, ◌==◌, Bool, true, false, List, [], ◌∷◌, Option, Some, None, if◌then◌else◌, filter, option_and_then, slice_get}
 use Rattle.std.specs.List.{range_with_len}
 use Rattle.std.specs.Option.{option_map_or}
 use Rattle.std.specs.Global.{Vec}
@@ -34,7 +34,7 @@ abbrev pub edge_moves : Edge → List Record → ℕ → ℕ → ℕ → List (�
 edge_moves Begins rs task turn i = turn_starts_at rs task turn i
 edge_moves Ends rs task turn i = turn_ends_at rs task turn i
 
--- what stands in the row with this index
+-- what stands in the row with this index; nothing past the last row
 abbrev pub row_items : Option (Vec ℕ) → List ℕ
 row_items None = []
 row_items (Some row) = row.items
@@ -43,9 +43,14 @@ abbrev pub row_at : List (Vec ℕ) → ℕ → List ℕ
 row_at rows index = row_items (slice_get rows index)
 
 -- by turn the places below n at which tasks that moved begin it, or end it
-pub record AreEdges (edge : Edge) (rs : List Record) (n turns : ℕ) (rows : List (Vec ℕ)) : Type 0 where
-  pub all : length rows ≡ turns
-  pub each : (turn : ℕ) → turn < turns → row_at rows turn ≡ filter (is_edge edge rs turn) (range_with_len 0 n)
+abbrev pub AreEdges : Edge → List Record → ℕ → ℕ → List (Vec ℕ) → Type 0
+AreEdges edge rs n turns rows =
+    (turn : ℕ) → turn < turns → row_at rows turn ≡ filter (is_edge edge rs turn) (range_with_len 0 n)
+
+-- the place stands behind all in the row of this turn, and the other rows have what they had
+pub record IsNoted (before after : List (Vec ℕ)) (turn place : ℕ) : Type 0 where
+  pub here : row_at after turn ≡ row_at before turn ++ place ∷ []
+  pub others : (other : ℕ) → other ≢ turn → row_at after other ≡ row_at before other
 
 -- no task that moved begins a turn, or ends one, at the place
 abbrev pub IsNoEdge : List Record → Edge → ℕ → Type 0

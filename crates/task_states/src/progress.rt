@@ -16,7 +16,7 @@ ghost use Rattle.task_states.specs.Progress.{the_nature, the_move, earlier, refu
 use crate::homes::Schedules;
 use crate::moves::{Move, Nature, after_move, fulfils_early, is_early_move};
 use crate::origins::{Origins, is_at, is_turned};
-use crate::turn_edges::{Edge, find_edges, turn_count};
+use crate::turn_edges::{Edge, find_edges, row, turn_count};
 use ompt_events::State;
 use std::alloc::{AllocError, Global};
 use std::marker::Model;
@@ -202,8 +202,8 @@ impl Progress {
         let begins = find_edges(alloc, origins, Edge::Begins, turns)?;
         let ends = find_edges(alloc, origins, Edge::Ends, turns)?;
         for turn in 0..turns {
-            self.read_edges(origins, Edge::Begins, begins[turn].as_slice());
-            self.read_edges(origins, Edge::Ends, ends[turn].as_slice());
+            self.read_edges(origins, Edge::Begins, row(begins.as_slice(), turn));
+            self.read_edges(origins, Edge::Ends, row(ends.as_slice(), turn));
         }
         Ok(())
     }

@@ -1,10 +1,10 @@
 //! Where tasks that moved begin and end their turns.
-ghost use Rattle.std.specs.Prelude.{ℕ, ◌≡◌, ◌<◌, [], IfOk, length};
+ghost use Rattle.std.specs.Prelude.{ℕ, ◌≡◌, ◌<◌, ◌^◌, IfOk, OnOk, length};
 ghost use Rattle.std.specs.Option.{option_map_or};
 ghost use Rattle.ompt_events.specs.Records.{begun_turn};
 ghost use Rattle.ompt_events.specs.Turns.{turns_in};
 ghost use Rattle.task_states.specs.declared.turn_edges.Edge.TheVariants.{Begins, Ends};
-ghost use Rattle.task_states.specs.TurnEdges.{moved_turn, row_at, AreEdges};
+ghost use Rattle.task_states.specs.TurnEdges.{moved_turn, row_at, AreEdges, IsNoted};
 
 use crate::origins::Origins;
 use ompt_events::Record;
@@ -49,27 +49,53 @@ pub(crate) fn find_edges(
     ensures { IfOk result (λ rows.
         AreEdges edge origins.now.records (length origins.now.records) turns rows.items) }
 {
-    let mut rows = no_places(alloc, turns)?;
+    let mut rows: Vec<Vec<u32>> = Vec::new(alloc);
     for at in 0..origins.run().len() {
         if let Some(turn) = moved_turn(origins, edge, at) {
             if turn < turns {
-                rows[turn].push(at as u32)?;
+                note_place(alloc, &mut rows, turn, at)?;
             }
         }
     }
     Ok(rows)
 }
 
-/// So many rows with no place.
-fn no_places(alloc: Global, turns: usize) -> Result<Vec<Vec<u32>>, AllocError>
-    ensures all { IfOk result (λ rows. length rows.items ≡ turns) }
-    ensures empty { IfOk result (λ rows. (turn : ℕ) → row_at rows.items turn ≡ []) }
+/// The places in the row of this turn.
+pub(crate) fn row(rows: &[Vec<u32>], turn: usize) -> &[u32]
+    ensures { result.now ≡ row_at rows.now turn }
 {
-    let mut rows = Vec::with_capacity(alloc, turns)?;
-    for _turn in 0..turns {
+    match rows.get(turn) {
+        Some(row) => row.as_slice(),
+        None => &[],
+    }
+}
+
+/// Notes the place in the row of this turn. Rows are made only up to the turn: most turns are those of roots,
+/// which never move.
+fn note_place(
+    alloc: Global,
+    rows: &mut Vec<Vec<u32>>,
+    turn: usize,
+    at: usize,
+) -> Result<(), AllocError>
+    requires { at < 2 ^ 32 }
+    ensures { OnOk result (IsNoted rows.old.items rows.new.items turn at) }
+{
+    reach(alloc, rows, turn)?;
+    rows[turn].push(at as u32)?;
+    Ok(())
+}
+
+/// Makes the rows up to this turn, each of them empty.
+fn reach(alloc: Global, rows: &mut Vec<Vec<u32>>, turn: usize) -> Result<(), AllocError>
+    ensures made { OnOk result (turn < length rows.new.items) }
+    ensures same { OnOk result ((other : ℕ) → row_at rows.new.items other
+        ≡ row_at rows.old.items other) }
+{
+    'room: while rows.len() <= turn {
         rows.push(Vec::new(alloc))?;
     }
-    Ok(rows)
+    Ok(())
 }
 
 /// The turn that a task which moved begins, or ends, at the place.

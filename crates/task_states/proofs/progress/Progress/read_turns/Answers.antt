@@ -7,10 +7,10 @@ use Rattle.ompt_events.specs.Turns.{turns_in}
 use Rattle.task_states.specs.declared.progress.Pass.TheVariants.{Home, Rest}
 use Rattle.task_states.specs.declared.turn_edges.Edge.TheVariants.{Begins, Ends}
 use Rattle.task_states.specs.Progress.{moves_before, turned}
-use Rattle.task_states.specs.TurnEdges.{is_edge, edge_moves}
+use Rattle.task_states.specs.TurnEdges.{is_edge, edge_moves, row_at}
 use Rattle.task_states.proofs.ProgressLemmas.{come_same}
 use Rattle.task_states.proofs.PassLemmas.{rest_start}
-use Rattle.task_states.proofs.TurnEdgeLemmas.{row_is, row_within, row_edges, turned_none, turned_more}
+use Rattle.task_states.proofs.TurnEdgeLemmas.{row_within, row_edges, turned_none, turned_more}
 use Rattle.task_states.proofs.progress.Progress.read_turns.Goals as goal
 
 pub loop-turn-init : goal.loop-turn-init
@@ -23,27 +23,26 @@ pub read_edges-requires-clause-within : goal.read_edges-requires-clause-within
 read_edges-requires-clause-within c =
     let rs = c.args.origins.now.records in
     let turn = c.loop-turn.turn in
-    let row : c.as_slice.result.now ≡ filter (is_edge Begins rs turn) (places rs) = c.as_slice.ensures.value ∙ row_is Begins rs (length rs) c.turn_count-turns.result turn c.in_ok-begins.begins.items c.index.result.now c.in_ok-begins.ensures c.loop-turn-test.true c.index.ensures in
-    subst (All (λ place. place < length rs)) (sym row) (row_within Begins rs turn (length rs))
+    let begins : c.row.result.now ≡ filter (is_edge Begins rs turn) (places rs) = c.row.ensures ∙ ap (λ rows. row_at rows turn) c.as_slice.ensures.value ∙ c.in_ok-begins.ensures turn c.loop-turn-test.true in
+    subst (All (λ place. place < length rs)) (sym begins) (row_within Begins rs turn (length rs))
 
 pub read_edges-requires-in-loop-turn-clause-within : goal.read_edges-requires-in-loop-turn-clause-within
 read_edges-requires-in-loop-turn-clause-within c =
     let rs = c.args.origins.now.records in
     let turn = c.loop-turn.turn in
-    let row : c.as_slice-in-loop-turn.result.now ≡ filter (is_edge Ends rs turn) (places rs) = c.as_slice-in-loop-turn.ensures.value ∙ row_is Ends rs (length rs) c.turn_count-turns.result turn c.in_ok-ends.ends.items c.index-in-loop-turn.result.now c.in_ok-ends.ensures c.loop-turn-test.true c.index-in-loop-turn.ensures in
-    subst (All (λ place. place < length rs)) (sym row) (row_within Ends rs turn (length rs))
+    let ends : c.row-in-loop-turn.result.now ≡ filter (is_edge Ends rs turn) (places rs) = c.row-in-loop-turn.ensures ∙ ap (λ rows. row_at rows turn) c.as_slice-in-loop-turn.ensures.value ∙ c.in_ok-ends.ensures turn c.loop-turn-test.true in
+    subst (All (λ place. place < length rs)) (sym ends) (row_within Ends rs turn (length rs))
 
 pub loop-turn-preserved : goal.loop-turn-preserved
 loop-turn-preserved c =
     let rs = c.args.origins.now.records in
     let turn = c.loop-turn.turn in
-    let turns = c.turn_count-turns.result in
     let low = c.loop-turn-test.true in
-    let begins = c.as_slice.result.now in
-    let ends = c.as_slice-in-loop-turn.result.now in
+    let begins = c.row.result.now in
+    let ends = c.row-in-loop-turn.result.now in
     let before = moves_before Home rs (length rs) in
-    let first : begins ≡ filter (is_edge Begins rs turn) (places rs) = c.as_slice.ensures.value ∙ row_is Begins rs (length rs) turns turn c.in_ok-begins.begins.items c.index.result.now c.in_ok-begins.ensures low c.index.ensures in
-    let second : ends ≡ filter (is_edge Ends rs turn) (places rs) = c.as_slice-in-loop-turn.ensures.value ∙ row_is Ends rs (length rs) turns turn c.in_ok-ends.ends.items c.index-in-loop-turn.result.now c.in_ok-ends.ensures low c.index-in-loop-turn.ensures in
+    let first : begins ≡ filter (is_edge Begins rs turn) (places rs) = c.row.ensures ∙ ap (λ rows. row_at rows turn) c.as_slice.ensures.value ∙ c.in_ok-begins.ensures turn low in
+    let second : ends ≡ filter (is_edge Ends rs turn) (places rs) = c.row-in-loop-turn.ensures ∙ ap (λ rows. row_at rows turn) c.as_slice-in-loop-turn.ensures.value ∙ c.in_ok-ends.ensures turn low in
     let begins_all = subst (All (λ place. is_edge Begins rs turn place ≡ true)) (sym first) (row_edges Begins rs turn (places rs)) in
     let ends_all = subst (All (λ place. is_edge Ends rs turn place ≡ true)) (sym second) (row_edges Ends rs turn (places rs)) in
     let begun = c.read_edges.ensures.come turn begins_all (λ task. before task ++ turned rs turn task) c.loop-turn.invariant in
