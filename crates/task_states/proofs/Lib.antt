@@ -7,5 +7,8 @@ mod ProgressLemmas
 mod OriginLemmas
 mod PassLemmas
 mod HomeLemmas
+mod RootLemmas
+mod MovedLemmas
+mod TurnEdgeLemmas
 mod RegionLemmas
 mod StateLemmas

@@ -23,6 +23,9 @@ use Rattle.ompt_events.proofs.RecordLemmas.{begun_made, made_cases, begun_at_mad
 use Rattle.ompt_events.proofs.ListLemmas.{pushed_cases, contains_get}
 use Rattle.task_tree.proofs.OnceLemmas.{made_once}
 use Rattle.task_tree.proofs.LookupLemmas.{root_or_explicit}
+use Rattle.task_states.specs.declared.homes.Home.{Home}
+use Rattle.task_states.specs.declared.homes.Home.TheVariants.{Nowhere}
+use Rattle.task_states.specs.Homes.{home_at}
 use Rattle.task_states.specs.declared.moves.Nature as code
 use Rattle.task_states.specs.declared.moves.Nature.TheVariants as variants
 use Rattle.task_states.specs.Progress.{is_wait_made, first_start, the_nature, AreNatures, AreHomes}
@@ -186,11 +189,11 @@ natures_are rs tasks n natures filled all index task stands =
     let here = slice_get-get_or natures index variants.Plain (omega (arith, within, all, filled.all)) in
     (get_or natures index variants.Plain, here, filled.each index (get_or natures index variants.Plain) here task stands)
 
-pub homes_are : (rs : List Record) (tasks : List ℕ) (n : ℕ) (homes : List (Option ℕ)) → IsFilled (λ (i : ℕ) (home : Option ℕ). (task : ℕ) → slice_get tasks i ≡ Some task → home ≡ home_of rs task) n homes → length tasks ≤ n → AreHomes rs tasks homes
+pub homes_are : (rs : List Record) (tasks : List ℕ) (n : ℕ) (homes : List Home) → IsFilled (λ (i : ℕ) (home : Home). (task : ℕ) → slice_get tasks i ≡ Some task → home ≡ home_at rs task) n homes → length tasks ≤ n → AreHomes rs tasks homes
 homes_are rs tasks n homes filled all index task stands =
     let within = slice_get_within tasks index task stands in
-    let here = slice_get-get_or homes index None (omega (arith, within, all, filled.all)) in
-    here ∙ ap Some (filled.each index (get_or homes index None) here task stands)
+    let here = slice_get-get_or homes index Nowhere (omega (arith, within, all, filled.all)) in
+    here ∙ ap Some (filled.each index (get_or homes index Nowhere) here task stands)
 
 -- ---- the steps of the loops
 
@@ -245,6 +248,9 @@ root_made rs task place makes not = there (slice_get rs place) refl
       | inr creates ↦ absurd (not (read_made created rs place r e ∙ creates))
     ]
 
+pub root_begins : (rs : List Record) (tasks : List ℕ) (index task place : ℕ) → at made rs place ≡ slice_get tasks index → slice_get tasks index ≡ Some task → (IsExplicit rs task → ⊥) → at begun_root rs place ≡ Some task
+root_begins rs tasks index task place is is_task not_explicit = root_made rs task place (is ∙ is_task) (λ creates. not_explicit (place, creates))
+
 pub home_there : (rs : List Record) (tasks : List ℕ) (index task place : ℕ) → IsFreeOf rs CreatedTwice → at made rs place ≡ slice_get tasks index → slice_get tasks index ≡ Some task → (IsExplicit rs task → ⊥) → thread_at rs place ≡ home_of rs task
 home_there rs tasks index task place once is is_task not_explicit = of (thread_at rs place) refl
   where
@@ -252,7 +258,7 @@ home_there rs tasks index task place once is is_task not_explicit = of (thread_a
     makes = is ∙ is_task
 
     begins : at begun_root rs place ≡ Some task
-    begins = root_made rs task place makes (λ creates. not_explicit (place, creates))
+    begins = root_begins rs tasks index task place is is_task not_explicit
 
     of : (o : Option ℕ) → thread_at rs place ≡ o → o ≡ home_of rs task
     of None e = absurd (none-some task (sym (thread_none made rs place e) ∙ makes))

@@ -17,7 +17,9 @@ use Rattle.ompt_events.specs.declared.state.State.{State}
 use Rattle.ompt_events.specs.Records.{schedule, discarded, started}
 use Rattle.ompt_events.specs.Places.{at, places, thread_at}
 use Rattle.ompt_events.specs.Traces.{IsTrace, HasItsNext}
-use Rattle.ompt_events.specs.States.{Move, Stopped, Started, Discarded, is_task, is_on, is_early, home_of, moves_by, moves_at, moves_of, first_state}
+use Rattle.ompt_events.specs.States.{Move, Stopped, Started, Discarded, is_task, is_early, home_of, has_moved, moves_by, moves_at, first_state}
+use Rattle.ompt_events.specs.Names.{demands_next}
+use Rattle.ompt_events.specs.Turns.{turns_in}
 use Rattle.ompt_events.proofs.PlaceLemmas.{range_more, at_within}
 use Rattle.task_tree.specs.Runs.{RunView, IsRun, IsIndexOf, IsSchedule, status as says_status}
 use Rattle.task_tree.specs.Subjects.{Calls}
@@ -27,8 +29,9 @@ use Rattle.task_states.specs.declared.moves.Move as steps
 use Rattle.task_states.specs.declared.moves.Move.TheVariants as step
 use Rattle.task_states.specs.declared.progress.Pass.{Pass}
 use Rattle.task_states.specs.declared.progress.Pass.TheVariants.{Early, Home, Rest}
-use Rattle.task_states.specs.Progress.{the_nature, the_move, is_read, is_read_for, read_before, moves_read, moves_before, and_move, and_record, is_early_status, is_early_move, fulfils_early, is_at, reads, IsMoveOf, IsReadWhole, AreLeft, AreNatures, HasCome}
-use Rattle.task_states.specs.Homes.{IsNeverEarly}
+use Rattle.task_states.specs.Progress.{the_nature, the_move, is_home, is_switch, is_read, is_read_for, moves_in, turned, read_before, moves_read, moves_before, and_move, and_record, is_early_status, is_early_move, is_turn_move, fulfils_early, is_at, is_many, reads, IsMoveOf, IsReadWhole, AreLeft, AreNatures, HasCome}
+use Rattle.task_states.specs.declared.homes.Home as homes
+use Rattle.task_states.specs.Homes.{home_told, home_at, IsNeverEarly}
 use Rattle.task_states.proofs.ProgressLemmas.{come_same}
 
 -- ---- the record at a place
@@ -50,11 +53,11 @@ said_there f rs i r stands = ap (option_and_then (λ (q : Record). f q.body)) st
 -- ---- which moves are early
 
 -- whether the body fulfils the task's event early
-abbrev early_for : ℕ → Body → Bool
+abbrev pub early_for : ℕ → Body → Bool
 early_for task (TaskSchedule EarlyFulfill turns prior next share) = prior == task
 early_for task _ = false
 
-early_there : (rs : List Record) (i task : ℕ) (r : Record) → slice_get rs i ≡ Some r → is_early rs task i ≡ early_for task r.body
+pub early_there : (rs : List Record) (i task : ℕ) (r : Record) → slice_get rs i ≡ Some r → is_early rs task i ≡ early_for task r.body
 early_there rs i task r stands = ap (λ (o : Option Record). option_map_or (λ (q : Record). early_for task q.body) o false) stands
 
 -- of the prior task what the status says
@@ -94,23 +97,64 @@ discard_early rs i task says =
     of (Cancel flags other share) is = refl
     of _ is = absurd (none-some task is)
 
+-- ---- which moves begin or end a turn
+
+pub switch_there : (rs : List Record) (i : ℕ) (r : Record) → slice_get rs i ≡ Some r → is_switch rs i ≡ option_map_or demands_next (says_status r.body) false
+switch_there rs i r stands = ap (λ (o : Option Status). option_map_or demands_next o false) (said_there says_status rs i r stands)
+
+-- of the prior task what the status says
+stop_switch : (rs : List Record) (i task : ℕ) (status : Status) (next : Option ℕ) → at schedule rs i ≡ Some (status, task, next) → is_switch rs i ≡ demands_next status
+stop_switch rs i task status next says =
+    let (r, stands, is) = record_there schedule rs i (status, task, next) says in
+    switch_there rs i r stands ∙ of r.body is
+  where
+    of : (b : Body) → schedule b ≡ Some (status, task, next) → option_map_or demands_next (says_status b) false ≡ demands_next status
+    of (TaskSchedule s turns p n share) is =
+        let same : (s, p, n) ≡ (status, task, next) = same_Some (s, p, n) (status, task, next) is in
+        ap (λ (t : Status × ℕ × Option ℕ). demands_next t.0) same
+    of _ is = absurd (none-some (status, task, next) is)
+
+-- each start does: a trace has a next task where the status demands one alone
+start_switch : (rs : List Record) (i task : ℕ) → IsTrace rs → at started rs i ≡ Some task → is_switch rs i ≡ true
+start_switch rs i task is_trace says =
+    let (r, stands, is) = record_there started rs i task says in
+    let P : Record → Type 0 = λ q. HasItsNext q.body in
+    let sound : HasItsNext r.body = subst P (get_or_from_slice_get rs i r r stands) (is_trace.sound i r (slice_get_within rs i r stands)).next in
+    switch_there rs i r stands ∙ of r.body sound is
+  where
+    of : (b : Body) → HasItsNext b → started b ≡ Some task → option_map_or demands_next (says_status b) false ≡ true
+    of (TaskSchedule s turns prior next share) sound is = sym sound ∙ ap is_some is
+    of _ sound is = absurd (none-some task is)
+
+discard_switch : (rs : List Record) (i task : ℕ) → at discarded rs i ≡ Some task → is_switch rs i ≡ false
+discard_switch rs i task says =
+    let (r, stands, is) = record_there discarded rs i task says in
+    switch_there rs i r stands ∙ of r.body is
+  where
+    of : (b : Body) → discarded b ≡ Some task → option_map_or demands_next (says_status b) false ≡ false
+    of (Cancel flags other share) is = refl
+    of _ is = absurd (none-some task is)
+
+-- ---- the moves as the code makes them
+
 pub stop_move : (run : RunView) (i index : ℕ) (status : Status) (next : Option ℕ) → IsSchedule run i status index next → IsMoveOf run i index (step.Stopped status)
 stop_move run i index status next is = record {
   within = at_within schedule run.records i (status, is.task, is.follower) is.says;
   task = is.task;
   indexed = is.indexed;
   early = stop_early run.records i is.task status is.follower is.says;
+  switch = stop_switch run.records i is.task status is.follower is.says;
 }
 
 pub start_move : (run : RunView) (i index : ℕ) (next : Option ℕ) → IsRun run → IsIndexOf run started i next → next ≡ Some index → IsMoveOf run i index step.Started
 start_move run i index next is calls same =
     let (task, says, stands) = call_task run.family.tasks (at started run.records i) next index calls same in
-    record { within = at_within started run.records i task says; task = task; indexed = stands; early = start_early run.records i task is.trace says }
+    record { within = at_within started run.records i task says; task = task; indexed = stands; early = start_early run.records i task is.trace says; switch = start_switch run.records i task is.trace says }
 
 pub discard_move : (run : RunView) (i index : ℕ) (found : Option ℕ) → IsIndexOf run discarded i found → found ≡ Some index → IsMoveOf run i index step.Discarded
 discard_move run i index found calls same =
     let (task, says, stands) = call_task run.family.tasks (at discarded run.records i) found index calls same in
-    record { within = at_within discarded run.records i task says; task = task; indexed = stands; early = discard_early run.records i task says }
+    record { within = at_within discarded run.records i task says; task = task; indexed = stands; early = discard_early run.records i task says; switch = discard_switch run.records i task says }
 
 -- the task that runs next is that of the schedule
 scheduled_next : (rs : List Record) (i : ℕ) (status : Status) (task : ℕ) (next : Option ℕ) → at schedule rs i ≡ Some (status, task, next) → at started rs i ≡ next
@@ -128,22 +172,41 @@ next_calls run i index status next is =
     subst P (sym (scheduled_next run.records i status is.task is.follower is.says)) is.next_indexed
 
 -- whether a pass reads the record for a task
-read_here : (pass : Pass) (rs : List Record) (task i : ℕ) (move : steps.Move) (home : Option ℕ) (thread : ℕ) → is_early rs task i ≡ is_early_move move → home ≡ home_of rs task → thread_at rs i ≡ Some thread → reads pass (is_early_move move) (is_at home thread) ≡ is_read pass rs task i
-read_here pass rs task i move home thread early same runs =
-    ap (λ b. reads pass b (is_at home thread)) (sym early) ∙ ap (reads pass (is_early rs task i)) there ∙ of pass
-  where
-    there : is_at home thread ≡ is_on rs (home_of rs task) i
-    there = ap (λ (o : Option ℕ). option_map_or (λ h. option_map_or (λ t. t == h) o false) home false) (sym runs) ∙ ap (λ o. is_on rs o i) same
+home_here : (moved : Bool) (home on : Option ℕ) (thread : ℕ) → on ≡ Some thread → is_at (home_told moved home) thread ≡ not moved && option_map_or (λ h. option_map_or (λ t. t == h) on false) home false
+home_here true home on thread runs = refl
+home_here false None on thread runs = refl
+home_here false (Some own) on thread runs = ap (λ (o : Option ℕ). option_map_or (λ t. t == own) o false) (sym runs)
 
-    of : (p : Pass) → reads p (is_early rs task i) (is_on rs (home_of rs task) i) ≡ is_read p rs task i
+many_told : (moved : Bool) (home : Option ℕ) → is_many (home_told moved home) ≡ moved
+many_told true home = refl
+many_told false None = refl
+many_told false (Some own) = refl
+
+-- whether the home is that of a task that moved
+pub many_is : (rs : List Record) (task : ℕ) (home : homes.Home) → home ≡ home_at rs task → is_many home ≡ has_moved rs task
+many_is rs task home same = ap is_many same ∙ many_told (has_moved rs task) (home_of rs task)
+
+pub read_told : (pass : Pass) (run : RunView) (task i index : ℕ) (move : steps.Move) (home : homes.Home) (thread : ℕ) → IsMoveOf run i index move → slice_get run.family.tasks index ≡ Some task → home ≡ home_at run.records task → thread_at run.records i ≡ Some thread → reads pass (is_early_move move) (is_at home thread) (is_many home && is_turn_move move) ≡ is_read pass run.records task i
+read_told pass run task i index move home thread is stands same runs =
+    ap (λ b. reads pass b (is_at home thread) (is_many home && is_turn_move move)) (sym early)
+    ∙ ap (λ b. reads pass (is_early rs task i) b (is_many home && is_turn_move move)) there
+    ∙ ap (λ b. reads pass (is_early rs task i) (is_home rs task i) (b && is_turn_move move)) (many_is rs task home same)
+    ∙ ap (λ b. reads pass (is_early rs task i) (is_home rs task i) (has_moved rs task && b)) (sym is.switch)
+    ∙ of pass
+  where
+    rs : List Record
+    rs = run.records
+
+    early : is_early rs task i ≡ is_early_move move
+    early = let P : ℕ → Type 0 = λ t. is_early rs t i ≡ is_early_move move in subst P (same_Some is.task task (sym is.indexed ∙ stands)) is.early
+
+    there : is_at home thread ≡ is_home rs task i
+    there = ap (λ h. is_at h thread) same ∙ home_here (has_moved rs task) (home_of rs task) (thread_at rs i) thread runs
+
+    of : (p : Pass) → reads p (is_early rs task i) (is_home rs task i) (has_moved rs task && is_switch rs i) ≡ is_read p rs task i
     of Early = refl
     of Home = refl
     of Rest = refl
-
-pub read_told : (pass : Pass) (run : RunView) (task i index : ℕ) (move : steps.Move) (home : Option ℕ) (thread : ℕ) → IsMoveOf run i index move → slice_get run.family.tasks index ≡ Some task → home ≡ home_of run.records task → thread_at run.records i ≡ Some thread → reads pass (is_early_move move) (is_at home thread) ≡ is_read pass run.records task i
-read_told pass run task i index move home thread is stands same runs =
-    let P : ℕ → Type 0 = λ t. is_early run.records t i ≡ is_early_move move in
-    read_here pass run.records task i move home thread (subst P (same_Some is.task task (sym is.indexed ∙ stands)) is.early) same runs
 
 -- ---- the task that a record names
 
@@ -309,13 +372,13 @@ still_whole_at pass rs i within no_schedule no_discard =
 pub whole_not_left : (rs : List Record) (i : ℕ) (moves : ℕ → List (ℕ × Move)) → IsReadWhole Home rs i → (task : ℕ) → and_record Rest rs i moves task ≡ moves task
 whole_not_left rs i moves whole task = by (is_read Home rs task i) refl
   where
-    and_false : (b : Bool) → b && false ≡ false
-    and_false true = refl
-    and_false false = refl
+    off : (a c : Bool) → a && not true && c ≡ false
+    off true c = refl
+    off false c = refl
 
     by : (b : Bool) → is_read Home rs task i ≡ b → and_record Rest rs i moves task ≡ moves task
-    by true home = ap (λ b. moves task ++ cond (not (is_early rs task i) && not b) (moves_at rs task i) []) home
-        ∙ ap (λ b. moves task ++ cond b (moves_at rs task i) []) (and_false (not (is_early rs task i))) ∙ append-nil (moves task)
+    by true home = ap (λ b. moves task ++ cond (not (is_early rs task i) && not b && not (has_moved rs task && is_switch rs i)) (moves_at rs task i) []) home
+        ∙ ap (λ b. moves task ++ cond b (moves_at rs task i) []) (off (not (is_early rs task i)) (not (has_moved rs task && is_switch rs i))) ∙ append-nil (moves task)
     by false away = ap (λ l. moves task ++ cond (is_read Rest rs task i) l []) (whole task away) ∙ none (moves task) (is_read Rest rs task i)
 
 -- the first pass reads nothing where no event is fulfilled early
@@ -331,7 +394,7 @@ not_early rs i says task = there (slice_get rs i) says
     there (Some r) is = of r.body is
 
 unread_early : (rs : List Record) (i task : ℕ) (moves : ℕ → List (ℕ × Move)) → is_early rs task i ≡ false → and_record Early rs i moves task ≡ moves task
-unread_early rs i task moves none = ap (λ b. moves task ++ cond (b && not (is_on rs (home_of rs task) i)) (moves_at rs task i) []) none ∙ append-nil (moves task)
+unread_early rs i task moves late = ap (λ b. moves task ++ cond (b && not (is_home rs task i)) (moves_at rs task i) []) late ∙ append-nil (moves task)
 
 pub early_unread : (rs : List Record) (i : ℕ) (moves : ℕ → List (ℕ × Move)) → fulfils_early rs i ≡ false → (task : ℕ) → and_record Early rs i moves task ≡ moves task
 early_unread rs i moves says task = unread_early rs i task moves (not_early rs i says task)
@@ -352,10 +415,10 @@ read_more pass rs gone n task =
     let before = read_before pass rs task in
     let reads = is_read pass rs task in
     let front = filter reads gone in
-    ap (λ l. flat_map f (before ++ l)) (filter-append reads gone (n ∷ []))
-    ∙ ap (flat_map f) (sym (append_assoc before front (filter reads (n ∷ []))))
-    ∙ flat_map-append f (before ++ front) (filter reads (n ∷ []))
-    ∙ ap (λ l. flat_map f (before ++ front) ++ l) (last (reads n))
+    ap (λ l. before ++ flat_map f l) (filter-append reads gone (n ∷ []))
+    ∙ ap (λ l. before ++ l) (flat_map-append f front (filter reads (n ∷ [])))
+    ∙ sym (append_assoc before (flat_map f front) (flat_map f (filter reads (n ∷ []))))
+    ∙ ap (λ l. (before ++ flat_map f front) ++ l) (last (reads n))
   where
     last : (b : Bool) → flat_map (moves_at rs task) (cond b (n ∷ []) []) ≡ cond b (moves_at rs task n) []
     last true = append-nil (moves_at rs task n)
@@ -401,13 +464,11 @@ pub early_start : (rs : List Record) (task : ℕ) → moves_before Early rs 0 ta
 early_start rs task = refl
 
 pub home_start : (rs : List Record) (task : ℕ) → moves_before Home rs 0 task ≡ moves_before Early rs (length rs) task
-home_start rs task = ap (flat_map (moves_at rs task)) (append-nil (filter (is_read Early rs task) (places rs)))
+home_start rs task = append-nil (moves_in Early rs (places rs) task)
 
-pub rest_start : (rs : List Record) (task : ℕ) → moves_before Rest rs 0 task ≡ moves_before Home rs (length rs) task
-rest_start rs task = ap (flat_map (moves_at rs task)) (append-nil (filter (is_read Early rs task) (places rs) ++ filter (is_read Home rs task) (places rs)))
-
-pub rest_end : (rs : List Record) (task : ℕ) → moves_of rs task ≡ moves_before Rest rs (length rs) task
-rest_end rs task = refl
+-- the moves before the last pass: those of the home pass, and all turns
+pub rest_start : (rs : List Record) (task : ℕ) → moves_before Rest rs 0 task ≡ moves_before Home rs (length rs) task ++ turned rs (turns_in rs) task
+rest_start rs task = append-nil (moves_in Early rs (places rs) task ++ moves_in Home rs (places rs) task ++ turned rs (turns_in rs) task)
 
 -- the state of a task that has not moved
 abbrev pub state_at_first : code.Nature → Option State

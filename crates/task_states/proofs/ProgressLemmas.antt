@@ -9,11 +9,13 @@ use Rattle.std.proofs.Math.ListN.{set}
 use Rattle.std.specs.Prelude.{◌==◌, ◌&&◌, is_some, slice_get, Contains, IsSomeAnd}
 use Rattle.ompt_events.specs.declared.records.Record.{Record}
 use Rattle.ompt_events.specs.declared.state.State.{State}
-use Rattle.ompt_events.specs.States.{Move, Nature, nature_of, home_of, state_of, state_after}
+use Rattle.ompt_events.specs.States.{Move, Nature, nature_of, state_of, state_after}
 use Rattle.ompt_events.proofs.ListLemmas.{get_pushed, get_last, pushed_cases}
 use Rattle.task_states.specs.declared.progress.Pass.{Pass}
 use Rattle.task_tree.specs.Numbering.{AreApart}
 use Rattle.task_tree.proofs.LinkLemmas.{get_set_same, get_set_other}
+use Rattle.task_states.specs.declared.homes.Home.{Home}
+use Rattle.task_states.specs.Homes.{home_at}
 use Rattle.task_states.specs.declared.moves.Nature as code
 use Rattle.task_states.specs.declared.moves.Move as steps
 use Rattle.task_states.specs.Progress.{the_nature, the_move, is_read, and_move, AreNatures, AreHomes, ProgressView, HasCome, IsRefused, earlier, refused_after}
@@ -237,8 +239,8 @@ pub come_unread : (pass : Pass) (rs : List Record) (tasks : List ℕ) (task at :
 come_unread pass rs tasks task at step moves progress reads come = come_same rs tasks moves (and_move pass rs at (Some task) step moves) progress (read_off pass rs at task step moves reads) come
 
 -- the entry of a table that was read
-pub home_read : (rs : List Record) (tasks : List ℕ) (homes : List (Option ℕ)) (index task : ℕ) (home : Option ℕ) → AreHomes rs tasks homes → slice_get tasks index ≡ Some task → index < length homes → home ≡ get_or homes index home → home ≡ home_of rs task
-home_read rs tasks homes index task home are stands within read = same_Some home (home_of rs task) (sym (slice_get-get_or homes index home within ∙ ap Some (sym read)) ∙ are index task stands)
+pub home_read : (rs : List Record) (tasks : List ℕ) (homes : List Home) (index task : ℕ) (home : Home) → AreHomes rs tasks homes → slice_get tasks index ≡ Some task → index < length homes → home ≡ get_or homes index home → home ≡ home_at rs task
+home_read rs tasks homes index task home are stands within read = same_Some home (home_at rs task) (sym (slice_get-get_or homes index home within ∙ ap Some (sym read)) ∙ are index task stands)
 
 pub nature_read : (rs : List Record) (tasks : List ℕ) (natures : List code.Nature) (index task : ℕ) (nature : code.Nature) → AreNatures rs tasks natures → slice_get tasks index ≡ Some task → index < length natures → nature ≡ get_or natures index nature → the_nature nature ≡ nature_of rs task
 nature_read rs tasks natures index task nature are stands within read =

@@ -1,11 +1,11 @@
 -- What the states after all records say, and the causes that they exclude.
 use Rattle.std.proofs.Common.{◌≡◌, ◌∙◌, ℕ, zero, suc, ◌<◌, ◌≤◌, List, [], ◌∷◌, ◌++◌, length, Option, Some, None, Bool, true, false, cond, refl, sym, ap, subst, arith, inl, inr, ◌⊎◌}
-use Rattle.std.proofs.lemmas.Bool.{eqb-true}
+use Rattle.std.proofs.lemmas.Bool.{eqb-true, and_parts, false≢true}
 use Rattle.std.proofs.lemmas.Option.{none-some, same_Some, slice_get_within, slice_get-get_or}
-use Rattle.std.specs.Prelude.{◌==◌, ◌↔◌, map, slice_get, Contains, IsSomeAnd, option_and_then, slice_index_or, MatchOption}
+use Rattle.std.specs.Prelude.{◌==◌, ◌↔◌, map, filter, slice_get, Contains, IsSomeAnd, option_and_then, slice_index_or, MatchOption}
 use Rattle.std.specs.Option.{option_map_or}
-use Rattle.std.specs.List.{flat_map}
-use Rattle.std.proofs.lemmas.List.Elements.{Contains-append_cases}
+use Rattle.std.specs.List.{flat_map, range_with_len}
+use Rattle.std.proofs.lemmas.List.Elements.{Contains-append_cases, Contains-append_left}
 use Rattle.ompt_events.specs.declared.records.Record.{Record}
 use Rattle.ompt_events.specs.declared.records.Body.{Body}
 use Rattle.ompt_events.specs.declared.records.Body.TheVariants.{TaskSchedule, Cancel}
@@ -13,15 +13,15 @@ use Rattle.ompt_events.specs.declared.state.State.{State}
 use Rattle.ompt_events.specs.declared.cause.Cause.{Cause}
 use Rattle.ompt_events.specs.declared.cause.Cause.TheVariants.{NotCurrent, Moved, TurnGap, StatusOrder, RegionOrder}
 use Rattle.ompt_events.specs.CauseNames.{cause_number}
-use Rattle.ompt_events.specs.Causes.{HasCause, status_order, turn_gap, HasNoState, IsFirstWith, IsFreeOf}
-use Rattle.ompt_events.specs.Turns.{TellsNoTurns}
+use Rattle.ompt_events.specs.Causes.{HasCause, status_order, HasNoState, IsFirstWith, IsFreeOf}
+use Rattle.ompt_events.specs.Turns.{is_turn, turns_in}
 use Rattle.ompt_events.specs.Flags as flag
 use Rattle.ompt_events.specs.Flags.{has_flag}
-use Rattle.ompt_events.specs.Records.{made, region}
-use Rattle.ompt_events.specs.Places.{at}
-use Rattle.ompt_events.specs.States.{Move, Stopped, Started, Discarded, is_task, moves_by, moves_at, moves_of, nature_of, state_of}
+use Rattle.ompt_events.specs.Records.{made, region, started, begun_turn, ended_turn, discarded}
+use Rattle.ompt_events.specs.Places.{at, places}
+use Rattle.ompt_events.specs.States.{Move, Stopped, Started, Discarded, is_task, stops, moves_by, moves_at, places_of, moves_of, has_moved, turn_starts_at, turn_ends_at, turn_moves, moves_by_file, moved_moves, all_moves_of, is_early_move, is_apart, nature_of, state_of}
 use Rattle.ompt_events.proofs.PlaceLemmas.{at_within}
-use Rattle.ompt_events.proofs.TurnLemmas.{moves_untold}
+use Rattle.ompt_events.proofs.TurnLemmas.{begun_started}
 use Rattle.ompt_events.proofs.ListLemmas.{get_contains, contains_get}
 use Rattle.task_tree.specs.Family.{FamilyView, IsFamilyOf}
 use Rattle.task_tree.specs.Subjects.{subject, object}
@@ -36,7 +36,7 @@ use Rattle.ompt_events.specs.Regions.{EndsRegion, IsRegion, ended, at_once}
 use Rattle.ompt_events.proofs.FaultLemmas.{fault_first, fault_next}
 use Rattle.task_states.specs.Progress.{ProgressView, HasCome, IsRefused}
 use Rattle.task_states.specs.States.{StatesView, AreStates, IsStates, IsLast, IsBeginOf}
-use Rattle.task_states.proofs.OriginLemmas.{is_the_task}
+use Rattle.task_states.proofs.OriginLemmas.{is_the_task, the_task}
 
 -- ---- a task that moves is one that a record makes
 
@@ -87,9 +87,119 @@ moved_there rs task i move has = of (slice_get rs i) refl has
       ],
     )
 
-refused_there : (rs : List Record) (family : FamilyView) (task i : ℕ) → IsFamilyOf rs family → IsRefused (nature_of rs task) (moves_of rs task) i → (i < length rs) × Contains family.tasks task
+-- a move by which it begins a turn is one that the record makes, as is one by which it ends it
+start_there : (rs : List Record) (task turn k i : ℕ) (move : Move) → Contains (turn_starts_at rs task turn k) (i, move) → Contains (moves_at rs task i) (i, move)
+start_there rs task turn k i move has = of (is_turn task turn (at begun_turn rs k)) refl has
+  where
+    of : (b : Bool) → is_turn task turn (at begun_turn rs k) ≡ b → Contains {X = ℕ × Move} (cond b ((k, Started) ∷ []) []) (i, move) → Contains (moves_at rs task i) (i, move)
+    of false e (j, low, is) = absurd (omega arith)
+    of true e (suc j, low, is) = absurd (omega arith)
+    of true e (zero, low, is) = subst (λ (s : ℕ × Move). Contains (moves_at rs task s.0) s) is (makes (begun_started rs k task turn (turn_is (at begun_turn rs k) e)))
+      where
+        turn_is : (o : Option (ℕ × ℕ)) → is_turn task turn o ≡ true → o ≡ Some (task, turn)
+        turn_is None e' = absurd (false≢true e')
+        turn_is (Some b) e' = let (own, same) = and_parts (b.0 == task) (b.1 == turn) e' in ap (λ t. Some (t, b.1)) (eqb-true b.0 task own) ∙ ap (λ t. Some (task, t)) (eqb-true b.1 turn same)
+
+        makes : at started rs k ≡ Some task → Contains {X = ℕ × Move} (moves_at rs task k) (k, Started)
+        makes starts = there (slice_get rs k) refl starts
+          where
+            body : (b : Body) → started b ≡ Some task → Contains {X = ℕ × Move} (map (λ m. (k, m)) (moves_by task b)) (k, Started)
+            body (TaskSchedule status turns prior next share) is' =
+                subst (λ c. Contains {X = ℕ × Move} (map (λ m. (k, m)) ((cond (prior == task) (Stopped status ∷ []) [] ++ cond c (Started ∷ []) []) ++ [])) (k, Started)) (sym (the_task task next is')) (after (prior == task))
+              where
+                after : (c : Bool) → Contains {X = ℕ × Move} (map (λ m. (k, m)) ((cond c (Stopped status ∷ []) [] ++ Started ∷ []) ++ [])) (k, Started)
+                after true = (1, omega arith, refl)
+                after false = (0, omega arith, refl)
+            body _ is' = absurd (none-some task is')
+
+            there : (o : Option Record) → slice_get rs k ≡ o → option_and_then (λ (r : Record). started r.body) o ≡ Some task → Contains (moves_at rs task k) (k, Started)
+            there None e' is' = absurd (none-some task is')
+            there (Some r) e' is' =
+                let P : Option Record → Type 0 = λ o. Contains {X = ℕ × Move} (map (λ m. (k, m)) (option_map_or (λ (q : Record). moves_by task q.body) o [])) (k, Started) in
+                subst P (sym e') (body r.body is')
+
+with_place : (k : ℕ) (move : Move) (moves : List Move) → Contains moves move → Contains {X = ℕ × Move} (map (λ m. (k, m)) moves) (k, move)
+with_place k move [] (i, low, is) = absurd (omega arith)
+with_place k move (m ∷ ms) (zero, low, is) = (0, omega arith, ap {B = ℕ × Move} (λ n. (k, n)) is)
+with_place k move (m ∷ ms) (suc i, low, is) = let (j, low', is') = with_place k move ms (i, omega (arith, low), is) in (suc j, omega (arith, low'), is')
+
+end_there : (rs : List Record) (task turn k i : ℕ) (move : Move) → Contains (turn_ends_at rs task turn k) (i, move) → Contains (moves_at rs task i) (i, move)
+end_there rs task turn k i move has = of (is_turn task turn (at ended_turn rs k)) has
+  where
+    stopped_there : Option Record → List Move
+    stopped_there o = option_map_or (λ (r : Record). stops task r.body) o []
+
+    body : (b : Body) → Contains (stops task b) move → Contains (moves_by task b) move
+    body b has' =
+        let started_too : List Move = cond (is_task task (started b)) (Started ∷ []) [] in
+        let discarded_too : List Move = cond (is_task task (discarded b)) (Discarded ∷ []) [] in
+        Contains-append_left (stops task b ++ started_too) discarded_too move (Contains-append_left (stops task b) started_too move has')
+
+    there : (o : Option Record) → Contains (stopped_there o) move → Contains (option_map_or (λ (r : Record). moves_by task r.body) o []) move
+    there None has' = has'
+    there (Some r) has' = body r.body has'
+
+    of : (b : Bool) → Contains {X = ℕ × Move} (cond b (map (λ m. (k, m)) (stopped_there (slice_get rs k))) []) (i, move) → Contains (moves_at rs task i) (i, move)
+    of false (j, low, is) = absurd (omega arith)
+    of true has' =
+        let (same, makes) = labelled k i move (stopped_there (slice_get rs k)) has' in
+        let P : ℕ → Type 0 = λ n. Contains {X = ℕ × Move} (moves_at rs task n) (n, move) in
+        subst P same (with_place k move (option_map_or (λ (r : Record). moves_by task r.body) (slice_get rs k) []) (there (slice_get rs k) makes))
+
+-- what passes of a list is in the list
+kept_in : {X : Type 0} (p : X → Bool) (xs : List X) (x : X) → Contains (filter p xs) x → Contains xs x
+kept_in p [] x has = has
+kept_in p (y ∷ ys) x has = by (p y) (λ (has' : Contains (filter p ys) x). let (i, low, is) = kept_in p ys x has' in (suc i, omega (arith, low), is)) has
+  where
+    by : (b : Bool) → (Contains (filter p ys) x → Contains (y ∷ ys) x) → Contains (cond b (y ∷ filter p ys) (filter p ys)) x → Contains (y ∷ ys) x
+    by false later has' = later has'
+    by true later (zero, low, is) = (0, omega arith, is)
+    by true later (suc i, low, is) = later (i, omega (arith, low), is)
+
+-- a part of many has what all have
+of_parts : {X : Type 0} (f : X → List (ℕ × Move)) (step : ℕ × Move) (P : Type 0) → ((x : X) → Contains (f x) step → P) → (xs : List X) → Contains (flat_map f xs) step → P
+of_parts f step P part [] (j, low, is) = absurd (omega arith)
+of_parts f step P part (x ∷ xs) has = of (Contains-append_cases (f x) (flat_map f xs) step has) (of_parts f step P part xs)
+  where
+    of : Contains (f x) step ⊎ Contains (flat_map f xs) step → (Contains (flat_map f xs) step → P) → P
+    of (inl here) more = part x here
+    of (inr later) more = more later
+
+-- each move of the task is one that the record at its place makes
+moved_by : (rs : List Record) (task i : ℕ) (move : Move) → Contains (all_moves_of rs task) (i, move) → Contains (moves_at rs task i) (i, move)
+moved_by rs task i move has = by (has_moved rs task) has
+  where
+    step : ℕ × Move
+    step = (i, move)
+
+    There : Type 0
+    There = Contains (moves_at rs task i) (i, move)
+
+    by_file : (passes : Move → Bool) → Contains (moves_by_file rs task passes) step → There
+    by_file passes has' = of_places rs task i move (places rs) (kept_in (λ (s : ℕ × Move). passes s.1) (flat_map (moves_at rs task) (places rs)) step has')
+
+    by_turn : (turn : ℕ) → Contains (turn_moves rs task turn) step → There
+    by_turn turn has' = elim (Contains-append_cases (flat_map (turn_starts_at rs task turn) (places rs)) (flat_map (turn_ends_at rs task turn) (places rs)) step has') [
+      | inl starts ↦ of_parts (turn_starts_at rs task turn) step There (λ k. start_there rs task turn k i move) (places rs) starts
+      | inr ends ↦ of_parts (turn_ends_at rs task turn) step There (λ k. end_there rs task turn k i move) (places rs) ends
+    ]
+
+    turns : List (ℕ × Move)
+    turns = flat_map (turn_moves rs task) (range_with_len 0 (turns_in rs))
+
+    by : (b : Bool) → Contains (cond b (moved_moves rs task) (moves_of rs task)) step → There
+    by false has' = of_places rs task i move (places_of rs task) has'
+    by true has' = elim (Contains-append_cases (moves_by_file rs task is_early_move ++ turns) (moves_by_file rs task is_apart) step has') [
+      | inl before ↦ elim (Contains-append_cases (moves_by_file rs task is_early_move) turns step before) [
+        | inl early ↦ by_file is_early_move early
+        | inr turning ↦ of_parts (turn_moves rs task) step There by_turn (range_with_len 0 (turns_in rs)) turning
+      ]
+      | inr apart ↦ by_file is_apart apart
+    ]
+
+refused_there : (rs : List Record) (family : FamilyView) (task i : ℕ) → IsFamilyOf rs family → IsRefused (nature_of rs task) (all_moves_of rs task) i → (i < length rs) × Contains family.tasks task
 refused_there rs family task i are refused =
-    let has = of_places rs task i refused.move _ (get_contains (moves_of rs task) (i, refused.move) refused.number refused.made_there) in
+    let has = moved_by rs task i refused.move (get_contains (all_moves_of rs task) (i, refused.move) refused.number refused.made_there) in
     let (within, names) = moved_there rs task i refused.move has in (
       within,
       elim names [
@@ -103,42 +213,36 @@ refused_there rs family task i are refused =
 state_of_cause : (rs : List Record) (i : ℕ) → HasCause rs i StatusOrder → HasNoState rs i
 state_of_cause rs i (status_order h) = h
 
--- where no turns are told, all moves of a task are those that are read by its home
-refused_of : (rs : List Record) (i : ℕ) → TellsNoTurns rs → (h : HasNoState rs i) → IsRefused (nature_of rs h.task) (moves_of rs h.task) i
-refused_of rs i untold h =
-    let P : List (ℕ × Move) → Type 0 = λ moves. IsRefused (nature_of rs h.task) moves i in
-    subst P (moves_untold rs h.task untold) (record { number = h.number; move = h.move; made_there = h.made_there; allowed = h.allowed; not_allowed = h.not_allowed })
+refused_of : (rs : List Record) (i : ℕ) → (h : HasNoState rs i) → IsRefused (nature_of rs h.task) (all_moves_of rs h.task) i
+refused_of rs i h = record { number = h.number; move = h.move; made_there = h.made_there; allowed = h.allowed; not_allowed = h.not_allowed }
 
-no_state_of : (rs : List Record) (task i : ℕ) → TellsNoTurns rs → IsRefused (nature_of rs task) (moves_of rs task) i → HasNoState rs i
-no_state_of rs task i untold refused =
-    let P : List (ℕ × Move) → Type 0 = λ moves. IsRefused (nature_of rs task) moves i in
-    let all = subst P (sym (moves_untold rs task untold)) refused in
-    record { task = task; number = all.number; move = all.move; made_there = all.made_there; allowed = all.allowed; not_allowed = all.not_allowed }
+no_state_of : (rs : List Record) (task i : ℕ) → IsRefused (nature_of rs task) (all_moves_of rs task) i → HasNoState rs i
+no_state_of rs task i all = record { task = task; number = all.number; move = all.move; made_there = all.made_there; allowed = all.allowed; not_allowed = all.not_allowed }
 
-none_refused : (rs : List Record) (family : FamilyView) (progress : ProgressView) → TellsNoTurns rs → IsFamilyOf rs family → HasCome rs family.tasks (moves_of rs) progress → progress.refused ≡ None → IsFreeOf rs StatusOrder
-none_refused rs family progress untold are come none i has =
+none_refused : (rs : List Record) (family : FamilyView) (progress : ProgressView) → IsFamilyOf rs family → HasCome rs family.tasks (all_moves_of rs) progress → progress.refused ≡ None → IsFreeOf rs StatusOrder
+none_refused rs family progress are come none i has =
     let h = state_of_cause rs i has in
-    let refused = refused_of rs i untold h in
+    let refused = refused_of rs i h in
     let P : Option ℕ → Type 0 = λ o. IsSomeAnd o (λ first. first ≤ i) in
     subst P none (come.least h.task i (refused_there rs family h.task i are refused).1 refused)
 
-first_refused : (rs : List Record) (family : FamilyView) (progress : ProgressView) (i : ℕ) → TellsNoTurns rs → IsFamilyOf rs family → HasCome rs family.tasks (moves_of rs) progress → progress.refused ≡ Some i → IsFirstWith rs StatusOrder i
-first_refused rs family progress i untold are come some =
+first_refused : (rs : List Record) (family : FamilyView) (progress : ProgressView) (i : ℕ) → IsFamilyOf rs family → HasCome rs family.tasks (all_moves_of rs) progress → progress.refused ≡ Some i → IsFirstWith rs StatusOrder i
+first_refused rs family progress i are come some =
     let (task, refused) = come.found i some in
     record {
       within = (refused_there rs family task i are refused).0;
-      has = status_order (no_state_of rs task i untold refused);
+      has = status_order (no_state_of rs task i refused);
       first = λ k below has.
           let h = state_of_cause rs k has in
-          let before = refused_of rs k untold h in
+          let before = refused_of rs k h in
           let P : Option ℕ → Type 0 = λ o. IsSomeAnd o (λ first. first ≤ k) in
           let less : i ≤ k = subst P some (come.least h.task k (refused_there rs family h.task k are before).1 before) in
           absurd (omega (arith, less, below));
     }
 
-pub refused_first : (rs : List Record) (family : FamilyView) (progress : ProgressView) (found : Option ℕ) → TellsNoTurns rs → IsFamilyOf rs family → HasCome rs family.tasks (moves_of rs) progress → found ≡ progress.refused → FindsFirst rs StatusOrder found
-refused_first rs family progress None untold are come same = none_refused rs family progress untold are come (sym same)
-refused_first rs family progress (Some i) untold are come same = first_refused rs family progress i untold are come (sym same)
+pub refused_first : (rs : List Record) (family : FamilyView) (progress : ProgressView) (found : Option ℕ) → IsFamilyOf rs family → HasCome rs family.tasks (all_moves_of rs) progress → found ≡ progress.refused → FindsFirst rs StatusOrder found
+refused_first rs family progress None are come same = none_refused rs family progress are come (sym same)
+refused_first rs family progress (Some i) are come same = first_refused rs family progress i are come (sym same)
 
 -- ---- the least of the four
 
@@ -183,14 +287,14 @@ fault_region rs fault current stay gapless ordered found =
 
 -- ---- the states after all records
 
-pub states_are : (rs : List Record) (tasks : List ℕ) (progress : ProgressView) (states : List (Option State)) → states ≡ progress.states → HasCome rs tasks (moves_of rs) progress → AreStates rs tasks states
+pub states_are : (rs : List Record) (tasks : List ℕ) (progress : ProgressView) (states : List (Option State)) → states ≡ progress.states → HasCome rs tasks (all_moves_of rs) progress → AreStates rs tasks states
 states_are rs tasks progress states same come n task stands = ap (λ l. slice_get l n) same ∙ come.each n task stands
 
 -- the state that was read
 pub last_is : (states : StatesView) (task index : ℕ) (read : Option State) → IsStates states → slice_get states.run.family.tasks index ≡ Some task → slice_get states.states index ≡ Some read → IsLast states.run.records task read
 last_is states task index read are stands read_there =
     let rs = states.run.records in (
-      λ made. same_Some read (state_of (nature_of rs task) (moves_of rs task)) (sym read_there ∙ are.each index task stands),
+      λ made. same_Some read (state_of (nature_of rs task) (all_moves_of rs task)) (sym read_there ∙ are.each index task stands),
       λ unmade. let (place, within, makes) = are.run.family.noted.only task (get_contains states.run.family.tasks task index stands) in absurd (unmade (place, makes)),
     )
 

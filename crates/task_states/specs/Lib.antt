@@ -6,4 +6,5 @@ pub mod Walks
 pub mod Homes
 pub mod Regions
 pub mod Progress
+pub mod TurnEdges
 pub mod States

@@ -1,4 +1,4 @@
--- How far each task has come while the records are gone over in three passes.
+-- How far each task has come while the records are gone over in passes.
 use Rattle.std.specs.Prelude.{ℕ, ◌≡◌, ◌<◌, ◌≤◌, ◌+◌, ◌++◌, ◌∷◌, ◌&&◌, ◌==◌, ltb, not, Bool, true, false, List, [], length, Option, Some, None, All, Contains, IsSomeAnd, is_some, if◌then◌else◌, filter, find, take, slice_get}
 use Rattle.std.specs.List.{flat_map, range_with_len}
 use Rattle.ompt_events.specs.declared.records.Record.{Record}
@@ -11,8 +11,13 @@ use Rattle.ompt_events.specs.Flags.{has_flag}
 use Rattle.ompt_events.specs.Records.{started, flags as says_flags}
 use Rattle.ompt_events.specs.Places.{at, places}
 use Rattle.ompt_events.specs.States as states
-use Rattle.ompt_events.specs.States.{is_task, is_on, is_early, home_of, moves_at, nature_of, state_of}
+use Rattle.ompt_events.specs.States.{is_task, is_on, is_early, home_of, has_moved, moves_at, turn_moves, nature_of, state_of}
+use Rattle.ompt_events.specs.Names.{demands_next}
+use Rattle.ompt_events.specs.Turns.{turns_in}
 use Rattle.task_tree.specs.Runs.{RunView, IsRun, status as says_status}
+use Rattle.task_states.specs.declared.homes.Home as homes
+use Rattle.task_states.specs.declared.homes.Home.TheVariants as runs
+use Rattle.task_states.specs.Homes.{home_at}
 use Rattle.task_states.specs.declared.moves.Nature.{Nature}
 use Rattle.task_states.specs.declared.moves.Nature.TheVariants.{Root, Wait, Plain}
 use Rattle.task_states.specs.declared.moves.Move.{Move}
@@ -31,23 +36,39 @@ the_move (Stopped status) = states.Stopped status
 the_move Started = states.Started
 the_move Discarded = states.Discarded
 
--- whether a pass reads what the record at i does to the task
-abbrev pub is_read : Pass → List Record → ℕ → ℕ → Bool
-is_read Early rs task i = is_early rs task i && not (is_on rs (home_of rs task) i)
-is_read Home rs task i = is_on rs (home_of rs task) i
-is_read Rest rs task i = not (is_early rs task i) && not (is_on rs (home_of rs task) i)
+-- whether the record is of the task's home; a task that moved has none
+abbrev pub is_home : List Record → ℕ → ℕ → Bool
+is_home rs task i = not (has_moved rs task) && is_on rs (home_of rs task) i
 
--- the places that the passes before have read for a task
-abbrev pub read_before : Pass → List Record → ℕ → List ℕ
+-- whether the thread switches there from one task to another: a turn ends, and one begins
+abbrev pub is_switch : List Record → ℕ → Bool
+is_switch rs i = option_map_or demands_next (at says_status rs i) false
+
+-- whether a pass reads what the record at i does to the task; turns of a task that moved are read apart
+abbrev pub is_read : Pass → List Record → ℕ → ℕ → Bool
+is_read Early rs task i = is_early rs task i && not (is_home rs task i)
+is_read Home rs task i = is_home rs task i
+is_read Rest rs task i =
+    not (is_early rs task i) && not (is_home rs task i) && not (has_moved rs task && is_switch rs i)
+
+-- the moves of a task that a pass reads at these places
+abbrev pub moves_in : Pass → List Record → List ℕ → ℕ → List (ℕ × states.Move)
+moves_in pass rs gone task = flat_map (moves_at rs task) (filter (is_read pass rs task) gone)
+
+-- the moves by which the task begins and ends its turns below n, if it moved
+abbrev pub turned : List Record → ℕ → ℕ → List (ℕ × states.Move)
+turned rs n task = if has_moved rs task then flat_map (turn_moves rs task) (range_with_len 0 n) else []
+
+-- the moves of a task that were read before the pass: before the last one also all turns of a task that moved
+abbrev pub read_before : Pass → List Record → ℕ → List (ℕ × states.Move)
 read_before Early rs task = []
-read_before Home rs task = filter (is_read Early rs task) (places rs)
+read_before Home rs task = moves_in Early rs (places rs) task
 read_before Rest rs task =
-    filter (is_read Early rs task) (places rs) ++ filter (is_read Home rs task) (places rs)
+    moves_in Early rs (places rs) task ++ moves_in Home rs (places rs) task ++ turned rs (turns_in rs) task
 
 -- the moves of a task that are read once the pass has gone over these places
 abbrev pub moves_read : Pass → List Record → List ℕ → ℕ → List (ℕ × states.Move)
-moves_read pass rs gone task =
-    flat_map (moves_at rs task) (read_before pass rs task ++ filter (is_read pass rs task) gone)
+moves_read pass rs gone task = read_before pass rs task ++ moves_in pass rs gone task
 
 -- the moves of a task that are read before the pass comes to the place n
 abbrev pub moves_before : Pass → List Record → ℕ → ℕ → List (ℕ × states.Move)
@@ -118,13 +139,13 @@ AreNatures rs tasks natures =
     (n task : ℕ) → slice_get tasks n ≡ Some task
     → (nature : Nature) × (slice_get natures n ≡ Some nature) × (the_nature nature ≡ nature_of rs task)
 
--- each task's home, by its index
-abbrev pub AreHomes : List Record → List ℕ → List (Option ℕ) → Type 0
+-- where each task runs, by its index
+abbrev pub AreHomes : List Record → List ℕ → List homes.Home → Type 0
 AreHomes rs tasks homes =
-    (n task : ℕ) → slice_get tasks n ≡ Some task → slice_get homes n ≡ Some (home_of rs task)
+    (n task : ℕ) → slice_get tasks n ≡ Some task → slice_get homes n ≡ Some (home_at rs task)
 
 -- the natures and homes are those of the run's tasks
-pub record AreOrigins (run : RunView) (natures : List Nature) (homes : List (Option ℕ)) : Type 0 where
+pub record AreOrigins (run : RunView) (natures : List Nature) (homes : List homes.Home) : Type 0 where
   pub of_run : IsRun run
   pub natures_are : AreNatures run.records run.family.tasks natures
   pub all : length natures ≡ length run.family.tasks
@@ -154,19 +175,36 @@ is_early_move (Stopped status) = is_early_status status
 is_early_move Started = false
 is_early_move Discarded = false
 
+-- whether the move begins or ends a turn
+abbrev pub is_turn_move : Move → Bool
+is_turn_move (Stopped status) = demands_next status
+is_turn_move Started = true
+is_turn_move Discarded = false
+
 -- whether a record of this thread is at a home
-abbrev pub is_at : Option ℕ → ℕ → Bool
-is_at home thread = option_map_or (λ h. thread == h) home false
+abbrev pub is_at : homes.Home → ℕ → Bool
+is_at (runs.On own) thread = thread == own
+is_at runs.Nowhere thread = false
+is_at runs.Many thread = false
 
--- whether a pass reads a record that is an early fulfilment or not, at home or not
-abbrev pub reads : Pass → Bool → Bool → Bool
-reads Early early home = early && not home
-reads Home early home = home
-reads Rest early home = not early && not home
+-- whether it is that of a task that moved
+abbrev pub is_many : homes.Home → Bool
+is_many runs.Many = true
+is_many runs.Nowhere = false
+is_many (runs.On own) = false
 
--- the record at the place may make this move of the task with the index; what is early there, the move tells
+-- whether a pass reads a record that is an early fulfilment or not, at home or not, in a turn of a task that
+-- moved or not
+abbrev pub reads : Pass → Bool → Bool → Bool → Bool
+reads Early early home turned = early && not home
+reads Home early home turned = home
+reads Rest early home turned = not early && not home && not turned
+
+-- the record at the place may make this move of the task with the index; what is early there and what begins
+-- or ends a turn, the move tells
 pub record IsMoveOf (run : RunView) (i index : ℕ) (step : Move) : Type 0 where
   pub within : i < length run.records
   pub task : ℕ
   pub indexed : slice_get run.family.tasks index ≡ Some task
   pub early : is_early run.records task i ≡ is_early_move step
+  pub switch : is_switch run.records i ≡ is_turn_move step

@@ -8,7 +8,7 @@ use Rattle.ompt_events.specs.Records.{region}
 use Rattle.ompt_events.specs.Places.{at}
 use Rattle.ompt_events.specs.Causes.{IsMade}
 use Rattle.ompt_events.specs.Regions.{IsRegion}
-use Rattle.ompt_events.specs.States.{nature_of, moves_of, state_of}
+use Rattle.ompt_events.specs.States.{nature_of, all_moves_of, state_of}
 use Rattle.task_tree.specs.Runs.{RunView, IsRun}
 use Rattle.task_states.specs.Regions.{AreLinked}
 
@@ -23,7 +23,7 @@ pub record StatesView : Type 0 where
 abbrev pub AreStates : List Record → List ℕ → List (Option State) → Type 0
 AreStates rs tasks states =
     (n task : ℕ) → slice_get tasks n ≡ Some task
-    → slice_get states n ≡ Some (state_of (nature_of rs task) (moves_of rs task))
+    → slice_get states n ≡ Some (state_of (nature_of rs task) (all_moves_of rs task))
 
 -- the states and the begins are those of the run
 pub record IsStates (states : StatesView) : Type 0 where
@@ -35,7 +35,7 @@ pub record IsStates (states : StatesView) : Type 0 where
 -- the state after all moves of a task that a record makes; of any other task there is none
 abbrev pub IsLast : List Record → ℕ → Option State → Type 0
 IsLast rs task found =
-    (IsMade rs task → found ≡ state_of (nature_of rs task) (moves_of rs task))
+    (IsMade rs task → found ≡ state_of (nature_of rs task) (all_moves_of rs task))
     × ((IsMade rs task → ⊥) → found ≡ None)
 
 -- the region that ends at i began there; a begin and end in one began at its own place

@@ -1,12 +1,14 @@
 //! Which thread each explicit task runs on.
-ghost use Rattle.std.specs.Prelude.{ℕ, ◌≡◌, ◌≢◌, ◌<◌, ◌↔◌, ◌∷◌, [], Some, None, false, IsTrue, IsSomeAnd, IfOk, IfErr, OnOk, length, replicate, slice_get};
-ghost use Rattle.ompt_events.specs.declared.cause.Cause.TheVariants.{Moved, TurnGap};
+ghost use Rattle.std.specs.Prelude.{ℕ, ◌≡◌, ◌<◌, ◌↔◌, ◌∷◌, [], Some, false, IfOk, IfErr, OnOk, is_some, length, replicate, slice_get};
+ghost use Rattle.ompt_events.specs.declared.cause.Cause.TheVariants.{Moved};
 ghost use Rattle.ompt_events.specs.Causes.{IsFreeOf};
 ghost use Rattle.ompt_events.specs.Faults.{IsFault};
-ghost use Rattle.ompt_events.specs.States.{home_of};
+ghost use Rattle.ompt_events.specs.Places.{at as says_at};
+ghost use Rattle.ompt_events.specs.Records.{told_turns};
 ghost use Rattle.ompt_events.specs.Tree.{IsExplicit};
 ghost use Rattle.task_tree.specs.Runs.{IsRun};
-ghost use Rattle.task_states.specs.Homes.{IsExplicitStart, IsNeverEarly};
+ghost use Rattle.task_states.specs.declared.homes.Home.TheVariants.{Nowhere};
+ghost use Rattle.task_states.specs.Homes.{home_after, home_at, told_move, IsExplicitStart, IsNeverEarly};
 
 use crate::moves::fulfils_early;
 use ompt_events::{Cause, Fault};
@@ -14,12 +16,23 @@ use std::alloc::{AllocError, Global};
 use std::marker::Model;
 use task_tree::Run;
 
-/// What the schedules of a run tell: by index of each explicit task the thread on which it runs, if it does,
-/// and whether the event of any task is fulfilled before that task's body has ended.
+/// Where a task runs.
+#[derive(Clone, Copy)]
+pub(crate) enum Home {
+    /// It does not run.
+    Nowhere,
+    /// On this thread alone.
+    On(u8),
+    /// On more than one thread, as turns tell.
+    Many,
+}
+
+/// What the schedules of a run tell: by index of each explicit task where it runs, and whether the event of
+/// any task is fulfilled before that task's body has ended.
 #[derive(Drop)]
 pub(crate) struct Schedules<'a> {
     run: Run<'a>,
-    homes: Vec<Option<u8>>,
+    homes: Vec<Home>,
     any_early: bool,
 }
 
@@ -44,11 +57,11 @@ impl<'a> Schedules<'a> {
         &self.run
     }
 
-    /// The thread on which the explicit task at this index runs, if it does.
-    pub(crate) fn home(&self, index: usize) -> Option<u8>
+    /// Where the explicit task at this index runs.
+    pub(crate) fn home(&self, index: usize) -> Home
         requires { index < length self.now.family.tasks }
         ensures { (task : ℕ) → slice_get self.now.family.tasks index ≡ Some task
-            → IsExplicit self.now.records task → result ≡ home_of self.now.records task }
+            → IsExplicit self.now.records task → result ≡ home_at self.now.records task }
     {
         self.homes[index]
     }
@@ -62,11 +75,10 @@ impl<'a> Schedules<'a> {
 }
 
 /// What the schedules tell. Searches for the first record after which an explicit task runs on a second
-/// thread.
+/// thread, and no turns tell that it moved.
 pub(crate) fn find_moved<'a>(alloc: Global, run: &Run<'a>) -> Result<Schedules<'a>, Fault>
     ensures run { IfOk result (λ schedules. schedules ≡ run.now) }
     ensures free { OnOk result (IsFreeOf run.now.records Moved) }
-    ensures gapless { OnOk result (IsFreeOf run.now.records TurnGap) }
     ensures fault { IfErr result (IsFault run.now.records (Moved ∷ [])) }
 {
     let mut homes = no_homes(alloc, run.task_count())?;
@@ -74,14 +86,14 @@ pub(crate) fn find_moved<'a>(alloc: Global, run: &Run<'a>) -> Result<Schedules<'
     for at in 0..run.len() {
         any_early |= fulfils_early(run, at);
         if let Some(index) = explicit_start(run, at) {
-            let thread = run.thread(at);
-            if is_other(homes[index], thread) {
+            let told = tells_turns(run, at);
+            let Some(home) = home_after(homes[index], run.thread(at), told) else {
                 return Err(Fault::Malformed {
                     at,
                     cause: Cause::Moved,
                 });
-            }
-            homes[index] = Some(thread);
+            };
+            homes[index] = home;
         }
     }
     Ok(Schedules {
@@ -91,11 +103,11 @@ pub(crate) fn find_moved<'a>(alloc: Global, run: &Run<'a>) -> Result<Schedules<'
     })
 }
 
-/// No thread for any task.
-fn no_homes(alloc: Global, tasks: usize) -> Result<Vec<Option<u8>>, AllocError>
-    ensures { IfOk result (λ homes. homes.items ≡ replicate tasks None) }
+/// No task runs.
+fn no_homes(alloc: Global, tasks: usize) -> Result<Vec<Home>, AllocError>
+    ensures { IfOk result (λ homes. homes.items ≡ replicate tasks Nowhere) }
 {
-    vec![in alloc; None; tasks]
+    vec![in alloc; Home::Nowhere; tasks]
 }
 
 /// The index of the explicit task that runs next, if one does.
@@ -113,12 +125,34 @@ fn explicit_start(run: &Run, at: usize) -> Option<usize>
     }
 }
 
-/// Whether the task ran before on another thread.
-fn is_other(home: Option<u8>, thread: u8) -> bool
-    ensures { IsTrue result ↔ IsSomeAnd home (λ before. before ≢ thread) }
+/// Whether the record tells turns.
+fn tells_turns(run: &Run, at: usize) -> bool
+    requires { at < length run.now.records }
+    ensures { result ≡ is_some (says_at told_turns run.now.records at) }
+{
+    run.record(at).body.told_turns().is_some()
+}
+
+/// Where a task runs that now runs on this thread; none where it ran on another one and no turns are told.
+fn home_after(home: Home, thread: u8, told: bool) -> Option<Home>
+    ensures { result ≡ home_after home thread told }
 {
     match home {
-        Some(before) => before != thread,
-        None => false,
+        Home::Nowhere => Some(Home::On(thread)),
+        Home::On(before) => {
+            if before == thread {
+                Some(home)
+            } else {
+                told_move(told)
+            }
+        }
+        Home::Many => told_move(told),
     }
+}
+
+/// The task moved, if turns tell so.
+fn told_move(told: bool) -> Option<Home>
+    ensures { result ≡ told_move told }
+{
+    if told { Some(Home::Many) } else { None }
 }

@@ -2,7 +2,7 @@
 //!
 //! Read `table` first, the states and what changes them, and `walk`, the tasks that a thread runs; then
 //! `states`, which takes all tasks of a run through their states: `current`, `homes`, `progress` (with
-//! `moves` and `origins`) and `regions` find one cause each. `numbering`, `targets` and `nesting` are calls
+//! `moves`, `origins` and `turn_edges`) and `regions` find one cause each. `numbering`, `targets` and `nesting` are calls
 //! of their own. `trace_calls` has the same calls for a trace with its tree.
 #![tactic(auto)]
 
@@ -18,6 +18,7 @@ mod states;
 mod table;
 mod targets;
 mod trace_calls;
+mod turn_edges;
 mod walk;
 
 pub use nesting::find_nested;

@@ -1,24 +1,28 @@
-//! What each task is, and the thread that is its home.
-ghost use Rattle.std.specs.Prelude.{ℕ, ◌≡◌, ◌<◌, IfOk, length, slice_get, Some};
-ghost use Rattle.ompt_events.specs.States.{nature_of, home_of};
+//! What each task is, and where it runs.
+ghost use Rattle.std.specs.Prelude.{ℕ, ◌≡◌, ◌<◌, ◌&&◌, IfOk, length, slice_get, Some, false};
+ghost use Rattle.std.specs.List.{list_any};
+ghost use Rattle.ompt_events.specs.declared.cause.Cause.TheVariants.{NotCurrent};
+ghost use Rattle.ompt_events.specs.Causes.{IsFreeOf};
+ghost use Rattle.ompt_events.specs.States.{nature_of, has_moved};
 ghost use Rattle.task_tree.specs.Runs.{IsRun};
-ghost use Rattle.task_states.specs.Progress.{is_wait_made, the_nature, AreNatures, AreHomes};
+ghost use Rattle.task_states.specs.Homes.{home_at};
+ghost use Rattle.task_states.specs.Progress.{is_at, is_many, is_turn_move, is_wait_made, the_nature, AreNatures, AreHomes};
 
-use crate::homes::Schedules;
-use crate::moves::Nature;
+use crate::homes::{Home, Schedules};
+use crate::moves::{Move, Nature, is_turn_move};
 use bitflags::Flags;
 use ompt_events::TaskFlags;
 use std::alloc::{AllocError, Global};
 use std::marker::Model;
 use task_tree::Run;
 
-/// The tasks of a run, by index of the task what it is, and its home: the thread on which it begins as a
-/// root, or first runs.
+/// The tasks of a run, by index of the task what it is, and where it runs: on the thread on which it begins
+/// as a root, or first runs, unless it moved.
 #[derive(Drop)]
 pub(crate) struct Origins<'a> {
     run: Run<'a>,
     natures: Vec<Nature>,
-    homes: Vec<Option<u8>>,
+    homes: Vec<Home>,
 }
 
 impl<'a> Model for Origins<'a> {
@@ -33,8 +37,9 @@ impl<'a> Model for Origins<'a> {
 }
 
 impl<'a> Origins<'a> {
-    /// What each task is, and its home.
+    /// What each task is, and where it runs.
     pub(crate) fn find(alloc: Global, schedules: &Schedules<'a>) -> Result<Origins<'a>, AllocError>
+        requires { IsFreeOf schedules.now.records NotCurrent }
         ensures { IfOk result (λ origins. origins ≡ schedules.now) }
     {
         let run = schedules.run().again();
@@ -72,14 +77,64 @@ impl<'a> Origins<'a> {
         self.natures[index]
     }
 
-    /// The home of the task at this index.
-    pub(crate) fn home(&self, index: usize) -> Option<u8>
+    /// Where the task at this index runs.
+    pub(crate) fn home(&self, index: usize) -> Home
         requires { index < length self.now.family.tasks }
         ensures { (task : ℕ) → slice_get self.now.family.tasks index ≡ Some task
-            → result ≡ home_of self.now.records task }
+            → result ≡ home_at self.now.records task }
     {
         self.homes[index]
     }
+
+    /// Whether the task at this index has moved.
+    pub(crate) fn has_moved(&self, index: usize) -> bool
+        requires { index < length self.now.family.tasks }
+        ensures { (task : ℕ) → slice_get self.now.family.tasks index ≡ Some task
+            → result ≡ has_moved self.now.records task }
+    {
+        is_many(self.home(index))
+    }
+
+    /// Whether any task has moved.
+    pub(crate) fn any_moved(&self) -> bool
+        ensures { result ≡ false → (task : ℕ) → has_moved self.now.records task ≡ false }
+    {
+        any_many(self.homes.as_slice())
+    }
+}
+
+/// Whether any of the homes is that of a task that moved.
+fn any_many(homes: &[Home]) -> bool
+    ensures { result ≡ list_any is_many homes.now }
+{
+    homes.iter().any(|home| is_many(*home))
+}
+
+/// Whether it is the home of a task that moved.
+pub(crate) fn is_many(home: Home) -> bool
+    ensures { result ≡ is_many home }
+{
+    match home {
+        Home::Many => true,
+        Home::Nowhere | Home::On(_) => false,
+    }
+}
+
+/// Whether a record of this thread is at the home.
+pub(crate) fn is_at(home: Home, thread: u8) -> bool
+    ensures { result ≡ is_at home thread }
+{
+    match home {
+        Home::On(own) => thread == own,
+        Home::Nowhere | Home::Many => false,
+    }
+}
+
+/// Whether the move begins or ends a turn, and the home is that of a task that moved.
+pub(crate) fn is_turned(home: Home, step: Move) -> bool
+    ensures { result ≡ is_many home && is_turn_move step }
+{
+    is_many(home) && is_turn_move(step)
 }
 
 /// What each task is.
@@ -124,9 +179,10 @@ fn is_wait_made(run: &Run, at: usize) -> bool
     }
 }
 
-/// For each task its home: the thread of the record that makes it, where it is a root, else the one on which
-/// it runs.
-fn find_homes(alloc: Global, schedules: &Schedules) -> Result<Vec<Option<u8>>, AllocError>
+/// For each task where it runs: on the thread of the record that makes it, where it is a root, else where the
+/// schedules tell.
+fn find_homes(alloc: Global, schedules: &Schedules) -> Result<Vec<Home>, AllocError>
+    requires { IsFreeOf schedules.now.records NotCurrent }
     ensures homes { IfOk result (λ homes.
         AreHomes schedules.now.records schedules.now.family.tasks homes.items) }
     ensures all { IfOk result (λ homes. length homes.items ≡ length schedules.now.family.tasks) }
@@ -139,15 +195,16 @@ fn find_homes(alloc: Global, schedules: &Schedules) -> Result<Vec<Option<u8>>, A
     Ok(homes)
 }
 
-/// The home of the task at this index.
-fn home_at(schedules: &Schedules, index: usize) -> Option<u8>
-    requires { index < length schedules.now.family.tasks }
+/// Where the task at this index runs.
+fn home_at(schedules: &Schedules, index: usize) -> Home
+    requires within { index < length schedules.now.family.tasks }
+    requires current { IsFreeOf schedules.now.records NotCurrent }
     ensures { (task : ℕ) → slice_get schedules.now.family.tasks index ≡ Some task
-        → result ≡ home_of schedules.now.records task }
+        → result ≡ home_at schedules.now.records task }
 {
     let run = schedules.run();
     if run.is_explicit(index) {
         return schedules.home(index);
     }
-    Some(run.thread(run.made_at(index)))
+    Home::On(run.thread(run.made_at(index)))
 }

@@ -1,24 +1,30 @@
 //! How far each task comes by the moves that its state allows.
-ghost use Rattle.std.specs.Prelude.{ℕ, ◌≡◌, ◌<◌, List, Some, None, [], IsTrue, IfOk, OnOk, length, set, get_or, slice_get};
-ghost use Rattle.ompt_events.specs.declared.cause.Cause.TheVariants.{StatusOrder};
+ghost use Rattle.std.specs.Prelude.{ℕ, ◌≡◌, ◌<◌, ◌++◌, List, Some, None, [], true, IsTrue, IfOk, OnOk, MatchOption, All, length, set, get_or, slice_get};
+ghost use Rattle.std.specs.List.{flat_map};
+ghost use Rattle.ompt_events.specs.declared.cause.Cause.TheVariants.{NotCurrent, StatusOrder};
+ghost use Rattle.ompt_events.specs.Causes.{IsFreeOf};
 ghost use Rattle.ompt_events.specs.Faults.{FindsFirst};
 ghost use Rattle.ompt_events.specs.Records.{started};
 ghost use Rattle.ompt_events.specs.Places.{at as says_at};
 ghost use Rattle.ompt_events.specs.States as states;
-ghost use Rattle.ompt_events.specs.States.{first_state, state_after, moves_of};
+ghost use Rattle.ompt_events.specs.States.{first_state, state_after, all_moves_of};
 ghost use Rattle.task_tree.specs.Runs.{IsRun, IsIndexOf};
+ghost use Rattle.task_states.specs.TurnEdges.{is_edge, edge_moves, IsNoEdge, IsEdgeMove};
 ghost use Rattle.task_states.specs.declared.progress.Pass.TheVariants.{Early, Home, Rest};
-ghost use Rattle.task_states.specs.Progress.{the_nature, the_move, earlier, refused_after, reads, is_read, is_read_for, is_at, and_move, and_record, moves_before, IsMoveOf, IsReadWhole, AreLeft, HasCome};
+ghost use Rattle.task_states.specs.Progress.{the_nature, the_move, earlier, refused_after, reads, is_read, is_read_for, and_move, and_record, moves_before, IsMoveOf, IsReadWhole, AreLeft, HasCome};
 
 use crate::homes::Schedules;
 use crate::moves::{Move, Nature, after_move, fulfils_early, is_early_move};
-use crate::origins::Origins;
+use crate::origins::{Origins, is_at, is_turned};
+use crate::turn_edges::{Edge, find_edges, row, turn_count};
 use ompt_events::State;
 use std::alloc::{AllocError, Global};
 use std::marker::Model;
+use task_tree::Run;
 
 /// Which records of a task are read in one go over the file: each task's moves are read in three, fulfilments
-/// ahead of its home, its home's records, then all others.
+/// ahead of its home, its home's records, then all others. A task that moved has no home; its turns are read
+/// one by one before the last.
 #[derive(Clone, Copy)]
 pub(crate) enum Pass {
     Early,
@@ -86,8 +92,10 @@ impl Progress {
         ensures read { (task : ℕ) → slice_get origins.now.family.tasks moved.index ≡ Some task
             → result ≡ is_read pass origins.now.records task moved.at }
     {
-        let is_home = is_at(origins.home(moved.index), origins.run().thread(moved.at));
-        if reads(pass, is_early_move(moved.step), is_home) {
+        let home = origins.home(moved.index);
+        let is_home = is_at(home, origins.run().thread(moved.at));
+        let is_turned = is_turned(home, moved.step);
+        if reads(pass, is_early_move(moved.step), is_home, is_turned) {
             self.go_on(origins.nature(moved.index), moved);
             return true;
         }
@@ -182,6 +190,58 @@ impl Progress {
         Ok(left)
     }
 
+    /// Goes on turn by turn by the moves with which tasks that moved begin and end it.
+    // Where no record has a TurnGap, there are no more turns than records, so that this is linear too.
+    fn read_turns(&mut self, alloc: Global, origins: &Origins) -> Result<(), AllocError>
+        requires { HasCome origins.now.records origins.now.family.tasks
+            (moves_before Home origins.now.records (length origins.now.records)) self.old }
+        ensures { OnOk result (HasCome origins.now.records origins.now.family.tasks
+            (moves_before Rest origins.now.records 0) self.new) }
+    {
+        let turns = turn_count(origins.run());
+        let begins = find_edges(alloc, origins, Edge::Begins, turns)?;
+        let ends = find_edges(alloc, origins, Edge::Ends, turns)?;
+        for turn in 0..turns {
+            self.read_edges(origins, Edge::Begins, row(begins.as_slice(), turn));
+            self.read_edges(origins, Edge::Ends, row(ends.as_slice(), turn));
+        }
+        Ok(())
+    }
+
+    /// Goes on by the moves with which tasks that moved begin a turn, or end it, at these places.
+    fn read_edges(&mut self, origins: &Origins, edge: Edge, places: &[u32])
+        requires within { All (λ place. place < length origins.now.records) places.now }
+        requires all { length self.old.states ≡ length origins.now.family.tasks }
+        ensures all { length self.new.states ≡ length origins.now.family.tasks }
+        ensures come { (turn : ℕ)
+            → All (λ place. is_edge edge origins.now.records turn place ≡ true) places.now
+            → (moves : ℕ → List (ℕ × states.Move))
+            → HasCome origins.now.records origins.now.family.tasks moves self.old
+            → HasCome origins.now.records origins.now.family.tasks (λ task. moves task
+            ++ flat_map (edge_moves edge origins.now.records task turn) places.now) self.new }
+    {
+        for at in places {
+            self.read_edge(origins, edge, *at as usize);
+        }
+    }
+
+    /// Goes on by the move with which a task that moved begins a turn there, or ends it.
+    fn read_edge(&mut self, origins: &Origins, edge: Edge, at: usize)
+        requires within { at < length origins.now.records }
+        requires all { length self.old.states ≡ length origins.now.family.tasks }
+        ensures all { length self.new.states ≡ length origins.now.family.tasks }
+        ensures come { (turn : ℕ) → is_edge edge origins.now.records turn at ≡ true
+            → (moves : ℕ → List (ℕ × states.Move))
+            → HasCome origins.now.records origins.now.family.tasks moves self.old
+            → HasCome origins.now.records origins.now.family.tasks
+            (λ task. moves task ++ edge_moves edge origins.now.records task turn at) self.new }
+    {
+        let Some((index, step)) = edge_move(origins.run(), edge, at) else {
+            return;
+        };
+        self.go_on(origins.nature(index), TaskMove { at, index, step });
+    }
+
     /// Goes on by all that is left to read, which stands at these places alone.
     fn read_rest(&mut self, origins: &Origins, left: &[usize])
         requires left { AreLeft origins.now.records (length origins.now.records) left.now }
@@ -230,8 +290,9 @@ impl Progress {
 
 /// How far each task comes by all its moves.
 pub(crate) fn find_progress(alloc: Global, schedules: &Schedules) -> Result<Progress, AllocError>
+    requires { IsFreeOf schedules.now.records NotCurrent }
     ensures come { IfOk result (HasCome schedules.now.records schedules.now.family.tasks
-        (moves_of schedules.now.records)) }
+        (all_moves_of schedules.now.records)) }
     ensures refused { IfOk result (λ progress.
         FindsFirst schedules.now.records StatusOrder progress.refused) }
 {
@@ -241,6 +302,9 @@ pub(crate) fn find_progress(alloc: Global, schedules: &Schedules) -> Result<Prog
         progress.read_early(&origins);
     }
     let left = progress.read_home(alloc, &origins)?;
+    if origins.any_moved() {
+        progress.read_turns(alloc, &origins)?;
+    }
     progress.read_rest(&origins, left.as_slice());
     Ok(progress)
 }
@@ -255,25 +319,34 @@ fn first_state(nature: Nature) -> State
     }
 }
 
-/// Whether a pass reads a record for a task, which is an early fulfilment of the task's event or not, and at
-/// the task's home or not.
-fn reads(pass: Pass, is_early: bool, is_home: bool) -> bool
-    ensures { result ≡ reads pass is_early is_home }
+/// The move with which a task begins a turn there, or ends it, and the task's index.
+fn edge_move(run: &Run, edge: Edge, at: usize) -> Option<(usize, Move)>
+    requires within { at < length run.now.records }
+    requires is_run { IsRun run.now }
+    ensures { MatchOption result (IsNoEdge run.now.records edge at)
+        (λ found. IsEdgeMove run.now edge at found.0 found.1) }
+{
+    match edge {
+        Edge::Begins => {
+            let index = run.started(at)?;
+            Some((index, Move::Started))
+        }
+        Edge::Ends => {
+            let event = run.schedule(at)?;
+            Some((event.prior, Move::Stopped(event.status)))
+        }
+    }
+}
+
+/// Whether a pass reads a record for a task, which is an early fulfilment of the task's event or not, at the
+/// task's home or not, and begins or ends a turn of a task that moved or not.
+fn reads(pass: Pass, is_early: bool, is_home: bool, is_turned: bool) -> bool
+    ensures { result ≡ reads pass is_early is_home is_turned }
 {
     match pass {
         Pass::Early => is_early && !is_home,
         Pass::Home => is_home,
-        Pass::Rest => !is_early && !is_home,
-    }
-}
-
-/// Whether this thread is the home, if there is one.
-fn is_at(home: Option<u8>, thread: u8) -> bool
-    ensures { result ≡ is_at home thread }
-{
-    match home {
-        Some(own) => thread == own,
-        None => false,
+        Pass::Rest => !is_early && !is_home && !is_turned,
     }
 }
 

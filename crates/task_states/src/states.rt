@@ -5,6 +5,7 @@ ghost use Rattle.ompt_events.specs.declared.cause.Cause.TheVariants.{NotCurrent,
 ghost use Rattle.ompt_events.specs.Causes.{IsFreeOf};
 ghost use Rattle.ompt_events.specs.Faults.{IsFault};
 ghost use Rattle.ompt_events.specs.Regions.{IsRegion};
+ghost use Rattle.task_tree.specs.Runs.{IsRun};
 ghost use Rattle.task_states.specs.States.{AreStates, IsStates, IsLast, IsBeginOf};
 
 use crate::current::find_misfit;
@@ -61,6 +62,7 @@ impl<'a> States<'a> {
     {
         find_misfit(alloc, run)?;
         let schedules = find_moved(alloc, run)?;
+        gapless(schedules.run());
         let states = find_states(alloc, &schedules)?;
         let begins = find_links(alloc, run)?;
         Ok(States {
@@ -104,9 +106,16 @@ impl<'a> States<'a> {
     }
 }
 
+/// No record tells other turns than those of its tasks: none tells any.
+fn gapless(run: &Run)
+    requires { IsRun run.now }
+    ensures { IsFreeOf run.now.records TurnGap }
+{}
+
 /// The state of each task after all its records. Searches for the first record that changes a task in a way
 /// that its state does not allow.
 fn find_states(alloc: Global, schedules: &Schedules) -> Result<Vec<Option<State>>, Fault>
+    requires { IsFreeOf schedules.now.records NotCurrent }
     ensures states { IfOk result (λ states.
         AreStates schedules.now.records schedules.now.family.tasks states.items) }
     ensures all { IfOk result (λ states. length states.items ≡ length schedules.now.family.tasks) }

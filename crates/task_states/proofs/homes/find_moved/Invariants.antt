@@ -4,7 +4,7 @@ use Rattle.task_states.specs.Homes.{IsNeverEarly}
 use Rattle.task_states.proofs.HomeLemmas.{AreHomes}
 use Rattle.task_states.proofs.homes.find_moved.Given as goal
 
--- the homes so far are known, no task has moved, and it is known whether any event was fulfilled early
+-- it is known where each task ran so far, none moved untold, and whether any event was fulfilled early
 abbrev pub invariant-loop-at : goal.invariant-loop-at
 invariant-loop-at l = record {
   homes : AreHomes l.run.records l.at l.run.family.tasks l.homes.items;

@@ -1,5 +1,7 @@
-use Rattle.std.proofs.Common.{◌∙◌, ℕ, length, [], refl, sym, subst}
-use Rattle.ompt_events.specs.States.{moves_of}
+use Rattle.std.proofs.Common.{◌∙◌, ◌++◌, ℕ, length, [], refl, sym, ap, subst}
+use Rattle.std.proofs.lemmas.List.{append-nil}
+use Rattle.ompt_events.specs.Turns.{turns_in}
+use Rattle.ompt_events.specs.States.{all_moves_of}
 use Rattle.ompt_events.specs.declared.cause.Cause.TheVariants.{StatusOrder}
 use Rattle.ompt_events.specs.Faults.{FindsFirst}
 use Rattle.task_tree.specs.Runs.{RunView, IsRun}
@@ -7,10 +9,12 @@ use Rattle.task_states.specs.Homes.{IsNeverEarly}
 use Rattle.task_states.specs.Progress.{moves_before, HasCome}
 use Rattle.task_states.specs.declared.progress.Pass.TheVariants.{Early, Home, Rest}
 use Rattle.task_states.proofs.ProgressLemmas.{come_same}
-use Rattle.task_states.proofs.PassLemmas.{early_start, early_none, home_start, rest_start, rest_end}
+use Rattle.task_states.proofs.PassLemmas.{early_start, early_none, home_start, rest_start}
+use Rattle.task_states.proofs.MovedLemmas.{rest_end}
+use Rattle.task_states.proofs.TurnEdgeLemmas.{turned_never}
 use Rattle.task_states.proofs.StateLemmas.{refused_first}
 use Rattle.task_states.proofs.progress.find_progress.Goals as goal
-use Rattle.task_states.proofs.progress.find_progress.Goals.{then-any_early, else-any_early}
+use Rattle.task_states.proofs.progress.find_progress.Goals.{then-any_early, else-any_early, then-any_moved+in_ok-read_turns, else-any_moved}
 
 pub read_early-requires : goal.read_early-requires
 read_early-requires c =
@@ -34,13 +38,21 @@ read_home-requires c =
 pub read_rest-requires-clause-come : goal.read_rest-requires-clause-come
 read_rest-requires-clause-come c =
     let run = c.in_ok-origins.origins in
-    come_same run.records run.family.tasks (moves_before Home run.records (length run.records)) _ c.read_home.new.self (rest_start run.records) c.in_ok-left.ensures.come
+    let rs = run.records in
+    elim c.if-any_moved.branch [
+      | then-any_moved+in_ok-read_turns w ↦ rw w.progress-is w.in_ok-read_turns.ensures
+      | else-any_moved w ↦
+          let never = λ (task : ℕ). turned_never rs (turns_in rs) task (c.any_moved.ensures w.if-any_moved.false task) in
+          let same = λ (task : ℕ). rest_start rs task ∙ ap (λ l. moves_before Home rs (length rs) task ++ l) (never task) ∙ append-nil (moves_before Home rs (length rs) task) in
+          rw w.progress-is (come_same rs run.family.tasks (moves_before Home rs (length rs)) (moves_before Rest rs 0) c.read_home.new.self same c.in_ok-left.ensures.come)
+    ]
 
 pub returns-clause-come : goal.returns-clause-come
 returns-clause-come c =
     let run = c.in_ok-origins.origins in
-    let P : RunView → Type 0 = λ r. HasCome r.records r.family.tasks (moves_of r.records) c.read_rest.new.self in
-    subst P c.in_ok-origins.ensures (come_same run.records run.family.tasks (moves_before Rest run.records (length run.records)) _ c.read_rest.new.self (rest_end run.records) c.read_rest.ensures)
+    let is : IsRun run = subst IsRun c.origins.view_is c.origins.invariant.of_run in
+    let P : RunView → Type 0 = λ r. HasCome r.records r.family.tasks (all_moves_of r.records) c.read_rest.new.self in
+    subst P c.in_ok-origins.ensures (come_same run.records run.family.tasks (moves_before Rest run.records (length run.records)) _ c.read_rest.new.self (λ task. rest_end run.records task is.trace) c.read_rest.ensures)
 
 pub returns-clause-refused : goal.returns-clause-refused
 returns-clause-refused c =
@@ -48,4 +60,4 @@ returns-clause-refused c =
     let progress = c.read_rest.new.self in
     let is : IsRun run = subst IsRun c.origins.view_is c.origins.invariant.of_run in
     let P : RunView → Type 0 = λ r. FindsFirst r.records StatusOrder progress.refused in
-    subst P c.in_ok-origins.ensures (refused_first run.records run.family progress progress.refused is.untold is.family (come_same run.records run.family.tasks (moves_before Rest run.records (length run.records)) _ progress (rest_end run.records) c.read_rest.ensures) refl)
+    subst P c.in_ok-origins.ensures (refused_first run.records run.family progress progress.refused is.family (come_same run.records run.family.tasks (moves_before Rest run.records (length run.records)) _ progress (λ task. rest_end run.records task is.trace) c.read_rest.ensures) refl)

@@ -1,0 +1,136 @@
+//! Where tasks that moved begin and end their turns.
+ghost use Rattle.std.specs.Prelude.{ℕ, ◌≡◌, ◌<◌, ◌^◌, IfOk, OnOk, length};
+ghost use Rattle.std.specs.Option.{option_map_or};
+ghost use Rattle.ompt_events.specs.Records.{begun_turn};
+ghost use Rattle.ompt_events.specs.Turns.{turns_in};
+ghost use Rattle.task_states.specs.declared.turn_edges.Edge.TheVariants.{Begins, Ends};
+ghost use Rattle.task_states.specs.TurnEdges.{moved_turn, row_at, AreEdges, IsNoted};
+
+use crate::origins::Origins;
+use ompt_events::Record;
+use std::alloc::{AllocError, Global};
+use task_tree::Run;
+
+/// Which edge of a turn.
+#[derive(Clone, Copy)]
+pub(crate) enum Edge {
+    Begins,
+    Ends,
+}
+
+/// How many turns there are: one more than the greatest that begins.
+pub(crate) fn turn_count(run: &Run) -> usize
+    ensures { result ≡ turns_in run.now.records }
+{
+    let mut most = 0;
+    for event in run.records() {
+        most = most.max(begun_turn(event));
+    }
+    most as usize + 1
+}
+
+/// The turn that begins at the record, and 0 where none does.
+fn begun_turn(event: &Record) -> u32
+    ensures { result ≡ option_map_or (λ (b : ℕ × ℕ). b.1) (begun_turn event.now.body) 0 }
+{
+    match event.body.begun_turn() {
+        Some((_, turn)) => turn,
+        None => 0,
+    }
+}
+
+/// By turn the places at which tasks that moved begin it, or end it, in file order.
+pub(crate) fn find_edges(
+    alloc: Global,
+    origins: &Origins,
+    edge: Edge,
+    turns: usize,
+) -> Result<Vec<Vec<u32>>, AllocError>
+    ensures { IfOk result (λ rows.
+        AreEdges edge origins.now.records (length origins.now.records) turns rows.items) }
+{
+    let mut rows: Vec<Vec<u32>> = Vec::new(alloc);
+    for at in 0..origins.run().len() {
+        if let Some(turn) = moved_turn(origins, edge, at) {
+            if turn < turns {
+                note_place(alloc, &mut rows, turn, at)?;
+            }
+        }
+    }
+    Ok(rows)
+}
+
+/// The places in the row of this turn.
+pub(crate) fn row(rows: &[Vec<u32>], turn: usize) -> &[u32]
+    ensures { result.now ≡ row_at rows.now turn }
+{
+    match rows.get(turn) {
+        Some(row) => row.as_slice(),
+        None => &[],
+    }
+}
+
+/// Notes the place in the row of this turn. Rows are made only up to the turn: most turns are those of roots,
+/// which never move.
+fn note_place(
+    alloc: Global,
+    rows: &mut Vec<Vec<u32>>,
+    turn: usize,
+    at: usize,
+) -> Result<(), AllocError>
+    requires { at < 2 ^ 32 }
+    ensures { OnOk result (IsNoted rows.old.items rows.new.items turn at) }
+{
+    reach(alloc, rows, turn)?;
+    rows[turn].push(at as u32)?;
+    Ok(())
+}
+
+/// Makes the rows up to this turn, each of them empty.
+fn reach(alloc: Global, rows: &mut Vec<Vec<u32>>, turn: usize) -> Result<(), AllocError>
+    ensures made { OnOk result (turn < length rows.new.items) }
+    ensures same { OnOk result ((other : ℕ) → row_at rows.new.items other
+        ≡ row_at rows.old.items other) }
+{
+    'room: while rows.len() <= turn {
+        rows.push(Vec::new(alloc))?;
+    }
+    Ok(())
+}
+
+/// The turn that a task which moved begins, or ends, at the place.
+fn moved_turn(origins: &Origins, edge: Edge, at: usize) -> Option<usize>
+    requires { at < length origins.now.records }
+    ensures { result ≡ moved_turn edge origins.now.records at }
+{
+    match edge {
+        Edge::Begins => begun_there(origins, at),
+        Edge::Ends => ended_there(origins, at),
+    }
+}
+
+/// The turn that a task which moved begins there.
+fn begun_there(origins: &Origins, at: usize) -> Option<usize>
+    requires { at < length origins.now.records }
+    ensures { result ≡ moved_turn Begins origins.now.records at }
+{
+    let index = origins.run().started(at)?;
+    if !origins.has_moved(index) {
+        return None;
+    }
+    let (_, turn) = origins.run().record(at).body.begun_turn()?;
+    Some(turn as usize)
+}
+
+/// The turn that a task which moved ends there.
+fn ended_there(origins: &Origins, at: usize) -> Option<usize>
+    requires { at < length origins.now.records }
+    ensures { result ≡ moved_turn Ends origins.now.records at }
+{
+    let event = origins.run().schedule(at)?;
+    if !origins.has_moved(event.prior) {
+        return None;
+    }
+    let (_, turn) = origins.run().record(at).body.ended_turn()?;
+    Some(turn as usize)
+}
