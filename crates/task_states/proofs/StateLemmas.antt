@@ -270,6 +270,12 @@ fault_moved rs fault current found =
     fault_next rs NotCurrent (Moved ∷ TurnGap ∷ StatusOrder ∷ RegionOrder ∷ []) fault current
     (fault_first rs Moved (TurnGap ∷ StatusOrder ∷ RegionOrder ∷ []) fault after_moved found)
 
+pub fault_gap : (rs : List Record) (fault : Fault) → IsFreeOf rs NotCurrent → IsFreeOf rs Moved → IsFault rs (TurnGap ∷ []) fault → IsFault rs (NotCurrent ∷ Moved ∷ TurnGap ∷ StatusOrder ∷ RegionOrder ∷ []) fault
+fault_gap rs fault current stay found =
+    fault_next rs NotCurrent (Moved ∷ TurnGap ∷ StatusOrder ∷ RegionOrder ∷ []) fault current
+    (fault_next rs Moved (TurnGap ∷ StatusOrder ∷ RegionOrder ∷ []) fault stay
+    (fault_first rs TurnGap (StatusOrder ∷ RegionOrder ∷ []) fault after_gap found))
+
 -- a fault behind the first three causes
 behind_gap : (rs : List Record) (fault : Fault) → IsFreeOf rs NotCurrent → IsFreeOf rs Moved → IsFreeOf rs TurnGap → IsFault rs (StatusOrder ∷ RegionOrder ∷ []) fault → IsFault rs (NotCurrent ∷ Moved ∷ TurnGap ∷ StatusOrder ∷ RegionOrder ∷ []) fault
 behind_gap rs fault current stay gapless found =

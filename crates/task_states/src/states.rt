@@ -3,7 +3,7 @@ ghost use Rattle.std.specs.Prelude.{ℕ, ◌≡◌, ◌<◌, [], ◌∷◌, Some
 ghost use Rattle.ompt_events.specs.declared.names.SyncKind.{SyncKind};
 ghost use Rattle.ompt_events.specs.declared.cause.Cause.TheVariants.{NotCurrent, Moved, TurnGap, StatusOrder, RegionOrder};
 ghost use Rattle.ompt_events.specs.Causes.{IsFreeOf};
-ghost use Rattle.ompt_events.specs.Faults.{IsFault};
+ghost use Rattle.ompt_events.specs.Faults.{FindsFirst, IsFault};
 ghost use Rattle.ompt_events.specs.Regions.{IsRegion};
 ghost use Rattle.task_tree.specs.Runs.{IsRun};
 ghost use Rattle.task_states.specs.States.{AreStates, IsStates, IsLast, IsBeginOf};
@@ -46,10 +46,16 @@ impl<'a> Model for States<'a> {
 impl<'a> States<'a> {
     /// Takes each task of the run through its states. Malformed records are refused, with the first of these
     /// causes that occurs, at its first record: a record of a task that its thread does not run (OpenMP 5.2,
-    /// 12.9); an explicit task that runs on two threads (it is tied, 12.1); a change that a task's state does
-    /// not allow (19.5.2.10); a region that ends without its begin, or a barrier of an explicit task (15.3).
-    /// It takes a few steps for each record, and memory linear in the records.
-    pub fn in_run(alloc: Global, run: &Run<'a>) -> Result<States<'a>, Fault>
+    /// 12.9); an explicit task that runs on two threads without turns (it is tied, 12.1), or a turn that is not
+    /// its task's; a change that a task's state does not allow (19.5.2.10); a region that ends without its
+    /// begin, or a barrier of an explicit task (15.3). The first turn gap is known already. It takes a few steps
+    /// for each record, and memory linear in the records.
+    pub fn in_run(
+        alloc: Global,
+        run: &Run<'a>,
+        gap: Option<usize>,
+    ) -> Result<States<'a>, Fault>
+        requires { FindsFirst run.now.records TurnGap gap }
         ensures run { IfOk result (λ states. states.run ≡ run.now) }
         ensures states { IfOk result IsStates }
         ensures current { OnOk result (IsFreeOf run.now.records NotCurrent) }
@@ -62,7 +68,7 @@ impl<'a> States<'a> {
     {
         find_misfit(alloc, run)?;
         let schedules = find_moved(alloc, run)?;
-        gapless(schedules.run());
+        exclude(Cause::TurnGap, gap)?;
         let states = find_states(alloc, &schedules)?;
         let begins = find_links(alloc, run)?;
         Ok(States {
@@ -105,12 +111,6 @@ impl<'a> States<'a> {
         }
     }
 }
-
-/// No record tells other turns than those of its tasks: none tells any.
-fn gapless(run: &Run)
-    requires { IsRun run.now }
-    ensures { IsFreeOf run.now.records TurnGap }
-{}
 
 /// The state of each task after all its records. Searches for the first record that changes a task in a way
 /// that its state does not allow.

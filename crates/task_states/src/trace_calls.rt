@@ -33,15 +33,16 @@ pub fn run<'a>(alloc: Global, trace: &'a Trace, tree: &'a Tree) -> Result<States
     ensures fault { IfErr result
         (IsFault trace.now.records (NotCurrent ∷ Moved ∷ TurnGap ∷ StatusOrder ∷ RegionOrder ∷ [])) }
 {
+    // Tells that the records are a trace of their version. Compiled, it is nothing.
+    let _records = trace.records();
     let tasks = task_tree::Run::of(trace, tree.family());
-    States::in_run(alloc, &tasks)
+    States::in_run(alloc, &tasks, None)
 }
 
-/// The first record of a trace of version 1 at which a parallel region lies inside another (OpenMP 5.2,
+/// The first record of a trace at which a parallel region lies inside another (OpenMP 5.2,
 /// 10.1), as `find_nested` finds it. The tree must be that of the trace's tasks.
 pub fn nested(alloc: Global, trace: &Trace, tree: &Tree) -> Result<Option<usize>, StateFault>
-    requires version { trace.now.version ≡ 1 }
-    requires tree { IsTreeOf trace.now.records tree.now }
+    requires { IsTreeOf trace.now.records tree.now }
     ensures found { IfOk result (λ found. MatchOption found
         (IsFreeOf trace.now.records NestedParallel) (IsFirstWith trace.now.records NestedParallel)) }
     ensures memory_alone { IfErr result (λ fault. fault ≡ Memory) }

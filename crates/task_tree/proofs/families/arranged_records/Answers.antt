@@ -1,4 +1,4 @@
-use Rattle.std.proofs.Common.{length, ◌≡◌, ◌∙◌, ◌<◌, ◌≤◌, Some, ap, sym, arith}
+use Rattle.std.proofs.Common.{length, ◌∙◌, ◌≤◌, Some, ap, sym, arith}
 use Rattle.std.proofs.lemmas.Option.{slice_get-get_or}
 use Rattle.std.proofs.lemmas.List.{take_all}
 use Rattle.std.specs.Prelude.{slice_get}

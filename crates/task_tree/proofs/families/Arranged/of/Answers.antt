@@ -1,13 +1,9 @@
-use Rattle.std.proofs.Common.{[], ◌∷◌, ◌≡◌, ◌∙◌, ◌+◌, ℕ, List, length, take, Err, refl, sym, ap, subst}
+use Rattle.std.proofs.Common.{◌≡◌, ◌∙◌, ℕ, ap, subst}
 use Rattle.std.proofs.lemmas.Result.{err_from_is_err_and}
-use Rattle.std.specs.Prelude.{slice_get, IsOk}
-use Rattle.std.specs.List.{filter_map}
-use Rattle.ompt_events.specs.declared.records.Record.{Record}
 use Rattle.ompt_events.specs.Traces.{TraceView, IsTraceOf}
 use Rattle.ompt_events.specs.Turns.{in_own_order}
-use Rattle.task_tree.specs.OwnOrder.{AreAllPlaces}
 use Rattle.task_tree.proofs.OwnOrderLemmas.{own_all_places}
-use Rattle.task_tree.proofs.ArrangedLemmas.{arranged_trace, accepted_arranged, memory_arranged}
+use Rattle.task_tree.proofs.ArrangedLemmas.{accepted_arranged, memory_arranged}
 use Rattle.task_tree.proofs.families.Arranged.of.Goals as goal
 
 pub arranged_records-requires : goal.arranged_records-requires

@@ -1,4 +1,4 @@
-use Rattle.std.proofs.Common.{◌≡◌, ◌∙◌, List, length, refl, sym, ap, subst}
+use Rattle.std.proofs.Common.{◌∙◌, List, length, refl, sym, ap, subst}
 use Rattle.std.specs.List.{range_with_len}
 use Rattle.ompt_events.specs.declared.records.Record.{Record}
 use Rattle.ompt_events.specs.Turns.{own_places}

@@ -1,9 +1,6 @@
-use Rattle.std.proofs.Common.{length, ◌≡◌, ◌∙◌, ap, sym, subst}
-use Rattle.std.specs.Prelude.{ℕ, List}
-use Rattle.ompt_events.specs.declared.records.Record.{Record}
-use Rattle.task_tree.specs.OwnOrder.{AreAllPlaces}
+use Rattle.std.proofs.Common.{◌∙◌, ap, sym}
 use Rattle.task_tree.specs.Families.{FamiliesView}
-use Rattle.task_tree.proofs.FamiliesLemmas.{file_order_all, own_order_all, file_is_own, arranged_is_own}
+use Rattle.task_tree.proofs.FamiliesLemmas.{file_order_all, own_order_all}
 use Rattle.task_tree.proofs.families.Families.own.Goals as goal
 
 pub of-requires-in-None : goal.of-requires-in-None
