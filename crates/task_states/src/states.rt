@@ -46,8 +46,9 @@ impl<'a> Model for States<'a> {
 impl<'a> States<'a> {
     /// Takes each task of the run through its states. Malformed records are refused, with the first of these
     /// causes that occurs, at its first record: a record of a task that its thread does not run (OpenMP 5.2,
-    /// 12.9); an explicit task that runs on two threads (it is tied, 12.1); a change that a task's state does
-    /// not allow (19.5.2.10); a region that ends without its begin, or a barrier of an explicit task (15.3).
+    /// 12.9); an explicit task that runs on two threads (it is tied, 12.1), and no turns tell that it moved; a
+    /// change that a task's state does not allow (19.5.2.10); a region that ends without its begin, or a
+    /// barrier of an explicit task (15.3).
     /// It takes a few steps for each record, and memory linear in the records.
     pub fn in_run(alloc: Global, run: &Run<'a>) -> Result<States<'a>, Fault>
         ensures run { IfOk result (λ states. states.run ≡ run.now) }
@@ -106,7 +107,7 @@ impl<'a> States<'a> {
     }
 }
 
-/// No record tells other turns than those of its tasks: none tells any.
+/// No record tells other turns than those of its tasks: none tells any. Nothing else here rests on that.
 fn gapless(run: &Run)
     requires { IsRun run.now }
     ensures { IsFreeOf run.now.records TurnGap }
