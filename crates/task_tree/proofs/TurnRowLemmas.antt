@@ -1,19 +1,17 @@
 -- Which turns are marked as begun, one record on, and what the marks say.
-use Rattle.std.proofs.Common.{◌≡◌, ◌∙◌, ℕ, ◌<◌, ◌≤◌, ◌+◌, ◌⊎◌, List, [], ◌∷◌, ◌++◌, length, get_or, Some, None, true, false, Bool, sym, ap, subst, arith, inl, inr, set}
+use Rattle.std.proofs.Common.{◌≡◌, ◌∙◌, ℕ, ◌<◌, ◌≤◌, ◌+◌, ◌⊎◌, List, [], ◌∷◌, ◌++◌, length, get_or, Some, true, false, Bool, sym, ap, subst, arith, inl, inr, set}
 use Rattle.std.proofs.lemmas.Bool.{cases_eq, cases_lt, cases_order, true≢false}
-use Rattle.std.proofs.lemmas.Option.{none-some, same_Some, slice_get_within, slice_get-get_or}
+use Rattle.std.proofs.lemmas.Option.{same_Some, slice_get_within, slice_get-get_or}
 use Rattle.std.proofs.lemmas.List.{length_push}
-use Rattle.std.proofs.lemmas.List.Sums.{sum_by-set, get_or-le-sum_by}
-use Rattle.std.specs.Prelude.{slice_get, sum, replicate}
+use Rattle.std.proofs.lemmas.List.Sums.{get_or-le-sum_by}
+use Rattle.std.specs.Prelude.{slice_get, sum}
 use Rattle.ompt_events.specs.declared.records.Record.{Record}
 use Rattle.ompt_events.specs.Records.{begun_turn}
 use Rattle.ompt_events.specs.Places.{at}
-use Rattle.ompt_events.proofs.PlaceLemmas.{at_within}
 use Rattle.ompt_events.proofs.ListLemmas.{get_pushed, get_last}
 use Rattle.task_tree.specs.Numbering.{AreApart}
 use Rattle.task_tree.proofs.LinkLemmas.{get_set_same, get_set_other}
-use Rattle.task_tree.specs.TurnRows.{AreRising, AreWithin, IsSlot, AreMarkedUpTo, BeginsAnew, AreRows}
-use Rattle.task_tree.proofs.ChainLemmas.{replicate_get}
+use Rattle.task_tree.specs.TurnRows.{AreRising, AreWithin, IsSlot, AreMarkedUpTo, BeginsAnew}
 
 -- ---- the slots
 
@@ -83,29 +81,7 @@ offsets_rise offsets end new rising low up a b first second less one other = eli
   ]
 ]
 
--- the last offset bounds all
-pub rising_within : (offsets : List ℕ) (last end : ℕ) → AreRising offsets → length offsets ≡ last + 1 → slice_get offsets last ≡ Some end → AreWithin offsets end
-rising_within offsets last end rising long is index offset there = elim (cases_eq index last) [
-  | inl same ↦ let alike = same_Some offset end (sym there ∙ ap (slice_get offsets) same ∙ is) in omega (arith, alike)
-  | inr apart ↦ rising index last offset end (let within = slice_get_within offsets index offset there in omega (arith, within, long, apart)) there is
-]
-
 -- ---- the marks
-
-pub marked_none : (rs : List Record) (tasks offsets : List ℕ) (begun : List Bool) (slots : ℕ) → begun ≡ replicate slots false → AreMarkedUpTo rs 0 tasks offsets begun
-marked_none rs tasks offsets begun slots fresh = record {
-  marked = λ k index task turn below. absurd (omega (arith, below));
-  begins = λ index task turn slot is indexed holds. absurd (true≢false (replicate_get slots slot false true (sym (ap (λ l. slice_get l slot) fresh) ∙ holds)));
-}
-
-pub marked_keep : (rs : List Record) (i : ℕ) (tasks offsets : List ℕ) (begun : List Bool) → AreMarkedUpTo rs i tasks offsets begun → at begun_turn rs i ≡ None → AreMarkedUpTo rs (i + 1) tasks offsets begun
-marked_keep rs i tasks offsets begun are none = record {
-  marked = λ k index task turn below begins. elim (cases_eq k i) [
-    | inl same ↦ absurd (none-some (task, turn) (sym none ∙ ap (at begun_turn rs) (sym same) ∙ begins))
-    | inr apart ↦ are.marked k index task turn (omega (arith, below, apart)) begins
-  ];
-  begins = are.begins;
-}
 
 pub marked_more : (rs : List Record) (i index task turn slot : ℕ) (tasks offsets : List ℕ) (begun : List Bool) → AreApart tasks → AreRising offsets → slot < length begun → AreMarkedUpTo rs i tasks offsets begun → at begun_turn rs i ≡ Some (task, turn) → slice_get tasks index ≡ Some task → IsSlot offsets index turn slot → AreMarkedUpTo rs (i + 1) tasks offsets (set begun slot true)
 marked_more rs i index task turn slot tasks offsets begun apart rising within are here indexed is = record {
@@ -141,27 +117,7 @@ anew_here rs i index task turn slot tasks offsets begun are here indexed is empt
     let same = slot_once offsets index turn old.0 slot old.1 is in
     true≢false (same_Some true false (sym old.2 ∙ ap (slice_get begun) same ∙ empty))
 
-pub anew_none : (rs : List Record) (i : ℕ) → at begun_turn rs i ≡ None → BeginsAnew rs i
-anew_none rs i none k task turn below here = absurd (none-some (task, turn) (sym none ∙ here))
-
--- all records
-pub rows_all : (rs : List Record) (n : ℕ) (tasks offsets : List ℕ) (begun : List Bool) → length rs ≤ n → length offsets ≡ length tasks + 1 → AreWithin offsets (length begun) → AreMarkedUpTo rs n tasks offsets begun → ((i : ℕ) → i < n → BeginsAnew rs i) → AreRows rs tasks offsets begun
-rows_all rs n tasks offsets begun past all within are anew = record {
-  all = all;
-  within = within;
-  marked = record {
-    marked = λ k index task turn below. are.marked k index task turn (omega (arith, below, past));
-    begins = are.begins;
-  };
-  anew = λ i k task turn below here. anew i (let inside = at_within begun_turn rs i (task, turn) here in omega (arith, inside, past)) k task turn below here;
-}
-
 -- ---- the counts
-
-pub counted_more : (counts : List ℕ) (index count : ℕ) → index < length counts → count ≡ get_or counts index count → sum (set counts index (count + 1)) ≡ sum counts + 1
-counted_more counts index count within is =
-    let both = sum_by-set (λ (x : ℕ). x) counts index (count + 1) count within in
-    omega (arith, both, is)
 
 pub count_low : (counts : List ℕ) (index count : ℕ) → index < length counts → count ≡ get_or counts index count → count ≤ sum counts
 count_low counts index count within is = let low = get_or-le-sum_by (λ (x : ℕ). x) counts index count within in omega (arith, low, is)

@@ -6,11 +6,10 @@ use Rattle.std.proofs.lemmas.List.{length-set, length-replicate, length-map}
 use Rattle.std.proofs.lemmas.List.FromFn.{length-range_with_len}
 use Rattle.std.proofs.lemmas.List.Sums.{fold_push}
 use Rattle.std.specs.Prelude.{◌==◌, slice_get, option_and_then, option_map, replicate}
-use Rattle.std.specs.Option.{option_map_or}
 use Rattle.ompt_events.specs.declared.records.Record.{Record}
 use Rattle.ompt_events.specs.Records.{running, begun_turn}
 use Rattle.ompt_events.specs.Places.{at, thread_at, places}
-use Rattle.ompt_events.specs.Turns.{turn_after, turn_in, turn_of, turn_at}
+use Rattle.ompt_events.specs.Turns.{turn_after, turn_in, turn_at}
 use Rattle.ompt_events.proofs.PlaceLemmas.{read_get}
 use Rattle.task_tree.specs.Numbering.{AreApart}
 use Rattle.task_tree.proofs.LinkLemmas.{get_set_same, get_set_other}
@@ -125,13 +124,6 @@ record_there rs i thread is = by (slice_get rs i) refl
 
 pub turn_marked : (rs : List Record) (tasks : List ℕ) (i index task : ℕ) (r : Record) (mark : Mark) (marks : List Mark) → slice_get rs i ≡ Some r → running r.body ≡ Some task → slice_get tasks index ≡ Some task → slice_get marks index ≡ Some mark → AreMarks rs tasks r.thread i marks → turn_on mark r.thread ≡ turn_at rs i
 turn_marked rs tasks i index task r mark marks stands own indexed is are = are.here index task mark indexed is ∙ sym (turn_here rs i task r stands own)
-
-pub turn_of_none : (rs : List Record) (i : ℕ) → at running rs i ≡ None → turn_at rs i ≡ 0
-turn_of_none rs i none = by (slice_get rs i) none
-  where
-    by : (o : Option Record) → option_and_then (λ (r : Record). running r.body) o ≡ None → option_map_or (λ (r : Record). turn_of rs r i) o 0 ≡ 0
-    by None e = refl
-    by (Some r) e = ap (λ (o : Option ℕ). option_map_or (λ t. turn_in t (part_of rs r.thread i)) o 0) e
 
 -- ---- the walk
 
