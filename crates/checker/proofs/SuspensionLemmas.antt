@@ -158,7 +158,7 @@ slot_before rs tasks rows i index turn c room begins later again explicit =
       is = omega (arith, next);
     }
 
-pub end_awaited : (rs : List Record) (tasks : List ℕ) (known : Suspensions) (i index turn place : ℕ) → AreSuspensions rs tasks known → IsStartOf rs tasks i index turn → 0 < turn → place ≡ slice_index known.places.items (slice_index known.rows.items index + turn) → place < length rs → place ≢ i → (c : ℕ) → (Some place ≡ Some c) ↔ Awaits rs i c
+end_awaited : (rs : List Record) (tasks : List ℕ) (known : Suspensions) (i index turn place : ℕ) → AreSuspensions rs tasks known → IsStartOf rs tasks i index turn → 0 < turn → place ≡ slice_index known.places.items (slice_index known.rows.items index + turn) → place < length rs → place ≢ i → (c : ℕ) → (Some place ≡ Some c) ↔ Awaits rs i c
 end_awaited rs tasks known i index turn place are begins later read within apart c = (
   λ here. subst (Awaits rs i) (same_Some place c here) there,
   λ awaits. of awaits,
@@ -190,7 +190,7 @@ end_awaited rs tasks known i index turn place are begins later read within apart
         ap Some (are.facts.once place c i again at_end.explicit (other.suspends ∙ ap (λ t. Some (t, other.turn)) parts.0 ∙ ap (λ t. Some (begins.task, t)) same))
 
 -- a slot that has no other record than the one that runs on shows that this awaits nothing
-pub end_not_awaited : (rs : List Record) (tasks : List ℕ) (known : Suspensions) (i index turn place : ℕ) → AreSuspensions rs tasks known → IsStartOf rs tasks i index turn → 0 < turn → place ≡ slice_index known.places.items (slice_index known.rows.items index + turn) → (place < length rs → place ≢ i → ⊥) → (c : ℕ) → Awaits rs i c → ⊥
+end_not_awaited : (rs : List Record) (tasks : List ℕ) (known : Suspensions) (i index turn place : ℕ) → AreSuspensions rs tasks known → IsStartOf rs tasks i index turn → 0 < turn → place ≡ slice_index known.places.items (slice_index known.rows.items index + turn) → (place < length rs → place ≢ i → ⊥) → (c : ℕ) → Awaits rs i c → ⊥
 end_not_awaited rs tasks known i index turn place are begins later read none c (awaits_creation task waits creates) = none-some task (sym (later_awaits_none rs i begins.task turn are.facts begins.starts later) ∙ waits)
 end_not_awaited rs tasks known i index turn place are begins later read none c (awaits_end again explicit) =
     let slot = slot_before rs tasks known.rows.items i index turn c are.room begins later again explicit in
@@ -203,6 +203,19 @@ end_not_awaited rs tasks known i index turn place are begins later read none c (
     let same : at_end.before ≡ again.turn = omega (arith, parts.1, next) in
     let one : c ≡ place = are.facts.once c place i again explicit (at_end.suspends ∙ ap (λ t. Some (t, at_end.before)) (sym parts.0) ∙ ap (λ t. Some (again.task, t)) same) in
     none within (λ here. again.another (one ∙ here))
+
+-- what is found in the slot is what is awaited
+pub end_found : (rs : List Record) (tasks : List ℕ) (known : Suspensions) (i index turn place : ℕ) (found : Option ℕ) → AreSuspensions rs tasks known → IsStartOf rs tasks i index turn → 0 < turn → place ≡ slice_index known.places.items (slice_index known.rows.items index + turn)
+    → MatchOption found (place < length rs → place ≢ i → ⊥) (λ k. (k ≡ place) × (place < length rs) × (place ≢ i)) → (c : ℕ) → (found ≡ Some c) ↔ Awaits rs i c
+end_found rs tasks known i index turn place None are begins later read none c = (
+  λ here. absurd (none-some c here),
+  λ awaits. absurd (end_not_awaited rs tasks known i index turn place are begins later read none c awaits),
+)
+end_found rs tasks known i index turn place (Some k) are begins later read (same, within, apart) c =
+    let both = end_awaited rs tasks known i index turn place are begins later read within apart c in (
+      λ here. both.0 (ap Some (sym same) ∙ here),
+      λ awaits. ap Some same ∙ both.1 awaits,
+    )
 
 -- ---- the key of those that await a record
 

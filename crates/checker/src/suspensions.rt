@@ -1,5 +1,5 @@
 //! Where the explicit tasks are suspended, turn by turn.
-ghost use Rattle.std.specs.Prelude.{ℕ, ◌≡◌, ◌<◌, ◌≤◌, ◌^◌, ◌*◌, ◌+◌, ◌↔◌, false, List, Some, None, MatchOption, IfOk, All, length, replicate, slice_index};
+ghost use Rattle.std.specs.Prelude.{ℕ, ◌≡◌, ◌≢◌, ◌<◌, ◌≤◌, ◌^◌, ◌*◌, ◌+◌, ◌↔◌, false, List, Some, None, MatchOption, IfOk, All, length, replicate, slice_index};
 ghost use Rattle.ompt_events.specs.Records.{suspended_turn};
 ghost use Rattle.ompt_events.specs.Places.{at as says_at};
 ghost use Rattle.task_tree.specs.Runs.{IsRun};
@@ -8,6 +8,7 @@ ghost use Rattle.checker.specs.Schedule.{EachAwaitsOne, Awaits};
 ghost use Rattle.checker.specs.Suspensions.{IsEndOf, BeginsNoLater, HasSlot, AreRows, HaveRoom, AreLengths, IsSlotBehind, HasNoSlotBehind, AreEnds, AreSuspensions};
 
 use crate::schedule::{Begin, begun_at};
+use ompt_events::Record;
 use std::alloc::{AllocError, Global};
 use task_tree::Run;
 
@@ -35,7 +36,7 @@ impl Suspensions {
         requires { EachAwaitsOne run.now.records }
         ensures { IfOk result (AreSuspensions run.now.records run.now.family.tasks) }
     {
-        if !tells_turns(run) {
+        if !tells_turns(run.records()) {
             return Ok(Suspensions {
                 rows: Vec::new(alloc),
                 places: Vec::new(alloc),
@@ -73,11 +74,7 @@ impl Suspensions {
         ensures { (c : ℕ) → (result ≡ Some c) ↔ Awaits run.now.records at c }
     {
         let place = self.places[self.slot_of(begin)] as usize;
-        if place < run.len() && place != at {
-            Some(place)
-        } else {
-            None
-        }
+        other_place(place, run.len(), at)
     }
 
     /// The slot of the turn behind the one in which an explicit task is suspended at a place.
@@ -94,6 +91,19 @@ impl Suspensions {
     }
 }
 
+/// The place, if it is one of so many and not that of the record which asks: that may suspend the task itself
+/// with which it goes on, and does not await itself.
+fn other_place(place: usize, count: usize, at: usize) -> Option<usize>
+    ensures { MatchOption result (place < count → place ≢ at → ⊥)
+        (λ found. (found ≡ place) × (place < count) × (place ≢ at)) }
+{
+    if place < count && place != at {
+        Some(place)
+    } else {
+        None
+    }
+}
+
 /// The turn that ends there because a task is suspended.
 pub(crate) fn suspended_at(run: &Run, at: usize) -> Option<End>
     requires { at < length run.now.records }
@@ -106,14 +116,13 @@ pub(crate) fn suspended_at(run: &Run, at: usize) -> Option<End>
 }
 
 /// Whether the first record that starts a task tells turns. If it does not, no record does.
-fn tells_turns(run: &Run) -> bool
-    requires { EachAwaitsOne run.now.records }
-    ensures { result ≡ false → BeginsNoLater run.now.records }
+fn tells_turns(records: &[Record]) -> bool
+    requires { EachAwaitsOne records.now }
+    ensures { result ≡ false → BeginsNoLater records.now }
 {
-    for at in 0..run.len() {
-        let body = &run.record(at).body;
-        if body.begun_turn().is_some() {
-            return body.told_turns().is_some();
+    for at in 0..records.len() {
+        if records[at].body.begun_turn().is_some() {
+            return records[at].body.told_turns().is_some();
         }
     }
     false

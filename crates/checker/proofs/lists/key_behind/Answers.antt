@@ -1,10 +1,10 @@
-use Rattle.std.proofs.Common.{Some, refl, arith}
+use Rattle.std.proofs.Common.{◌+◌, ◌∙◌, ap, sym, Some, refl, arith}
 use Rattle.std.proofs.lemmas.Option.{slice_get_within}
 use Rattle.ompt_events.specs.Records.{created}
 use Rattle.ompt_events.specs.Places.{at as says_at}
 use Rattle.task_tree.proofs.SubjectLemmas.{call_task, call_none}
 use Rattle.checker.proofs.ListsLemmas.{no_some}
-use Rattle.checker.proofs.SuspensionLemmas.{created_key, no_key}
+use Rattle.checker.proofs.SuspensionLemmas.{created_key, slot_key, no_key}
 use Rattle.checker.proofs.lists.key_behind.Goals as goal
 
 pub returns-in-Some-clause-key : goal.returns-in-Some-clause-key
@@ -21,3 +21,15 @@ pub returns-in_err-slot-clause-key : goal.returns-in_err-slot-clause-key
 returns-in_err-slot-clause-key c = λ i awaits.
     absurd (no_key c.args.run.now.records c.args.run.now.family c.args.suspensions.now i c.args.at c.task_count-tasks.ensures.is_run.family c.requires.known
     (call_none c.args.run.now.family.tasks (says_at created c.args.run.now.records c.args.at) c.created.result c.created.ensures (no_some c.created.result c.in_default.not-Some)) c.in_err-slot.ensures awaits)
+
+pub returns-clause-key : goal.returns-clause-key
+returns-clause-key c = λ i awaits.
+    let rs = c.args.run.now.records in
+    let tasks = c.args.run.now.family.tasks in
+    let count = c.task_count-tasks.ensures.value in
+    (
+      c.task_count-tasks.result + c.in_ok-slot.slot,
+      refl,
+      slot_key rs tasks c.args.suspensions.now.rows.items i c.args.at c.in_ok-slot.slot c.requires.known.facts c.task_count-tasks.ensures.is_run.family.makers.apart c.in_ok-slot.ensures awaits
+      ∙ ap (λ n. Some (n + c.in_ok-slot.slot)) (sym count),
+    )
