@@ -9,13 +9,13 @@ use Rattle.std.specs.List.{range_with_len}
 use Rattle.std.specs.List.Sorted.{IsPermutation, IsSorted}
 use Rattle.ompt_events.specs.declared.records.Record.{Record}
 use Rattle.ompt_events.specs.Places.{places}
-use Rattle.ompt_events.specs.Turns.{turn_at, own_places, own_place}
+use Rattle.ompt_events.specs.Turns.{turn_at, own_places}
 use Rattle.ompt_events.proofs.ListLemmas.{get_contains, contains_get}
 use Rattle.task_tree.specs.TurnTable.{AreTurns}
 use Rattle.task_tree.specs.GapSearch.{pair_cmp}
 use Rattle.task_tree.specs.OwnOrder.{AreInverse, AreApartBelow, AreNumbers}
 use Rattle.task_tree.proofs.RankedLemmas.{Every, every_get, every_weaker, row_below, Comes}
-use Rattle.task_tree.proofs.SortedLemmas.{ranked_from, ranked_equal, map_range, same_by_index, pair_order, apart_in_order, sorted_order}
+use Rattle.task_tree.proofs.SortedLemmas.{ranked_from, ranked_equal, map_range, pair_order, apart_in_order, sorted_order}
 use Rattle.task_tree.proofs.OwnOrderLemmas.{own_permuted, own_ranked, own_length, own_has, own_within, own_place_of, not_both}
 
 -- ---- the turns by place

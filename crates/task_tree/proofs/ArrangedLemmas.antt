@@ -1,6 +1,6 @@
 -- The records in the tasks' own order are a trace as those of the file are, and make the same tasks.
 use Rattle.std.proofs.Common.{◌≡◌, ◌≢◌, ◌∙◌, zero, suc, zero-add, ℕ, ◌<◌, ◌≤◌, ◌+◌, cond, List, [], ◌∷◌, ◌++◌, length, take, Option, Some, None, refl, sym, ap, subst, arith, inl, inr}
-use Rattle.std.proofs.lemmas.Bool.{cases_lt, cases_eq}
+use Rattle.std.proofs.lemmas.Bool.{cases_lt}
 use Rattle.std.proofs.lemmas.Option.{none-some, same_Some, slice_get-get_or, slice_get_within, get_or_from_slice_get}
 use Rattle.std.proofs.lemmas.List.{length-take, take_more, take_all, take-append-drop, map-id}
 use Rattle.std.proofs.lemmas.List.Elements.{All-take, filter_map-append}
@@ -19,12 +19,12 @@ use Rattle.ompt_events.specs.declared.fault.Fault.TheVariants.{Memory, Malformed
 use Rattle.ompt_events.specs.Faults.{IsFault}
 use Rattle.ompt_events.specs.declared.cause.Cause.{Cause}
 use Rattle.ompt_events.specs.declared.cause.Cause.TheVariants.{CreatedTwice, Rootless}
-use Rattle.ompt_events.specs.Records.{made, created, creation, begun_root, forked, region_named, named}
+use Rattle.ompt_events.specs.Records.{made, created, creation, begun_root, forked, region_named}
 use Rattle.ompt_events.specs.Places.{at, places}
 use Rattle.ompt_events.specs.Traces.{IsSound, IsInRange, HasItsTurns, IsTraceOf, IsFirstRefused, tasks_in}
 use Rattle.ompt_events.specs.Turns.{in_own_order, own_places}
 use Rattle.ompt_events.specs.Tree.{IsRooted, root, child}
-use Rattle.ompt_events.specs.Causes.{HasCause, IsFreeOf, IsMade, IsForked, IsNamedAt, HasNoRoot, unmade, unrooted, no_region, created_twice, forked_twice, rootless}
+use Rattle.ompt_events.specs.Causes.{HasCause, IsFreeOf, unmade, unrooted, no_region, created_twice, forked_twice, rootless}
 use Rattle.ompt_events.proofs.PlaceLemmas.{at_within}
 use Rattle.task_tree.proofs.OwnOrderLemmas.{own_permuted, own_length, own_has, own_within, own_place_of, arranged_at, arranged_length}
 

@@ -1,21 +1,19 @@
 -- The tasks' own order has each place once, by turn and then in file order.
-use Rattle.std.proofs.Common.{◌≡◌, ◌∙◌, ℕ, ◌<◌, ◌≤◌, ◌+◌, suc, List, [], ◌∷◌, if◌then◌else◌, ◌⊎◌, ◌↔◌, Option, Some, None, true, false, Bool, cond, refl, sym, ap, subst, arith, length, inl, inr, max}
+use Rattle.std.proofs.Common.{◌≡◌, ◌∙◌, ℕ, ◌<◌, ◌≤◌, ◌+◌, suc, List, [], ◌∷◌, ◌⊎◌, ◌↔◌, Some, true, refl, sym, ap, subst, arith, length, inl, inr}
 use Rattle.std.proofs.lemmas.Option.{same_Some, slice_get_within, slice_get_cases}
 use Rattle.std.proofs.lemmas.Bool.{cases_order, cases_lt}
 use Rattle.std.proofs.lemmas.List.Sorted.{Contains-permutation, IsPermutation-sym, length_permutation}
 use Rattle.std.proofs.lemmas.List.FromFn.{length-range_with_len}
-use Rattle.std.specs.Prelude.{◌==◌, slice_get, option_and_then, is_some, filter, fold, take}
+use Rattle.std.specs.Prelude.{slice_get, option_and_then, is_some}
 use Rattle.std.specs.List.Sorted.{IsPermutation}
-use Rattle.std.specs.Option.{option_map_or}
 use Rattle.ompt_events.specs.declared.records.Record.{Record}
-use Rattle.ompt_events.specs.Records.{running, begun_turn}
 use Rattle.ompt_events.specs.Places.{places}
-use Rattle.ompt_events.specs.Turns.{turn_after, turn_in, turn_of, turn_at, turns_in, own_places, in_own_order, own_place}
+use Rattle.ompt_events.specs.Turns.{turn_at, turns_in, own_places, in_own_order, own_place}
 use Rattle.ompt_events.proofs.ListLemmas.{get_contains, contains_get}
 pub use Rattle.ompt_events.proofs.TurnLemmas.{new_turn, turn_most, turn_low}
 use Rattle.ompt_events.proofs.PlaceLemmas.{contains_place, place_below}
 use Rattle.task_tree.specs.OwnOrder.{AreAllPlaces}
-use Rattle.task_tree.proofs.RankedLemmas.{Every, every_filter, every_take, every_weaker, Ranked, ranked_get, row_rises, row_below, by_key_permuted, by_key_ranked, Comes, stands_at, stands_below, not_standing, map_get, map_length, fold_most}
+use Rattle.task_tree.proofs.RankedLemmas.{Every, every_weaker, Ranked, ranked_get, row_rises, row_below, by_key_permuted, by_key_ranked, Comes, stands_at, stands_below, not_standing, map_get, map_length}
 
 -- ---- each place stands there once
 

@@ -1,6 +1,5 @@
 -- The records of a trace in the tasks' own order, and where each of them stands in the file.
 use Rattle.std.specs.Prelude.{ℕ, ◌≡◌, ◌<◌, ⊤, List, length, Option, Some, MatchOption, slice_get}
-use Rattle.ompt_events.specs.declared.records.Record.{Record}
 use Rattle.ompt_events.specs.declared.cause.Cause.{Cause}
 use Rattle.ompt_events.specs.declared.fault.Fault.{Fault}
 use Rattle.ompt_events.specs.declared.fault.Fault.TheVariants.{Memory, Malformed}
