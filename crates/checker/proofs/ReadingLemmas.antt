@@ -33,7 +33,7 @@ use Rattle.checker.specs.declared.verdict.Why.TheVariants.{Unfinished, Predecess
 use Rattle.checker.specs.Readings.{Reading, by_task, by_file, IsPrecededBy, IsRequiredBy}
 use Rattle.checker.specs.Verdicts.{ShowsNone, IsLeastShown, IsUnfinished, IsMissed, IsFirstSo, IsApproved, IsRejected, IsReason, IsVerdictBy, task_of}
 use Rattle.checker.specs.Counter.{IsEarliestOrder, IsCounterOrderBy, IsCounterBy, IsShownBy}
-use Rattle.checker.specs.Search.{IsOfRecords, IsLeastFound, IsShownFault}
+use Rattle.checker.specs.Search.{IsOfRecords, IsLeastFound, IsShownFault, ClearView, IsClearView}
 use Rattle.checker.proofs.VerdictLemmas.{cover_ends, preceded_starts, at_cases, listed}
 
 -- ---- readings that say the same
@@ -84,7 +84,7 @@ alike_unfinished a b i task alike is = record {
   incomplete = let P : List Record → Type 0 = λ rs. IsCompleteAt rs task i in λ complete. is.incomplete (subst P (sym alike.same) complete);
 }
 
-alike_missed : (a b : Reading) (i task : ℕ) → AreAlike a b → IsMissed a i task → IsMissed b i task
+pub alike_missed : (a b : Reading) (i task : ℕ) → AreAlike a b → IsMissed a i task → IsMissed b i task
 alike_missed a b i task alike is = record {
   required = alike_required a b i task alike is.required;
   order = is.order;
@@ -108,7 +108,7 @@ alike_reason : (a b : Reading) (i : ℕ) (why : Why) → AreAlike a b → IsReas
 alike_reason a b i (Unfinished task) alike reason = (alike.covers i task).0 reason
 alike_reason a b i (Predecessor task) alike reason = alike_preceded a b i task alike reason
 
-alike_yes : (a b : Reading) (order : List ℕ) → AreAlike a b → IsApproved a order → IsApproved b order
+pub alike_yes : (a b : Reading) (order : List ℕ) → AreAlike a b → IsApproved a order → IsApproved b order
 alike_yes a b order alike is = record {
   well_formed = alike_none a b alike is.well_formed;
   linearization = let P : List Record → Type 0 = λ rs. IsLinearization rs order in subst P alike.same is.linearization;
@@ -120,7 +120,7 @@ alike_yes a b order alike is = record {
       subst C alike.same (is.always_complete other (subst L (sym alike.same) linear) i task (alike_required b a i task (alike_back a b alike) required));
 }
 
-alike_no : (a b : Reading) (i : ℕ) (why : Why) → AreAlike a b → IsRejected a i why → IsRejected b i why
+pub alike_no : (a b : Reading) (i : ℕ) (why : Why) → AreAlike a b → IsRejected a i why → IsRejected b i why
 alike_no a b i why alike is =
     let back = alike_back a b alike in
     record {
@@ -136,7 +136,7 @@ alike_verdict a b (Yes order) alike is = alike_yes a b order alike is
 alike_verdict a b (No i why) alike is = alike_no a b i why alike is
 alike_verdict a b (Malformed i cause) alike is = alike_least a b i cause alike is
 
-alike_order : (a b : Reading) (i task : ℕ) (order : List ℕ) → AreAlike a b → IsCounterOrderBy a i task order → IsCounterOrderBy b i task order
+pub alike_order : (a b : Reading) (i task : ℕ) (order : List ℕ) → AreAlike a b → IsCounterOrderBy a i task order → IsCounterOrderBy b i task order
 alike_order a b i task order alike is = record {
   well_formed = alike_none a b alike is.well_formed;
   required = alike_required a b i task alike is.required;
@@ -221,6 +221,10 @@ file_required rs i task = (to, from)
     from (violations.awaited {dependent = dependent} completes after) = inr (inr (dependent, completes, after))
 
 -- ---- from the searches over the file
+
+-- a trace without a cause reads alike by the order of the file and by each task's own order
+pub clear_alike : (view : ClearView) → IsClearView view → AreAlike (by_file view.run.records) (by_task view.run.records)
+clear_alike view clear = alike_back (by_task view.run.records) (by_file view.run.records) (rising_alike view.run.records clear.rises)
 
 -- the least cause of the file, found by its records, is the least that they show by the order of the file
 least_shown : (rs : List Record) (i : ℕ) (cause : Cause) → IsMalformed rs all_causes i cause → IsLeastShown (by_file rs) i cause

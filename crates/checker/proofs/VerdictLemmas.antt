@@ -1,6 +1,6 @@
 -- From what the searches find to the verdict.
 use Rattle.std.proofs.Common.{zero-add, ◌≡◌, ◌∙◌, ℕ, ◌<◌, ◌≤◌, ◌⊎◌, List, length, take, Option, Some, None, refl, sym, ap, subst, arith, inl, inr}
-use Rattle.std.specs.Prelude.{is_some, Contains, ⊤, slice_get, option_and_then}
+use Rattle.std.specs.Prelude.{MatchOption, is_some, Contains, ⊤, slice_get, option_and_then}
 use Rattle.std.proofs.lemmas.Option.{none-some}
 use Rattle.std.proofs.lemmas.Bool.{cases_eq}
 use Rattle.ompt_events.specs.declared.records.Record.{Record}
@@ -25,6 +25,9 @@ use Rattle.ompt_events.specs.declared.names.Endpoint.{Endpoint}
 use Rattle.ompt_events.specs.declared.names.Endpoint.TheVariants.{End, BeginEnd}
 use Rattle.ompt_events.specs.Causes.{IsFreeOf, no_order}
 use Rattle.ompt_events.specs.CauseNames.{all_causes}
+use Rattle.wait_coverage.specs.Spans.{IsCoverComplete}
+use Rattle.wait_coverage.specs.Waits.{IsFirstOpenEnd}
+use Rattle.checker.specs.Starts.{AreReady, IsFirstLateStart}
 use Rattle.checker.specs.Readings.{Reading, by_file, IsPrecededBy}
 use Rattle.checker.specs.Verdicts.{ShowsNone, AreComplete, IsAlwaysComplete, IsUnfinished, IsOpenBy, IsLateBy, IsApproved}
 use Rattle.checker.specs.Search.{IsClear, IsOfRecords, AreAllCovered, AreAllReady, IsFirstOpenBy, IsFirstLateBy, IsFirstViolation}
@@ -216,6 +219,29 @@ end_first reading end start task predecessor of unfinished late most = elim (cas
       absurd (of.apart end task predecessor unfinished.so.0 (subst P (sym same) late.so.0))
   | inr differ ↦ open_before reading end task unfinished (λ k other low. late.first k other (omega (arith, low, most, differ)))
 ]
+
+-- ---- by the order of the file
+
+-- what the searches over the records find
+pub open_by_file : (rs : List Record) (found : Option (ℕ × ℕ)) → MatchOption found ((i : ℕ) → IsCoverComplete rs i) (λ (f : ℕ × ℕ). IsFirstOpenEnd rs f.0 f.1) → MatchOption found (AreAllCovered (by_file rs)) (λ (f : ℕ × ℕ). IsFirstOpenBy (by_file rs) f.0 f.1)
+open_by_file rs None all = all
+open_by_file rs (Some (i, task)) is = record {
+  so = (is.first_open.is_open.covered, is.first_open.is_open.incomplete);
+  first = λ k other below opened. opened.1 (is.before k below other opened.0);
+  creation = is.first_open.creation;
+  is_created = is.first_open.is_created;
+  created_first = λ k other below creates opened. is.first_open.created_first k other below creates (record { covered = opened.0; incomplete = opened.1 });
+}
+
+pub late_by_file : (rs : List Record) (found : Option (ℕ × ℕ)) → MatchOption found ((i : ℕ) → AreReady rs i) (λ (f : ℕ × ℕ). IsFirstLateStart rs f.0 f.1) → MatchOption found (AreAllReady (by_file rs)) (λ (f : ℕ × ℕ). IsFirstLateBy (by_file rs) f.0 f.1)
+late_by_file rs None all = all
+late_by_file rs (Some (i, task)) is = record {
+  so = is.first_late.late;
+  first = λ k other below late. late.1 (is.before k below other late.0);
+  creation = is.first_late.creation;
+  is_created = is.first_late.is_created;
+  created_first = is.first_late.created_first;
+}
 
 -- ---- causes by their numbers
 

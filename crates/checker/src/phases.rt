@@ -2,6 +2,7 @@
 ghost use Rattle.std.specs.Prelude.{◌≡◌, IfOk, IfErr, OnOk};
 ghost use Rattle.ompt_events.specs.declared.cause.Cause.TheVariants.{NotCurrent, TargetTask};
 ghost use Rattle.ompt_events.specs.CauseNames.{before};
+ghost use Rattle.ompt_events.specs.Turns.{TellsNoTurns};
 ghost use Rattle.ompt_events.specs.Linearization.{IsLinearization, IsGreedy};
 ghost use Rattle.checker.specs.Readings.{by_task};
 ghost use Rattle.checker.specs.Search.{IsClear, IsLeastFound, IsShownFault};
@@ -48,11 +49,12 @@ fn ask_run<Q: Question>(
     question: &Q,
 ) -> Result<Q::Answer, Fault>
     requires records { run.now.records ≡ trace.now.records }
+    requires untold { TellsNoTurns trace.now.records }
     requires clear { IsClear trace.now.records (before NotCurrent) }
     ensures right { IfOk result (Q.is_right question.now trace.now.records) }
     ensures malformed { IfErr result (IsLeastFound trace.now.records) }
 {
-    let states = States::in_run(alloc, run)?;
+    let states = States::in_run(alloc, run, None)?;
     let teams = Teams::in_run(alloc, &states)?;
     exclude(Cause::NestedParallel, find_nested(alloc, run)?)?;
     let edges = Edges::in_run(alloc, run)?;

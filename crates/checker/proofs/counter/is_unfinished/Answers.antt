@@ -3,10 +3,11 @@ use Rattle.std.proofs.lemmas.Bool.{false≢true}
 use Rattle.std.proofs.lemmas.Result.{IfOk-weaker}
 use Rattle.std.specs.Prelude.{IsTrue, ◌↔◌}
 use Rattle.ompt_events.specs.declared.cause.Cause.TheVariants.{EntryTwice, LengthAhead}
-use Rattle.ompt_events.specs.Violations.{IsUnfinished}
 use Rattle.task_tree.specs.Runs.{RunView}
 use Rattle.teams.specs.Teams.{TeamsView}
 use Rattle.wait_coverage.specs.Waits.{IsOpen}
+use Rattle.checker.specs.Readings.{by_file}
+use Rattle.checker.specs.Verdicts.{IsUnfinished}
 use Rattle.checker.specs.Starts.{IsLate}
 use Rattle.checker.proofs.VerdictLemmas.{open_unfinished, late_unfinished, unfinished_cases}
 use Rattle.checker.proofs.counter.is_unfinished.Goals as goal
@@ -25,7 +26,7 @@ returns-then-branch-clause-unfinished c =
     let Tells : RunView → Type 0 = λ r. IsTrue c.in_ok-is_open.field-0 ↔ IsOpen r.records c.args.at c.args.task in
     let same = ap (λ (t : TeamsView). t.run) c.in_ok-known.ensures.teams ∙ c.sound.view_is ∙ c.sound-sound.ensures.value in
     let tells : IsTrue c.in_ok-is_open.field-0 ↔ IsOpen rs c.args.at c.args.task = subst Tells same (c.in_ok-is_open.ensures.open c.in_ok-known.ensures.done) in
-    ((λ _. open_unfinished rs c.args.at c.args.task (tells.0 c.if-branch.true)), (λ _. refl))
+    ((λ _. let is = tells.0 c.if-branch.true in open_unfinished (by_file rs) c.args.at c.args.task (is.covered, is.incomplete)), (λ _. refl))
 
 pub returns-clause-unfinished : goal.returns-clause-unfinished
 returns-clause-unfinished c =
@@ -36,11 +37,11 @@ returns-clause-unfinished c =
     let same = ap (λ (t : TeamsView). t.run) c.in_ok-known.ensures.teams ∙ c.sound.view_is ∙ c.sound-sound.ensures.value in
     let tells : IsTrue c.in_ok-is_open.field-0 ↔ IsOpen rs at task = subst Tells same (c.in_ok-is_open.ensures.open c.in_ok-known.ensures.done) in
     let closed : IsOpen rs at task → ⊥ = λ is. false≢true (sym c.if-branch.false ∙ tells.1 is) in
-    IfOk-weaker c.is_late.result (λ found. IsTrue found ↔ IsLate rs at task) (λ found. IsTrue found ↔ IsUnfinished rs at task)
+    IfOk-weaker c.is_late.result (λ found. IsTrue found ↔ IsLate rs at task) (λ found. IsTrue found ↔ IsUnfinished (by_file rs) at task)
     (λ found late. (
-      (λ yes. late_unfinished rs at task (late.0 yes)),
-      (λ is. elim (unfinished_cases rs at task is) [
-        | inl is_open ↦ absurd (closed is_open)
+      (λ yes. late_unfinished (by_file rs) at task (late.0 yes)),
+      (λ is. elim (unfinished_cases (by_file rs) at task is) [
+        | inl is_open ↦ absurd (closed (record { covered = is_open.0; incomplete = is_open.1 }))
         | inr is_late ↦ late.1 is_late
       ]),
     ))

@@ -4,8 +4,13 @@ use Rattle.ompt_events.specs.declared.cause.Cause.TheVariants.{NotCurrent, Moved
 use Rattle.ompt_events.specs.CauseNames.{before}
 use Rattle.ompt_events.specs.Causes.{IsFreeOf}
 use Rattle.checker.specs.Search.{IsClear}
+use Rattle.ompt_events.proofs.TurnLemmas.{free_of_gaps}
+use Rattle.task_tree.proofs.RisingLemmas.{untold_rise}
 use Rattle.checker.proofs.PhaseLemmas.{beyond, least_more, states_clear, teams_clear, nesting_clear, edges_clear, claims_clear}
 use Rattle.checker.proofs.phases.ask_run.Goals as goal
+
+pub in_run-requires : goal.in_run-requires
+in_run-requires g c = rw c.requires.records (free_of_gaps c.args.trace.now.records c.requires.untold)
 
 pub returns-in_err-states-clause-malformed : goal.returns-in_err-states-clause-malformed
 returns-in_err-states-clause-malformed g c =
@@ -60,4 +65,4 @@ invariant_of-sound g c =
     let placed : IsFreeOf rs DepsPlace = rw c.requires.records at c.in_ok-edges.ensures.placed in
     let claims : IsFreeOf rs ShareWrong = c.in_ok-exclude-2.ensures.free rs (rw c.requires.records at c.find_wrong_claim.ensures) in
     let clear : IsClear rs (before EntryTwice) = claims_clear rs (edges_clear rs (nesting_clear rs (teams_clear rs (states_clear rs c.requires.clear (rw c.requires.records at states.current) (rw c.requires.records at states.stay) (rw c.requires.records at states.gapless) (rw c.requires.records at states.ordered) (rw c.requires.records at states.closed)) whole) flat) placed) claims in
-    (record { is_run = c.in_ok-teams.ensures.teams.run; clear = rw (c.in_ok-teams.ensures.run, states.run, c.requires.records) clear }, (rw (c.in_ok-teams.ensures.run, states.run) c.requires.records, rw (c.in_ok-teams.ensures.run, states.run) c.in_ok-edges.ensures.run))
+    (record { is_run = c.in_ok-teams.ensures.teams.run; rises = rw (c.in_ok-teams.ensures.run, states.run, c.requires.records) (untold_rise rs c.requires.untold); clear = rw (c.in_ok-teams.ensures.run, states.run, c.requires.records) clear }, (rw (c.in_ok-teams.ensures.run, states.run) c.requires.records, rw (c.in_ok-teams.ensures.run, states.run) c.in_ok-edges.ensures.run))

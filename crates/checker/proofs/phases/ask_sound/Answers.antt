@@ -20,6 +20,7 @@ invariant_of-answer g c =
     let free : IsFreeOf rs TargetTask = c.in_ok-exclude.ensures.free rs (rw (sym c.sound.invariant.1.0, c.sound.view_is) at c.target.ensures) in
     record {
       is_run = sound.is_run;
+      rises = sound.rises;
       well_formed = clear_more rs (before TargetTask) (TargetTask ∷ []) c.in_ok-order.ensures.clear (only_clear rs TargetTask free);
       linearization = c.in_ok-order.ensures.linearization;
       greedy = c.in_ok-order.ensures.greedy;
