@@ -104,6 +104,9 @@ suspended_finishes _ task turn suspends = absurd (none-some (task, turn) suspend
 pub first_begun : (rs : List Record) (i task : ℕ) → at first_started rs i ≡ Some task → at begun_turn rs i ≡ Some (task, 0)
 first_begun rs i task starts = at_through first_started begun_turn task (task, 0) rs i (λ b. first_begins b task) starts
 
+pub first_begun_starts : (rs : List Record) (i task : ℕ) → at begun_turn rs i ≡ Some (task, 0) → at first_started rs i ≡ Some task
+first_begun_starts rs i task begins = at_through begun_turn first_started (task, 0) task rs i (λ b. begins_first b task) begins
+
 -- what a record says, where each that says one thing says no other
 silent : {X Y : Type 0} (f : Body → Option X) (g : Body → Option Y) (x : X) (rs : List Record) (i : ℕ) → ((b : Body) → f b ≡ Some x → g b ≡ None) → at f rs i ≡ Some x → at g rs i ≡ None
 silent {X} {Y} f g x rs i each is = by (slice_get rs i) is

@@ -20,6 +20,8 @@ use Rattle.task_tree.specs.Subjects.{Calls}
 use Rattle.task_tree.specs.Numbering.{AreApart}
 use Rattle.trace_ledger.specs.Entries.{IsDone}
 use Rattle.wait_coverage.specs.Done.{IsDoneFrom, AreOwn}
+use Rattle.checker.specs.Schedule.{first_started}
+use Rattle.checker.proofs.ScheduleLemmas.{first_begun_starts}
 use Rattle.checker.specs.Starts.{IsBound, AreStarted, StartsAt}
 
 pub called : (tasks : List ℕ) (found slot : Option ℕ) (index task : ℕ) → Calls tasks found slot → slot ≡ Some index → found ≡ Some task → slice_get tasks index ≡ Some task
@@ -141,6 +143,19 @@ started_more rs n index own tasks marks once is says are = record {
           ]),
         )
   ];
+}
+
+pub started_other : (rs : List Record) (n : ℕ) (tasks : List ℕ) (marks : List Bool) → at first_started rs n ≡ None → AreStarted rs n tasks marks → AreStarted rs (n + 1) tasks marks
+started_other rs n tasks marks none are = record {
+  all = are.all;
+  each = λ index task there.
+      let known = are.each index task there in (
+        (λ marked. let found = known.0 marked in let less = found.1 in (found.0, omega (arith, less), found.2)),
+        (λ (k, below, starts). elim (cases_eq k n) [
+          | inl last ↦ absurd (none-some task (sym none ∙ first_begun_starts rs n task (ap (at begun_turn rs) (sym last) ∙ starts)))
+          | inr earlier ↦ known.1 (k, omega (arith, below, earlier), starts)
+        ]),
+      );
 }
 
 -- the length that a record names, where it was read in place
