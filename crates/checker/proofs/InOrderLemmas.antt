@@ -1,7 +1,7 @@
 -- From the records so far in the order of the ledger to the causes that this excludes; and what is kept of the
 -- tasks.
 use Rattle.std.proofs.Common.{[], ◌∷◌, ◌≡◌, ◌∙◌, ℕ, ◌<◌, ◌≤◌, ◌+◌, Bool, true, false, cond, List, length, get_or, set, replicate, take, Option, Some, None, refl, sym, ap, subst, arith, inl, inr}
-use Rattle.std.specs.Prelude.{◌↔◌, is_some, slice_get, option_and_then}
+use Rattle.std.specs.Prelude.{is_some, slice_get, option_and_then}
 use Rattle.std.proofs.lemmas.Bool.{false≢true, cases_eq, cases_lt}
 use Rattle.std.proofs.lemmas.Option.{none-some, same_Some, some_pair_parts, slice_get_within, slice_get-get_or}
 use Rattle.std.proofs.lemmas.List.{take-take, length-set, length-replicate, get_or-set_same, get_or-set_other, get_or-replicate}
@@ -153,17 +153,6 @@ fit_entered rs fit a b makes less = elim (cases_lt a b) [
       let most = before_le rs b a past in
       absurd (omega (arith, own, named, most, less))
 ]
-
--- ---- what a record awaits
-
-pub awaited_follows : (rs : List Record) (i place own other : ℕ) (found : Option ℕ) → ((c : ℕ) → (found ≡ Some c) ↔ Awaits rs i c) → found ≡ Some place → place < i → seen_at rs place ≡ other → seen_at rs i ≡ own → other ≤ own → (c : ℕ) → Awaits rs i c → (c < i) × (seen_at rs c ≤ seen_at rs i)
-awaited_follows rs i place own other found awaits is less there here low c waits =
-    let same : c ≡ place = same_Some c place (sym ((awaits c).1 waits) ∙ is) in
-    let P : ℕ → Type 0 = λ k. (k < i) × (seen_at rs k ≤ seen_at rs i) in
-    subst P (sym same) (less, omega (arith, there, here, low))
-
-pub nothing_follows : (rs : List Record) (i : ℕ) (found : Option ℕ) → ((c : ℕ) → (found ≡ Some c) ↔ Awaits rs i c) → found ≡ None → (c : ℕ) → Awaits rs i c → (c < i) × (seen_at rs c ≤ seen_at rs i)
-nothing_follows rs i found awaits is c waits = absurd (none-some c (sym is ∙ (awaits c).1 waits))
 
 -- ---- what is kept of the tasks
 

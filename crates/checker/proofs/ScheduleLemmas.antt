@@ -25,7 +25,7 @@ use Rattle.task_tree.proofs.SubjectLemmas.{call_task, call_index}
 use Rattle.task_tree.proofs.NamedLemmas.{started_object}
 use Rattle.task_tree.proofs.LookupLemmas.{object_calls, root_or_explicit}
 use Rattle.task_tree.specs.Rising.{IsStartOf}
-use Rattle.checker.specs.Schedule.{first_started, awaited, Awaits, awaits_creation, awaits_end, IsEarlierOnThread, EachAwaitsOne, AwaitsNone}
+use Rattle.checker.specs.Schedule.{first_started, awaited, Awaits, awaits_creation, awaits_end, IsEarlierOnThread, EachAwaitsOne}
 use Rattle.checker.specs.Merge.{turn_of, key_of}
 
 -- ---- single records
@@ -103,6 +103,9 @@ suspended_finishes _ task turn suspends = absurd (none-some (task, turn) suspend
 
 pub first_begun : (rs : List Record) (i task : ℕ) → at first_started rs i ≡ Some task → at begun_turn rs i ≡ Some (task, 0)
 first_begun rs i task starts = at_through first_started begun_turn task (task, 0) rs i (λ b. first_begins b task) starts
+
+pub first_begun_starts : (rs : List Record) (i task : ℕ) → at begun_turn rs i ≡ Some (task, 0) → at first_started rs i ≡ Some task
+first_begun_starts rs i task begins = at_through begun_turn first_started (task, 0) task rs i (λ b. begins_first b task) begins
 
 -- what a record says, where each that says one thing says no other
 silent : {X Y : Type 0} (f : Body → Option X) (g : Body → Option Y) (x : X) (rs : List Record) (i : ℕ) → ((b : Body) → f b ≡ Some x → g b ≡ None) → at f rs i ≡ Some x → at g rs i ≡ None
@@ -281,10 +284,6 @@ creation_called rs tasks i index place facts calls is c =
     of task waits there (awaits_creation other waits' creates) = (is task c there).1 (creates ∙ sym waits' ∙ waits)
     of task waits there (awaits_end again explicit) = absurd (none-some task (sym (later_awaits_none rs i again.task (again.turn + 1) facts again.resumes (omega arith)) ∙ waits))
 
-pub none_awaited : (rs : List Record) (i c : ℕ) → AwaitsNone rs i → Awaits rs i c → ⊥
-none_awaited rs i c none (awaits_creation task waits creates) = none-some task (sym none.0 ∙ waits)
-none_awaited rs i c none (awaits_end again explicit) = none-some (again.task, again.turn + 1) (sym none.1 ∙ again.resumes)
-
 -- ---- keys
 
 called_position : (tasks : List ℕ) (found : Option ℕ) (index : ℕ) → AreApart tasks → Calls tasks found (Some index) → option_and_then (λ task. position (λ t. t == task) tasks) found ≡ Some index
@@ -299,11 +298,6 @@ key_turn rs tasks rows i index turn facts apart begins later =
     ap (λ o. option_or (option_and_then (λ task. position (λ t. t == task) tasks) o) (turn_of tasks rs rows i)) (later_awaits_none rs i begins.task turn facts begins.starts later)
     ∙ ap (option_and_then (λ (b : ℕ × ℕ). option_map (λ k. length tasks + (slice_index rows k + b.1)) (position (λ t. t == b.0) tasks))) begins.starts
     ∙ ap (option_map (λ k. length tasks + (slice_index rows k + turn))) (index_first tasks index begins.task apart begins.indexed)
-
-pub key_none : (rs : List Record) (tasks rows : List ℕ) (i : ℕ) → AwaitsNone rs i → key_of tasks rs rows i ≡ None
-key_none rs tasks rows i none =
-    ap (λ o. option_or (option_and_then (λ task. position (λ t. t == task) tasks) o) (turn_of tasks rs rows i)) none.0
-    ∙ ap (option_and_then (λ (b : ℕ × ℕ). option_map (λ k. length tasks + (slice_index rows k + b.1)) (position (λ t. t == b.0) tasks))) none.1
 
 -- ---- when file order is an order
 

@@ -5,23 +5,23 @@ use Rattle.std.proofs.lemmas.Option.{none-some, same_Some, some_pair_parts, slic
 use Rattle.std.proofs.lemmas.List.{length-set, get_or-set_same, get_or-set_other}
 use Rattle.std.proofs.lemmas.List.Sums.{count_by-le-length}
 use Rattle.std.proofs.Math.ListN.{set}
-use Rattle.std.specs.Prelude.{◌↔◌, IsTrue, slice_get, slice_index, slice_index_or, nat_lt, is_some, option_and_then}
+use Rattle.std.specs.Prelude.{◌↔◌, IsTrue, slice_get, slice_index, slice_index_or, nat_lt, is_some}
 use Rattle.std.specs.Option.{option_map_or}
 use Rattle.ompt_events.specs.declared.records.Record.{Record}
 use Rattle.ompt_events.specs.declared.records.Part.{Part}
 use Rattle.ompt_events.specs.declared.records.Part.TheVariants.{Whole, Body, Event}
-use Rattle.ompt_events.specs.declared.records.Body.{Body as RecordBody}
-use Rattle.ompt_events.specs.declared.records.Body.TheVariants.{TaskSchedule}
-use Rattle.ompt_events.specs.Records.{started, begun_turn, finish}
+use Rattle.ompt_events.specs.Records.{begun_turn, finish}
 use Rattle.ompt_events.specs.declared.cause.Cause.TheVariants.{EntryTwice, LengthAhead}
 use Rattle.ompt_events.specs.Causes.{IsFreeOf, entries_in, entry_twice, length_ahead, entry, ledger_length, known_after}
 use Rattle.ompt_events.specs.Places.{at, seen_at}
 use Rattle.ompt_events.specs.HappensBefore.{IsFinishing}
 use Rattle.ompt_events.specs.Completion.{IsPartFinished, IsFinished, IsCompleteAt, CountsAt, StartsTask}
-use Rattle.task_tree.specs.Subjects.{object, Calls}
+use Rattle.task_tree.specs.Subjects.{Calls}
 use Rattle.task_tree.specs.Numbering.{AreApart}
 use Rattle.trace_ledger.specs.Entries.{IsDone}
 use Rattle.wait_coverage.specs.Done.{IsDoneFrom, AreOwn}
+use Rattle.checker.specs.Schedule.{first_started}
+use Rattle.checker.proofs.ScheduleLemmas.{first_begun_starts}
 use Rattle.checker.specs.Starts.{IsBound, AreStarted, StartsAt}
 
 pub called : (tasks : List ℕ) (found slot : Option ℕ) (index task : ℕ) → Calls tasks found slot → slot ≡ Some index → found ≡ Some task → slice_get tasks index ≡ Some task
@@ -123,18 +123,6 @@ pub called_task : (tasks : List ℕ) (found slot : Option ℕ) (index : ℕ) →
 called_task tasks None slot index calls is = absurd (none-some index (sym calls ∙ is))
 called_task tasks (Some task) slot index calls is = (task, refl, ap (slice_get tasks) (same_Some index calls.0 (sym is ∙ calls.1)) ∙ calls.2)
 
--- what a record names beside its subject it starts, if it starts a task
-object_starts : (task : ℕ) (b : RecordBody) → is_some (started b) ≡ true → object b ≡ Some task → started b ≡ Some task
-object_starts task (TaskSchedule status turns prior next share) starts is = is
-object_starts task _ starts is = absurd (false≢true starts)
-
-pub started_there : (rs : List Record) (i task : ℕ) → is_some (at started rs i) ≡ true → at object rs i ≡ Some task → at started rs i ≡ Some task
-started_there rs i task starts is = of (slice_get rs i) starts is
-  where
-    of : (o : Option Record) → is_some (option_and_then (λ (r : Record). started r.body) o) ≡ true → option_and_then (λ (r : Record). object r.body) o ≡ Some task → option_and_then (λ (r : Record). started r.body) o ≡ Some task
-    of None starts is = absurd (false≢true starts)
-    of (Some r) starts is = object_starts task r.body starts is
-
 pub started_more : (rs : List Record) (n index own : ℕ) (tasks : List ℕ) (marks : List Bool) → AreApart tasks → slice_get tasks index ≡ Some own → at begun_turn rs n ≡ Some (own, 0) → AreStarted rs n tasks marks → AreStarted rs (n + 1) tasks (set marks index true)
 started_more rs n index own tasks marks once is says are = record {
   all = length-set marks index true ∙ are.all;
@@ -155,6 +143,19 @@ started_more rs n index own tasks marks once is says are = record {
           ]),
         )
   ];
+}
+
+pub started_other : (rs : List Record) (n : ℕ) (tasks : List ℕ) (marks : List Bool) → at first_started rs n ≡ None → AreStarted rs n tasks marks → AreStarted rs (n + 1) tasks marks
+started_other rs n tasks marks none are = record {
+  all = are.all;
+  each = λ index task there.
+      let known = are.each index task there in (
+        (λ marked. let found = known.0 marked in let less = found.1 in (found.0, omega (arith, less), found.2)),
+        (λ (k, below, starts). elim (cases_eq k n) [
+          | inl last ↦ absurd (none-some task (sym none ∙ first_begun_starts rs n task (ap (at begun_turn rs) (sym last) ∙ starts)))
+          | inr earlier ↦ known.1 (k, omega (arith, below, earlier), starts)
+        ]),
+      );
 }
 
 -- the length that a record names, where it was read in place

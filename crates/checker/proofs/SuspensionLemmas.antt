@@ -201,7 +201,9 @@ end_not_awaited rs tasks known i index turn place are begins later read none c (
     let parts = some_pair_parts again.task begins.task (again.turn + 1) turn (sym again.resumes ∙ begins.starts) in
     let next = at_end.next in
     let same : at_end.before ≡ again.turn = omega (arith, parts.1, next) in
-    let one : c ≡ place = are.facts.once c place i again explicit (at_end.suspends ∙ ap (λ t. Some (t, at_end.before)) (sym parts.0) ∙ ap (λ t. Some (again.task, t)) same) in
+    let task : begins.task ≡ again.task = sym parts.0 in
+    let Q : ℕ → ℕ → Type 0 = λ t u. at suspended_turn rs place ≡ Some (t, u) in
+    let one : c ≡ place = are.facts.once c place i again explicit (subst (Q again.task) same (subst (λ t. Q t at_end.before) task at_end.suspends)) in
     none within (λ here. again.another (one ∙ here))
 
 -- what is found in the slot is what is awaited

@@ -123,7 +123,8 @@ task_of tasks rs i = option_and_then (λ task. position (λ t. t == task) tasks)
 abbrev pub turn_of : List ℕ → List Record → List ℕ → ℕ → Option ℕ
 turn_of tasks rs rows i =
     option_and_then
-    (λ (b : ℕ × ℕ). option_map (λ index. length tasks + (slice_index rows index + b.1)) (position (λ t. t == b.0) tasks))
+    (λ (b : ℕ × ℕ). option_map (λ index. length tasks + (slice_index rows index + b.1))
+    (position (λ t. t == b.0) tasks))
     (at begun_turn rs i)
 
 -- the key of what each record awaits
@@ -135,7 +136,8 @@ abbrev pub length_of : List Record → ℕ → Option ℕ
 length_of rs i = option_map (λ (r : Record). r.seen) (slice_get rs i)
 
 -- the lists are those of the records that await each other one, and that name each ledger length
-pub record AreWaiting (rs : List Record) (tasks : List ℕ) (known : Suspensions) (waiting : Waiting) : Type 0 where
+pub record AreWaiting (rs : List Record) (tasks : List ℕ) (known : Suspensions)
+    (waiting : Waiting) : Type 0 where
   pub awaiting : AreLists (key_of tasks rs known.rows.items) (length rs) 0 waiting.by_key.firsts.items
       waiting.by_key.nexts.items
   pub naming : AreLists (length_of rs) (length rs) 0 waiting.by_length.firsts.items

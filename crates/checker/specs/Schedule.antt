@@ -20,8 +20,8 @@ first_started body = option_and_then (λ (b : ℕ × ℕ). if b.1 == 0 then Some
 abbrev pub awaited : Body → Option ℕ
 awaited body = option_or (fulfilled body) (option_or (discarded body) (first_started body))
 
--- the record at i awaits the one at c: the creation of the task that it fulfils, discards or starts; or, where
--- an explicit task runs on, the record at which it was suspended
+-- the record at i awaits the one at c: the creation of the task that it fulfils, discards or starts; or,
+-- where an explicit task runs on, the record at which it was suspended
 pub data Awaits (rs : List Record) (i c : ℕ) : Type 0 where
   awaits_creation : (task : ℕ) → at awaited rs i ≡ Some task → at created rs c ≡ Some task → Awaits rs i c
   awaits_end : (again : IsResumption rs c i) → IsExplicit rs again.task → Awaits rs i c
@@ -41,19 +41,22 @@ pub record EachAwaitsOne (rs : List Record) : Type 0 where
   pub at_home : (i task : ℕ) → IsExplicit rs task → at begun_turn rs i ≡ Some (task, 0)
       → IsStart rs i task ⊎ ((s : ℕ) × IsEarlierOnThread rs s i × IsStart rs s task)
   -- a task that runs on is explicit, or it was suspended earlier on the same thread
-  pub on_thread : (a b : ℕ) (again : IsResumption rs a b) → IsExplicit rs again.task ⊎ IsEarlierOnThread rs a b
+  pub on_thread : (a b : ℕ) (again : IsResumption rs a b)
+      → IsExplicit rs again.task ⊎ IsEarlierOnThread rs a b
   -- an explicit task that runs on was suspended at one record alone in the turn before
   pub once : (a b i : ℕ) (again : IsResumption rs a i) → IsExplicit rs again.task
       → at suspended_turn rs b ≡ Some (again.task, again.turn) → a ≡ b
   -- where one record that starts a task tells no turns, none does
-  pub alike : (i k task : ℕ) → at started rs i ≡ Some task → at told_turns rs i ≡ None → at told_turns rs k ≡ None
+  pub alike : (i k task : ℕ) → at started rs i ≡ Some task → at told_turns rs i ≡ None
+      → at told_turns rs k ≡ None
 
 -- ---- by indices of tasks
 
 -- what the record at i awaits
 abbrev pub IsAwaited : RunView → ℕ → Awaited → Type 0
 IsAwaited run i (Creation index) = IsIndexOf run awaited i (Some index)
-IsAwaited run i (Turn begin) = IsStartOf run.records run.family.tasks i begin.index begin.turn × (0 < begin.turn)
+IsAwaited run i (Turn begin) =
+    IsStartOf run.records run.family.tasks i begin.index begin.turn × (0 < begin.turn)
 
 -- it awaits nothing
 abbrev pub AwaitsNone : List Record → ℕ → Type 0

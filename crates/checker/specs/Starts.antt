@@ -49,7 +49,8 @@ IsBound rs i bound = (task : ℕ) → IsCompleteAt rs task i ↔ IsDone rs bound
 pub record AreStarted (rs : List Record) (n : ℕ) (tasks : List ℕ) (marks : List Bool) : Type 0 where
   pub all : length marks ≡ length tasks
   pub each : (index task : ℕ) → slice_get tasks index ≡ Some task
-      → IsTrue (slice_index_or marks index false) ↔ ((k : ℕ) × (k < n) × (at begun_turn rs k ≡ Some (task, 0)))
+      → IsTrue (slice_index_or marks index false)
+      ↔ ((k : ℕ) × (k < n) × (at begun_turn rs k ≡ Some (task, 0)))
 
 -- an explicit task starts at i, which stands at the index
 abbrev pub StartsAt : List Record → List ℕ → ℕ → ℕ → Type 0

@@ -30,7 +30,8 @@ AreRows rows = (index : ℕ) → index + 1 < length rows → slice_index rows in
 
 -- each turn that begins has its slot
 abbrev pub HaveRoom : List Record → List ℕ → List ℕ → Type 0
-HaveRoom rs tasks rows = (i index turn : ℕ) → IsStartOf rs tasks i index turn → 0 < turn → HasSlot rows index turn
+HaveRoom rs tasks rows =
+    (i index turn : ℕ) → IsStartOf rs tasks i index turn → 0 < turn → HasSlot rows index turn
 
 -- each of the first n records begins no turn of its task at or beyond the length of its row
 abbrev pub AreLengths : List Record → ℕ → List ℕ → List ℕ → Type 0

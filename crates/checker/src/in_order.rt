@@ -66,7 +66,8 @@ fn fits_behind(seen: u64, after: u64, entries: u64) -> bool
 }
 
 /// Whether what the record at a place awaits, if it awaits anything, stands before it and names no greater
-/// length. Notes the task that is suspended there.
+/// length. Notes the task that is suspended there. Inlined into the loop over all records.
+#[inline(always)]
 fn follows_awaited(
     alloc: Global,
     run: &Run,
@@ -140,7 +141,8 @@ fn ended_before(run: &Run, last: Suspension, at: usize, turn: u32) -> bool
     last.turn == turn - 1 && place < at && run.seen(place) <= run.seen(at)
 }
 
-/// Notes the task that is suspended at a place, where turns are told.
+/// Notes the task that is suspended at a place, where turns are told. Inlined for the test.
+#[inline(always)]
 fn note_end(
     alloc: Global,
     run: &Run,
@@ -161,7 +163,8 @@ fn note_end(
     }
 }
 
-/// Keeps the task's suspension. The first one makes the table.
+/// Keeps the task's suspension. The first one makes the table. Never inlined, as few files come here.
+#[inline(never)]
 fn keep_end(
     alloc: Global,
     run: &Run,

@@ -1,5 +1,5 @@
-//! Places of records in lists: those of one thread, those that await one record, and those that name one ledger
-//! length.
+//! Places of records in lists: those of one thread, those that await one record, and those that name one
+//! ledger length.
 ghost use Rattle.std.specs.Prelude.{ℕ, ◌≡◌, ◌<◌, ◌≤◌, ◌^◌, ◌+◌, Option, Some, IfOk, IfSome, length};
 ghost use Rattle.ompt_events.specs.Places.{thread_at};
 ghost use Rattle.checker.specs.Lists.{AreLists, IsRising};
@@ -107,8 +107,8 @@ pub(crate) fn lists_of_keys(
     Ok(lists)
 }
 
-/// The key under which the record at a place stands: the index of the task whose creation it awaits, or, behind
-/// those of all tasks, the slot of the turn that a task begins there.
+/// The key under which the record at a place stands: the index of the task whose creation it awaits, or,
+/// behind those of all tasks, the slot of the turn that a task begins there.
 fn key_at(run: &Run, suspensions: &Suspensions, at: usize) -> Option<usize>
     requires within { at < length run.now.records }
     requires known { AreSuspensions run.now.records run.now.family.tasks suspensions.now }

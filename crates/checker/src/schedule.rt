@@ -41,7 +41,8 @@ pub(crate) fn awaited_at(run: &Run, suspensions: &Suspensions, at: usize) -> Opt
     }
 }
 
-/// What the record at a place awaits.
+/// What the record at a place awaits. Inlined with `awaited_at`.
+#[inline(always)]
 pub(crate) fn awaited_by(run: &Run, at: usize) -> Option<Awaited>
     requires { at < length run.now.records }
     ensures { MatchOption result (AwaitsNone run.now.records at) (IsAwaited run.now at) }
@@ -73,7 +74,8 @@ pub(crate) fn first_started(run: &Run, at: usize) -> Option<usize>
     }
 }
 
-/// The turn that a task begins there.
+/// The turn that a task begins there. Inlined with `awaited_by`.
+#[inline(always)]
 pub(crate) fn begun_at(run: &Run, at: usize) -> Option<Begin>
     requires { at < length run.now.records }
     ensures { MatchOption result (says_at begun_turn run.now.records at ≡ None)

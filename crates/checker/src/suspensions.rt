@@ -12,9 +12,9 @@ use ompt_events::Record;
 use std::alloc::{AllocError, Global};
 use task_tree::Run;
 
-/// The records at which the explicit tasks are suspended, in a table: by index of the task a row with one slot
-/// for each of its turns, up to the last that begins. Where no record tells a turn the table is empty. The turns
-/// of a task have no gap, so the rows have no more slots than records start tasks.
+/// The records at which the explicit tasks are suspended, in a table: by index of the task a row with one
+/// slot for each of its turns, up to the last that begins. Where no record tells a turn the table is empty.
+/// Where the turns of a task have no gap, the rows have no more slots than records start tasks.
 #[derive(Drop)]
 pub(crate) struct Suspensions {
     /// By index of the task the first slot of its row, and last the end of all rows.
@@ -81,7 +81,8 @@ impl Suspensions {
     pub(crate) fn slot_behind(&self, run: &Run, at: usize) -> Option<usize>
         requires within { at < length run.now.records }
         requires is_run { IsRun run.now }
-        ensures { MatchOption result (HasNoSlotBehind run.now.records run.now.family.tasks self.now.rows.items at)
+        ensures { MatchOption result
+            (HasNoSlotBehind run.now.records run.now.family.tasks self.now.rows.items at)
             (IsSlotBehind run.now.records run.now.family.tasks self.now.rows.items at) }
     {
         if self.rows.is_empty() {

@@ -1,4 +1,4 @@
-use Rattle.std.proofs.Common.{◌∙◌, ap, Some, refl, sym, subst, arith}
+use Rattle.std.proofs.Common.{length, ◌∙◌, ap, Some, refl, sym, subst, arith}
 use Rattle.std.proofs.lemmas.Option.{slice_get_within}
 use Rattle.ompt_events.specs.Places.{at as says_at}
 use Rattle.task_tree.specs.Subjects.{Calls}
@@ -7,6 +7,7 @@ use Rattle.checker.specs.Schedule.{awaited, IsAwaited}
 use Rattle.checker.specs.declared.schedule.Awaited.{Awaited}
 use Rattle.checker.specs.declared.schedule.Awaited.TheVariants.{Turn}
 use Rattle.checker.proofs.ScheduleLemmas.{key_creation, key_turn}
+use Rattle.checker.proofs.SuspensionLemmas.{slot_within}
 use Rattle.checker.proofs.lists.key_at.Goals as goal
 
 pub returns-in-Creation-clause-key : goal.returns-in-Creation-clause-key
@@ -32,3 +33,26 @@ returns-in-Turn-clause-key c =
     let slot = c.slot_of.ensures in
     ap Some (omega (arith, count, slot))
     ∙ sym (key_turn c.args.run.now.records c.args.run.now.family.tasks c.args.suspensions.now.rows.items c.args.at c.in-Turn.begin.index c.in-Turn.begin.turn c.requires.known.facts c.task_count-tasks.ensures.is_run.family.makers.apart is.0 is.1)
+
+pub slot_of-requires-clause-has : goal.slot_of-requires-clause-has
+slot_of-requires-clause-has c =
+    let P : Awaited → Type 0 = IsAwaited c.args.run.now c.args.at in
+    let is : IsAwaited c.args.run.now c.args.at (Turn c.in-Turn.begin) = subst P c.in-Turn.is c.in_ok-index.ensures in
+    c.requires.known.room c.args.at c.in-Turn.begin.index c.in-Turn.begin.turn is.0 is.1
+
+pub slot_of-requires-clause-within : goal.slot_of-requires-clause-within
+slot_of-requires-clause-within c =
+    let P : Awaited → Type 0 = IsAwaited c.args.run.now c.args.at in
+    let is : IsAwaited c.args.run.now c.args.at (Turn c.in-Turn.begin) = subst P c.in-Turn.is c.in_ok-index.ensures in
+    slot_within c.args.suspensions.now.rows.items c.in-Turn.begin.index c.in-Turn.begin.turn (length c.args.suspensions.now.places.items)
+    (c.requires.known.room c.args.at c.in-Turn.begin.index c.in-Turn.begin.turn is.0 is.1) c.requires.known.within
+
+pub returns-in-Turn-clause-low : goal.returns-in-Turn-clause-low
+returns-in-Turn-clause-low c =
+    let P : Awaited → Type 0 = IsAwaited c.args.run.now c.args.at in
+    let is : IsAwaited c.args.run.now c.args.at (Turn c.in-Turn.begin) = subst P c.in-Turn.is c.in_ok-index.ensures in
+    let low = slot_within c.args.suspensions.now.rows.items c.in-Turn.begin.index c.in-Turn.begin.turn (length c.args.suspensions.now.places.items)
+    (c.requires.known.room c.args.at c.in-Turn.begin.index c.in-Turn.begin.turn is.0 is.1) c.requires.known.within in
+    let count = c.task_count-tasks.ensures.value in
+    let slot = c.slot_of.ensures in
+    omega (arith, low, count, slot)

@@ -26,10 +26,9 @@ pub returns-clause-key : goal.returns-clause-key
 returns-clause-key c = λ i awaits.
     let rs = c.args.run.now.records in
     let tasks = c.args.run.now.family.tasks in
-    let count = c.task_count-tasks.ensures.value in
-    (
+    let count = c.task_count-tasks.ensures.value in (
       c.task_count-tasks.result + c.in_ok-slot.slot,
       refl,
       slot_key rs tasks c.args.suspensions.now.rows.items i c.args.at c.in_ok-slot.slot c.requires.known.facts c.task_count-tasks.ensures.is_run.family.makers.apart c.in_ok-slot.ensures awaits
-      ∙ ap (λ n. Some (n + c.in_ok-slot.slot)) (sym count),
+          ∙ ap (λ n. Some (n + c.in_ok-slot.slot)) (sym count),
     )

@@ -1,4 +1,4 @@
-use Rattle.std.proofs.Common.{◌∙◌, length, sym, arith}
+use Rattle.std.proofs.Common.{◌∙◌, sym, arith}
 use Rattle.std.proofs.lemmas.Option.{none-some}
 use Rattle.ompt_events.specs.Records.{begun_turn}
 use Rattle.ompt_events.proofs.PlaceLemmas.{at_within}
