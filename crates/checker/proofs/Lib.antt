@@ -3,7 +3,7 @@ mod LengthLemmas
 mod EntryLemmas
 mod ListsLemmas
 mod QueueLemmas
-mod MissedLemmas
+pub mod MissedLemmas
 mod CounterLemmas
 mod OrderLemmas
 mod MergeLemmas
@@ -19,5 +19,5 @@ mod StartLemmas
 mod LateLemmas
 mod PhaseLemmas
 mod VerdictLemmas
-mod ReadingLemmas
+pub mod ReadingLemmas
 mod BeforeLemmas

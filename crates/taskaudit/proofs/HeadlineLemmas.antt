@@ -1,7 +1,6 @@
 -- What a yes says of the records.
-use Rattle.std.proofs.Common.{◌≡◌, List}
+use Rattle.std.proofs.Common.{◌≡◌, List, inl, inr}
 use Rattle.ompt_events.specs.declared.records.Record.{Record}
-use Rattle.ompt_events.specs.Violations.{covered, preceding, awaited}
 use Rattle.checker.specs.declared.verdict.Verdict.{Verdict}
 use Rattle.checker.specs.declared.verdict.Verdict.TheVariants.{Yes, No, Malformed}
 use Rattle.checker.specs.Verdicts.{IsVerdict}
@@ -13,9 +12,9 @@ pub synchronised : (rs : List Record) (verdict : Verdict) → IsVerdict rs verdi
 synchronised rs (Yes order) is says = record {
   order = order;
   has_order = is.linearization;
-  waits = λ other linear i task covers. is.always_complete other linear i task (covered covers);
-  starts = λ other linear i dependent predecessor explicit start before. is.always_complete other linear i predecessor (preceding explicit start before);
-  taskwaits = λ other linear i dependent predecessor completes before. is.always_complete other linear i predecessor (awaited completes before);
+  waits = λ other linear i task covers. is.always_complete other linear i task (inl covers);
+  starts = λ other linear i dependent predecessor explicit start before. is.always_complete other linear i predecessor (inr (inl (dependent, explicit, start, before)));
+  taskwaits = λ other linear i dependent predecessor completes before. is.always_complete other linear i predecessor (inr (inr (dependent, completes, before)));
 }
 synchronised rs (No i why) is says = absurd (cc)
 synchronised rs (Malformed i cause) is says = absurd (cc)

@@ -10,6 +10,7 @@ use Rattle.ompt_events.specs.Linearization.{IsLinearization}
 use Rattle.ompt_events.proofs.PlaceLemmas.{place_below}
 use Rattle.checker.specs.declared.verdict.Verdict.{Verdict}
 use Rattle.checker.specs.declared.verdict.Verdict.TheVariants.{Yes, No, Malformed}
+use Rattle.checker.specs.Readings.{by_task}
 use Rattle.checker.specs.Counter.{IsShownBy}
 use Rattle.checker.specs.Verdicts.{IsVerdict}
 use Rattle.taskaudit.specs.Orders.{place_line, order_lines, order_shown}
@@ -20,7 +21,7 @@ linear_within rs order linear i stands =
     place_below rs i (Contains-permutation order (places rs) i (IsPermutation-sym (places rs) order linear.all_once) stands)
 
 -- so are those of the order that shows a verdict
-pub shown_within : (rs : List Record) (verdict : Verdict) (counter : Option (List ℕ)) (order : List ℕ) → IsVerdict rs verdict → IsShownBy rs verdict counter → order_shown verdict counter ≡ Some order → (i : ℕ) → Contains order i → i < length rs
+pub shown_within : (rs : List Record) (verdict : Verdict) (counter : Option (List ℕ)) (order : List ℕ) → IsVerdict rs verdict → IsShownBy (by_task rs) verdict counter → order_shown verdict counter ≡ Some order → (i : ℕ) → Contains order i → i < length rs
 shown_within rs (Yes own) counter order judged shown is = linear_within rs order (subst (IsLinearization rs) (same_Some own order is) judged.linearization)
 shown_within rs (No i why) (Some other) order judged shown is = linear_within rs order (subst (IsLinearization rs) (same_Some other order is) shown.linearization)
 shown_within rs (No i why) None order judged shown is = absurd shown

@@ -2,6 +2,7 @@
 ghost use Rattle.std.specs.Prelude.{◌≡◌, ◌<◌, ◌≤◌, ◌++◌, ℕ, Contains, IfOk, IsOkUnless, OnOk, codes, decimal, length, option_map, string_bytes};
 ghost use Rattle.ompt_events.specs.Limits.{max_records};
 ghost use Rattle.checker.specs.Counter.{IsShownBy};
+ghost use Rattle.checker.specs.Readings.{by_task};
 ghost use Rattle.checker.specs.Verdicts.{IsVerdict};
 ghost use Rattle.taskaudit.specs.Audits.{Prints};
 ghost use Rattle.taskaudit.specs.Orders.{order_lines, order_shown};
@@ -26,7 +27,7 @@ pub fn shown_text(
     counter: &Option<Order>,
 ) -> Result<Vec<u8>, AuditFault>
     requires verdict { IsVerdict trace.now.records verdict.now }
-    requires counter { IsShownBy trace.now.records verdict.now counter.now }
+    requires counter { IsShownBy (by_task trace.now.records) verdict.now counter.now }
     ensures text { IfOk result (λ text. Prints Job.Order trace.now.records verdict.now text.items) }
     ensures memory { IsOkUnless result AuditFault.Memory }
 {
