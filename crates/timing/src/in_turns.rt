@@ -2,10 +2,11 @@
 use crate::lines::any_trace_of_input;
 use anyhow::{Result, bail};
 use ompt_events::Trace;
-use task_tree::{Family, OwnOrder, arrange, find_gap, turns_of, turns_rise};
+use task_tree::{Families, Family, Own, OwnOrder, arrange, find_gap, turns_of, turns_rise};
 
 /// Prints of the trace on standard input: its version, the turn of each record, the first record with a turn
-/// gap, the places in the tasks' own order, and whether turns are found to rise along the file.
+/// gap, the places in the tasks' own order, whether turns are found to rise along the file, and the children of
+/// each task.
 pub fn of_input(rt: &HostRuntime) -> Result<()> {
     let trace = any_trace_of_input(rt)?;
     let family = family_of(rt, &trace)?;
@@ -14,7 +15,8 @@ pub fn of_input(rt: &HostRuntime) -> Result<()> {
     let turns = found.as_slice();
     println!(rt; "version {}, turns {turns:?}, gap {gap:?}", trace.version())?;
     of_order(rt, &arrange(rt.alloc(), trace.records(), turns)?)?;
-    told_rising(rt, &trace, &family)
+    told_rising(rt, &trace, &family)?;
+    of_families(rt, &trace)
 }
 
 /// The family of the trace's tasks.
@@ -34,6 +36,27 @@ fn of_order(rt: &HostRuntime, order: &OwnOrder) -> Result<()> {
         numbers.push(order.number(number))?;
     }
     println!(rt; "own order {places:?}, in it {numbers:?}")?;
+    Ok(())
+}
+
+/// Prints the children of each task that has some, in the order in which it created them.
+fn of_families(rt: &HostRuntime, trace: &Trace) -> Result<()> {
+    match Families::build(rt.alloc(), trace) {
+        Ok(families) => of_children(rt, &families.own(trace)),
+        Err(fault) => bail!("no families: {fault}"),
+    }
+}
+
+/// Prints the children of each task that has some.
+fn of_children(rt: &HostRuntime, own: &Own) -> Result<()> {
+    let run = own.run();
+    for index in 0..run.task_count() {
+        let children = run.children(index);
+        if !children.is_empty() {
+            let task = run.task(index);
+            println!(rt; "children of {task}: {children:?}")?;
+        }
+    }
     Ok(())
 }
 
