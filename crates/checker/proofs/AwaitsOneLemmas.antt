@@ -21,7 +21,7 @@ use Rattle.ompt_events.specs.Turns.{TellsNoTurns, turn_after, turn_in}
 use Rattle.ompt_events.specs.Traces.{IsTrace, IsTraceOf, IsSound, HasItsNext, HasItsTurns}
 use Rattle.ompt_events.specs.HappensBefore.{IsStart, IsResumption}
 use Rattle.ompt_events.specs.Causes.{IsFreeOf, moved, turn_gap, begun_again, falling}
-use Rattle.ompt_events.proofs.TurnLemmas.{begun_started, is_start_untold, start_starts, no_resumption}
+use Rattle.ompt_events.proofs.TurnLemmas.{first_version_tells_none, begun_started, is_start_untold, start_starts, no_resumption}
 use Rattle.ompt_events.proofs.PlaceLemmas.{at_within}
 use Rattle.ompt_events.proofs.RecordLemmas.{begun_at_made}
 use Rattle.task_tree.specs.Family.{FamilyView, IsFamilyOf}

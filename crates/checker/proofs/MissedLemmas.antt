@@ -10,7 +10,7 @@ use Rattle.ompt_events.specs.declared.records.Record.{Record}
 use Rattle.ompt_events.specs.declared.records.Part.{Part}
 use Rattle.ompt_events.specs.declared.records.Part.TheVariants as part
 use Rattle.ompt_events.specs.declared.cause.Cause.TheVariants.{LengthBack}
-use Rattle.ompt_events.specs.Records.{finish, region, started, wait_completed}
+use Rattle.ompt_events.specs.Records.{finish, started, wait_completed}
 use Rattle.ompt_events.specs.Places.{at, seen_at, places}
 use Rattle.ompt_events.specs.HappensBefore.{IsStep, HappensBefore, program, ledger, step, chain}
 use Rattle.ompt_events.specs.Linearization.{IsEarlier, IsLinearization}

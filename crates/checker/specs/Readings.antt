@@ -40,9 +40,9 @@ by_file rs = record { records = rs; shows = HasCause rs; covers = Covers rs; dep
 abbrev pub IsPrecededBy : Reading → ℕ → ℕ → Type 0
 IsPrecededBy reading i task =
     ((dependent : ℕ) × IsExplicit reading.records dependent × IsStart reading.records i dependent
-        × reading.depends dependent task)
+    × reading.depends dependent task)
     ⊎ ((dependent : ℕ) × (at wait_completed reading.records i ≡ Some dependent)
-        × reading.depends dependent task)
+    × reading.depends dependent task)
 
 -- the task must be complete at i: a wait ends there that covers it (15.3 to 15.5), or it is a predecessor of
 -- what starts or is complete there

@@ -1,7 +1,7 @@
 -- Which tasks start, and which taskwaits are complete, before one of their predecessors is finished.
-use Rattle.std.specs.Prelude.{ℕ, ◌≡◌, ◌<◌, ◌↔◌, ◌⊎◌, Bool, false, IsTrue, List, length, Some, slice_get, slice_index_or}
+use Rattle.std.specs.Prelude.{ℕ, ◌≡◌, ◌<◌, ◌↔◌, Bool, false, IsTrue, List, length, Some, slice_get, slice_index_or}
 use Rattle.ompt_events.specs.declared.records.Record.{Record}
-use Rattle.ompt_events.specs.Records.{created, begun_turn, wait_completed}
+use Rattle.ompt_events.specs.Records.{created, begun_turn}
 use Rattle.ompt_events.specs.Places.{at}
 use Rattle.ompt_events.specs.Tree.{IsExplicit}
 use Rattle.ompt_events.specs.HappensBefore.{IsStart}

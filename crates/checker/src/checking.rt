@@ -1,9 +1,10 @@
 //! The check as a whole.
-ghost use Rattle.std.specs.Prelude.{ℕ, ◌≡◌, MatchOption, IfOk, IfErr};
+ghost use Rattle.std.specs.Prelude.{ℕ, ◌≡◌, List, MatchOption, IfOk, IfErr};
+ghost use Rattle.ompt_events.specs.declared.records.Record.{Record};
 ghost use Rattle.ompt_events.specs.declared.fault.Fault.TheVariants.{Memory};
-ghost use Rattle.checker.specs.Readings.{Reading, by_file};
+ghost use Rattle.checker.specs.Readings.{by_file};
 ghost use Rattle.checker.specs.Verdicts.{IsVerdict, AreComplete};
-ghost use Rattle.checker.specs.Search.{IsOfRecords, AreAllReady, AreAllCovered, IsFirstOpenBy, IsFirstLateBy, IsFirstViolation};
+ghost use Rattle.checker.specs.Search.{AreAllReady, AreAllCovered, IsFirstOpenBy, IsFirstLateBy, IsFirstViolation};
 
 use crate::phases::ask;
 use crate::question::{Clear, Question};
@@ -61,10 +62,11 @@ pub(crate) fn violation_of(alloc: Global, clear: &Clear) -> Result<Option<(usize
 
 /// The first of an end that covers an unfinished task and a start before a predecessor is finished.
 fn first_of(unfinished: Option<(usize, u64)>, late: Option<(usize, u64)>) -> Option<(usize, Why)>
-    ensures { (reading : Reading) → IsOfRecords reading
-        → MatchOption unfinished (AreAllCovered reading) (λ f. IsFirstOpenBy reading f.0 f.1)
-        → MatchOption late (AreAllReady reading) (λ f. IsFirstLateBy reading f.0 f.1)
-        → MatchOption result ((i : ℕ) → AreComplete reading i) (λ f. IsFirstViolation reading f.0 f.1) }
+    ensures { (rs : List Record)
+        → MatchOption unfinished (AreAllCovered (by_file rs)) (λ f. IsFirstOpenBy (by_file rs) f.0 f.1)
+        → MatchOption late (AreAllReady (by_file rs)) (λ f. IsFirstLateBy (by_file rs) f.0 f.1)
+        → MatchOption result ((i : ℕ) → AreComplete (by_file rs) i)
+        (λ f. IsFirstViolation (by_file rs) f.0 f.1) }
 {
     match (unfinished, late) {
         (Some((end, task)), Some((start, predecessor))) => {

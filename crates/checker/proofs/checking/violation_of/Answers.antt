@@ -6,8 +6,7 @@ use Rattle.teams.specs.Teams.{TeamsView}
 use Rattle.trace_ledger.specs.Entries.{IsFreeUpTo}
 use Rattle.wait_coverage.specs.Spans.{IsCoverComplete}
 use Rattle.wait_coverage.specs.Waits.{IsFirstOpenEnd}
-use Rattle.checker.specs.Readings.{by_file}
-use Rattle.checker.proofs.VerdictLemmas.{free_up_to, of_file, open_by_file, late_by_file}
+use Rattle.checker.proofs.VerdictLemmas.{free_up_to, open_by_file, late_by_file}
 use Rattle.checker.proofs.checking.violation_of.Goals as goal
 
 pub of-requires-clause-once : goal.of-requires-clause-once
@@ -29,6 +28,6 @@ returns-clause-found c =
     let view_is = c.sound.view_is ∙ c.sound-sound.ensures.value in
     let free = subst Free (sym view_is) (free_up_to run.records 13 c.sound-sound.ensures.is_clear.well_formed) in
     let found = subst Found same (c.in_ok-unfinished.ensures.first_by_credit (subst Free (sym same) free) (known.credit free)) in
-    c.first_of.ensures (by_file run.records) (of_file run.records)
+    c.first_of.ensures run.records
     (open_by_file run.records c.in_ok-unfinished.unfinished (subst Found view_is found))
     (late_by_file run.records c.in_ok-late.late (rw (c.in_ok-precedence.ensures.run, c.sound.invariant.1.1, c.sound.view_is, c.sound-sound.ensures.value) at c.in_ok-late.ensures.found))
