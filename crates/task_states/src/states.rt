@@ -50,11 +50,7 @@ impl<'a> States<'a> {
     /// its task's; a change that a task's state does not allow (19.5.2.10); a region that ends without its
     /// begin, or a barrier of an explicit task (15.3). The first turn gap is known already. It takes a few steps
     /// for each record, and memory linear in the records.
-    pub fn in_run(
-        alloc: Global,
-        run: &Run<'a>,
-        gap: Option<usize>,
-    ) -> Result<States<'a>, Fault>
+    pub fn in_run(alloc: Global, run: &Run<'a>, gap: Option<usize>) -> Result<States<'a>, Fault>
         requires { FindsFirst run.now.records TurnGap gap }
         ensures run { IfOk result (λ states. states.run ≡ run.now) }
         ensures states { IfOk result IsStates }

@@ -197,8 +197,8 @@ arranged_rooted rs free n (rootless (unrooted task creates none)) =
 arranged_rooted rs free n (rootless (no_region parallel says none)) =
     let here = said_here region_named rs n parallel says in
     free here.0 (rootless (no_region parallel here.2 (λ is.
-        let there = said_there forked rs is.0 (is.1, parallel) is.2 in
-        none (there.0, is.1, there.1))))
+    let there = said_there forked rs is.0 (is.1, parallel) is.2 in
+    none (there.0, is.1, there.1))))
 
 -- ---- making them
 

@@ -10,8 +10,8 @@ ghost use Rattle.task_tree.specs.Family.{IsFamilyOf};
 ghost use Rattle.task_tree.specs.Chains.{AreChainsFrom};
 ghost use Rattle.task_tree.specs.TurnTable.{AreTurns, IsOrderTold, no_mark, turn_on, AreMarks, IsReadAt, IsWalkAt};
 
-use crate::family::Family;
 use crate::chains::{Chains, find_chains};
+use crate::family::Family;
 use crate::rising::{running_at, start_at};
 use ompt_events::Record;
 use std::alloc::{AllocError, Global};
