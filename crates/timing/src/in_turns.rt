@@ -1,4 +1,7 @@
 //! The turns of a trace, and the order in which the tasks' own records stand.
+ghost use Rattle.std.specs.Prelude.{IfOk};
+ghost use Rattle.task_tree.specs.Family.{IsFamilyOf};
+
 use crate::lines::any_trace_of_input;
 use anyhow::{Result, bail};
 use ompt_events::Trace;
@@ -20,7 +23,9 @@ pub fn of_input(rt: &HostRuntime) -> Result<()> {
 }
 
 /// The family of the trace's tasks.
-fn family_of(rt: &HostRuntime, trace: &Trace) -> Result<Family> {
+fn family_of(rt: &HostRuntime, trace: &Trace) -> Result<Family>
+    ensures { IfOk result (IsFamilyOf trace.now.records) }
+{
     match Family::build(rt.alloc(), trace) {
         Ok(family) => Ok(family),
         Err(fault) => bail!("no family: {fault}"),
@@ -61,7 +66,9 @@ fn of_children(rt: &HostRuntime, own: &Own) -> Result<()> {
 }
 
 /// Prints whether turns are found to rise.
-fn told_rising(rt: &HostRuntime, trace: &Trace, family: &Family) -> Result<()> {
+fn told_rising(rt: &HostRuntime, trace: &Trace, family: &Family) -> Result<()>
+    requires { IsFamilyOf trace.now.records family.now }
+{
     let rise = turns_rise(rt.alloc(), trace.records(), family)?;
     println!(rt; "rise: {rise}")?;
     Ok(())
