@@ -266,3 +266,22 @@ pub record IsMalformed (rs : List Record) (sought : List Cause) (i : ℕ) (cause
 -- none of the causes that are looked for occurs
 abbrev pub IsWellFormed : List Record → List Cause → Type 0
 IsWellFormed rs sought = (cause : Cause) → Contains sought cause → IsFreeOf rs cause
+
+-- ---- the same, by what the trace shows
+
+-- no record shows the cause
+abbrev pub ShowsNowhere : List Record → Cause → Type 0
+ShowsNowhere rs cause = (i : ℕ) → Shows rs i cause → ⊥
+
+-- the first record in file order that shows the cause
+pub record IsFirstShown (rs : List Record) (cause : Cause) (i : ℕ) : Type 0 where
+  pub within : i < length rs
+  pub shown : Shows rs i cause
+  pub first : (k : ℕ) → k < i → Shows rs k cause → ⊥
+
+-- of the causes that are looked for the trace shows this one, which has the least number, first at this record
+pub record IsShownMalformed (rs : List Record) (sought : List Cause) (i : ℕ) (cause : Cause) : Type 0 where
+  pub sought_for : Contains sought cause
+  pub found : IsFirstShown rs cause i
+  pub least : (other : Cause) → Contains sought other → cause_number other < cause_number cause
+      → ShowsNowhere rs other

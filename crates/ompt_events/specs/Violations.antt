@@ -1,13 +1,12 @@
--- What must be complete where, and where it isn't.
-use Rattle.std.specs.Prelude.{ℕ, ◌≡◌, ◌<◌, List, Some}
+-- What must be complete where.
+use Rattle.std.specs.Prelude.{ℕ, ◌≡◌, List, Some}
 use Rattle.ompt_events.specs.declared.records.Record.{Record}
-use Rattle.ompt_events.specs.Records.{created, wait_completed}
+use Rattle.ompt_events.specs.Records.{wait_completed}
 use Rattle.ompt_events.specs.Places.{at}
 use Rattle.ompt_events.specs.Turns.{in_own_order, own_place}
 use Rattle.ompt_events.specs.Tree.{IsExplicit}
 use Rattle.ompt_events.specs.HappensBefore.{IsStart}
 use Rattle.ompt_events.specs.Dependences.{IsPredecessor}
-use Rattle.ompt_events.specs.Completion.{IsCompleteIn, IsCompleteAt}
 use Rattle.ompt_events.specs.Coverage.{Covers}
 
 -- the task must be complete at i
@@ -28,22 +27,3 @@ pub data MustBeComplete (rs : List Record) (i task : ℕ) : Type 0 where
       → IsPredecessor (in_own_order rs) dependent task → MustBeComplete rs i task
   taskwait_completes : {dependent : ℕ} → at wait_completed rs i ≡ Some dependent
       → IsPredecessor (in_own_order rs) dependent task → MustBeComplete rs i task
-
--- in this order a task that must be complete at i isn't
-abbrev pub IsViolation : List Record → List ℕ → ℕ → Type 0
-IsViolation rs order i = (task : ℕ) × IsRequired rs i task × (IsCompleteIn rs order task i → ⊥)
-
--- a task that must be complete at i isn't, by what the record there has seen
-pub record IsUnfinished (rs : List Record) (i task : ℕ) : Type 0 where
-  pub required : IsRequired rs i task
-  pub incomplete : IsCompleteAt rs task i → ⊥
-
--- the first record in file order at which a required task is unfinished, and the one of them that was
--- created first in file order
-pub record IsFirstUnfinished (rs : List Record) (i task : ℕ) : Type 0 where
-  pub unfinished : IsUnfinished rs i task
-  pub first : (k other : ℕ) → k < i → IsUnfinished rs k other → ⊥
-  pub creation : ℕ
-  pub is_created : at created rs creation ≡ Some task
-  pub created_first : (k other : ℕ) → k < creation → at created rs k ≡ Some other
-      → IsUnfinished rs i other → ⊥

@@ -1,13 +1,14 @@
 -- The tasks' own order of a trace: as in the file, or arranged.
-use Rattle.std.proofs.Common.{◌≡◌, ◌∙◌, ℕ, ◌<◌, ◌+◌, List, [], ◌∷◌, ◌++◌, length, take, Option, Some, None, refl, sym, ap, subst, arith}
+use Rattle.std.proofs.Common.{◌≡◌, ◌∙◌, ℕ, ◌<◌, ◌+◌, List, [], ◌∷◌, ◌++◌, length, take, Option, Some, None, refl, sym, ap, subst, arith, inl, inr}
 use Rattle.std.proofs.lemmas.Option.{none-some, same_Some, slice_get_within, get_or_from_slice_get}
 use Rattle.std.proofs.lemmas.List.{take_more}
 use Rattle.std.proofs.lemmas.List.Elements.{filter_map-append}
 use Rattle.std.proofs.lemmas.List.FromFn.{length-range_with_len}
-use Rattle.std.specs.Prelude.{slice_get}
+use Rattle.std.specs.Prelude.{slice_get, option_and_then, is_some}
 use Rattle.std.specs.List.{filter_map}
 use Rattle.ompt_events.specs.declared.records.Record.{Record}
-use Rattle.ompt_events.specs.Places.{places}
+use Rattle.ompt_events.specs.Records.{joined}
+use Rattle.ompt_events.specs.Places.{at, places}
 use Rattle.ompt_events.specs.Turns.{in_own_order, own_places}
 use Rattle.ompt_events.specs.declared.cause.Cause.TheVariants.{TurnGap}
 use Rattle.ompt_events.specs.Causes.{IsFreeOf}
@@ -16,25 +17,27 @@ use Rattle.task_tree.specs.Rising.{TurnsRise}
 use Rattle.task_tree.specs.Family.{IsFamilyOf}
 use Rattle.task_tree.specs.Runs.{RunView}
 use Rattle.task_tree.specs.OwnOrder.{AreAllPlaces}
-use Rattle.task_tree.specs.Own.{OwnView}
-use Rattle.task_tree.specs.Families.{FamiliesView, AreFamiliesOf, AreArranged, as_in_file, by_turn, IsOwnOf, own_in_file, own_by_turn}
+use Rattle.task_tree.specs.Own.{KeepsMembers}
+use Rattle.task_tree.specs.Families.{FamiliesView, AreFamiliesOf, AreArranged, as_in_file, by_turn}
 use Rattle.task_tree.proofs.OwnLemmas.{place_in_file}
-use Rattle.task_tree.proofs.OwnOrderLemmas.{own_all_places, arranged_length}
+use Rattle.task_tree.proofs.OwnOrderLemmas.{own_all_places, own_within, own_order, own_place_of, arranged_at, arranged_length}
+use Rattle.task_tree.proofs.RisingLemmas.{joined_zero}
+
+within : (rs : List Record) (number place : ℕ) → slice_get (places rs) number ≡ Some place → number < length rs
+within rs number place is = rw (length-range_with_len 0 (length rs)) at (slice_get_within (places rs) number place is)
+
+-- a record of the file has its place for its number
+pub file_place : (rs : List Record) (number place : ℕ) → slice_get (places rs) number ≡ Some place → number ≡ place
+file_place rs number place is = same_Some number place (sym (place_in_file (length rs) number (within rs number place is)) ∙ is)
 
 -- the places of a file are all places
 pub file_all_places : (rs : List Record) → AreAllPlaces (places rs) (length rs)
 file_all_places rs = record {
   all = length-range_with_len 0 (length rs);
-  below = λ number place is. let e = at number place is in let b = within number place is in omega (arith, e, b);
+  below = λ number place is. let e = file_place rs number place is in let b = within rs number place is in omega (arith, e, b);
   each = λ place below. (place, place_in_file (length rs) place below);
-  apart = λ number other place one another. at number place one ∙ sym (at other place another);
+  apart = λ number other place one another. file_place rs number place one ∙ sym (file_place rs other place another);
 }
-  where
-    within : (number place : ℕ) → slice_get (places rs) number ≡ Some place → number < length rs
-    within number place is = rw (length-range_with_len 0 (length rs)) at (slice_get_within (places rs) number place is)
-
-    at : (number place : ℕ) → slice_get (places rs) number ≡ Some place → number ≡ place
-    at number place is = same_Some number place (sym (place_in_file (length rs) number (within number place is)) ∙ is)
 
 -- so the order of a trace has each place once
 pub file_order_all : (rs : List Record) (arranged : Option RunView) (order : List ℕ) → arranged ≡ None → AreArranged rs arranged order → AreAllPlaces order (length rs)
@@ -48,15 +51,36 @@ own_order_all rs arranged run order some (by_turn {run = own} same) =
     let P : ℕ → Type 0 = AreAllPlaces (own_places rs) in
     subst P (sym long) (own_all_places rs)
 
--- the run in own order that is made of it
-pub file_is_own : (rs : List Record) (arranged : Option RunView) (own : OwnView) (order : List ℕ) → arranged ≡ None → AreArranged rs arranged order → own.run.records ≡ rs → own.places ≡ order → IsOwnOf rs own
-file_is_own rs arranged own order none (as_in_file rise) records places_are = own_in_file records places_are rise
-file_is_own rs arranged own order none (by_turn {run = run} same) records places_are = absurd (none-some run (sym none))
+-- members of teams begin there as in the file
+file_members : (rs : List Record) → KeepsMembers rs (places rs)
+file_members rs number other first second less one another at_first at_second =
+    let a = file_place rs number first at_first in
+    let b = file_place rs other second at_second in
+    omega (arith, less, a, b)
 
-pub arranged_is_own : (rs : List Record) (arranged : Option RunView) (run : RunView) (own : OwnView) (order : List ℕ) → arranged ≡ Some run → AreArranged rs arranged order → own.run ≡ run → own.places ≡ order → IsOwnOf rs own
-arranged_is_own rs arranged run own order some (as_in_file rise) same places_are = absurd (none-some run some)
-arranged_is_own rs arranged run own order some (by_turn {run = other} records) same places_are =
-    own_by_turn (ap (λ (r : RunView). r.records) (same ∙ sym (same_Some other run some)) ∙ records) places_are
+arranged_members : (rs : List Record) → KeepsMembers (in_own_order rs) (own_places rs)
+arranged_members rs number other first second less one another at_first at_second =
+    let zero_first = joined_zero rs first (ap is_some (said number first at_first) ∙ one) in
+    let zero_second = joined_zero rs second (ap is_some (said other second at_second) ∙ another) in
+    let a = own_place_of rs number first at_first in
+    let b = own_place_of rs other second at_second in
+    elim ((own_order rs first second (own_within rs number first at_first) (own_within rs other second at_second)).0 (omega (arith, less, a, b))) [
+      | inl earlier ↦ absurd (omega (arith, earlier, zero_second))
+      | inr same ↦ same.1
+    ]
+  where
+    said : (n i : ℕ) → slice_get (own_places rs) n ≡ Some i → at joined rs i ≡ at joined (in_own_order rs) n
+    said n i is = ap (option_and_then (λ (r : Record). joined r.body)) (sym (arranged_at rs n i is))
+
+pub file_order_members : (rs : List Record) (arranged : Option RunView) (order : List ℕ) → arranged ≡ None → AreArranged rs arranged order → KeepsMembers rs order
+file_order_members rs arranged order none (as_in_file rise) = file_members rs
+file_order_members rs arranged order none (by_turn {run = run} same) = absurd (none-some run (sym none))
+
+pub own_order_members : (rs : List Record) (arranged : Option RunView) (run : RunView) (order : List ℕ) → arranged ≡ Some run → AreArranged rs arranged order → KeepsMembers run.records order
+own_order_members rs arranged run order some (as_in_file rise) = absurd (none-some run some)
+own_order_members rs arranged run order some (by_turn {run = own} same) =
+    let P : List Record → Type 0 = λ records. KeepsMembers records (own_places rs) in
+    subst P (sym (ap (λ (r : RunView). r.records) (sym (same_Some own run some)) ∙ same)) (arranged_members rs)
 
 -- ---- the families of a trace
 

@@ -37,4 +37,5 @@ pub mod WalkLemmas
 pub mod TurnRowLemmas
 pub mod GapFreeLemmas
 pub mod FamiliesLemmas
+pub mod ShownLemmas
 pub mod ArrangedLemmas

@@ -106,9 +106,6 @@ moved_region r i task kind begin (ended is) = ended (moved_end r i task kind beg
 moved_region r i task kind begin (at_once says) = at_once (moved_at region (task, kind, BeginEnd) r i says)
 
 -- the same of a place in the other order
-pub region_back : {rs ss : List Record} {to back : ℕ → ℕ} → IsReordered rs ss to back → (i task : ℕ) (kind : SyncKind) (begin : ℕ) → i < length rs → IsRegion ss (to i) task kind begin → IsRegion rs i task kind (back begin)
-region_back {rs} {ss} {to} {back} r i task kind begin within is = let P : ℕ → Type 0 = λ k. IsRegion rs k task kind (back begin) in subst P (r.back_to i within) (moved_region (reordered_back r) (to i) task kind begin is)
-
 pub moved_no_region : {rs ss : List Record} {to back : ℕ → ℕ} → IsReordered rs ss to back → (i task : ℕ) (kind : SyncKind) → EndsNoRegion rs i task kind → EndsNoRegion ss (to i) task kind
 moved_no_region {rs} {ss} {to} {back} r i task kind is = record { ends = ends; none = none }
   where

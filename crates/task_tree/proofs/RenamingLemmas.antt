@@ -38,95 +38,23 @@ from_within {rs} r i inside = elim (cases_lt i (length rs)) [
 both_ways : {rs ss : List Record} {to back : ℕ → ℕ} → IsRenaming rs ss to back → (P Q : ℕ → Type 0) → ((i : ℕ) → P i → Q (to i)) → ((j : ℕ) → Q j → P (back j)) → ((j : ℕ) → Q j → j < length ss) → (i : ℕ) → P i ↔ Q (to i)
 both_ways {to = to} r P Q forth other within i = (forth i, λ there. subst P (r.back_to i (from_within r i (within (to i) there))) (other (to i) there))
 
--- ---- what is said at a place
-
-pub renamed_at : {X : Type 0} (f : Body → Option X) {rs ss : List Record} {to back : ℕ → ℕ} → IsRenaming rs ss to back → (i : ℕ) → at f rs i ≡ at f ss (to i)
-renamed_at f {rs} {ss} {to} r i = ap (option_and_then (λ (q : Record). f q.body)) (elim (cases_lt i (length rs)) [
-  | inl within ↦ sym (r.alike i within)
-  | inr past ↦ slice_get_past rs i past ∙ sym (slice_get_past ss (to i) (r.to_past i past))
-])
-
--- ---- a task's own records, at one of them and past the end
-
-pub renamed_own_before : {rs ss : List Record} {to back : ℕ → ℕ} → IsRenaming rs ss to back → (task i : ℕ) → is_own rs task i ≡ true → own_before ss task (to i) ≡ map to (own_before rs task i)
-renamed_own_before {to = to} r task i own = own_before_cut (reordered r) task i (to i) (own_cut (reordered r) task i own)
-
-pub renamed_own_past : {rs ss : List Record} {to back : ℕ → ℕ} → IsRenaming rs ss to back → (task n m : ℕ) → length rs ≤ n → length ss ≤ m → own_before ss task m ≡ map to (own_before rs task n)
-renamed_own_past r task n m past_n past_m = own_before_cut (reordered r) task n m (past_cut (reordered r) task n m past_n past_m)
-
 -- ---- the tree
-
-pub renamed_children_before : {rs ss : List Record} {to back : ℕ → ℕ} → IsRenaming rs ss to back → (parent i : ℕ) → is_own rs parent i ≡ true → children_before rs parent i ≡ children_before ss parent (to i)
-renamed_children_before {to = to} r parent i own = sym (children_cut (reordered r) parent i (to i) (own_cut (reordered r) parent i own))
-
-pub renamed_children_past : {rs ss : List Record} {to back : ℕ → ℕ} → IsRenaming rs ss to back → (parent n m : ℕ) → length rs ≤ n → length ss ≤ m → children_before rs parent n ≡ children_before ss parent m
-renamed_children_past r parent n m past_n past_m = sym (children_cut (reordered r) parent n m (past_cut (reordered r) parent n m past_n past_m))
 
 pub renamed_children : {rs ss : List Record} {to back : ℕ → ℕ} → IsRenaming rs ss to back → (parent : ℕ) → children rs parent ≡ children ss parent
 renamed_children r parent = sym (same_children (reordered r) parent)
-
-pub renamed_root : {rs ss : List Record} {to back : ℕ → ℕ} → IsRenaming rs ss to back → (task : ℕ) → IsRoot rs task ↔ IsRoot ss task
-renamed_root r task = (moved_root (reordered r) task, moved_root (turned r) task)
-
-pub renamed_explicit : {rs ss : List Record} {to back : ℕ → ℕ} → IsRenaming rs ss to back → (task : ℕ) → IsExplicit rs task ↔ IsExplicit ss task
-renamed_explicit r task = (moved_explicit (reordered r) task, moved_explicit (turned r) task)
-
-pub renamed_rooted : {rs ss : List Record} {to back : ℕ → ℕ} → IsRenaming rs ss to back → (task : ℕ) → IsRooted rs task ↔ IsRooted ss task
-renamed_rooted r task = (moved_rooted (reordered r) task, moved_rooted (turned r) task)
-
-pub renamed_descendant : {rs ss : List Record} {to back : ℕ → ℕ} → IsRenaming rs ss to back → (ancestor task : ℕ) → IsDescendant rs ancestor task ↔ IsDescendant ss ancestor task
-renamed_descendant r ancestor task = (moved_descendant (reordered r) ancestor task, moved_descendant (turned r) ancestor task)
 
 pub renamed_path : {rs ss : List Record} {to back : ℕ → ℕ} → IsRenaming rs ss to back → (root task : ℕ) (path : List ℕ) → HasPath rs root task path ↔ HasPath ss root task path
 renamed_path r root task path = (moved_path (reordered r) root task path, moved_path (turned r) root task path)
 
 -- ---- dependences
 
-pub renamed_depends : {rs ss : List Record} {to back : ℕ → ℕ} → IsRenaming rs ss to back → (task : ℕ) (dep : Dep) → DependsOn rs task dep ↔ DependsOn ss task dep
-renamed_depends r task dep = (moved_depends (reordered r) task dep, moved_depends (turned r) task dep)
-
 pub renamed_predecessor : {rs ss : List Record} {to back : ℕ → ℕ} → IsRenaming rs ss to back → (task predecessor : ℕ) → IsPredecessor rs task predecessor ↔ IsPredecessor ss task predecessor
 renamed_predecessor r task predecessor = (moved_predecessor (reordered r) task predecessor, moved_predecessor (turned r) task predecessor)
 
--- ---- teams
-
-pub renamed_members : {rs ss : List Record} {to back : ℕ → ℕ} → IsRenaming rs ss to back → (parallel : ℕ) → members rs parallel ≡ members ss parallel
-renamed_members r parallel = sym (same_members (reordered r) parallel)
-
-pub renamed_member : {rs ss : List Record} {to back : ℕ → ℕ} → IsRenaming rs ss to back → (task : ℕ) → IsMember rs task ↔ IsMember ss task
-renamed_member r task = (moved_member (reordered r) task, moved_member (turned r) task)
-
-pub renamed_initial : {rs ss : List Record} {to back : ℕ → ℕ} → IsRenaming rs ss to back → (task : ℕ) → IsInitial rs task ↔ IsInitial ss task
-renamed_initial r task = (moved_initial (reordered r) task, moved_initial (turned r) task)
-
-pub renamed_teammate : {rs ss : List Record} {to back : ℕ → ℕ} → IsRenaming rs ss to back → (task other : ℕ) → IsTeammate rs task other ↔ IsTeammate ss task other
-renamed_teammate r task other = (moved_teammate (reordered r) task other, moved_teammate (turned r) task other)
-
 -- ---- regions
-
-pub renamed_open : {rs ss : List Record} {to back : ℕ → ℕ} → IsRenaming rs ss to back → (task i : ℕ) → is_own rs task i ≡ true → open_regions ss task (to i) ≡ map to (open_regions rs task i)
-renamed_open {to = to} r task i own = open_cut (reordered r) task i (to i) (own_cut (reordered r) task i own)
-
-pub renamed_open_past : {rs ss : List Record} {to back : ℕ → ℕ} → IsRenaming rs ss to back → (task n m : ℕ) → length rs ≤ n → length ss ≤ m → open_regions ss task m ≡ map to (open_regions rs task n)
-renamed_open_past r task n m past_n past_m = open_cut (reordered r) task n m (past_cut (reordered r) task n m past_n past_m)
 
 region_within : (rs : List Record) (i task : ℕ) (kind : SyncKind) (begin : ℕ) → IsRegion rs i task kind begin → i < length rs
 region_within rs i task kind begin is = own_within rs task i (end_of_region rs i task kind begin is)
-
-pub renamed_region : {rs ss : List Record} {to back : ℕ → ℕ} → IsRenaming rs ss to back → (i task : ℕ) (kind : SyncKind) (begin : ℕ) → IsRegion rs i task kind begin ↔ IsRegion ss (to i) task kind (to begin)
-renamed_region {rs} {ss} {to} {back} r i task kind begin = both_ways r (λ i. IsRegion rs i task kind begin) (λ j. IsRegion ss j task kind (to begin)) (λ i. moved_region (reordered r) i task kind begin) other (λ j. region_within ss j task kind (to begin)) i
-  where
-    other : (j : ℕ) → IsRegion ss j task kind (to begin) → IsRegion rs (back j) task kind begin
-    other j is =
-        let inside : begin < length rs = from_within r begin (own_within ss task (to begin) (begin_of_region ss j task kind (to begin) is)) in
-        let P : ℕ → Type 0 = IsRegion rs (back j) task kind in
-        subst P (r.back_to begin inside) (moved_region (turned r) j task kind (to begin) is)
-
-pub renamed_barriers : {rs ss : List Record} {to back : ℕ → ℕ} → IsRenaming rs ss to back → (task : ℕ) → barrier_begins ss task ≡ map to (barrier_begins rs task)
-renamed_barriers r task = same_barriers (reordered r) task
-
-pub renamed_barrier_begin : {rs ss : List Record} {to back : ℕ → ℕ} → IsRenaming rs ss to back → (task number start : ℕ) → IsBarrierBegin rs task number start ↔ IsBarrierBegin ss task number (to start)
-renamed_barrier_begin {rs} {ss} r task number start = both_ways r (IsBarrierBegin rs task number) (IsBarrierBegin ss task number) (moved_barrier_begin (reordered r) task number) (moved_barrier_begin (turned r) task number) (λ j is. own_within ss task j (barrier_own ss task number j is)) start
 
 -- ---- which tasks the end of a region waits for
 

@@ -34,7 +34,7 @@ joined_none (ImplicitTask End actual index flags parallel task) some = cc
 joined_none (ImplicitTask BeginEnd actual index flags parallel task) some = cc
 joined_none b some = cc
 
-joined_zero : (rs : List Record) (i : ℕ) → is_some (at joined rs i) ≡ true → turn_at rs i ≡ 0
+pub joined_zero : (rs : List Record) (i : ℕ) → is_some (at joined rs i) ≡ true → turn_at rs i ≡ 0
 joined_zero rs i some = by (slice_get rs i) some
   where
     by : (o : Option Record) → is_some (option_and_then (λ (r : Record). joined r.body) o) ≡ true → option_map_or (λ (r : Record). turn_of rs r i) o 0 ≡ 0

@@ -1,8 +1,12 @@
 -- The records of a trace in the tasks' own order, and where each of them stands in the file.
-use Rattle.std.specs.Prelude.{ℕ, ◌≡◌, ◌<◌, ⊤, List, length, Option, Some, MatchOption, slice_get}
+use Rattle.std.specs.Prelude.{ℕ, ◌≡◌, ◌<◌, ⊤, true, List, length, Option, Some, MatchOption, is_some, slice_get}
+use Rattle.ompt_events.specs.declared.records.Record.{Record}
 use Rattle.ompt_events.specs.declared.cause.Cause.{Cause}
+use Rattle.ompt_events.specs.declared.cause.Cause.TheVariants.{RegionOrder, TeamShort, ShareWrong}
 use Rattle.ompt_events.specs.declared.fault.Fault.{Fault}
 use Rattle.ompt_events.specs.declared.fault.Fault.TheVariants.{Memory, Malformed}
+use Rattle.ompt_events.specs.Records.{joined}
+use Rattle.ompt_events.specs.Places.{at}
 use Rattle.ompt_events.specs.Causes.{HasCause, IsFreeOf}
 use Rattle.task_tree.specs.Runs.{RunView, IsRun}
 use Rattle.task_tree.specs.OwnOrder.{AreAllPlaces}
@@ -13,11 +17,24 @@ pub record OwnView : Type 0 where
   pub run : RunView
   pub places : List ℕ
 
+-- members of teams begin in the order in which they begin in the file
+abbrev pub KeepsMembers : List Record → List ℕ → Type 0
+KeepsMembers records places = (number other first second : ℕ) → number < other
+    → is_some (at joined records number) ≡ true → is_some (at joined records other) ≡ true
+    → slice_get places number ≡ Some first → slice_get places other ≡ Some second → first < second
+
 pub record IsOwn (own : OwnView) : Type 0 where
   pub run : IsRun own.run
   pub places : AreAllPlaces own.places (length own.run.records)
+  pub members : KeepsMembers own.run.records own.places
 
 -- ---- what is searched for in file order
+
+-- the causes that are read in the tasks' own order
+pub data IsOwnCause : Cause → Type 0 where
+  of_regions : IsOwnCause RegionOrder
+  of_teams : IsOwnCause TeamShort
+  of_claims : IsOwnCause ShareWrong
 
 -- the record at the place in the file has the cause, as the tasks' own order has it
 abbrev pub HasCauseAt : OwnView → Cause → ℕ → Type 0

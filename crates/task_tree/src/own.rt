@@ -1,7 +1,7 @@
 //! The run of a trace in its tasks' own order, and where each record stands in the file.
 ghost use Rattle.std.specs.Prelude.{◌≡◌, ◌<◌, Some, length, slice_get};
 ghost use Rattle.task_tree.specs.OwnOrder.{AreAllPlaces};
-ghost use Rattle.task_tree.specs.Own.{IsOwn};
+ghost use Rattle.task_tree.specs.Own.{IsOwn, KeepsMembers};
 
 use crate::own_order::OwnOrder;
 use crate::run::Run;
@@ -27,7 +27,8 @@ impl<'a> Model for Own<'a> {
 impl<'a> Own<'a> {
     /// The run of records in this order. Takes no memory.
     pub fn of(run: Run<'a>, order: &'a OwnOrder) -> Own<'a>
-        requires { AreAllPlaces order.now (length run.records) }
+        requires places { AreAllPlaces order.now (length run.records) }
+        requires members { KeepsMembers run.records order.now }
         ensures run { result.run ≡ run.entry }
         ensures places { result.places ≡ order.now }
     {
