@@ -1,26 +1,21 @@
 -- Records in another order, in which each task's own records stand as they did, say the same of tasks, teams,
 -- dependences, regions and what the end of a region waits for, and have the same causes of a refusal.
-use Rattle.std.proofs.Common.{◌≡◌, ◌∙◌, ℕ, ◌<◌, ◌≤◌, List, length, Option, true, sym, ap, subst, arith, inl, inr, map}
+use Rattle.std.proofs.Common.{◌≡◌, ℕ, ◌<◌, List, length, sym, subst, arith, inl, inr}
 use Rattle.std.proofs.lemmas.Bool.{cases_lt}
-use Rattle.std.proofs.lemmas.Option.{slice_get_past}
-use Rattle.std.specs.Prelude.{◌↔◌, option_and_then}
+use Rattle.std.specs.Prelude.{◌↔◌}
 use Rattle.ompt_events.specs.declared.records.Record.{Record}
-use Rattle.ompt_events.specs.declared.records.Body.{Body}
-use Rattle.ompt_events.specs.declared.deps.Dep.{Dep}
 use Rattle.ompt_events.specs.declared.cause.Cause.TheVariants.{RegionOrder, TeamShort, ShareWrong}
 use Rattle.ompt_events.specs.declared.names.SyncKind.{SyncKind}
 use Rattle.ompt_events.specs.declared.names.SyncKind.TheVariants.{Taskwait, Taskgroup}
-use Rattle.ompt_events.specs.Places.{at, is_own, own_before}
-use Rattle.ompt_events.specs.Tree.{IsRoot, IsExplicit, IsRooted, IsDescendant, children_before, children, HasPath}
-use Rattle.ompt_events.specs.Dependences.{DependsOn, IsPredecessor}
-use Rattle.ompt_events.specs.Teams.{members, IsMember, IsInitial, IsTeammate}
-use Rattle.ompt_events.specs.Regions.{open_regions, IsRegion, barrier_begins, IsBarrierBegin}
+use Rattle.ompt_events.specs.Tree.{children, HasPath}
+use Rattle.ompt_events.specs.Dependences.{IsPredecessor}
+use Rattle.ompt_events.specs.Regions.{IsRegion}
 use Rattle.ompt_events.specs.Coverage.{Covers, waited, grouped, synchronised}
 use Rattle.ompt_events.specs.Causes.{HasCause}
 use Rattle.task_tree.specs.Renaming.{IsRenaming}
-use Rattle.task_tree.proofs.RenamedPlaceLemmas.{IsReordered, reordered, reordered_back, own_within, own_cut, past_cut, own_before_cut}
-use Rattle.task_tree.proofs.RenamedTreeLemmas.{children_cut, same_children, moved_root, moved_explicit, moved_rooted, moved_descendant, moved_path, moved_depends, moved_predecessor, same_members, moved_member, moved_initial, moved_teammate}
-use Rattle.task_tree.proofs.RenamedRegionLemmas.{open_cut, begin_of_region, end_of_region, moved_region, same_barriers, moved_barrier_begin, barrier_own, moved_covers}
+use Rattle.task_tree.proofs.RenamedPlaceLemmas.{IsReordered, reordered, reordered_back, own_within}
+use Rattle.task_tree.proofs.RenamedTreeLemmas.{same_children, moved_path, moved_predecessor}
+use Rattle.task_tree.proofs.RenamedRegionLemmas.{end_of_region, moved_covers}
 use Rattle.task_tree.proofs.RenamedCauseLemmas.{moved_order, order_within, moved_short, team_within, moved_share, share_within}
 
 -- the other way round

@@ -1,5 +1,5 @@
 -- What stands in the tasks' own order, as the trace shows it.
-use Rattle.std.proofs.Common.{◌≡◌, ◌∙◌, ℕ, ◌<◌, List, [], ◌∷◌, length, Some, sym, ap, subst, arith}
+use Rattle.std.proofs.Common.{◌≡◌, ◌∙◌, ℕ, ◌<◌, zero, suc, List, [], ◌∷◌, length, Some, refl, sym, ap, subst, arith}
 use Rattle.std.specs.Prelude.{◌↔◌, Contains, slice_get}
 use Rattle.ompt_events.specs.declared.records.Record.{Record}
 use Rattle.ompt_events.specs.declared.cause.Cause.{Cause}
@@ -8,10 +8,9 @@ use Rattle.ompt_events.specs.declared.fault.Fault.TheVariants.{Memory, Malformed
 use Rattle.ompt_events.specs.CauseNames.{cause_number}
 use Rattle.ompt_events.specs.Causes.{HasCause, Shows, IsFreeOf, ShowsNowhere, IsFirstShown}
 use Rattle.ompt_events.specs.Faults.{IsShownFault}
-use Rattle.ompt_events.specs.Places.{places}
-use Rattle.ompt_events.specs.Turns.{in_own_order, own_places, own_place}
+use Rattle.ompt_events.specs.Turns.{in_own_order, own_place}
 use Rattle.task_tree.specs.OwnOrder.{AreAllPlaces}
-use Rattle.task_tree.specs.Own.{OwnView, IsOwnCause, of_regions, of_teams, of_claims, HasCauseAt, IsFirstPlaceWith, IsOwnFault}
+use Rattle.task_tree.specs.Own.{OwnView, IsOwnCause, of_regions, of_teams, of_claims, IsFirstPlaceWith, IsOwnFault}
 use Rattle.task_tree.specs.Families.{IsOwnOf, own_in_file, own_by_turn}
 use Rattle.task_tree.proofs.OwnOrderLemmas.{own_place_of, arranged_at, arranged_length}
 use Rattle.task_tree.proofs.FamiliesLemmas.{file_place}
@@ -47,7 +46,9 @@ pub own_free : (rs : List Record) (own : OwnView) (cause : Cause) → IsOwnCause
 own_free rs own cause is (own_in_file records order rise) free i shown =
     let P : List Record → Type 0 = λ l. IsFreeOf l cause in
     subst P records free i ((shows_has rs rise i cause).0 shown)
-own_free rs own cause is (own_by_turn records order) free = with_none cause is (let P : List Record → Type 0 = λ l. IsFreeOf l cause in subst P records free)
+own_free rs own cause is (own_by_turn records order) free i shown =
+    let P : List Record → Type 0 = λ l. IsFreeOf l cause in
+    with_none cause is (subst P records free) i shown
   where
     with_none : (cause : Cause) → IsOwnCause cause → IsFreeOf (in_own_order rs) cause → ShowsNowhere rs cause
     with_none _ of_regions none i shown = none (own_place rs i) shown
@@ -79,5 +80,5 @@ own_fault rs own cause (Malformed place found) is of all fault = rw (fault.0) (r
 })
   where
     of_one : (other : Cause) → Contains (cause ∷ []) other → cause_number other < cause_number cause → ⊥
-    of_one other (0, below, same) less = absurd (omega (arith, less, ap cause_number same))
+    of_one other (zero, below, same) less = absurd (omega (arith, less, ap cause_number same))
     of_one other (suc k, below, same) less = absurd (omega (arith, below))
