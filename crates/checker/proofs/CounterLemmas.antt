@@ -19,7 +19,7 @@ use Rattle.ompt_events.specs.Completion.{IsPartFinished, CountsIn, CountsAt, IsC
 use Rattle.ompt_events.specs.Causes.{IsFreeOf}
 use Rattle.ompt_events.proofs.PlaceLemmas.{Contains-filter, contains_place}
 use Rattle.ompt_events.proofs.HappensBeforeLemmas.{before_from}
-use Rattle.checker.specs.Readings.{Reading, by_file}
+use Rattle.checker.specs.Readings.{Reading, by_task}
 use Rattle.checker.specs.Verdicts.{ShowsNone, IsUnfinished}
 use Rattle.checker.specs.Search.{ClearView, IsClearView}
 use Rattle.checker.specs.Counter.{AreBounds, IsEarliestOrder, IsCounterOrderBy, IsBelow, is_below}
@@ -27,7 +27,8 @@ use Rattle.checker.specs.Merge.{AreInTurn, IsGreedyBehind}
 use Rattle.checker.proofs.MergeLemmas.{thread_of}
 use Rattle.checker.proofs.MergingLemmas.{each_more}
 use Rattle.checker.proofs.EarlierLemmas.{earlier_first, earlier_cases, earlier_right, earlier_across, earlier_append_cases, earlier_to, earlier_apart, order_apart, filter_holds}
-use Rattle.checker.proofs.MissedLemmas.{before_known, known_finish, file_shows_none}
+use Rattle.checker.proofs.MissedLemmas.{before_known, known_finish}
+use Rattle.checker.proofs.ReadingLemmas.{shows_none}
 
 -- ---- some of a greedy order
 
@@ -217,6 +218,6 @@ counter_by reading i task order clear free linear is unfinished = record {
   earliest = is;
 }
 
--- the same of a run without a cause, by the order of its file
-pub file_counter : (view : ClearView) (i task : ℕ) (order : List ℕ) → IsClearView view → IsLinearization view.run.records order → IsEarliestOrder view.run.records i order → IsUnfinished (by_file view.run.records) i task → IsCounterOrderBy (by_file view.run.records) i task order
-file_counter view i task order clear = counter_by (by_file view.run.records) i task order (file_shows_none view.run.records clear.well_formed) (clear.well_formed LengthBack (14, omega arith, refl))
+-- the same of a trace without a cause
+pub task_counter : (view : ClearView) (i task : ℕ) (order : List ℕ) → IsClearView view → IsLinearization view.run.records order → IsEarliestOrder view.run.records i order → IsUnfinished (by_task view.run.records) i task → IsCounterOrderBy (by_task view.run.records) i task order
+task_counter view i task order clear = counter_by (by_task view.run.records) i task order (shows_none view.run.records clear.well_formed) (clear.well_formed LengthBack (14, omega arith, refl))

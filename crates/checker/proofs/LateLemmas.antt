@@ -22,48 +22,21 @@ use Rattle.ompt_events.proofs.ListLemmas.{get_contains, contains_get}
 use Rattle.ompt_events.proofs.PlaceLemmas.{at_within}
 use Rattle.ompt_events.proofs.RecordLemmas.{creation_at_created, created_at_made}
 use Rattle.ompt_events.proofs.TreeLemmas.{child_place, children_cases}
+use Rattle.ompt_events.specs.Turns.{in_own_order}
 use Rattle.task_tree.specs.Makers.{AreNoted}
+use Rattle.task_tree.specs.Own.{OwnView, IsOwn}
+use Rattle.task_tree.specs.Families.{IsOwnOf}
+use Rattle.task_tree.specs.Runs.{RunView}
+use Rattle.task_tree.proofs.OwnRunLemmas.{own_predecessor}
 use Rattle.task_tree.proofs.OnceLemmas.{made_once, one_number}
 use Rattle.depend_edges.specs.Edges.{ArePredecessors, AreLatest}
 use Rattle.wait_coverage.specs.Done.{AreOwn}
 use Rattle.trace_ledger.specs.Entries.{IsDone}
-use Rattle.checker.specs.Starts.{IsPreceded, IsLate, AreReady, IsFirstLateAt, IsDependentAt, IsPrecededByNone, IsBound, AreStarted, StartsAt, StartsNoneAt, IsBehind, AreDoneBefore, IsFirstBehind}
+use Rattle.checker.specs.declared.starts.Late.{Late}
+use Rattle.checker.specs.Readings.{by_task, IsPrecededBy}
+use Rattle.checker.specs.Starts.{IsLate, AreReady, IsFirstLateAt, IsDependentAt, IsPrecededByNone, IsBound, AreStarted, StartsAt, StartsNoneAt, IsBehind, AreDoneBefore, IsFirstBehind, IsAmongFirst, IsBehindAt, IsFirstOf, IsEarlierOf, the_only, the_first, the_other}
+use Rattle.checker.proofs.OwnLemmas.{own_done}
 use Rattle.checker.proofs.StartLemmas.{done_from, bound_still, complete_from_start}
-
--- ---- children with greater numbers are created later
-
-number_more : (rs : List Record) (parent n : ℕ) → child_number rs parent n ≤ child_number rs parent (n + 1)
-number_more rs parent n = elim (children_cases rs parent n) [
-  | inl same ↦ let equal = ap length same in omega (arith, equal)
-  | inr (child, creates, longer) ↦ let more = ap length longer in let one = length_push (children_before rs parent n) child in omega (arith, more, one)
-]
-
-number_up : (rs : List Record) (parent n k : ℕ) → child_number rs parent n ≤ child_number rs parent (k + n)
-number_up rs parent n zero = let same : zero + n ≡ n = omega arith in let equal = ap (child_number rs parent) same in omega (arith, equal)
-number_up rs parent n (suc k) =
-    let before = number_up rs parent n k in
-    let one = number_more rs parent (k + n) in
-    let same : (k + n) + 1 ≡ suc k + n = omega arith in
-    let equal = ap (child_number rs parent) same in
-    omega (arith, before, one, equal)
-
-pub created_later : (rs : List Record) (parent number greater i k before behind : ℕ) → IsFreeOf rs CreatedTwice → IsChild rs parent number before → IsChild rs parent greater behind → number < greater → at created rs i ≡ Some before → at created rs k ≡ Some behind → i < k
-created_later rs parent number greater i k before behind once here there less creates makes =
-    let first = child_place rs parent (length rs) number before here in
-    let second = child_place rs parent (length rs) greater behind there in
-    let i_is : first.0 ≡ i = made_once rs before first.0 i once (created_at_made before rs first.0 (creation_at_created parent before rs first.0 first.2)) (created_at_made before rs i creates) in
-    let k_is : second.0 ≡ k = made_once rs behind second.0 k once (created_at_made behind rs second.0 (creation_at_created parent behind rs second.0 second.2)) (created_at_made behind rs k makes) in
-    elim (cases_lt first.0 second.0) [
-      | inl earlier ↦ omega (arith, earlier, i_is, k_is)
-      | inr later ↦ absurd (not_later first.0 second.0 first.3 second.3 later)
-    ]
-  where
-    not_later : (a b : ℕ) → child_number rs parent a ≡ number → child_number rs parent b ≡ greater → b ≤ a → ⊥
-    not_later a b low high later =
-        let up = number_up rs parent b (a - b) in
-        let same : (a - b) + b ≡ a = omega (arith, later) in
-        let equal = ap (child_number rs parent) same in
-        omega (arith, up, equal, low, high, less)
 
 -- ---- a predecessor's index and place
 
@@ -87,41 +60,94 @@ done_or_not rs tasks own index task bound are is small = elim (cases_lt bound (s
 
 -- ---- the search over the predecessors
 
--- the first ones are finished
-abbrev pub AreDoneUpTo : List Record → List ℕ → ℕ → ℕ → Type 0
-AreDoneUpTo rs predecessors bound n = (task : ℕ) → ArePredecessors rs task predecessors → (k predecessor : ℕ) → k < n
-    → slice_get predecessors k ≡ Some predecessor → IsDone rs bound predecessor
+pub first_of_none : (file own : List Record) (tasks : List ℕ) (bound : ℕ) → IsFirstOf file own tasks bound 0 None
+first_of_none file own tasks bound task (k, below, there) = absurd (omega (arith, below))
 
-pub first_is : (rs : List Record) (predecessors : List ℕ) (bound n task predecessor : ℕ) → IsFreeOf rs CreatedTwice → AreDoneUpTo rs predecessors bound n → ArePredecessors rs task predecessors → slice_get predecessors n ≡ Some predecessor → (IsDone rs bound predecessor → ⊥) → IsFirstBehind rs task bound predecessor
-first_is rs predecessors bound n task predecessor once done are there late =
-    let is = are.only predecessor (get_contains predecessors predecessor n there) in
-    let place = predecessor_made rs task predecessor is in
-    record {
-      behind = (is, late);
-      creation = place.0;
-      is_created = place.2;
-      first = λ k other below creates behind.
-          let found = contains_get predecessors other (are.all other behind.0) in
-          elim (cases_order found.0 n) [
-            | inl same ↦
-                let one : predecessor ≡ other = same_Some predecessor other (sym there ∙ ap (slice_get predecessors) (sym same) ∙ found.1) in
-                let at_one = made_once rs other place.0 k once (created_at_made other rs place.0 (place.2 ∙ ap Some one)) (created_at_made other rs k creates) in
-                omega (arith, below, at_one)
-            | inr (inl earlier) ↦ behind.1 (done task are found.0 other earlier found.1)
-            | inr (inr later) ↦
-                let self = one_number rs task is.parent behind.0.parent is.number behind.0.number once is.is_child behind.0.is_child in
-                let sibling : IsChild rs is.parent behind.0.earlier other = subst (λ p. IsChild rs p behind.0.earlier other) (sym self.0) behind.0.sibling in
-                let less = are.rising n found.0 predecessor other is.parent is.earlier behind.0.earlier later there found.1 is.sibling sibling in
-                let after = created_later rs is.parent is.earlier behind.0.earlier place.0 k predecessor other once is.sibling sibling less place.2 creates in
-                omega (arith, after, below)
-          ];
-    }
+kept : (tasks : List ℕ) (n task : ℕ) → IsAmongFirst tasks n task → IsAmongFirst tasks (n + 1) task
+kept tasks n task (k, below, there) = (k, omega (arith, below), there)
 
-pub all_done : (rs : List Record) (predecessors : List ℕ) (bound n task : ℕ) → AreDoneUpTo rs predecessors bound n → length predecessors ≤ n → ArePredecessors rs task predecessors → AreDoneBefore rs task bound
-all_done rs predecessors bound n task done past are predecessor is =
+among_more : (tasks : List ℕ) (n last task : ℕ) → slice_get tasks n ≡ Some last → IsAmongFirst tasks (n + 1) task → IsAmongFirst tasks n task ⊎ (task ≡ last)
+among_more tasks n last task stands (k, below, there) = elim (cases_lt k n) [
+  | inl less ↦ inl (k, less, there)
+  | inr more ↦
+      let same : k ≡ n = omega (arith, below, more) in
+      inr (same_Some task last (sym there ∙ ap (slice_get tasks) same ∙ stands))
+]
+
+-- a task is created once
+one_creation : (file : List Record) (task place other : ℕ) → IsFreeOf file CreatedTwice → at created file place ≡ Some task → at created file other ≡ Some task → place ≡ other
+one_creation file task place other once one another = made_once file task place other once (created_at_made task file place one) (created_at_made task file other another)
+
+-- of a late task among the first n and the next one, which is late too, the one that is created first is the first of
+-- all
+pub first_of_late : (file own : List Record) (tasks : List ℕ) (bound n task place : ℕ) (first : Option Late) (late : Late) → IsFreeOf file CreatedTwice → slice_get tasks n ≡ Some task → IsBehindAt file own bound task place → IsEarlierOf (record { place = place; task = task }) late first → IsFirstOf file own tasks bound n first → IsFirstOf file own tasks bound (n + 1) (Some late)
+first_of_late file own tasks bound n task place _ late once stands behind (the_only same) done = rw same (
+  (n, omega arith, stands),
+  behind,
+  λ other q among late_too. elim (among_more tasks n task other stands among) [
+    | inl earlier ↦ absurd (late_too.0 (done other earlier))
+    | inr is ↦
+        let P : ℕ → Type 0 = λ t. at created file q ≡ Some t in
+        let same_place = one_creation file task place q once behind.1 (subst P is late_too.1) in
+        omega (arith, same_place)
+  ],
+)
+first_of_late file own tasks bound n task place _ late once stands behind (the_first {first = first} same less) (among, first_behind, least) = rw same (
+  kept tasks n first.task among,
+  first_behind,
+  λ other q found late_too. elim (among_more tasks n task other stands found) [
+    | inl earlier ↦ least other q earlier late_too
+    | inr is ↦
+        let P : ℕ → Type 0 = λ t. at created file q ≡ Some t in
+        let same_place = one_creation file task place q once behind.1 (subst P is late_too.1) in
+        omega (arith, same_place, less)
+  ],
+)
+first_of_late file own tasks bound n task place _ late once stands behind (the_other {first = first} same most) (among, first_behind, least) = rw same (
+  (n, omega arith, stands),
+  behind,
+  λ other q found late_too. elim (among_more tasks n task other stands found) [
+    | inl earlier ↦ let low = least other q earlier late_too in omega (arith, low, most)
+    | inr is ↦
+        let P : ℕ → Type 0 = λ t. at created file q ≡ Some t in
+        let same_place = one_creation file task place q once behind.1 (subst P is late_too.1) in
+        omega (arith, same_place)
+  ],
+)
+
+-- where the next one is finished nothing changes
+pub first_of_done : (file own : List Record) (tasks : List ℕ) (bound n task : ℕ) (first : Option Late) → slice_get tasks n ≡ Some task → IsDone own bound task → IsFirstOf file own tasks bound n first → IsFirstOf file own tasks bound (n + 1) first
+first_of_done file own tasks bound n task None stands is done = λ other among. elim (among_more tasks n task other stands among) [
+  | inl earlier ↦ done other earlier
+  | inr same ↦ let P : ℕ → Type 0 = IsDone own bound in subst P (sym same) is
+]
+first_of_done file own tasks bound n task (Some late) stands is (among, behind, least) = (
+  kept tasks n late.task among,
+  behind,
+  λ other q found late_too. elim (among_more tasks n task other stands found) [
+    | inl earlier ↦ least other q earlier late_too
+    | inr same ↦ let P : ℕ → Type 0 = IsDone own bound in absurd (late_too.0 (subst P (sym same) is))
+  ],
+)
+
+-- so of all predecessors
+pub first_of_all : (file own : List Record) (predecessors : List ℕ) (bound n task : ℕ) (late : Late) → length predecessors ≤ n → ArePredecessors own task predecessors → IsFirstOf file own predecessors bound n (Some late) → IsFirstBehind file own task bound late.task
+first_of_all file own predecessors bound n task late past are (among, behind, least) = record {
+  behind = (are.only late.task (get_contains predecessors late.task among.0 among.2), behind.0);
+  creation = late.place;
+  is_created = behind.1;
+  first = λ k other below creates behind_too.
+      let found = contains_get predecessors other (are.all other behind_too.0) in
+      let inside = slice_get_within predecessors found.0 other found.1 in
+      let low = least other k (found.0, omega (arith, inside, past), found.1) (behind_too.1, creates) in
+      omega (arith, low, below);
+}
+
+pub all_done : (file own : List Record) (predecessors : List ℕ) (bound n task : ℕ) → length predecessors ≤ n → ArePredecessors own task predecessors → IsFirstOf file own predecessors bound n None → AreDoneBefore own task bound
+all_done file own predecessors bound n task past are done predecessor is =
     let found = contains_get predecessors predecessor (are.all predecessor is) in
     let within = slice_get_within predecessors found.0 predecessor found.1 in
-    done task are found.0 predecessor (omega (arith, within, past)) found.1
+    done predecessor (found.0, omega (arith, within, past), found.1)
 
 -- the greatest length of the predecessors says so of all
 pub done_by_latest : (rs : List Record) (tasks own latest : List ℕ) (index task bound : ℕ) → AreNoted made rs (length rs) tasks → AreOwn rs tasks own → AreLatest rs tasks own latest → slice_get tasks index ≡ Some task → bound < 2 ^ 32 → slice_index latest index ≤ bound → AreDoneBefore rs task bound
@@ -131,89 +157,71 @@ done_by_latest rs tasks own latest index task bound noted are_own are is small l
     (done_from rs tasks own found.0 predecessor are_own found.1 bound small).0 (omega (arith, less, low))
 
 -- where no task has a predecessor that an entry finishes, none is late
-pub none_late : (rs : List Record) (tasks own latest : List ℕ) (i : ℕ) → AreNoted made rs (length rs) tasks → AreOwn rs tasks own → AreLatest rs tasks own latest → ((index : ℕ) → index < length latest → slice_index latest index ≡ 0) → AreReady rs i
-none_late rs tasks own latest i noted are_own are none predecessor preceded = elim preceded [
-  | inl (dependent, explicit, start, is) ↦ complete dependent is
-  | inr (dependent, completed, is) ↦ complete dependent is
+pub none_late : (file : List Record) (own : OwnView) (lengths latest : List ℕ) (i : ℕ) → IsOwnOf file own → IsOwn own → AreOwn own.run.records own.run.family.tasks lengths → AreLatest own.run.records own.run.family.tasks lengths latest → ((index : ℕ) → index < length latest → slice_index latest index ≡ 0) → AreReady file i
+none_late file own lengths latest i of is_own are_own are none predecessor preceded = elim preceded [
+  | inl (dependent, explicit, start, is) ↦ complete dependent ((own_predecessor file own of dependent predecessor).1 is)
+  | inr (dependent, completed, is) ↦ complete dependent ((own_predecessor file own of dependent predecessor).1 is)
 ]
   where
-    complete : (dependent : ℕ) → IsPredecessor rs dependent predecessor → IsCompleteAt rs predecessor i
+    rs : List Record
+    rs = own.run.records
+
+    tasks : List ℕ
+    tasks = own.run.family.tasks
+
+    complete : (dependent : ℕ) → IsPredecessor rs dependent predecessor → IsCompleteAt file predecessor i
     complete dependent is =
+        let noted = is_own.run.family.noted in
         let place = child_place rs is.parent (length rs) is.number dependent is.is_child in
         let index = contains_get tasks dependent (noted.each place.0 dependent place.1 (created_at_made dependent rs place.0 (creation_at_created is.parent dependent rs place.0 place.2))) in
         let within = slice_get_within tasks index.0 dependent index.1 in
         let low : slice_index latest index.0 ≤ 0 = let zero_there = none index.0 (rw are.all within) in omega (arith, zero_there) in
-        complete_from_start rs i predecessor (done_by_latest rs tasks own latest index.0 dependent 0 noted are_own are index.1 (omega arith) low predecessor is)
+        let done = done_by_latest rs tasks lengths latest index.0 dependent 0 noted are_own are index.1 (omega arith) low predecessor is in
+        complete_from_start file i predecessor ((own_done file own of is_own.places 0 predecessor).0 done)
 
 -- ---- what it says of the record
 
 -- what is found for the task that starts there, or for the taskwait that is complete there
-abbrev pub FindsLate : List Record → List ℕ → ℕ → ℕ → Option ℕ → Type 0
-FindsLate rs tasks index bound found = (task : ℕ) → slice_get tasks index ≡ Some task
-    → MatchOption found (AreDoneBefore rs task bound) (IsFirstBehind rs task bound)
+abbrev pub FindsLate : List Record → RunView → ℕ → ℕ → Option ℕ → Type 0
+FindsLate file own index bound found = (task : ℕ) → slice_get own.family.tasks index ≡ Some task
+    → MatchOption found (AreDoneBefore own.records task bound) (IsFirstBehind file own.records task bound)
 
 pub if_ok : {X E : Type 0} (P Q : X → Type 0) (result : Result X E) → ((x : X) → P x → Q x) → IfOk result P → IfOk result Q
 if_ok P Q (Ok x) follows is = follows x is
 if_ok P Q (Err e) follows is = is
 
 -- late is what the entries don't finish of the predecessors of what depends on them there
-pub late_if : (rs : List Record) (tasks : List ℕ) (i index bound task : ℕ) → (is : IsDependentAt rs tasks i index bound) → IsLate rs i task ↔ IsBehind rs is.dependent bound task
-late_if rs tasks i index bound task is = (
+pub late_if : (rs : List Record) (own : RunView) (i index bound task : ℕ) → (is : IsDependentAt rs own i index bound) → IsLate rs i task ↔ IsBehind own.records is.dependent bound task
+late_if rs own i index bound task is = (
   (λ late. ((is.same task).0 late.0, λ done. late.1 ((is.bounds task).1 done))),
   (λ behind. ((is.same task).1 behind.0, λ complete. behind.1 ((is.bounds task).0 complete))),
 )
 
 -- what is told of the task, for the task that starts there, or for the taskwait that is complete there
-abbrev pub TellsLate : List Record → List ℕ → ℕ → ℕ → ℕ → Bool → Type 0
-TellsLate rs tasks index bound task answer = (dependent : ℕ) → slice_get tasks index ≡ Some dependent
-    → IsTrue answer ↔ IsBehind rs dependent bound task
+abbrev pub TellsLate : RunView → ℕ → ℕ → ℕ → Bool → Type 0
+TellsLate own index bound task answer = (dependent : ℕ) → slice_get own.family.tasks index ≡ Some dependent
+    → IsTrue answer ↔ IsBehind own.records dependent bound task
 
-pub tells_late : (rs : List Record) (tasks : List ℕ) (i index bound task : ℕ) (answer : Bool) → IsDependentAt rs tasks i index bound → TellsLate rs tasks index bound task answer → IsTrue answer ↔ IsLate rs i task
-tells_late rs tasks i index bound task answer is tells =
+pub tells_late : (rs : List Record) (own : RunView) (i index bound task : ℕ) (answer : Bool) → IsDependentAt rs own i index bound → TellsLate own index bound task answer → IsTrue answer ↔ IsLate rs i task
+tells_late rs own i index bound task answer is tells =
     let exact = tells is.dependent is.there in
-    let late = late_if rs tasks i index bound task is in
+    let late = late_if rs own i index bound task is in
     ((λ yes_it. late.1 (exact.0 yes_it)), (λ is_late. exact.1 (late.0 is_late)))
 
 pub none_to_tell : (rs : List Record) (i task : ℕ) → IsPrecededByNone rs i → IsTrue false ↔ IsLate rs i task
 none_to_tell rs i task none = ((λ never. absurd (false≢true never)), (λ late. absurd (none task late.0)))
 
-pub found_by : (rs : List Record) (tasks : List ℕ) (i index bound : ℕ) (found : Option ℕ) → IsDependentAt rs tasks i index bound → FindsLate rs tasks index bound found → MatchOption found (AreReady rs i) (IsFirstLateAt rs i)
-found_by rs tasks i index bound None is found = λ predecessor preceded.
+pub found_by : (rs : List Record) (own : RunView) (i index bound : ℕ) (found : Option ℕ) → IsDependentAt rs own i index bound → FindsLate rs own index bound found → MatchOption found (AreReady rs i) (IsFirstLateAt rs i)
+found_by rs own i index bound None is found = λ predecessor preceded.
     (is.bounds predecessor).1 (found is.dependent is.there predecessor ((is.same predecessor).0 preceded))
-found_by rs tasks i index bound (Some predecessor) is found =
+found_by rs own i index bound (Some predecessor) is found =
     let first = found is.dependent is.there in
     record {
-      late = (late_if rs tasks i index bound predecessor is).1 first.behind;
+      late = (late_if rs own i index bound predecessor is).1 first.behind;
       creation = first.creation;
       is_created = first.is_created;
-      created_first = λ k other below creates late. first.first k other below creates ((late_if rs tasks i index bound other is).0 late);
+      created_first = λ k other below creates late. first.first k other below creates ((late_if rs own i index bound other is).0 late);
     }
-
-pub get_here : (predecessors : List ℕ) (n : ℕ) → n < length predecessors → slice_get predecessors n ≡ Some (slice_index_or predecessors n 0)
-get_here predecessors n within = slice_get-get_or predecessors n 0 within
-
-pub done_more : (rs : List Record) (tasks own predecessors : List ℕ) (bound n : ℕ) (answer : Bool) → AreNoted made rs (length rs) tasks → AreOwn rs tasks own → bound < 2 ^ 32 → n < length predecessors → answer ≡ false → ((index : ℕ) → slice_get tasks index ≡ Some (slice_index_or predecessors n 0) → IsTrue answer ↔ (IsDone rs bound (slice_index_or predecessors n 0) → ⊥)) → AreDoneUpTo rs predecessors bound n → AreDoneUpTo rs predecessors bound (n + 1)
-done_more rs tasks own predecessors bound n answer noted are_own small within not_behind tells done task are k predecessor below there = elim (cases_lt k n) [
-  | inl earlier ↦ done task are k predecessor earlier there
-  | inr more ↦
-      let here : k ≡ n = omega (arith, below, more) in
-      let this : slice_index_or predecessors n 0 ≡ predecessor = same_Some (slice_index_or predecessors n 0) predecessor (sym (get_here predecessors n within) ∙ ap (slice_get predecessors) (sym here) ∙ there) in
-      let is = are.only predecessor (get_contains predecessors predecessor k there) in
-      let found = predecessor_index rs tasks task predecessor noted is in
-      elim (done_or_not rs tasks own found.0 predecessor bound are_own found.1 small) [
-        | inl finished ↦ finished
-        | inr unfinished ↦
-            let P : ℕ → Type 0 = λ p. IsDone rs bound p → ⊥ in
-            absurd (false≢true (sym not_behind ∙ (tells found.0 (found.1 ∙ ap Some (sym this))).1 (subst P (sym this) unfinished)))
-      ]
-]
-
-pub first_here : (rs : List Record) (tasks predecessors : List ℕ) (bound n : ℕ) (answer : Bool) → IsFreeOf rs CreatedTwice → AreNoted made rs (length rs) tasks → n < length predecessors → answer ≡ true → ((index : ℕ) → slice_get tasks index ≡ Some (slice_index_or predecessors n 0) → IsTrue answer ↔ (IsDone rs bound (slice_index_or predecessors n 0) → ⊥)) → AreDoneUpTo rs predecessors bound n → (task : ℕ) → ArePredecessors rs task predecessors → IsFirstBehind rs task bound (slice_index_or predecessors n 0)
-first_here rs tasks predecessors bound n answer once noted within behind tells done task are =
-    let there = get_here predecessors n within in
-    let is = are.only (slice_index_or predecessors n 0) (get_contains predecessors (slice_index_or predecessors n 0) n there) in
-    let found = predecessor_index rs tasks task (slice_index_or predecessors n 0) noted is in
-    first_is rs predecessors bound n task (slice_index_or predecessors n 0) once done are there ((tells found.0 found.1).0 behind)
 
 -- ---- one task
 
@@ -222,12 +230,17 @@ pub predecessors_at : (rs others : List Record) (tasks items : List ℕ) (index 
 predecessors_at rs others tasks items index own dependent records_are is there are =
     subst (λ t. ArePredecessors rs t items) (same_Some own dependent (sym is ∙ there)) (subst (λ r. ArePredecessors r own items) records_are are)
 
-pub behind_if : (rs : List Record) (tasks predecessors : List ℕ) (dependent bound task : ℕ) (answer : Bool) → AreNoted made rs (length rs) tasks → ArePredecessors rs dependent predecessors → Contains predecessors task → ((index : ℕ) → slice_get tasks index ≡ Some task → IsTrue answer ↔ (IsDone rs bound task → ⊥)) → IsTrue answer ↔ IsBehind rs dependent bound task
-behind_if rs tasks predecessors dependent bound task answer noted are among tells =
+-- a task that is found where it is created, unless the entries finish it
+pub behind_if : (file own : List Record) (tasks predecessors : List ℕ) (dependent bound task : ℕ) (found : Option ℕ) → AreNoted made own (length own) tasks → ArePredecessors own dependent predecessors → Contains predecessors task → ((index : ℕ) → slice_get tasks index ≡ Some task → IsExplicit own task → MatchOption found (IsDone own bound task) (IsBehindAt file own bound task)) → IsTrue (is_some found) ↔ IsBehind own dependent bound task
+behind_if file own tasks predecessors dependent bound task found noted are among tells =
     let is = are.only task among in
-    let found = predecessor_index rs tasks dependent task noted is in
-    let exact = tells found.0 found.1 in
-    ((λ behind. (is, exact.0 behind)), (λ behind. exact.1 behind.1))
+    let index = predecessor_index own tasks dependent task noted is in
+    let made_there = predecessor_made own dependent task is in
+    of found is (tells index.0 index.1 (made_there.0, made_there.2))
+  where
+    of : (o : Option ℕ) → IsPredecessor own dependent task → MatchOption o (IsDone own bound task) (IsBehindAt file own bound task) → IsTrue (is_some o) ↔ IsBehind own dependent bound task
+    of None is done = (λ never. absurd (false≢true never), λ behind. absurd (behind.1 done))
+    of (Some place) is late = (λ _. (is, late.0), λ _. refl)
 
 pub not_among : (rs : List Record) (predecessors : List ℕ) (dependent bound task : ℕ) (answer : Bool) → ArePredecessors rs dependent predecessors → IsTrue answer ↔ Contains predecessors task → answer ≡ false → IsTrue false ↔ IsBehind rs dependent bound task
 not_among rs predecessors dependent bound task answer are tells is = (
@@ -256,35 +269,44 @@ wait_starts_none rs i task other trace completes starts = there (slice_get rs i)
     there (Some r) e completes' starts' = sound_wait r.body (sound_at r e).next task other completes' starts'
 
 -- where a task starts its predecessors must be complete, and no others
-preceded_at_start : (rs : List Record) (i task : ℕ) → IsTrace rs → IsExplicit rs task → IsStart rs i task → (p : ℕ) → IsPreceded rs i p ↔ IsPredecessor rs task p
+preceded_at_start : (rs : List Record) (i task : ℕ) → IsTrace rs → IsExplicit rs task → IsStart rs i task → (p : ℕ) → IsPrecededBy (by_task rs) i p ↔ IsPredecessor (in_own_order rs) task p
 preceded_at_start rs i task trace explicit start p = (
   (λ preceded. elim preceded [
-    | inl (other, is_explicit, starts, is) ↦ subst (λ t. IsPredecessor rs t p) (same_Some other task (sym (start_starts rs i other starts) ∙ start_starts rs i task start)) is
+    | inl (other, is_explicit, starts, is) ↦ subst (λ t. IsPredecessor (in_own_order rs) t p) (same_Some other task (sym (start_starts rs i other starts) ∙ start_starts rs i task start)) is
     | inr (other, completes, is) ↦ absurd (wait_starts_none rs i other task trace completes (start_starts rs i task start))
   ]),
   (λ is. inl (task, explicit, start, is)),
 )
 
-preceded_at_wait : (rs : List Record) (i task : ℕ) → IsTrace rs → at wait_completed rs i ≡ Some task → (p : ℕ) → IsPreceded rs i p ↔ IsPredecessor rs task p
+preceded_at_wait : (rs : List Record) (i task : ℕ) → IsTrace rs → at wait_completed rs i ≡ Some task → (p : ℕ) → IsPrecededBy (by_task rs) i p ↔ IsPredecessor (in_own_order rs) task p
 preceded_at_wait rs i task trace completes p = (
   (λ preceded. elim preceded [
     | inl (other, is_explicit, starts, is) ↦ absurd (wait_starts_none rs i task other trace completes (start_starts rs i other starts))
-    | inr (other, also, is) ↦ subst (λ t. IsPredecessor rs t p) (same_Some other task (sym also ∙ completes)) is
+    | inr (other, also, is) ↦ subst (λ t. IsPredecessor (in_own_order rs) t p) (same_Some other task (sym also ∙ completes)) is
   ]),
   (λ is. inr (task, completes, is)),
 )
 
-pub dependent_start : (rs : List Record) (tasks : List ℕ) (i index bound : ℕ) → IsTrace rs → StartsAt rs tasks i index → IsBound rs i bound → IsDependentAt rs tasks i index bound
-dependent_start rs tasks i index bound trace (task, there, explicit, start) is_bound =
-    record { dependent = task; there = there; same = preceded_at_start rs i task trace explicit start; bounds = is_bound }
-
-pub dependent_wait : (rs : List Record) (tasks : List ℕ) (i index task : ℕ) → IsTrace rs → slice_get tasks index ≡ Some task → at wait_completed rs i ≡ Some task → IsDependentAt rs tasks i index (seen_at rs i)
-dependent_wait rs tasks i index task trace there completes = record {
+-- in the run in the tasks' own order
+dependent_own : (rs : List Record) (own : OwnView) (i index bound task : ℕ) → IsOwnOf rs own → IsOwn own → slice_get own.run.family.tasks index ≡ Some task → ((p : ℕ) → IsPrecededBy (by_task rs) i p ↔ IsPredecessor (in_own_order rs) task p) → IsBound rs i bound → IsDependentAt rs own.run i index bound
+dependent_own rs own i index bound task of is_own there preceded is_bound = record {
   dependent = task;
   there = there;
-  same = preceded_at_wait rs i task trace completes;
-  bounds = bound_still rs i (λ (other, explicit, start). wait_starts_none rs i task other trace completes (start_starts rs i other start));
+  same = λ p. both (preceded p) (own_predecessor rs own of task p);
+  bounds = λ p. both (is_bound p) (own_done rs own of is_own.places bound p);
 }
+  where
+    both : {A B C : Type 0} → A ↔ B → C ↔ B → A ↔ C
+    both (there, back) (on, home) = (λ a. home (there a), λ c. back (on c))
+
+pub dependent_start : (rs : List Record) (own : OwnView) (tasks : List ℕ) (i first index bound : ℕ) → IsTrace rs → IsOwnOf rs own → IsOwn own → (starts : StartsAt rs tasks i first) → slice_get own.run.family.tasks index ≡ Some starts.0 → IsBound rs i bound → IsDependentAt rs own.run i index bound
+dependent_start rs own tasks i first index bound trace of is_own (task, there, explicit, start) stands is_bound =
+    dependent_own rs own i index bound task of is_own stands (preceded_at_start rs i task trace explicit start) is_bound
+
+pub dependent_wait : (rs : List Record) (own : OwnView) (i index task : ℕ) → IsTrace rs → IsOwnOf rs own → IsOwn own → slice_get own.run.family.tasks index ≡ Some task → at wait_completed rs i ≡ Some task → IsDependentAt rs own.run i index (seen_at rs i)
+dependent_wait rs own i index task trace of is_own there completes =
+    dependent_own rs own i index (seen_at rs i) task of is_own there (preceded_at_wait rs i task trace completes)
+    (bound_still rs i (λ (other, explicit, start). wait_starts_none rs i task other trace completes (start_starts rs i other start)))
 
 pub preceded_by_none : (rs : List Record) (i : ℕ) → StartsNoneAt rs i → ((task : ℕ) → at wait_completed rs i ≡ Some task → ⊥) → IsPrecededByNone rs i
 preceded_by_none rs i starts completes task preceded = elim preceded [

@@ -15,6 +15,7 @@ mod ScheduleLemmas
 mod AwaitsOneLemmas
 mod SuspensionLemmas
 mod InOrderLemmas
+mod OwnLemmas
 mod StartLemmas
 mod LateLemmas
 mod PhaseLemmas

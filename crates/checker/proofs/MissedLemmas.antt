@@ -16,14 +16,14 @@ use Rattle.ompt_events.specs.HappensBefore.{IsStep, HappensBefore, program, ledg
 use Rattle.ompt_events.specs.Linearization.{IsEarlier, IsLinearization}
 use Rattle.ompt_events.specs.Completion.{IsPartFinished, CountsIn, CountsAt, IsCompleteIn, IsCompleteAt}
 use Rattle.ompt_events.specs.Causes.{IsFreeOf, known_after, length_back}
-use Rattle.ompt_events.specs.CauseNames.{all_causes}
 use Rattle.checker.specs.declared.verdict.Why.{Why}
-use Rattle.checker.specs.Readings.{Reading, by_file, IsRequiredBy}
-use Rattle.checker.specs.Verdicts.{ShowsNone, IsUnfinished, IsFirstUnfinished, IsMissed, IsFirstMissed, IsRejected, task_of}
-use Rattle.checker.specs.Search.{IsClear, IsOfRecords, ClearView, IsClearView, IsFirstViolation}
+use Rattle.checker.specs.Readings.{Reading, by_task, IsRequiredBy}
+use Rattle.checker.specs.Verdicts.{IsUnfinished, IsFirstUnfinished, IsMissed, IsFirstMissed, IsRejected, task_of}
+use Rattle.checker.specs.Search.{IsOfRecords, ClearView, IsClearView, IsFirstViolation}
 use Rattle.ompt_events.proofs.PlaceLemmas.{Contains-filter, contains_place, at_within}
 use Rattle.checker.proofs.LengthLemmas.{known_least}
-use Rattle.checker.proofs.VerdictLemmas.{complete_in, preceded_starts, of_file, listed}
+use Rattle.checker.proofs.VerdictLemmas.{complete_in, preceded_starts}
+use Rattle.checker.proofs.ReadingLemmas.{of_tasks, shows_none}
 use Rattle.checker.proofs.EarlierLemmas.{earlier_first, earlier_behind, earlier_cases, earlier_left, earlier_right, earlier_across, earlier_append_cases, earlier_filter, earlier_from, earlier_to, earlier_apart, order_apart, split_at, filter_holds}
 
 -- ---- what happens before a record is known there
@@ -220,15 +220,11 @@ first_missed reading order i task of free linear is = record {
   created_first = λ k other below creates missed. is.created_first k other below creates (unfinished_by reading i other missed);
 }
 
--- where no cause occurs by the order of the file, no record shows one by it
-pub file_shows_none : (rs : List Record) → IsClear rs all_causes → ShowsNone (by_file rs)
-file_shows_none rs clear i cause has = clear cause (listed cause) i has
-
 -- a no
-pub rejected : (view : ClearView) (i : ℕ) (why : Why) → IsClearView view → IsFirstViolation (by_file view.run.records) i why → IsRejected (by_file view.run.records) i why
+pub rejected : (view : ClearView) (i : ℕ) (why : Why) → IsClearView view → IsFirstViolation (by_task view.run.records) i why → IsRejected (by_task view.run.records) i why
 rejected view i why clear found = record {
-  well_formed = file_shows_none view.run.records clear.well_formed;
+  well_formed = shows_none view.run.records clear.well_formed;
   unfinished = found.unfinished;
-  missed = first_missed (by_file view.run.records) view.order i (task_of why) (of_file view.run.records) (clear.well_formed LengthBack (14, omega arith, refl)) clear.linearization found.unfinished;
+  missed = first_missed (by_task view.run.records) view.order i (task_of why) (of_tasks view.run.records) (clear.well_formed LengthBack (14, omega arith, refl)) clear.linearization found.unfinished;
   reason = found.reason;
 }

@@ -1,17 +1,17 @@
 -- How each phase of a check hands on that no cause so far occurs.
-use Rattle.std.proofs.Common.{◌≡◌, ℕ, zero, suc, ◌≤◌, ◌&&◌, List, [], ◌∷◌, ◌++◌, Bool, true, false, refl, sym, subst, arith, inl, inr}
+use Rattle.std.proofs.Common.{◌≡◌, ◌∙◌, ℕ, zero, suc, ◌≤◌, ◌&&◌, List, [], ◌∷◌, ◌++◌, Bool, true, false, refl, sym, ap, subst, arith, inl, inr}
 use Rattle.std.proofs.Math.Dec.{ltb, leb}
-use Rattle.std.proofs.lemmas.Bool.{leb-true}
+use Rattle.std.proofs.lemmas.Bool.{leb-true, false≢true}
 use Rattle.std.proofs.lemmas.List.Elements.{Contains-append_left, Contains-append_right, Contains-append_cases}
-use Rattle.std.specs.Prelude.{Contains, filter}
+use Rattle.std.specs.Prelude.{◌↔◌, Contains, filter, not}
 use Rattle.ompt_events.specs.declared.records.Record.{Record}
 use Rattle.ompt_events.specs.declared.cause.Cause.{Cause}
 use Rattle.ompt_events.specs.declared.fault.Fault.{Fault}
 use Rattle.ompt_events.specs.declared.fault.Fault.TheVariants.{Memory, Malformed}
 use Rattle.ompt_events.specs.declared.cause.Cause.TheVariants.{NotCurrent, Moved, TurnGap, StatusOrder, RegionOrder, TeamShort, NestedParallel, DepsPlace, ShareWrong, EntryTwice}
 use Rattle.ompt_events.specs.CauseNames.{cause_number, all_causes, before}
-use Rattle.ompt_events.specs.Causes.{IsFreeOf}
-use Rattle.ompt_events.specs.Faults.{IsFault}
+use Rattle.ompt_events.specs.Causes.{HasCause, Shows, ShowsNowhere}
+use Rattle.ompt_events.specs.Faults.{IsFault, IsShownFault}
 use Rattle.checker.specs.Search.{IsClear, IsLeastFound}
 
 -- the causes with greater numbers than this one
@@ -47,8 +47,56 @@ rising_behind low (c ∷ xs) rest cause other rising (zero, below, is) has =
     subst P is (rising_above (cause_number c) (xs ++ rest) other (right (leb low (cause_number c)) (rises (cause_number c) (xs ++ rest)) rising) (Contains-append_right xs rest other has))
 rising_behind low (c ∷ xs) rest cause other rising (suc j, below, is) has = rising_behind (cause_number c) xs rest cause other (right (leb low (cause_number c)) (rises (cause_number c) (xs ++ rest)) rising) (j, omega arith, is) has
 
+-- ---- causes that are read in the order of the file
+
+-- the cause is read in the tasks' own order
+abbrev pub is_own_cause : Cause → Bool
+is_own_cause RegionOrder = true
+is_own_cause TeamShort = true
+is_own_cause ShareWrong = true
+is_own_cause _ = false
+
+-- none of these is
+abbrev pub are_of_file : List Cause → Bool
+are_of_file [] = true
+are_of_file (c ∷ rest) = not (is_own_cause c) && are_of_file rest
+
+-- any other is shown where a record has it
+pub of_file_shown : (rs : List Record) (i : ℕ) (cause : Cause) → is_own_cause cause ≡ false → Shows rs i cause ↔ HasCause rs i cause
+of_file_shown rs i RegionOrder no = absurd (false≢true (sym no))
+of_file_shown rs i TeamShort no = absurd (false≢true (sym no))
+of_file_shown rs i ShareWrong no = absurd (false≢true (sym no))
+of_file_shown rs i _ no = (λ has. has, λ shown. shown)
+
+among_file : (causes : List Cause) (cause : Cause) → are_of_file causes ≡ true → Contains causes cause → is_own_cause cause ≡ false
+among_file [] cause all (k, below, is) = absurd (omega (arith, below))
+among_file (c ∷ rest) cause all (zero, below, is) = ap is_own_cause (sym is) ∙ no (is_own_cause c) (left (not (is_own_cause c)) (are_of_file rest) all)
+  where
+    no : (b : Bool) → not b ≡ true → b ≡ false
+    no false h = refl
+    no true h = absurd (false≢true h)
+among_file (c ∷ rest) cause all (suc k, below, is) = among_file rest cause (right (not (is_own_cause c)) (are_of_file rest) all) (k, omega (arith, below), is)
+
+-- so a fault of the file is what the trace shows
+pub fault_shown : (rs : List Record) (sought : List Cause) (fault : Fault) → are_of_file sought ≡ true → IsFault rs sought fault → IsShownFault rs sought fault
+fault_shown rs sought Memory all is = tt
+fault_shown rs sought (Malformed i cause) all is = record {
+  sought_for = is.sought_for;
+  found = record {
+    within = is.found.within;
+    shown = (of_file_shown rs i cause own).1 is.found.has;
+    first = λ k below shown. is.found.first k below ((of_file_shown rs k cause own).0 shown);
+  };
+  least = λ other has less k shown. is.least other has less k ((of_file_shown rs k other (among_file sought other all has)).0 shown);
+}
+  where
+    own : is_own_cause cause ≡ false
+    own = among_file sought cause all is.sought_for
+
+-- ---- from phase to phase
+
 -- a phase that looks for some causes, once those before them do not occur: it finds the least of all
-pub least_more : (rs : List Record) (cleared sought rest : List Cause) (fault : Fault) → all_causes ≡ (cleared ++ sought) ++ rest → IsClear rs cleared → IsFault rs sought fault → IsLeastFound rs fault
+pub least_more : (rs : List Record) (cleared sought rest : List Cause) (fault : Fault) → all_causes ≡ (cleared ++ sought) ++ rest → IsClear rs cleared → IsShownFault rs sought fault → IsLeastFound rs fault
 least_more rs cleared sought rest Memory parts clear found = tt
 least_more rs cleared sought rest (Malformed i cause) parts clear found = record {
   sought_for = whole cause (Contains-append_left (cleared ++ sought) rest cause (Contains-append_right cleared sought cause found.sought_for));
@@ -82,30 +130,30 @@ clear_more rs cleared sought before here cause among = elim (Contains-append_cas
 pub none_clear : (rs : List Record) → IsClear rs []
 none_clear rs other (k, below, is) = absurd (omega arith)
 
-pub one_clear : (rs : List Record) (cause : Cause) (rest : List Cause) → IsFreeOf rs cause → IsClear rs rest → IsClear rs (cause ∷ rest)
-one_clear rs cause rest free clear other (zero, below, is) = let P : Cause → Type 0 = IsFreeOf rs in subst P is free
+pub one_clear : (rs : List Record) (cause : Cause) (rest : List Cause) → ShowsNowhere rs cause → IsClear rs rest → IsClear rs (cause ∷ rest)
+one_clear rs cause rest free clear other (zero, below, is) = let P : Cause → Type 0 = ShowsNowhere rs in subst P is free
 one_clear rs cause rest free clear other (suc k, below, is) = clear other (k, omega arith, is)
 
-pub only_clear : (rs : List Record) (cause : Cause) → IsFreeOf rs cause → IsClear rs (cause ∷ [])
+pub only_clear : (rs : List Record) (cause : Cause) → ShowsNowhere rs cause → IsClear rs (cause ∷ [])
 only_clear rs cause free = one_clear rs cause [] free (none_clear rs)
 
 -- what is clear after each phase over a run
-pub states_clear : (rs : List Record) → IsClear rs (before NotCurrent) → IsFreeOf rs NotCurrent → IsFreeOf rs Moved → IsFreeOf rs TurnGap → IsFreeOf rs StatusOrder → IsFreeOf rs RegionOrder → IsClear rs (before TeamShort)
+pub states_clear : (rs : List Record) → IsClear rs (before NotCurrent) → ShowsNowhere rs NotCurrent → ShowsNowhere rs Moved → ShowsNowhere rs TurnGap → ShowsNowhere rs StatusOrder → ShowsNowhere rs RegionOrder → IsClear rs (before TeamShort)
 states_clear rs clear current stay gapless ordered closed = clear_more rs (before NotCurrent) (NotCurrent ∷ Moved ∷ TurnGap ∷ StatusOrder ∷ RegionOrder ∷ []) clear (one_clear rs NotCurrent (Moved ∷ TurnGap ∷ StatusOrder ∷ RegionOrder ∷ []) current (one_clear rs Moved (TurnGap ∷ StatusOrder ∷ RegionOrder ∷ []) stay (one_clear rs TurnGap (StatusOrder ∷ RegionOrder ∷ []) gapless (one_clear rs StatusOrder (RegionOrder ∷ []) ordered (only_clear rs RegionOrder closed)))))
 
-pub teams_clear : (rs : List Record) → IsClear rs (before TeamShort) → IsFreeOf rs TeamShort → IsClear rs (before NestedParallel)
+pub teams_clear : (rs : List Record) → IsClear rs (before TeamShort) → ShowsNowhere rs TeamShort → IsClear rs (before NestedParallel)
 teams_clear rs clear whole = clear_more rs (before TeamShort) (TeamShort ∷ []) clear (only_clear rs TeamShort whole)
 
-pub nesting_clear : (rs : List Record) → IsClear rs (before NestedParallel) → IsFreeOf rs NestedParallel → IsClear rs (before DepsPlace)
+pub nesting_clear : (rs : List Record) → IsClear rs (before NestedParallel) → ShowsNowhere rs NestedParallel → IsClear rs (before DepsPlace)
 nesting_clear rs clear flat = clear_more rs (before NestedParallel) (NestedParallel ∷ []) clear (only_clear rs NestedParallel flat)
 
-pub edges_clear : (rs : List Record) → IsClear rs (before DepsPlace) → IsFreeOf rs DepsPlace → IsClear rs (before ShareWrong)
+pub edges_clear : (rs : List Record) → IsClear rs (before DepsPlace) → ShowsNowhere rs DepsPlace → IsClear rs (before ShareWrong)
 edges_clear rs clear placed = clear_more rs (before DepsPlace) (DepsPlace ∷ []) clear (only_clear rs DepsPlace placed)
 
-pub claims_clear : (rs : List Record) → IsClear rs (before ShareWrong) → IsFreeOf rs ShareWrong → IsClear rs (before EntryTwice)
+pub claims_clear : (rs : List Record) → IsClear rs (before ShareWrong) → ShowsNowhere rs ShareWrong → IsClear rs (before EntryTwice)
 claims_clear rs clear claims = clear_more rs (before ShareWrong) (ShareWrong ∷ []) clear (only_clear rs ShareWrong claims)
 
 -- where none of the causes that a phase looks for occurs, it fails for memory alone
-pub memory_alone : (rs : List Record) (sought : List Cause) (fault : Fault) → IsClear rs sought → IsFault rs sought fault → fault ≡ Memory
+pub memory_alone : (rs : List Record) (sought : List Cause) (fault : Fault) → IsClear rs sought → IsShownFault rs sought fault → fault ≡ Memory
 memory_alone rs sought Memory clear found = refl
-memory_alone rs sought (Malformed i cause) clear found = absurd (clear cause found.sought_for i found.found.has)
+memory_alone rs sought (Malformed i cause) clear found = absurd (clear cause found.sought_for i found.found.shown)

@@ -4,13 +4,11 @@ use Rattle.std.proofs.Common.{◌≡◌, ℕ, ◌<◌, List, length, Option, Som
 use Rattle.std.specs.Prelude.{◌↔◌, option_and_then}
 use Rattle.ompt_events.specs.declared.records.Record.{Record}
 use Rattle.ompt_events.specs.declared.cause.Cause.{Cause}
-use Rattle.ompt_events.specs.declared.fault.Fault.{Fault}
-use Rattle.ompt_events.specs.declared.fault.Fault.TheVariants.{Memory, Malformed as Refused}
 use Rattle.ompt_events.specs.CauseNames.{all_causes}
 use Rattle.ompt_events.specs.declared.names.SyncKind.{SyncKind}
 use Rattle.ompt_events.specs.declared.names.Endpoint.{Endpoint}
 use Rattle.ompt_events.specs.Records.{created, region, wait_completed}
-use Rattle.ompt_events.specs.Places.{at}
+use Rattle.ompt_events.specs.Places.{at, seen_at}
 use Rattle.ompt_events.specs.Traces.{IsTraceOf}
 use Rattle.ompt_events.specs.Turns.{in_own_order, own_place}
 use Rattle.ompt_events.specs.Tree.{IsExplicit}
@@ -18,7 +16,7 @@ use Rattle.ompt_events.specs.HappensBefore.{IsStart}
 use Rattle.ompt_events.specs.Linearization.{IsLinearization, IsGreedy}
 use Rattle.ompt_events.specs.Completion.{IsCompleteIn, IsCompleteAt}
 use Rattle.ompt_events.specs.Violations as violations
-use Rattle.ompt_events.specs.Causes.{IsMalformed}
+use Rattle.ompt_events.specs.Causes.{IsShownMalformed}
 use Rattle.ompt_events.proofs.PlaceLemmas.{at_within}
 use Rattle.ompt_events.proofs.TurnLemmas.{first_version_tells_none}
 use Rattle.task_tree.specs.Rising.{TurnsRise}
@@ -31,9 +29,20 @@ use Rattle.checker.specs.declared.verdict.Verdict.TheVariants.{Yes, No, Malforme
 use Rattle.checker.specs.declared.verdict.Why.{Why}
 use Rattle.checker.specs.declared.verdict.Why.TheVariants.{Unfinished, Predecessor}
 use Rattle.checker.specs.Readings.{Reading, by_task, by_file, IsPrecededBy, IsRequiredBy}
-use Rattle.checker.specs.Verdicts.{ShowsNone, IsLeastShown, IsUnfinished, IsMissed, IsFirstSo, IsApproved, IsRejected, IsReason, IsVerdictBy, task_of}
+use Rattle.checker.specs.Verdicts.{ShowsNone, IsLeastShown, IsOpenBy, IsUnfinished, IsMissed, IsFirstSo, IsApproved, IsRejected, IsReason, IsVerdictBy, task_of}
 use Rattle.checker.specs.Counter.{IsEarliestOrder, IsCounterOrderBy, IsCounterBy, IsShownBy}
-use Rattle.checker.specs.Search.{IsOfRecords, IsLeastFound, IsShownFault, ClearView, IsClearView}
+use Rattle.checker.specs.Search.{IsClear, IsOfRecords, AreAllCovered, AreAllReady, IsFirstOpenBy, IsFirstLateBy}
+use Rattle.checker.specs.Starts.{AreReady, IsFirstLateStart}
+use Rattle.ompt_events.specs.Coverage.{Covers}
+use Rattle.ompt_events.proofs.TurnLemmas.{start_starts}
+use Rattle.task_tree.specs.Own.{OwnView, IsOwn}
+use Rattle.task_tree.specs.Families.{IsOwnOf}
+use Rattle.task_tree.proofs.OwnRunLemmas.{own_says, own_covers, number_of_place}
+use Rattle.trace_ledger.specs.Entries.{IsDone}
+use Rattle.wait_coverage.specs.Spans.{IsCoverComplete}
+use Rattle.wait_coverage.specs.Waits.{IsOpen, IsFirstOpenPlace}
+use Rattle.checker.proofs.OwnLemmas.{own_seen, own_done}
+use Rattle.checker.proofs.StartLemmas.{bound_still}
 use Rattle.checker.proofs.VerdictLemmas.{cover_ends, preceded_starts, at_cases, listed}
 
 -- ---- readings that say the same
@@ -152,14 +161,6 @@ alike_counter a b i task None alike none = λ free missed.
     let back = alike_back a b alike in
     none (alike_none b a back free) (alike_missed b a i task back missed)
 
-pub alike_shown : (a b : Reading) (verdict : Verdict) (found : Option (List ℕ)) → AreAlike a b → IsShownBy a verdict found → IsShownBy b verdict found
-alike_shown a b (No i why) (Some order) alike is = alike_order a b i (task_of why) order alike is
-alike_shown a b (No i why) None alike is = is
-alike_shown a b (Yes order) (Some other) alike is = is
-alike_shown a b (Yes order) None alike is = is
-alike_shown a b (Malformed i cause) (Some other) alike is = is
-alike_shown a b (Malformed i cause) None alike is = is
-
 -- ---- the order of the file
 
 -- where no task's turns fall the order of the file says what each task's own order says
@@ -220,22 +221,84 @@ file_required rs i task = (to, from)
     from (violations.preceding {dependent = dependent} explicit start after) = inr (inl (dependent, explicit, start, after))
     from (violations.awaited {dependent = dependent} completes after) = inr (inr (dependent, completes, after))
 
--- ---- from the searches over the file
+-- ---- what the phases find
 
--- a trace without a cause reads alike by the order of the file and by each task's own order
-pub clear_alike : (view : ClearView) → IsClearView view → AreAlike (by_file view.run.records) (by_task view.run.records)
-clear_alike view clear = alike_back (by_task view.run.records) (by_file view.run.records) (rising_alike view.run.records clear.rises)
-
--- the least cause of the file, found by its records, is the least that they show by the order of the file
-least_shown : (rs : List Record) (i : ℕ) (cause : Cause) → IsMalformed rs all_causes i cause → IsLeastShown (by_file rs) i cause
+-- the least cause that the trace shows
+pub least_shown : (rs : List Record) (i : ℕ) (cause : Cause) → IsShownMalformed rs all_causes i cause → IsLeastShown (by_task rs) i cause
 least_shown rs i cause is = record {
   within = is.found.within;
-  shown = is.found.has;
+  shown = is.found.shown;
   first = is.found.first;
-  least = λ k other less has. is.least other (listed other) less k has;
+  least = λ k other less shown. is.least other (listed other) less k shown;
 }
 
--- what is found in the file of a trace of version 1 is what it shows
-pub shown_fault : (rs : List Record) (fault : Fault) → IsTraceOf 1 rs → IsLeastFound rs fault → IsShownFault (by_task rs) fault
-shown_fault rs Memory trace is = tt
-shown_fault rs (Refused i cause) trace is = alike_least (by_file rs) (by_task rs) i cause (alike_back (by_task rs) (by_file rs) (first_version_alike rs trace)) (least_shown rs i cause is)
+pub shows_none : (rs : List Record) → IsClear rs all_causes → ShowsNone (by_task rs)
+shows_none rs clear i cause shown = clear cause (listed cause) i shown
+
+-- ---- what the searches in the tasks' own order find
+
+-- the end of a wait starts nothing, so that what it has seen decides what is complete there
+end_bound : (rs : List Record) (i task : ℕ) → Covers rs i task → (other : ℕ) → IsCompleteAt rs other i ↔ IsDone rs (seen_at rs i) other
+end_bound rs i task covers =
+    let ends = cover_ends rs i task covers in
+    bound_still rs i (λ (other, explicit, start). at_cases rs i other ends.0 ends.1 (inl (start_starts rs i other start)))
+
+-- and the same is complete where it stands in the file
+end_complete : (rs : List Record) (own : OwnView) (number place task : ℕ) → IsOwnOf rs own → IsOwn own → slice_get own.places number ≡ Some place → Covers own.run.records number task → (other : ℕ) → IsCompleteAt own.run.records other number ↔ IsCompleteAt rs other place
+end_complete rs own number place task of is_own stands covers other = (
+  λ complete. (there other).1 (subst (λ n. IsDone rs n other) seen ((own_done rs own of is_own.places (seen_at own.run.records number) other).0 ((here other).0 complete))),
+  λ complete. (here other).1 ((own_done rs own of is_own.places (seen_at own.run.records number) other).1 (subst (λ n. IsDone rs n other) (sym seen) ((there other).0 complete))),
+)
+  where
+    seen : seen_at own.run.records number ≡ seen_at rs place
+    seen = own_seen rs own of number place stands
+
+    here : (other : ℕ) → IsCompleteAt own.run.records other number ↔ IsDone own.run.records (seen_at own.run.records number) other
+    here = end_bound own.run.records number task covers
+
+    there : (other : ℕ) → IsCompleteAt rs other place ↔ IsDone rs (seen_at rs place) other
+    there =
+        let ends = cover_ends own.run.records number task covers in
+        let says = sym (own_says region rs own of number place stands) ∙ ends.1 in
+        bound_still rs place (λ (begun, explicit, start). at_cases rs place begun ends.0 says (inl (start_starts rs place begun start)))
+
+-- a task is open at a place exactly where it is at its number
+pub open_there : (rs : List Record) (own : OwnView) (number place task : ℕ) → IsOwnOf rs own → IsOwn own → slice_get own.places number ≡ Some place → IsOpen own.run.records number task ↔ IsOpenBy (by_task rs) place task
+open_there rs own number place task of is_own stands = (
+  λ is. ((own_covers rs own of number place stands task).0 is.covered, λ complete. is.incomplete ((end_complete rs own number place task of is_own stands is.covered task).1 complete)),
+  λ is.
+      let covered = (own_covers rs own of number place stands task).1 is.0 in
+      record { covered = covered; incomplete = λ complete. is.1 ((end_complete rs own number place task of is_own stands covered task).0 complete) },
+)
+
+-- what the search for an open end finds
+pub open_by_task : (rs : List Record) (own : OwnView) (found : Option (ℕ × ℕ)) → IsOwnOf rs own → IsOwn own → MatchOption found ((i : ℕ) → IsCoverComplete own.run.records i) (λ (f : ℕ × ℕ). IsFirstOpenPlace own f.0 f.1) → MatchOption found (AreAllCovered (by_task rs)) (λ (f : ℕ × ℕ). IsFirstOpenBy (by_task rs) f.0 f.1)
+open_by_task rs own None of is_own all i task covers =
+    let there = number_of_place rs own of is_own.places i ((of_tasks rs).within i task covers) in
+    let covered = (own_covers rs own of there.0 i there.1 task).1 covers in
+    (end_complete rs own there.0 i task of is_own there.1 covered task).0 (all there.0 task covered)
+open_by_task rs own (Some (place, task)) of is_own is = record {
+  so = (open_there rs own is.number place task of is_own is.stands).0 is.first_open.is_open;
+  first = λ k other below opened.
+      let there = number_of_place rs own of is_own.places k ((of_tasks rs).within k other opened.0) in
+      let at_number = (open_there rs own there.0 k other of is_own there.1).1 opened in
+      at_number.incomplete (is.before k there.0 below there.1 other at_number.covered);
+  creation = is.first_open.creation;
+  is_created =
+      let creates = is.first_open.is_created in
+      sym (own_says created rs own of creates.0 is.first_open.creation creates.1) ∙ creates.2;
+  created_first = λ k other below creates opened.
+      let there = number_of_place rs own of is_own.places k (at_within created rs k other creates) in
+      is.first_open.created_first k other below (there.0, there.1, own_says created rs own of there.0 k there.1 ∙ creates) ((open_there rs own is.number place other of is_own is.stands).1 opened);
+}
+
+-- and what that for a late start finds
+pub late_by_task : (rs : List Record) (found : Option (ℕ × ℕ)) → MatchOption found ((i : ℕ) → AreReady rs i) (λ (f : ℕ × ℕ). IsFirstLateStart rs f.0 f.1) → MatchOption found (AreAllReady (by_task rs)) (λ (f : ℕ × ℕ). IsFirstLateBy (by_task rs) f.0 f.1)
+late_by_task rs None all = all
+late_by_task rs (Some (i, task)) is = record {
+  so = is.first_late.late;
+  first = λ k other below late. late.1 (is.before k below other late.0);
+  creation = is.first_late.creation;
+  is_created = is.first_late.is_created;
+  created_first = is.first_late.created_first;
+}

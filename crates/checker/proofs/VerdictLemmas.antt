@@ -137,16 +137,6 @@ pub preceded_starts : (reading : Reading) (i task : ℕ) → IsPrecededBy readin
 preceded_starts reading i task (inl (dependent, explicit, start, before)) = (dependent, inl (start_starts reading.records i dependent start))
 preceded_starts reading i task (inr (dependent, completes, before)) = (dependent, inr completes)
 
--- so the order of the file is of its records
-pub of_file : (rs : List Record) → IsOfRecords (by_file rs)
-of_file rs = record {
-  within = λ i task covers. let ends = cover_ends rs i task covers in at_within region rs i ends.0 ends.1;
-  apart = λ i task other covers precedes.
-      let ends = cover_ends rs i task covers in
-      let starts = preceded_starts (by_file rs) i other precedes in
-      at_cases rs i starts.0 ends.0 ends.1 starts.1;
-}
-
 -- ---- a yes
 
 -- where each required task is complete by what the record there has seen, each is complete in every order
@@ -220,29 +210,6 @@ end_first reading end start task predecessor of unfinished late most = elim (cas
   | inr differ ↦ open_before reading end task unfinished (λ k other low. late.first k other (omega (arith, low, most, differ)))
 ]
 
--- ---- by the order of the file
-
--- what the searches over the records find
-pub open_by_file : (rs : List Record) (found : Option (ℕ × ℕ)) → MatchOption found ((i : ℕ) → IsCoverComplete rs i) (λ (f : ℕ × ℕ). IsFirstOpenEnd rs f.0 f.1) → MatchOption found (AreAllCovered (by_file rs)) (λ (f : ℕ × ℕ). IsFirstOpenBy (by_file rs) f.0 f.1)
-open_by_file rs None all = all
-open_by_file rs (Some (i, task)) is = record {
-  so = (is.first_open.is_open.covered, is.first_open.is_open.incomplete);
-  first = λ k other below opened. opened.1 (is.before k below other opened.0);
-  creation = is.first_open.creation;
-  is_created = is.first_open.is_created;
-  created_first = λ k other below creates opened. is.first_open.created_first k other below creates (record { covered = opened.0; incomplete = opened.1 });
-}
-
-pub late_by_file : (rs : List Record) (found : Option (ℕ × ℕ)) → MatchOption found ((i : ℕ) → AreReady rs i) (λ (f : ℕ × ℕ). IsFirstLateStart rs f.0 f.1) → MatchOption found (AreAllReady (by_file rs)) (λ (f : ℕ × ℕ). IsFirstLateBy (by_file rs) f.0 f.1)
-late_by_file rs None all = all
-late_by_file rs (Some (i, task)) is = record {
-  so = is.first_late.late;
-  first = λ k other below late. late.1 (is.before k below other late.0);
-  creation = is.first_late.creation;
-  is_created = is.first_late.is_created;
-  created_first = is.first_late.created_first;
-}
-
 -- ---- causes by their numbers
 
 pub listed : (cause : Cause) → Contains all_causes cause
@@ -263,7 +230,3 @@ listed LengthAhead = (13, omega arith, refl)
 listed LengthBack = (14, omega arith, refl)
 listed NoOrder = (15, omega arith, refl)
 listed TargetTask = (16, omega arith, refl)
-
--- where no cause occurs, none with a low number does
-pub free_up_to : (rs : List Record) (number : ℕ) → IsClear rs all_causes → IsFreeUpTo rs number
-free_up_to rs number clear cause low = clear cause (listed cause)

@@ -1,43 +1,47 @@
 -- What the searches of a check tell one another.
-use Rattle.std.specs.Prelude.{ℕ, ◌≡◌, ◌<◌, ⊤, List, length}
+use Rattle.std.specs.Prelude.{ℕ, ◌≡◌, ◌<◌, List, Contains, length}
 use Rattle.ompt_events.specs.declared.records.Record.{Record}
 use Rattle.ompt_events.specs.declared.cause.Cause.{Cause}
 use Rattle.ompt_events.specs.declared.fault.Fault.{Fault}
-use Rattle.ompt_events.specs.declared.fault.Fault.TheVariants.{Memory, Malformed}
 use Rattle.ompt_events.specs.declared.cause.Cause.TheVariants.{EntryTwice}
 use Rattle.ompt_events.specs.CauseNames.{all_causes, before}
-use Rattle.ompt_events.specs.Causes.{IsWellFormed}
-use Rattle.ompt_events.specs.Faults.{IsFault}
+use Rattle.ompt_events.specs.Causes.{ShowsNowhere}
+use Rattle.ompt_events.specs.Faults.{IsShownFault}
 use Rattle.ompt_events.specs.Linearization.{IsLinearization, IsGreedy}
 use Rattle.ompt_events.specs.Completion.{IsCompleteAt}
 use Rattle.task_tree.specs.Runs.{RunView, IsRun}
-use Rattle.task_tree.specs.Rising.{TurnsRise}
+use Rattle.task_tree.specs.Own.{OwnView, IsOwn}
+use Rattle.task_tree.specs.Families.{IsOwnOf}
 use Rattle.checker.specs.Readings.{Reading, IsPrecededBy}
-use Rattle.checker.specs.Verdicts.{IsLeastShown, task_of, IsReason, IsOpenBy, IsLateBy, IsFirstSo, IsFirstUnfinished}
+use Rattle.checker.specs.Verdicts.{task_of, IsReason, IsOpenBy, IsLateBy, IsFirstSo, IsFirstUnfinished}
 use Rattle.checker.specs.declared.verdict.Why.{Why}
 
--- none of these causes occurs
+-- the trace shows none of these causes
 abbrev pub IsClear : List Record → List Cause → Type 0
-IsClear rs causes = IsWellFormed rs causes
+IsClear rs causes = (cause : Cause) → Contains causes cause → ShowsNowhere rs cause
 
--- what was found is what makes the records malformed, unless memory ran out
+-- what was found is the least cause that the trace shows, unless memory ran out
 abbrev pub IsLeastFound : List Record → Fault → Type 0
-IsLeastFound rs fault = IsFault rs all_causes fault
+IsLeastFound rs fault = IsShownFault rs all_causes fault
 
--- the trace shows that cause there, the least that it shows, unless memory ran out
-abbrev pub IsShownFault : Reading → Fault → Type 0
-IsShownFault reading Memory = ⊤
-IsShownFault reading (Malformed i cause) = IsLeastShown reading i cause
-
--- none of the causes before those of the ledger occurs in the run, whose tasks' turns rise along the file
+-- the trace shows none of the causes before those of the ledger
 pub record IsSound (run : RunView) : Type 0 where
   pub is_run : IsRun run
-  pub rises : TurnsRise run.records
   pub clear : IsClear run.records (before EntryTwice)
 
--- the run is of these records, and the edges are between its tasks
-abbrev pub AreOfTrace : List Record → RunView → RunView → Type 0
-AreOfTrace rs run of_edges = (run.records ≡ rs) × (of_edges ≡ run)
+-- what clauses see of such a trace: its run, and that in the tasks' own order
+pub record SoundView : Type 0 where
+  pub run : RunView
+  pub own : OwnView
+
+-- both are of one trace
+pub record AreOneTrace (run : RunView) (own : OwnView) : Type 0 where
+  pub is_own : IsOwn own
+  pub of_file : IsOwnOf run.records own
+
+pub record IsSoundView (view : SoundView) : Type 0 where
+  pub sound : IsSound view.run
+  pub one : AreOneTrace view.run view.own
 
 -- ---- the first violation
 
@@ -73,13 +77,13 @@ pub record IsFirstViolation (reading : Reading) (i : ℕ) (why : Why) : Type 0 w
 -- what clauses see of a trace without a cause
 pub record ClearView : Type 0 where
   pub run : RunView
+  pub own : OwnView
   pub order : List ℕ
 
--- no cause occurs in the run, whose tasks' turns rise along the file, and the order of its records is the greedy
--- one
+-- the trace shows no cause, and the order of its records is the greedy one
 pub record IsClearView (view : ClearView) : Type 0 where
   pub is_run : IsRun view.run
-  pub rises : TurnsRise view.run.records
+  pub one : AreOneTrace view.run view.own
   pub well_formed : IsClear view.run.records all_causes
   pub linearization : IsLinearization view.run.records view.order
   pub greedy : IsGreedy view.run.records view.order

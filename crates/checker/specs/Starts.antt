@@ -1,5 +1,5 @@
 -- Which tasks start, and which taskwaits are complete, before one of their predecessors is finished.
-use Rattle.std.specs.Prelude.{ℕ, ◌≡◌, ◌<◌, ◌↔◌, Bool, false, IsTrue, List, length, Some, slice_get, slice_index_or}
+use Rattle.std.specs.Prelude.{ℕ, ◌≡◌, ◌<◌, ◌≤◌, ◌↔◌, Bool, false, IsTrue, List, length, Option, Some, None, slice_get, slice_index_or}
 use Rattle.ompt_events.specs.declared.records.Record.{Record}
 use Rattle.ompt_events.specs.Records.{created, begun_turn}
 use Rattle.ompt_events.specs.Places.{at}
@@ -10,22 +10,22 @@ use Rattle.ompt_events.specs.Completion.{IsCompleteAt}
 use Rattle.ompt_events.specs.declared.cause.Cause.TheVariants.{EntryTwice, LengthAhead}
 use Rattle.ompt_events.specs.Causes.{IsFreeOf}
 use Rattle.task_tree.specs.Runs.{RunView, IsRun}
+use Rattle.task_tree.specs.Own.{OwnView, IsOwn}
+use Rattle.task_tree.specs.Families.{IsOwnOf}
 use Rattle.depend_edges.specs.Edges.{AreLatest}
 use Rattle.wait_coverage.specs.Done.{AreOwn}
 use Rattle.trace_ledger.specs.Entries.{IsDone}
-use Rattle.checker.specs.Readings.{by_file, IsPrecededBy}
+use Rattle.checker.specs.declared.starts.Late.{Late}
+use Rattle.checker.specs.Readings.{by_task, IsPrecededBy}
+use Rattle.checker.specs.Verdicts.{IsLateBy}
 
--- by the order of the file the task must be complete at i as a predecessor
-abbrev pub IsPreceded : List Record → ℕ → ℕ → Type 0
-IsPreceded rs = IsPrecededBy (by_file rs)
-
--- and it isn't
+-- the task must be complete at i as a predecessor, and isn't
 abbrev pub IsLate : List Record → ℕ → ℕ → Type 0
-IsLate rs i task = IsPreceded rs i task × (IsCompleteAt rs task i → ⊥)
+IsLate rs = IsLateBy (by_task rs)
 
 -- all such tasks are complete at i
 abbrev pub AreReady : List Record → ℕ → Type 0
-AreReady rs i = (task : ℕ) → IsPreceded rs i task → IsCompleteAt rs task i
+AreReady rs i = (task : ℕ) → IsPrecededBy (by_task rs) i task → IsCompleteAt rs task i
 
 -- of the tasks that are late at i this one was created first in file order
 pub record IsFirstLateAt (rs : List Record) (i task : ℕ) : Type 0 where
@@ -61,17 +61,17 @@ StartsAt rs tasks i index =
 abbrev pub StartsNoneAt : List Record → ℕ → Type 0
 StartsNoneAt rs i = (task : ℕ) → IsExplicit rs task → IsStart rs i task → ⊥
 
--- the task at the index is that whose predecessors must be complete at i, and no others; the bound decides
--- which of them are
-pub record IsDependentAt (rs : List Record) (tasks : List ℕ) (i index bound : ℕ) : Type 0 where
+-- the task at the index of the run in the tasks' own order is that whose predecessors must be complete at i, and
+-- no others; the bound decides which of them are
+pub record IsDependentAt (rs : List Record) (own : RunView) (i index bound : ℕ) : Type 0 where
   pub dependent : ℕ
-  pub there : slice_get tasks index ≡ Some dependent
-  pub same : (task : ℕ) → IsPreceded rs i task ↔ IsPredecessor rs dependent task
-  pub bounds : IsBound rs i bound
+  pub there : slice_get own.family.tasks index ≡ Some dependent
+  pub same : (task : ℕ) → IsPrecededBy (by_task rs) i task ↔ IsPredecessor own.records dependent task
+  pub bounds : (task : ℕ) → IsCompleteAt rs task i ↔ IsDone own.records bound task
 
 -- there is none
 abbrev pub IsPrecededByNone : List Record → ℕ → Type 0
-IsPrecededByNone rs i = (task : ℕ) → IsPreceded rs i task → ⊥
+IsPrecededByNone rs i = (task : ℕ) → IsPrecededBy (by_task rs) i task → ⊥
 
 -- the entries below the length don't finish this predecessor of the task
 abbrev pub IsBehind : List Record → ℕ → ℕ → ℕ → Type 0
@@ -83,27 +83,51 @@ abbrev pub AreDoneBefore : List Record → ℕ → ℕ → Type 0
 AreDoneBefore rs task bound = (predecessor : ℕ) → IsPredecessor rs task predecessor
     → IsDone rs bound predecessor
 
--- of those that they don't finish this one was created first
-pub record IsFirstBehind (rs : List Record) (task bound predecessor : ℕ) : Type 0 where
-  pub behind : IsBehind rs task bound predecessor
+-- of those that they don't finish this one is created first in the file; own has its records in the tasks' own order
+pub record IsFirstBehind (file own : List Record) (task bound predecessor : ℕ) : Type 0 where
+  pub behind : IsBehind own task bound predecessor
   pub creation : ℕ
-  pub is_created : at created rs creation ≡ Some predecessor
-  pub first : (k other : ℕ) → k < creation → at created rs k ≡ Some other → IsBehind rs task bound other → ⊥
+  pub is_created : at created file creation ≡ Some predecessor
+  pub first : (k other : ℕ) → k < creation → at created file k ≡ Some other → IsBehind own task bound other → ⊥
+
+-- they don't finish the task, which is created at the place in the file
+abbrev pub IsBehindAt : List Record → List Record → ℕ → ℕ → ℕ → Type 0
+IsBehindAt file own bound task place = (IsDone own bound task → ⊥) × (at created file place ≡ Some task)
+
+-- among the first n of some tasks
+abbrev pub IsAmongFirst : List ℕ → ℕ → ℕ → Type 0
+IsAmongFirst tasks n task = (k : ℕ) × (k < n) × (slice_get tasks k ≡ Some task)
+
+-- of the first n of these tasks the entries finish all, or of those that they don't finish this one is created first
+abbrev pub IsFirstOf : List Record → List Record → List ℕ → ℕ → ℕ → Option Late → Type 0
+IsFirstOf file own tasks bound n None = (task : ℕ) → IsAmongFirst tasks n task → IsDone own bound task
+IsFirstOf file own tasks bound n (Some late) =
+    IsAmongFirst tasks n late.task × IsBehindAt file own bound late.task late.place
+    × ((task place : ℕ) → IsAmongFirst tasks n task → IsBehindAt file own bound task place → late.place ≤ place)
+
+-- of a late task, if there is one, and another the one that is created first
+pub data IsEarlierOf (other late : Late) : Option Late → Type 0 where
+  the_only : late ≡ other → IsEarlierOf other late None
+  the_first : {first : Late} → late ≡ first → first.place < other.place → IsEarlierOf other late (Some first)
+  the_other : {first : Late} → late ≡ other → other.place ≤ first.place → IsEarlierOf other late (Some first)
 
 -- ---- what decides it
 
--- what clauses see of that: the run; by index of the task the length from which on it is finished, and the
--- greatest of the lengths of its predecessors
+-- what clauses see of that: the run of the file, and that in the tasks' own order; by index of the task in its own
+-- order the length from which on it is finished, and the greatest of the lengths of its predecessors
 pub record PrecedenceView : Type 0 where
-  pub run : RunView
-  pub own : List ℕ
+  pub file : RunView
+  pub own : OwnView
+  pub lengths : List ℕ
   pub latest : List ℕ
 
 -- all is that of the run, whose edges are at hand
 pub record IsPrecedence (of_edges : RunView) (known : PrecedenceView) : Type 0 where
-  pub same : of_edges ≡ known.run
-  pub run : IsRun known.run
-  pub own : AreOwn known.run.records known.run.family.tasks known.own
-  pub latest : AreLatest known.run.records known.run.family.tasks known.own known.latest
-  pub once : IsFreeOf known.run.records EntryTwice
-  pub reached : IsFreeOf known.run.records LengthAhead
+  pub same : of_edges ≡ known.own.run
+  pub file : IsRun known.file
+  pub is_own : IsOwn known.own
+  pub of_file : IsOwnOf known.file.records known.own
+  pub lengths : AreOwn known.own.run.records known.own.run.family.tasks known.lengths
+  pub latest : AreLatest known.own.run.records known.own.run.family.tasks known.lengths known.latest
+  pub once : IsFreeOf known.file.records EntryTwice
+  pub reached : IsFreeOf known.file.records LengthAhead

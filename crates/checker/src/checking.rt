@@ -2,7 +2,7 @@
 ghost use Rattle.std.specs.Prelude.{ℕ, ◌≡◌, List, MatchOption, IfOk, IfErr};
 ghost use Rattle.ompt_events.specs.declared.records.Record.{Record};
 ghost use Rattle.ompt_events.specs.declared.fault.Fault.TheVariants.{Memory};
-ghost use Rattle.checker.specs.Readings.{by_file};
+ghost use Rattle.checker.specs.Readings.{by_task};
 ghost use Rattle.checker.specs.Verdicts.{IsVerdict, AreComplete};
 ghost use Rattle.checker.specs.Search.{AreAllReady, AreAllCovered, IsFirstOpenBy, IsFirstLateBy, IsFirstViolation};
 
@@ -14,12 +14,11 @@ use ompt_events::{Fault, Trace};
 use std::alloc::Global;
 use wait_coverage::{find_known, find_open};
 
-/// The verdict on the records of a trace of version 1: malformed with the lowest-numbered cause that occurs, at
-/// the first record that shows it; else no at the first record that ends a region which covers an unfinished
-/// task, or that starts a task before a predecessor is finished; else yes with the greedy order. Fails only
-/// when out of memory.
+/// The verdict on the records of a trace, by each task's own order: malformed with the lowest-numbered cause that
+/// occurs, at the first record in file order that shows it; else no at the first record that ends a region which
+/// covers an unfinished task, or that starts a task before a predecessor is finished; else yes with the greedy
+/// order. Fails only when out of memory.
 pub fn check(alloc: Global, trace: &Trace) -> Result<Verdict, CheckFault>
-    requires { trace.now.version ≡ 1 }
     ensures { IfOk result (IsVerdict trace.now.records) }
 {
     match ask(alloc, trace, &ForVerdict) {
@@ -48,14 +47,14 @@ impl Question for ForVerdict {
 /// The first record at which a task that must be finished is not, and why it must be.
 pub(crate) fn violation_of(alloc: Global, clear: &Clear) -> Result<Option<(usize, Why)>, Fault>
     ensures found { IfOk result (λ found. MatchOption found
-        ((i : ℕ) → AreComplete (by_file clear.now.run.records) i)
-        (λ f. IsFirstViolation (by_file clear.now.run.records) f.0 f.1)) }
+        ((i : ℕ) → AreComplete (by_task clear.now.run.records) i)
+        (λ f. IsFirstViolation (by_task clear.now.run.records) f.0 f.1)) }
     ensures memory_alone { IfErr result (λ fault. fault ≡ Memory) }
 {
     let sound = clear.sound();
-    let known = find_known(alloc, sound.teams)?;
+    let known = find_known(alloc, sound.teams())?;
     let unfinished = find_open(alloc, &known)?;
-    let precedence = Precedence::of(sound.edges, known.own())?;
+    let precedence = Precedence::of(sound, known.own())?;
     let late = precedence.find_late_start(alloc)?;
     Ok(first_of(unfinished, late))
 }
@@ -63,10 +62,10 @@ pub(crate) fn violation_of(alloc: Global, clear: &Clear) -> Result<Option<(usize
 /// The first of an end that covers an unfinished task and a start before a predecessor is finished.
 fn first_of(unfinished: Option<(usize, u64)>, late: Option<(usize, u64)>) -> Option<(usize, Why)>
     ensures { (rs : List Record)
-        → MatchOption unfinished (AreAllCovered (by_file rs)) (λ f. IsFirstOpenBy (by_file rs) f.0 f.1)
-        → MatchOption late (AreAllReady (by_file rs)) (λ f. IsFirstLateBy (by_file rs) f.0 f.1)
-        → MatchOption result ((i : ℕ) → AreComplete (by_file rs) i)
-        (λ f. IsFirstViolation (by_file rs) f.0 f.1) }
+        → MatchOption unfinished (AreAllCovered (by_task rs)) (λ f. IsFirstOpenBy (by_task rs) f.0 f.1)
+        → MatchOption late (AreAllReady (by_task rs)) (λ f. IsFirstLateBy (by_task rs) f.0 f.1)
+        → MatchOption result ((i : ℕ) → AreComplete (by_task rs) i)
+        (λ f. IsFirstViolation (by_task rs) f.0 f.1) }
 {
     match (unfinished, late) {
         (Some((end, task)), Some((start, predecessor))) => {

@@ -1,34 +1,49 @@
 //! Whether each finishing record claims the place of its task.
-ghost use Rattle.std.specs.Prelude.{ℕ, ◌≡◌, ◌<◌, ◌↔◌, Some, IsTrue, length, slice_get};
+ghost use Rattle.std.specs.Prelude.{[], ◌∷◌, ℕ, ◌≡◌, ◌<◌, ◌↔◌, Some, IfErr, IsTrue, OnOk, length, slice_get};
 ghost use Rattle.ompt_events.specs.declared.cause.Cause.TheVariants.{ShareWrong};
-ghost use Rattle.ompt_events.specs.Causes.{IsRightClaim, HasWrongShare};
-ghost use Rattle.ompt_events.specs.Faults.{FindsFirst};
+ghost use Rattle.ompt_events.specs.Causes.{IsFreeOf, IsRightClaim, HasWrongShare};
+ghost use Rattle.task_tree.specs.Own.{FindsFirstPlace, IsOwnFault};
 
-use ompt_events::Claim;
-use task_tree::Run;
+use ompt_events::{Cause, Claim, Fault};
+use task_tree::{Own, Run};
 
-/// The first finishing record whose claim is not right: its task stands at another path or below another
-/// root, or created another number of children.
-pub(crate) fn find_wrong_claim(run: &Run) -> Option<usize>
-    ensures { FindsFirst run.now.records ShareWrong result }
+/// Excludes that a finishing record's claim is not right: refused is the first one in file order.
+pub(crate) fn exclude_wrong_claims(own: &Own) -> Result<(), Fault>
+    ensures free { OnOk result (IsFreeOf own.now.run.records ShareWrong) }
+    ensures fault { IfErr result (IsOwnFault own.now ShareWrong) }
 {
+    match find_wrong_claim(own) {
+        Some(at) => Err(Fault::Malformed {
+            at,
+            cause: Cause::ShareWrong,
+        }),
+        None => Ok(()),
+    }
+}
+
+/// The first finishing record in file order whose claim is not right: its task stands at another path or below
+/// another root, or created another number of children, by the tasks' own order.
+fn find_wrong_claim(own: &Own) -> Option<usize>
+    ensures { FindsFirstPlace own.now ShareWrong result }
+{
+    let run = own.run();
     for at in 0..run.len() {
-        if claims_wrongly(run, at) {
+        if claims_wrongly(run, own.number(at)) {
             return Some(at);
         }
     }
     None
 }
 
-/// Whether the record at a place finishes a task with a claim that is not right.
-fn claims_wrongly(run: &Run, at: usize) -> bool
-    requires { at < length run.now.records }
-    ensures { IsTrue result ↔ HasWrongShare run.now.records at }
+/// Whether the record with a number finishes a task with a claim that is not right.
+fn claims_wrongly(run: &Run, number: usize) -> bool
+    requires { number < length run.now.records }
+    ensures { IsTrue result ↔ HasWrongShare run.now.records number }
 {
-    let Some(finishing) = run.finishing(at) else {
+    let Some(finishing) = run.finishing(number) else {
         return false;
     };
-    let Some(claim) = run.claim(at) else {
+    let Some(claim) = run.claim(number) else {
         return false;
     };
     !is_right(run, finishing.task, claim)

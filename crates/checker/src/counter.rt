@@ -2,7 +2,7 @@
 ghost use Rattle.std.specs.Prelude.{◌≡◌, ◌<◌, ◌↔◌, IfOk, IfErr, IsTrue, length};
 ghost use Rattle.ompt_events.specs.declared.fault.Fault.TheVariants.{Memory};
 ghost use Rattle.ompt_events.specs.Linearization.{IsLinearization};
-ghost use Rattle.checker.specs.Readings.{by_file, by_task};
+ghost use Rattle.checker.specs.Readings.{by_task};
 ghost use Rattle.checker.specs.Verdicts.{IsUnfinished, IsVerdict};
 ghost use Rattle.checker.specs.Counter.{IsEarliestOrder, IsCounterBy, IsShownBy};
 
@@ -18,7 +18,7 @@ use ompt_events::{Fault, Trace};
 use std::alloc::Global;
 use wait_coverage::{find_known, is_open};
 
-/// An order of all records of a trace of version 1, allowed by them, in which the task is not complete at the
+/// An order of all records of a trace, allowed by them, in which the task is not complete at the
 /// place, although it must be: a wait ends there that covers it, or what starts or is complete there depends
 /// on it. It is the order in which the record at the place stands as early as it can: those that happen before
 /// it, each time the first in file order of which all that happens before it stands; then the record; then the
@@ -30,7 +30,6 @@ pub fn counter_order(
     at: usize,
     task: u64,
 ) -> Result<Option<Order>, CheckFault>
-    requires { trace.now.version ≡ 1 }
     ensures { IfOk result (IsCounterBy (by_task trace.now.records) at task) }
 {
     match ask(alloc, trace, &ForCounter { at, task }) {
@@ -46,7 +45,6 @@ pub fn check_with_counter(
     alloc: Global,
     trace: &Trace,
 ) -> Result<(Verdict, Option<Order>), CheckFault>
-    requires { trace.now.version ≡ 1 }
     ensures verdict { IfOk result (λ answer. IsVerdict trace.now.records answer.0) }
     ensures counter { IfOk result (λ answer. IsShownBy (by_task trace.now.records) answer.0 answer.1) }
 {
@@ -104,15 +102,15 @@ impl Question for ForVerdictAndCounter {
 fn is_unfinished(alloc: Global, clear: &Clear, at: usize, task: u64) -> Result<bool, Fault>
     requires { at < length clear.now.run.records }
     ensures unfinished { IfOk result (λ found. IsTrue found
-        ↔ IsUnfinished (by_file clear.now.run.records) at task) }
+        ↔ IsUnfinished (by_task clear.now.run.records) at task) }
     ensures memory_alone { IfErr result (λ fault. fault ≡ Memory) }
 {
     let sound = clear.sound();
-    let known = find_known(alloc, sound.teams)?;
-    if is_open(alloc, &known, at, task)? {
+    let known = find_known(alloc, sound.teams())?;
+    if is_open(alloc, &known, sound.own().number(at), task)? {
         return Ok(true);
     }
-    let precedence = Precedence::of(sound.edges, known.own())?;
+    let precedence = Precedence::of(sound, known.own())?;
     precedence.is_late(alloc, at, task)
 }
 

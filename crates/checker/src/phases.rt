@@ -1,13 +1,12 @@
 //! The phases of a check, in the order of their causes.
-ghost use Rattle.std.specs.Prelude.{◌≡◌, IfOk, IfErr, OnOk};
+ghost use Rattle.std.specs.Prelude.{IfOk, IfErr, OnOk};
 ghost use Rattle.ompt_events.specs.declared.cause.Cause.TheVariants.{NotCurrent, TargetTask};
 ghost use Rattle.ompt_events.specs.CauseNames.{before};
-ghost use Rattle.ompt_events.specs.Turns.{TellsNoTurns};
 ghost use Rattle.ompt_events.specs.Linearization.{IsLinearization, IsGreedy};
-ghost use Rattle.checker.specs.Readings.{by_task};
-ghost use Rattle.checker.specs.Search.{IsClear, IsLeastFound, IsShownFault};
+ghost use Rattle.task_tree.specs.Families.{AreFamiliesOf};
+ghost use Rattle.checker.specs.Search.{IsClear, IsLeastFound};
 
-use crate::claims::find_wrong_claim;
+use crate::claims::exclude_wrong_claims;
 use crate::in_order::is_in_order;
 use crate::lengths::find_back;
 use crate::makers::Makers;
@@ -19,7 +18,7 @@ use depend_edges::Edges;
 use ompt_events::{Cause, Fault, Trace, exclude};
 use std::alloc::Global;
 use task_states::{States, find_nested, gap, target};
-use task_tree::{Family, Run};
+use task_tree::Families;
 use teams::Teams;
 
 /// The answer to the question, or the fault of the first phase that finds a cause. Each phase needs that the
@@ -30,37 +29,36 @@ pub(crate) fn ask<Q: Question>(
     trace: &Trace,
     question: &Q,
 ) -> Result<Q::Answer, Fault>
-    requires { trace.now.version ≡ 1 }
     ensures right { IfOk result (Q.is_right question.now trace.now.records) }
-    ensures malformed { IfErr result (IsShownFault (by_task trace.now.records)) }
+    ensures malformed { IfErr result (IsLeastFound trace.now.records) }
 {
-    // Tells that the records are a trace of their version. Compiled, it is nothing.
-    let _records = trace.records();
     exclude(Cause::SeqGap, gap(trace))?;
-    let family = Family::build(alloc, trace)?;
-    ask_run(alloc, trace, &Run::of(trace, &family), question)
+    let families = Families::build(alloc, trace)?;
+    ask_run(alloc, trace, &families, question)
 }
 
 /// The same where the tree of tasks is known.
 fn ask_run<Q: Question>(
     alloc: Global,
     trace: &Trace,
-    run: &Run,
+    families: &Families,
     question: &Q,
 ) -> Result<Q::Answer, Fault>
-    requires records { run.now.records ≡ trace.now.records }
-    requires untold { TellsNoTurns trace.now.records }
+    requires families { AreFamiliesOf trace.now.records families.now }
     requires clear { IsClear trace.now.records (before NotCurrent) }
     ensures right { IfOk result (Q.is_right question.now trace.now.records) }
     ensures malformed { IfErr result (IsLeastFound trace.now.records) }
 {
-    let states = States::in_run(alloc, run, None)?;
-    let teams = Teams::in_run(alloc, &states)?;
-    exclude(Cause::NestedParallel, find_nested(alloc, run)?)?;
-    let edges = Edges::in_run(alloc, run)?;
-    exclude(Cause::ShareWrong, find_wrong_claim(run))?;
+    let run = families.run(trace);
+    let own = families.own(trace);
+    let states = States::in_run(alloc, &run, &own, families.gap())?;
+    let teams = Teams::in_own(alloc, states.regions())?;
+    exclude(Cause::NestedParallel, find_nested(alloc, &run)?)?;
+    let edges = Edges::in_run(alloc, &run, &own)?;
+    exclude_wrong_claims(&own)?;
     let sound = Sound {
         trace,
+        run: &run,
         teams: &teams,
         edges: &edges,
     };
@@ -69,8 +67,8 @@ fn ask_run<Q: Question>(
 
 /// The same where only order and ledger may still show a cause.
 fn ask_sound<Q: Question>(alloc: Global, sound: &Sound, question: &Q) -> Result<Q::Answer, Fault>
-    ensures right { IfOk result (Q.is_right question.now sound.now.records) }
-    ensures malformed { IfErr result (IsLeastFound sound.now.records) }
+    ensures right { IfOk result (Q.is_right question.now sound.now.run.records) }
+    ensures malformed { IfErr result (IsLeastFound sound.now.run.records) }
 {
     let order = order_of(alloc, sound)?;
     exclude(Cause::TargetTask, target(sound.trace))?;
@@ -79,10 +77,10 @@ fn ask_sound<Q: Question>(alloc: Global, sound: &Sound, question: &Q) -> Result<
 
 /// The greedy order of all records. Excludes EntryTwice, LengthAhead, LengthBack and NoOrder.
 fn order_of(alloc: Global, sound: &Sound) -> Result<Order, Fault>
-    ensures linearization { IfOk result (IsLinearization sound.now.records) }
-    ensures greedy { IfOk result (IsGreedy sound.now.records) }
-    ensures clear { OnOk result (IsClear sound.now.records (before TargetTask)) }
-    ensures least { IfErr result (IsLeastFound sound.now.records) }
+    ensures linearization { IfOk result (IsLinearization sound.now.run.records) }
+    ensures greedy { IfOk result (IsGreedy sound.now.run.records) }
+    ensures clear { OnOk result (IsClear sound.now.run.records (before TargetTask)) }
+    ensures least { IfErr result (IsLeastFound sound.now.run.records) }
 {
     let run = sound.run();
     // A file in the order of time costs one pass.
@@ -94,10 +92,10 @@ fn order_of(alloc: Global, sound: &Sound) -> Result<Order, Fault>
 
 /// The same where file order doesn't show it. What is noted for the merge alone is let go at its end.
 fn order_by_merge(alloc: Global, sound: &Sound) -> Result<Order, Fault>
-    ensures linearization { IfOk result (IsLinearization sound.now.records) }
-    ensures greedy { IfOk result (IsGreedy sound.now.records) }
-    ensures clear { OnOk result (IsClear sound.now.records (before TargetTask)) }
-    ensures least { IfErr result (IsLeastFound sound.now.records) }
+    ensures linearization { IfOk result (IsLinearization sound.now.run.records) }
+    ensures greedy { IfOk result (IsGreedy sound.now.run.records) }
+    ensures clear { OnOk result (IsClear sound.now.run.records (before TargetTask)) }
+    ensures least { IfErr result (IsLeastFound sound.now.run.records) }
 {
     let run = sound.run();
     let makers = Makers::in_run(alloc, run)?;

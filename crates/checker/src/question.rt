@@ -21,15 +21,24 @@ impl<'a> Model for Clear<'a> {
 
     ghost Value = { ClearView };
 
-    ghost view = { λ clear. record { run = clear.sound.now; order = clear.order } };
+    ghost view = { λ clear. record {
+      run = clear.sound.now.run;
+      own = clear.sound.now.own;
+      order = clear.order;
+    } };
 
-    ghost invariant = { λ clear. IsClearView (record { run = clear.sound.now; order = clear.order }) };
+    ghost invariant = { λ clear. IsClearView (record {
+      run = clear.sound.now.run;
+      own = clear.sound.now.own;
+      order = clear.order;
+    }) };
 }
 
 impl<'a> Clear<'a> {
     /// The run and what is known of it.
     pub(crate) fn sound(&self) -> &Sound<'a>
-        ensures value { result.now ≡ self.now.run }
+        ensures run { result.now.run ≡ self.now.run }
+        ensures own { result.now.own ≡ self.now.own }
         ensures is_clear { IsClearView self.now }
     {
         self.sound

@@ -1,40 +1,69 @@
 //! What the phases of a check have in hand once no cause occurs that ordering does not show.
 ghost use Rattle.std.specs.Prelude.{◌≡◌};
-ghost use Rattle.checker.specs.Search.{IsSound};
+ghost use Rattle.teams.specs.Teams.{own_of};
+ghost use Rattle.checker.specs.Search.{IsSoundView};
 
 use depend_edges::Edges;
 use ompt_events::Trace;
 use std::marker::Model;
-use task_tree::Run;
+use task_tree::{Own, Run};
 use teams::Teams;
 
-/// A trace in which none of the causes before `EntryTwice` occurs, with the teams and the edges of its run.
+/// A trace that shows none of the causes before `EntryTwice`, with its run, and the teams and the edges of its
+/// tasks by their own order.
 #[derive(Drop)]
 pub(crate) struct Sound<'a> {
     pub(crate) trace: &'a Trace,
+    pub(crate) run: &'a Run<'a>,
     pub(crate) teams: &'a Teams<'a>,
     pub(crate) edges: &'a Edges<'a>,
 }
 
 impl<'a> Model for Sound<'a> {
     ghost use Rattle.std.specs.Prelude.{◌≡◌};
-    ghost use Rattle.task_tree.specs.Runs.{RunView};
-    ghost use Rattle.checker.specs.Search.{IsSound, AreOfTrace};
+    ghost use Rattle.teams.specs.Teams.{own_of};
+    ghost use Rattle.checker.specs.Search.{SoundView, IsSoundView};
 
-    ghost Value = { RunView };
+    ghost Value = { SoundView };
 
-    ghost view = { λ sound. sound.teams.now.run };
+    ghost view = { λ sound. record { run = sound.run.now; own = own_of sound.teams.now } };
 
-    ghost invariant = { λ sound. IsSound sound.teams.now.run
-        × AreOfTrace sound.trace.now.records sound.teams.now.run sound.edges.now.run };
+    ghost invariant = { λ sound. IsSoundView (record { run = sound.run.now; own = own_of sound.teams.now })
+        × (sound.run.now.records ≡ sound.trace.now.records)
+        × (sound.edges.now.run ≡ sound.teams.now.run) };
 }
 
 impl<'a> Sound<'a> {
-    /// The run.
-    pub(crate) fn run(&self) -> &Run<'a>
-        ensures value { result.now ≡ self.now }
-        ensures is_sound { IsSound self.now }
+    /// The run of the file.
+    pub(crate) fn run(&self) -> &'a Run<'a>
+        ensures value { result.now ≡ self.now.run }
+        ensures is_sound { IsSoundView self.now }
     {
-        self.teams.run()
+        self.run
+    }
+
+    /// The run in the tasks' own order.
+    pub(crate) fn own(&self) -> &'a Own<'a>
+        ensures value { result.now ≡ self.now.own }
+        ensures is_sound { IsSoundView self.now }
+    {
+        let teams = self.teams;
+        teams.own()
+    }
+
+    /// The teams of the run in the tasks' own order.
+    pub(crate) fn teams(&self) -> &'a Teams<'a>
+        ensures value { own_of result.now ≡ self.now.own }
+        ensures is_sound { IsSoundView self.now }
+    {
+        self.teams
+    }
+
+    /// The edges between the tasks of that run.
+    pub(crate) fn edges(&self) -> &'a Edges<'a>
+        ensures value { result.now.run ≡ self.now.own.run }
+        ensures is_sound { IsSoundView self.now }
+    {
+        self.edges
     }
 }

@@ -1,28 +1,33 @@
 //! The first task that starts, or taskwait that is complete, before one of its predecessors is finished; and
 //! whether a given task is such a predecessor at a place.
-ghost use Rattle.std.specs.Prelude.{ℕ, ◌≡◌, ◌<◌, ◌+◌, ◌↔◌, IfOk, IfErr, IsTrue, MatchOption, Some, false, length, replicate, slice_get, slice_index, Contains};
+ghost use Rattle.std.specs.Prelude.{ℕ, ◌≡◌, ◌<◌, ◌+◌, ◌↔◌, List, IfOk, IfErr, IsTrue, MatchOption, Some, false, length, replicate, slice_get, slice_index, Contains};
 ghost use Rattle.ompt_events.specs.declared.fault.Fault.TheVariants.{Memory};
 ghost use Rattle.ompt_events.specs.declared.cause.Cause.TheVariants.{EntryTwice, LengthAhead};
 ghost use Rattle.ompt_events.specs.Causes.{IsFreeOf};
+ghost use Rattle.ompt_events.specs.Tree.{IsExplicit};
 ghost use Rattle.depend_edges.specs.Edges.{ArePredecessors};
 ghost use Rattle.wait_coverage.specs.Done.{AreOwn};
 ghost use Rattle.trace_ledger.specs.Entries.{IsDone};
-ghost use Rattle.checker.specs.Starts.{IsLate, AreReady, IsPrecededByNone, IsDependentAt, IsFirstLateAt, IsFirstLateStart, IsBound, AreStarted, StartsAt, StartsNoneAt, IsBehind, AreDoneBefore, IsFirstBehind};
+ghost use Rattle.checker.specs.Starts.{IsLate, AreReady, IsPrecededByNone, IsDependentAt, IsFirstLateAt, IsFirstLateStart, IsBound, AreStarted, StartsAt, StartsNoneAt, IsBehind, AreDoneBefore, IsFirstBehind, IsFirstOf, IsBehindAt, IsEarlierOf};
 
 use crate::schedule::first_started;
+use crate::sound::Sound;
 use depend_edges::Edges;
 use ompt_events::Fault;
 use std::alloc::{AllocError, Global};
 use std::marker::Model;
-use task_tree::Run;
+use task_tree::{Own, Run};
 
 /// What decides whether tasks start in time.
 #[derive(Drop)]
 pub(crate) struct Precedence<'a, 'r> {
-    run: &'a Run<'r>,
+    /// The run of the file, which tells what starts where.
+    file: &'a Run<'r>,
+    /// The run in the tasks' own order, which tells what precedes what.
+    own: &'a Own<'r>,
     edges: &'a Edges<'r>,
-    /// By index of the task the ledger length from which on it is finished.
-    own: &'a [u64],
+    /// By index of the task in its own order the ledger length from which on it is finished.
+    lengths: &'a [u64],
     /// The greatest of the lengths of its predecessors.
     latest: Vec<u64>,
 }
@@ -33,14 +38,16 @@ impl<'a, 'r> Model for Precedence<'a, 'r> {
     ghost Value = { PrecedenceView };
 
     ghost view = { λ precedence. record {
-      run = precedence.run.now;
+      file = precedence.file.now;
       own = precedence.own.now;
+      lengths = precedence.lengths.now;
       latest = precedence.latest.items;
     } };
 
     ghost invariant = { λ precedence. IsPrecedence precedence.edges.now.run (record {
-      run = precedence.run.now;
+      file = precedence.file.now;
       own = precedence.own.now;
+      lengths = precedence.lengths.now;
       latest = precedence.latest.items;
     }) };
 }
@@ -48,47 +55,56 @@ impl<'a, 'r> Model for Precedence<'a, 'r> {
 /// A task whose predecessors must be complete at a place.
 #[derive(Clone, Copy)]
 struct Dependent {
+    /// Its index in the run in the tasks' own order.
     index: usize,
     /// A predecessor is complete there exactly where the entries below this ledger length finish it.
     bound: u32,
 }
 
+/// A predecessor that is not finished, and where in the file it is created.
+#[derive(Clone, Copy)]
+struct Late {
+    place: usize,
+    task: u64,
+}
+
 impl<'a, 'r> Precedence<'a, 'r> {
-    /// What decides it, by these edges, and by the ledger length from which on each task is finished, by its
-    /// index. It takes n log n steps in the dependences, and memory linear in the tasks. Fails only when out
-    /// of memory.
-    pub(crate) fn of(edges: &'a Edges<'r>, own: &'a [u64]) -> Result<Precedence<'a, 'r>, Fault>
-        requires own { AreOwn edges.now.run.records edges.now.run.family.tasks own.now }
-        requires once { IsFreeOf edges.now.run.records EntryTwice }
-        requires reached { IsFreeOf edges.now.run.records LengthAhead }
-        ensures run { IfOk result (λ precedence. precedence.run ≡ edges.now.run) }
+    /// What decides it, by the edges of the run, and by the ledger length from which on each task is finished, by
+    /// its index in its own order. It takes n log n steps in the dependences, and memory linear in the tasks.
+    /// Fails only when out of memory.
+    pub(crate) fn of(sound: &'a Sound<'r>, lengths: &'a [u64]) -> Result<Precedence<'a, 'r>, Fault>
+        requires own { AreOwn sound.now.own.run.records sound.now.own.run.family.tasks lengths.now }
+        requires once { IsFreeOf sound.now.run.records EntryTwice }
+        requires reached { IsFreeOf sound.now.run.records LengthAhead }
+        ensures file { IfOk result (λ precedence. precedence.file ≡ sound.now.run) }
         ensures memory_alone { IfErr result (λ fault. fault ≡ Memory) }
     {
-        let run = edges.run();
-        let latest = edges.latest(own)?;
+        let edges = sound.edges();
+        let latest = edges.latest(lengths)?;
         Ok(Precedence {
-            run,
+            file: sound.run(),
+            own: sound.own(),
             edges,
-            own,
+            lengths,
             latest,
         })
     }
 
-    /// The first record at which an explicit task starts, or a taskwait with dependences is complete, before
-    /// one of its predecessors is finished (OpenMP 5.2, 15.9.5 and 15.5), and of those the one created first.
-    /// It takes n log n steps in the records and dependences, and memory linear in the tasks; only memory can
-    /// be refused.
+    /// The first record in file order at which an explicit task starts, or a taskwait with dependences is
+    /// complete, before one of its predecessors is finished (OpenMP 5.2, 15.9.5 and 15.5), and of those the one
+    /// created first in file order. It takes n log n steps in the records and dependences, and memory linear in
+    /// the tasks; only memory can be refused.
     pub(crate) fn find_late_start(&self, alloc: Global) -> Result<Option<(usize, u64)>, Fault>
-        ensures found { IfOk result (λ found. MatchOption found ((i : ℕ) → AreReady self.now.run.records i)
-            (λ f. IsFirstLateStart self.now.run.records f.0 f.1)) }
+        ensures found { IfOk result (λ found. MatchOption found ((i : ℕ) → AreReady self.now.file.records i)
+            (λ f. IsFirstLateStart self.now.file.records f.0 f.1)) }
         ensures memory_alone { IfErr result (λ fault. fault ≡ Memory) }
     {
         if self.needs_no_wait() {
             return Ok(None);
         }
-        let run = self.run;
-        let mut started = no_starts(alloc, run.task_count())?;
-        for at in 0..run.len() {
+        let file = self.file;
+        let mut started = no_starts(alloc, file.task_count())?;
+        for at in 0..file.len() {
             if let Some(task) = self.late_at(&started, at)? {
                 return Ok(Some((at, task)));
             }
@@ -101,8 +117,8 @@ impl<'a, 'r> Precedence<'a, 'r> {
     /// there (OpenMP 5.2, 15.9.5 and 15.5). It takes a few steps for each earlier record, and n log n in the
     /// dependences of one task's siblings; only memory can be refused.
     pub(crate) fn is_late(&self, alloc: Global, at: usize, task: u64) -> Result<bool, Fault>
-        requires { at < length self.now.run.records }
-        ensures late { IfOk result (λ late. IsTrue late ↔ IsLate self.now.run.records at task) }
+        requires { at < length self.now.file.records }
+        ensures late { IfOk result (λ late. IsTrue late ↔ IsLate self.now.file.records at task) }
         ensures memory_alone { IfErr result (λ fault. fault ≡ Memory) }
     {
         let started = self.find_started(alloc, at)?;
@@ -161,18 +177,18 @@ fn is_among(tasks: &[u64], task: u64) -> bool
 impl Precedence<'_, '_> {
     /// Whether no task has a predecessor that it might have to wait for.
     fn needs_no_wait(&self) -> bool
-        ensures { IsTrue result → (i : ℕ) → AreReady self.now.run.records i }
+        ensures { IsTrue result → (i : ℕ) → AreReady self.now.file.records i }
     {
         are_all_zero(&self.latest)
     }
 
-    /// By index of the task whether a record before the place begins its turn 0.
+    /// By index of the task in the file whether a record before the place begins its turn 0.
     fn find_started(&self, alloc: Global, at: usize) -> Result<Vec<bool>, AllocError>
-        requires { at < length self.now.run.records }
+        requires { at < length self.now.file.records }
         ensures { IfOk result (λ started.
-            AreStarted self.now.run.records at self.now.run.family.tasks started.items) }
+            AreStarted self.now.file.records at self.now.file.family.tasks started.items) }
     {
-        let mut started = no_starts(alloc, self.run.task_count())?;
+        let mut started = no_starts(alloc, self.file.task_count())?;
         for earlier in 0..at {
             self.note_start(&mut started, earlier);
         }
@@ -181,11 +197,11 @@ impl Precedence<'_, '_> {
 
     /// Notes the task of which the record at the place begins turn 0.
     fn note_start(&self, started: &mut Vec<bool>, at: usize)
-        requires within { at < length self.now.run.records }
-        requires started { AreStarted self.now.run.records at self.now.run.family.tasks started.old.items }
-        ensures { AreStarted self.now.run.records (at + 1) self.now.run.family.tasks started.new.items }
+        requires within { at < length self.now.file.records }
+        requires started { AreStarted self.now.file.records at self.now.file.family.tasks started.old.items }
+        ensures { AreStarted self.now.file.records (at + 1) self.now.file.family.tasks started.new.items }
     {
-        if let Some(index) = first_started(self.run, at) {
+        if let Some(index) = first_started(self.file, at) {
             started[index] = true;
         }
     }
@@ -193,26 +209,28 @@ impl Precedence<'_, '_> {
     /// The task whose predecessors must be complete at the place: an explicit one that starts there, or a
     /// taskwait that is complete there.
     fn dependent_at(&self, started: &[bool], at: usize) -> Option<Dependent>
-        requires within { at < length self.now.run.records }
-        requires started { AreStarted self.now.run.records at self.now.run.family.tasks started.now }
-        ensures { MatchOption result (IsPrecededByNone self.now.run.records at) (λ dependent.
-            IsDependentAt self.now.run.records self.now.run.family.tasks at dependent.index dependent.bound) }
+        requires within { at < length self.now.file.records }
+        requires started { AreStarted self.now.file.records at self.now.file.family.tasks started.now }
+        ensures { MatchOption result (IsPrecededByNone self.now.file.records at) (λ dependent.
+            IsDependentAt self.now.file.records self.now.own.run at dependent.index dependent.bound) }
     {
-        if let Some(index) = start_at(self.run, started, at) {
+        let number = self.own.number(at);
+        if start_at(self.file, started, at).is_some() {
+            let index = self.own.run().started(number)?;
             let bound = self.start_bound(at);
             return Some(Dependent { index, bound });
         }
-        let index = self.run.wait_completed(at)?;
-        let bound = self.run.seen(at);
+        let index = self.own.run().wait_completed(number)?;
+        let bound = self.file.seen(at);
         Some(Dependent { index, bound })
     }
 
     /// Of the tasks that must be complete at the place as predecessors the first created one that isn't.
     fn late_at(&self, started: &[bool], at: usize) -> Result<Option<u64>, Fault>
-        requires within { at < length self.now.run.records }
-        requires started { AreStarted self.now.run.records at self.now.run.family.tasks started.now }
-        ensures found { IfOk result (λ found. MatchOption found (AreReady self.now.run.records at)
-            (IsFirstLateAt self.now.run.records at)) }
+        requires within { at < length self.now.file.records }
+        requires started { AreStarted self.now.file.records at self.now.file.family.tasks started.now }
+        ensures found { IfOk result (λ found. MatchOption found (AreReady self.now.file.records at)
+            (IsFirstLateAt self.now.file.records at)) }
         ensures memory_alone { IfErr result (λ fault. fault ≡ Memory) }
     {
         match self.dependent_at(started, at) {
@@ -224,25 +242,28 @@ impl Precedence<'_, '_> {
     /// The ledger length that decides what is complete where the record at the place starts an explicit task:
     /// what it finishes itself counts.
     fn start_bound(&self, at: usize) -> u32
-        requires { at < length self.now.run.records }
-        ensures { (index : ℕ) → StartsAt self.now.run.records self.now.run.family.tasks at index
-            → IsBound self.now.run.records at result }
+        requires { at < length self.now.file.records }
+        ensures { (index : ℕ) → StartsAt self.now.file.records self.now.file.family.tasks at index
+            → IsBound self.now.file.records at result }
     {
-        self.run.known_after(at) as u32
+        self.file.known_after(at) as u32
     }
+}
 
+// The predecessors of one task, by its index in its own order.
+impl Precedence<'_, '_> {
     /// Whether the task is a predecessor of the one at the index, and the entries below the length don't
     /// finish it.
     fn is_late_of(&self, index: usize, bound: u32, task: u64) -> Result<bool, Fault>
-        requires { index < length self.now.run.family.tasks }
+        requires { index < length self.now.own.run.family.tasks }
         ensures late { IfOk result (λ late. (dependent : ℕ)
-            → slice_get self.now.run.family.tasks index ≡ Some dependent
-            → IsTrue late ↔ IsBehind self.now.run.records dependent bound task) }
+            → slice_get self.now.own.run.family.tasks index ≡ Some dependent
+            → IsTrue late ↔ IsBehind self.now.own.run.records dependent bound task) }
         ensures memory_alone { IfErr result (λ fault. fault ≡ Memory) }
     {
-        let predecessors = self.edges.of(self.run.task(index))?;
+        let predecessors = self.edges.of(self.own.run().task(index))?;
         if is_among(&predecessors, task) {
-            Ok(self.is_behind(task, bound))
+            Ok(self.behind_at(task, bound).is_some())
         } else {
             Ok(false)
         }
@@ -251,46 +272,84 @@ impl Precedence<'_, '_> {
     /// Of the predecessors of the task at the index the first created one that the entries below the length
     /// don't finish.
     fn late_of(&self, index: usize, bound: u32) -> Result<Option<u64>, Fault>
-        requires { index < length self.now.run.family.tasks }
+        requires { index < length self.now.own.run.family.tasks }
         ensures found { IfOk result (λ found. (task : ℕ)
-            → slice_get self.now.run.family.tasks index ≡ Some task
-            → MatchOption found (AreDoneBefore self.now.run.records task bound)
-            (IsFirstBehind self.now.run.records task bound)) }
+            → slice_get self.now.own.run.family.tasks index ≡ Some task
+            → MatchOption found (AreDoneBefore self.now.own.run.records task bound)
+            (IsFirstBehind self.now.file.records self.now.own.run.records task bound)) }
         ensures memory_alone { IfErr result (λ fault. fault ≡ Memory) }
     {
         // Most predecessors are finished in time: only where one is not are they looked at.
         if self.latest[index] <= u64::from(bound) {
             return Ok(None);
         }
-        let predecessors = self.edges.of(self.run.task(index))?;
+        let predecessors = self.edges.of(self.own.run().task(index))?;
         Ok(self.first_behind(&predecessors, bound))
     }
 
-    /// The first of a task's predecessors that the entries below the length don't finish. They stand in the
-    /// order in which their parent created them.
+    /// Of a task's predecessors that the entries below the length don't finish the one that is created first in
+    /// file order.
     fn first_behind(&self, predecessors: &[u64], bound: u32) -> Option<u64>
-        ensures { (task : ℕ) → ArePredecessors self.now.run.records task predecessors.now
-            → MatchOption result (AreDoneBefore self.now.run.records task bound)
-            (IsFirstBehind self.now.run.records task bound) }
+        ensures { (task : ℕ) → ArePredecessors self.now.own.run.records task predecessors.now
+            → MatchOption result (AreDoneBefore self.now.own.run.records task bound)
+            (IsFirstBehind self.now.file.records self.now.own.run.records task bound) }
     {
         // Tells that these are the tasks' lengths. Compiled, it is nothing.
-        let _own = self.own;
-        for place in 0..predecessors.len() {
-            if self.is_behind(predecessors[place], bound) {
-                return Some(predecessors[place]);
-            }
+        let _lengths = self.lengths;
+        let mut first = None;
+        for at in 0..predecessors.len() {
+            first = self.earlier_of(first, predecessors[at], bound);
         }
-        None
+        match first {
+            Some(late) => Some(late.task),
+            None => None,
+        }
     }
 
-    /// Whether the entries below the length don't finish the task. It must be one that a record makes.
-    fn is_behind(&self, task: u64, bound: u32) -> bool
-        ensures { (index : ℕ) → slice_get self.now.run.family.tasks index ≡ Some task
-            → IsTrue result ↔ (IsDone self.now.run.records bound task → ⊥) }
+    /// Of a late predecessor, if one is known, and this one, unless the entries below the length finish it, the
+    /// one that is created first in file order.
+    fn earlier_of(&self, first: Option<Late>, task: u64, bound: u32) -> Option<Late>
+        ensures { (predecessors : List ℕ) (n dependent : ℕ) → slice_get predecessors n ≡ Some task
+            → ArePredecessors self.now.own.run.records dependent predecessors
+            → IsFirstOf self.now.file.records self.now.own.run.records predecessors bound n first
+            → IsFirstOf self.now.file.records self.now.own.run.records predecessors bound (n + 1) result }
     {
-        match self.run.index_of(task) {
-            Some(index) => self.own[index] > u64::from(bound),
-            None => false,
+        match self.behind_at(task, bound) {
+            Some(place) => Some(earlier(first, Late { place, task })),
+            None => first,
         }
+    }
+
+    /// Where in the file the task is created, unless the entries below the length finish it. It must be one that
+    /// another task creates.
+    fn behind_at(&self, task: u64, bound: u32) -> Option<usize>
+        ensures { (index : ℕ) → slice_get self.now.own.run.family.tasks index ≡ Some task
+            → IsExplicit self.now.own.run.records task
+            → MatchOption result (IsDone self.now.own.run.records bound task)
+            (IsBehindAt self.now.file.records self.now.own.run.records bound task) }
+    {
+        let run = self.own.run();
+        let index = run.index_of(task)?;
+        if self.lengths[index] <= u64::from(bound) {
+            return None;
+        }
+        let number = run.created_at(index)?;
+        Some(self.own.place(number))
+    }
+}
+
+/// Of a late predecessor, if one is known, and another the one that is created first in file order.
+fn earlier(first: Option<Late>, other: Late) -> Late
+    ensures { IsEarlierOf other result first }
+{
+    match first {
+        Some(late) => {
+            if late.place < other.place {
+                late
+            } else {
+                other
+            }
+        }
+        None => other,
     }
 }

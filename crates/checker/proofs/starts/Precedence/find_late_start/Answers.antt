@@ -14,8 +14,8 @@ loop-at-preserved c = (
 
 pub returns-clause-found : goal.returns-clause-found
 returns-clause-found c =
-    let rs = c.args.self.now.run.records in
+    let rs = c.args.self.now.file.records in
     let end = c.len-at-end.ensures.value in
     let test = c.loop-at-test.false in
-    let same = ap (λ (v : PrecedenceView). length v.run.records) c.self.view_is in
+    let same = ap (λ (v : PrecedenceView). length v.file.records) c.self.view_is in
     λ i. ready_whole rs c.loop-at.at i c.loop-at.invariant.1 (omega (arith, end, same, test))

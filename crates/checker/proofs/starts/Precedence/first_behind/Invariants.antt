@@ -1,6 +1,8 @@
-use Rattle.checker.proofs.LateLemmas.{AreDoneUpTo}
+use Rattle.std.proofs.Common.{ℕ}
+use Rattle.depend_edges.specs.Edges.{ArePredecessors}
+use Rattle.checker.specs.Starts.{IsFirstOf}
 use Rattle.checker.proofs.starts.Precedence.first_behind.Given as goal
 
--- the first ones are finished
-abbrev pub invariant-loop-place : goal.invariant-loop-place
-invariant-loop-place l = AreDoneUpTo l.self.run.records l.predecessors l.bound l.place
+-- of those so far the late one that is created first is known
+abbrev pub invariant-loop-at : goal.invariant-loop-at
+invariant-loop-at l = (task : ℕ) → ArePredecessors l.self.own.run.records task l.predecessors → IsFirstOf l.self.file.records l.self.own.run.records l.predecessors l.bound l.at l.first

@@ -5,13 +5,11 @@ use Rattle.checker.proofs.starts.Precedence.is_late.Goals as goal
 
 pub returns-in-Some-clause-late : goal.returns-in-Some-clause-late
 returns-in-Some-clause-late c =
-    let run = c.args.self.now.run in
-    let rs = run.records in
+    let rs = c.args.self.now.file.records in
+    let own = c.args.self.now.own.run in
     let d = c.in-Some.dependent in
-    let is = c.in-Some.ensures in
-    let late = c.is_late_of.ensures.late in
-    if_ok (TellsLate rs run.family.tasks d.index d.bound c.args.task) (λ late. IsTrue late ↔ IsLate rs c.args.at c.args.task) c.is_late_of.result
-    (λ answer. tells_late rs run.family.tasks c.args.at d.index d.bound c.args.task answer is) late
+    if_ok (TellsLate own d.index d.bound c.args.task) (λ late. IsTrue late ↔ IsLate rs c.args.at c.args.task) c.is_late_of.result
+    (λ answer. tells_late rs own c.args.at d.index d.bound c.args.task answer c.in-Some.ensures) c.is_late_of.ensures.late
 
 pub returns-clause-late : goal.returns-clause-late
-returns-clause-late c = none_to_tell c.args.self.now.run.records c.args.at c.args.task (c.in-None.ensures)
+returns-clause-late c = none_to_tell c.args.self.now.file.records c.args.at c.args.task (c.in-None.ensures)
