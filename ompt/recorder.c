@@ -290,11 +290,17 @@ static bool is_finishing(int status) {
     return status != ompt_task_yield && status != ompt_task_early_fulfill && status != ompt_task_switch;
 }
 
-/* Says where the task runs from here on, and notes where that is another thread than before. */
-static void run_next(struct thread *thread, struct task *next) {
+/* Says that the task runs from here on, and returns which of its turns begins. A task starts in turn 0, a root where it
+   begins; each time that it runs on it is in one more. The turn stays with the task, which no thread runs while it is
+   suspended. Notes where the task runs on another thread than at first. */
+static uint32_t run_next(struct thread *thread, struct task *next) {
     thread->current = next;
-    if (next->thread < 0) next->thread = thread->number;
-    else if (next->thread != thread->number) note(MOVED, NULL);
+    if (next->thread < 0) {
+        next->thread = thread->number;
+        return next->turn;
+    }
+    if (next->thread != thread->number) note(MOVED, NULL);
+    return ++next->turn;
 }
 
 static void on_task_schedule(ompt_data_t *prior_data, ompt_task_status_t status, ompt_data_t *next_data) {
@@ -318,8 +324,9 @@ static void on_task_schedule(ompt_data_t *prior_data, ompt_task_status_t status,
         if (next == thread->current || !thread->current) return;
         prior = thread->current;
     }
-    struct record record = {.callback = TASK_SCHEDULE, .kind = status, .task = prior, .other = next};
-    if (next) run_next(thread, next);
+    struct record record = {.callback = TASK_SCHEDULE, .kind = status, .task = prior, .other = next,
+                            .turns = {.prior = prior->turn}};
+    if (next) record.turns.next = run_next(thread, next);
     if (is_finishing(status)) keep_finishing(thread, record);
     else keep_reading(thread, record);
 }

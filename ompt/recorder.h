@@ -11,6 +11,10 @@
 /* The limits of a trace file (docs/FORMAT.md). */
 enum { MAX_RECORDS = 1 << 22, MAX_TASKS = 1 << 20, MAX_THREADS = 256, MAX_DEPENDENCES = 64, MAX_DEPTH = 1024 };
 
+/* The versions of a trace file. The first cannot say that a task goes on on another thread. TASKAUDIT_VERSION in the
+   environment chooses one; without it the file is of the default version. */
+enum { FIRST_VERSION = 1, LAST_VERSION = 2, DEFAULT_VERSION = FIRST_VERSION };
+
 /* Rooms are taken in blocks, so that threads seldom meet at the counters of all. */
 enum { RECORDS_OF_BLOCK = 1024, TASKS_OF_BLOCK = 256 };
 
@@ -27,7 +31,8 @@ struct task {
     uint32_t number;       /* among the children of its parent */
     uint32_t children;     /* how many it has created */
     uint32_t depth;        /* how many steps it is below its root */
-    int32_t thread;        /* the thread on which it first ran, or -1. Version 2 of the file will count its turns here */
+    int32_t thread;        /* the thread on which it first ran, or -1 */
+    uint32_t turn;         /* how often it has run on since it started, on whichever thread */
     bool is_initial, is_discarded;
     bool has_list;         /* its dependences are recorded */
     bool has_started;      /* for the writer: its start was counted */
@@ -36,6 +41,11 @@ struct task {
 struct dependence {
     uint64_t variable;
     uint32_t type;
+};
+
+/* Of a task_schedule that names a next task: which turn of the prior task ends there, and which of the next one begins. */
+struct turns {
+    uint32_t prior, next;
 };
 
 struct record {
@@ -50,7 +60,10 @@ struct record {
         struct task *other;            /* the child, or the next task */
         struct dependence *list;
     };
-    const void *code;      /* the return address in the program, or NULL */
+    union {
+        const void *code;      /* the return address in the program, or NULL */
+        struct turns turns;    /* of a task_schedule, which has no code */
+    };
 };
 
 struct block {
@@ -92,7 +105,8 @@ void write_trace(const char *ending);
 /* Finds out which code stands where. Not for signal handlers. */
 void find_modules(void);
 
-/* Takes the name of the file from the environment; returns whether there is one and it can be written. */
+/* Takes the name of the file and its version from the environment; returns whether there is a name, the version is one
+   that is known, and the file can be written. */
 bool open_trace(void);
 
 #endif

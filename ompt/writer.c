@@ -43,6 +43,7 @@ enum { LONGEST_LINE = 1 << 15 };
 
 static char part_name[4096], whole_name[4096];
 static int file = -1;
+static int version = DEFAULT_VERSION;
 
 /* Text on its way to the file */
 
@@ -220,16 +221,23 @@ static bool is_finishing(const struct record *record) {
            record->kind != ompt_task_early_fulfill;
 }
 
+/* The next task, and which of its turns begins where the file tells turns. */
+static void put_next(const struct record *record) {
+    put(",\"next\":");
+    if (!record->other) {
+        put("null");
+        return;
+    }
+    put_number(record->other->id);
+    if (version > FIRST_VERSION) put_member(",\"next_turn\":", record->turns.next);
+}
+
 static void put_claim(const struct record *record) {
     static uint32_t path[MAX_DEPTH];
     const struct task *task = record->task;
     for (uint32_t depth = task->depth; depth; depth--, task = task->parent) path[depth - 1] = task->number;
     put_member(",\"kept\":", record->size);
-    if (record->callback == TASK_SCHEDULE) {
-        put(",\"next\":");
-        if (record->other) put_number(record->other->id);
-        else put("null");
-    }
+    if (record->callback == TASK_SCHEDULE) put_next(record);
     put(",\"path\":[");
     for (uint32_t i = 0; i < record->task->depth; i++) put_member(i ? "," : "", path[i]);
     put("]");
@@ -270,12 +278,9 @@ static void put_task_create(const struct record *record) {
 static void put_task_schedule(const struct record *record) {
     put("{\"cb\":\"task_schedule\"");
     if (is_finishing(record)) put_claim(record);
-    else {
-        put(",\"next\":");
-        if (record->other) put_number(record->other->id);
-        else put("null");
-    }
+    else put_next(record);
     put_member(",\"prior\":", record->task->id);
+    if (record->other && version > FIRST_VERSION) put_member(",\"prior_turn\":", record->turns.prior);
     if (is_finishing(record)) put_member(",\"root\":", record->task->root->id);
 }
 
@@ -463,7 +468,8 @@ static void put_header(const char *ending) {
         put("}");
         between = ",";
     }
-    put("}},\"version\":1}\n");
+    put_member("}},\"version\":", (uint64_t)version);
+    put("}\n");
 }
 
 void write_trace(const char *ending) {
@@ -484,8 +490,17 @@ void write_trace(const char *ending) {
     if (close(file) == 0 && !has_failed) rename(part_name, whole_name);
 }
 
+/* Takes the version from the environment; returns whether it is one that is known. */
+static bool choose_version(void) {
+    const char *chosen = getenv("TASKAUDIT_VERSION");
+    if (!chosen || !*chosen) return true;
+    version = *chosen - '0';
+    return chosen[1] == 0 && version >= FIRST_VERSION && version <= LAST_VERSION;
+}
+
 bool open_trace(void) {
     const char *name = getenv("TASKAUDIT_FILE");
+    if (!choose_version()) return false;
     if (!name || strlen(name) + 32 > sizeof part_name) return false;
     snprintf(whole_name, sizeof whole_name, "%s", name);
     snprintf(part_name, sizeof part_name, "%s.part", name);

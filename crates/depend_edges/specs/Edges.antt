@@ -1,8 +1,6 @@
 -- The predecessors of each task.
 use Rattle.std.specs.Prelude.{ℕ, ◌≡◌, ◌<◌, ◌≤◌, ◌⊎◌, List, length, Option, Some, Contains, slice_get, slice_index}
 use Rattle.ompt_events.specs.declared.records.Record.{Record}
-use Rattle.ompt_events.specs.declared.cause.Cause.TheVariants.{DepsPlace}
-use Rattle.ompt_events.specs.Causes.{IsFreeOf}
 use Rattle.ompt_events.specs.Tree.{IsChild}
 use Rattle.ompt_events.specs.Dependences.{IsPredecessor}
 use Rattle.task_tree.specs.Runs.{RunView, IsRun}
@@ -34,8 +32,7 @@ pub record EdgesView : Type 0 where
   pub run : RunView
   pub lists : List (Option ℕ)
 
--- the lists are those of the run, whose dependences follow their creations
+-- the lists are those of the run
 pub record IsEdges (edges : EdgesView) : Type 0 where
   pub run : IsRun edges.run
-  pub placed : IsFreeOf edges.run.records DepsPlace
   pub lists : AreListed edges.run.records (length edges.run.records) edges.run.family.tasks edges.lists

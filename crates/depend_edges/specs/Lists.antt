@@ -14,6 +14,11 @@ pub record AreListed (rs : List Record) (n : ℕ) (tasks : List ℕ) (lists : Li
       → (task : ℕ) × (items : List Dep) × (slice_get tasks index ≡ Some task)
       × (at dependences rs i ≡ Some (task, items))
 
+-- no task's dependences are listed twice
+abbrev pub AreListedOnce : List Record → Type 0
+AreListedOnce rs = (i k task : ℕ) (items other : List Dep) → at dependences rs i ≡ Some (task, items)
+    → at dependences rs k ≡ Some (task, other) → i ≡ k
+
 -- some task has a list
 abbrev pub HasList : List (Option ℕ) → Type 0
 HasList lists = (slot : Option ℕ) × Contains lists slot × (is_some slot ≡ true)

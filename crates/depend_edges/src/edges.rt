@@ -4,25 +4,27 @@ ghost use Rattle.ompt_events.specs.declared.cause.Cause.TheVariants.{DepsPlace};
 ghost use Rattle.ompt_events.specs.declared.fault.Fault.TheVariants.{Memory};
 ghost use Rattle.ompt_events.specs.Causes.{IsFreeOf};
 ghost use Rattle.ompt_events.specs.Faults.{IsFault};
+ghost use Rattle.task_tree.specs.Families.{IsOwnOf};
 ghost use Rattle.task_tree.specs.Paths.{IsTreeOf};
 ghost use Rattle.depend_edges.specs.Edges.{ArePredecessors, AreLatest, IsEdges};
 
 use crate::latest::{Lengths, find_latest};
-use crate::lists::find_placed;
+use crate::lists::find_lists;
 use crate::predecessors::select;
 use ompt_events::{Fault, Trace};
 use std::alloc::Global;
 use std::marker::Model;
-use task_tree::{Run, Slot, Tree};
+use task_tree::{Own, Run, Slot, Tree};
 
 /// Why edges can't be built: memory, or `DepsPlace`.
 pub type EdgeFault = Fault;
 
-/// The dependences of the tasks of a run, and what follows from them.
+/// The dependences of the tasks of a run, and what follows from them. The records of the run stand in the tasks'
+/// own order, which is that of their turns; in a trace of version 1 it is the order of the file.
 #[derive(Debug, Drop)]
 pub struct Edges<'a> {
     pub(crate) run: Run<'a>,
-    /// By index of the task the place of its list of dependences.
+    /// By index of the task the place of its list of dependences in the run.
     pub(crate) lists: Vec<Slot>,
 }
 
@@ -37,32 +39,36 @@ impl<'a> Model for Edges<'a> {
 }
 
 impl<'a> Edges<'a> {
-    /// The edges between the tasks of a trace of version 1. The tree must be that of its tasks. Refused is a
-    /// list of dependences that does not follow its creation, or is missing there, at its first record.
+    /// The edges between the tasks of a trace, of either version. The tree must be that of its tasks. Refused is
+    /// a list of dependences that does not follow its creation in the file, or is missing there, at its first
+    /// record.
     pub fn build(alloc: Global, trace: &'a Trace, tree: &'a Tree) -> Result<Edges<'a>, EdgeFault>
-        requires version { trace.now.version ≡ 1 }
         requires tree { IsTreeOf trace.now.records tree.now }
-        ensures records { IfOk result (λ edges. edges.run.records ≡ trace.now.records) }
-        ensures family { IfOk result (λ edges. edges.run.family ≡ tree.now.family) }
+        ensures own { IfOk result (λ edges. (places : List ℕ)
+            × IsOwnOf trace.now.records (record { run = edges.run; places = places })) }
         ensures placed { OnOk result (IsFreeOf trace.now.records DepsPlace) }
         ensures fault { IfErr result (IsFault trace.now.records (DepsPlace ∷ [])) }
     {
-        Edges::in_run(alloc, &Run::of(trace, tree.family()))
+        let families = tree.families();
+        Edges::in_run(alloc, &families.run(trace), &families.own(trace))
     }
 
-    /// The edges between the tasks of the run. Refused is a list of dependences that does not follow its
-    /// creation, or is missing there, at its first record.
-    pub fn in_run(alloc: Global, run: &Run<'a>) -> Result<Edges<'a>, Fault>
-        ensures run { IfOk result (λ edges. edges.run ≡ run.now) }
+    /// The edges between the tasks of the run, which `own` has in the tasks' own order. Refused is a list of
+    /// dependences that does not follow its creation in the file, or is missing there, at its first record.
+    /// Besides the search, which takes one look at each record where the run has no dependences, it takes one
+    /// pass over the records.
+    pub fn in_run(alloc: Global, run: &Run, own: &Own<'a>) -> Result<Edges<'a>, Fault>
+        requires own { IsOwnOf run.now.records own.now }
+        ensures run { IfOk result (λ edges. edges.run ≡ own.now.run) }
         ensures placed { OnOk result (IsFreeOf run.now.records DepsPlace) }
         ensures fault { IfErr result (IsFault run.now.records (DepsPlace ∷ [])) }
     {
-        let lists = find_placed(alloc, run)?;
-        let run = run.again();
+        let lists = find_lists(alloc, run, own)?;
+        let run = own.run().again();
         Ok(Edges { run, lists })
     }
 
-    /// The run whose tasks they are between.
+    /// The run whose tasks they are between. Its records stand in the tasks' own order.
     pub fn run(&self) -> &Run<'a>
         ensures value { result.now ≡ self.now.run }
         ensures is_edges { IsEdges self.now }
@@ -71,7 +77,8 @@ impl<'a> Edges<'a> {
     }
 
     /// The predecessors of the task, in the order in which its parent created them (OpenMP 5.2, 15.9.5);
-    /// none for a task that no record makes. Fails only when out of memory.
+    /// none for a task that no record makes. That order is the parent's own, turn by turn, also where the parent
+    /// went on on another thread (12.9). Fails only when out of memory.
     pub fn of(&self, task: u64) -> Result<Vec<u64>, EdgeFault>
         ensures predecessors { IfOk result (λ found. ArePredecessors self.now.run.records task found.items) }
         ensures memory_alone { IfErr result (λ fault. fault ≡ Memory) }

@@ -3,32 +3,45 @@ ghost use Rattle.std.specs.Prelude.{◌<◌, ◌+◌, [], ◌∷◌, IfOk, IfErr
 ghost use Rattle.ompt_events.specs.declared.cause.Cause.TheVariants.{DepsPlace};
 ghost use Rattle.ompt_events.specs.Causes.{IsFreeOf};
 ghost use Rattle.ompt_events.specs.Faults.{IsFault};
-ghost use Rattle.depend_edges.specs.Lists.{AreListed};
+ghost use Rattle.task_tree.specs.Families.{IsOwnOf};
+ghost use Rattle.depend_edges.specs.Lists.{AreListed, AreListedOnce};
 
 use crate::placement::{find_marks, has_none, no_places};
 use ompt_events::{Cause, Fault, exclude};
 use std::alloc::{AllocError, Global};
-use task_tree::{Run, Slot};
+use task_tree::{Own, Run, Slot};
 
-/// By index of the task the place of its list. Refused is the first record whose dependences are misplaced.
-pub(crate) fn find_placed(alloc: Global, run: &Run) -> Result<Vec<Slot>, Fault>
+/// By index of the task, as the tasks' own order has it, the number of its list in that order. Refused is the
+/// first record of the file whose dependences are misplaced there.
+pub(crate) fn find_lists(alloc: Global, run: &Run, own: &Own) -> Result<Vec<Slot>, Fault>
+    requires own { IsOwnOf run.now.records own.now }
     ensures placed { OnOk result (IsFreeOf run.now.records DepsPlace) }
-    ensures lists { IfOk result (λ lists. AreListed run.now.records (length run.now.records)
-        run.now.family.tasks lists.items) }
+    ensures lists { IfOk result (λ lists. AreListed own.now.run.records (length own.now.run.records)
+        own.now.run.family.tasks lists.items) }
     ensures fault { IfErr result (IsFault run.now.records (DepsPlace ∷ [])) }
 {
     // Most files have no dependences, and then one look at each record suffices.
     if has_none(run) {
-        return Ok(no_places(alloc, run.task_count())?);
+        return Ok(no_places(alloc, own.run().task_count())?);
     }
-    let marks = find_marks(alloc, run)?;
-    exclude(Cause::DepsPlace, marks.first_misplaced())?;
-    Ok(find_lists(alloc, run)?)
+    exclude_misplaced(alloc, run)?;
+    // In a run each task is made once, so each has one list.
+    let _tasks = run.task_count();
+    Ok(note_lists(alloc, own.run())?)
 }
 
-/// The same where none is misplaced.
-fn find_lists(alloc: Global, run: &Run) -> Result<Vec<Slot>, AllocError>
-    requires { IsFreeOf run.now.records DepsPlace }
+/// Refuses the first record whose dependences are misplaced.
+fn exclude_misplaced(alloc: Global, run: &Run) -> Result<(), Fault>
+    ensures placed { OnOk result (IsFreeOf run.now.records DepsPlace) }
+    ensures fault { IfErr result (IsFault run.now.records (DepsPlace ∷ [])) }
+{
+    let marks = find_marks(alloc, run)?;
+    exclude(Cause::DepsPlace, marks.first_misplaced())
+}
+
+/// By index of the task the place of its list, where no task has two.
+fn note_lists(alloc: Global, run: &Run) -> Result<Vec<Slot>, AllocError>
+    requires { AreListedOnce run.now.records }
     ensures { IfOk result (λ lists. AreListed run.now.records (length run.now.records)
         run.now.family.tasks lists.items) }
 {
@@ -42,7 +55,7 @@ fn find_lists(alloc: Global, run: &Run) -> Result<Vec<Slot>, AllocError>
 /// Notes the place of a list for its task.
 fn note_list(lists: &mut Vec<Slot>, run: &Run, at: usize)
     requires within { at < length run.now.records }
-    requires placed { IsFreeOf run.now.records DepsPlace }
+    requires once { AreListedOnce run.now.records }
     requires lists { AreListed run.now.records at run.now.family.tasks lists.old.items }
     ensures { AreListed run.now.records (at + 1) run.now.family.tasks lists.new.items }
 {

@@ -1,5 +1,5 @@
 use Rattle.depend_edges.specs.Lists.{AreListed}
-use Rattle.depend_edges.proofs.lists.find_lists.Given as goal
+use Rattle.depend_edges.proofs.lists.note_lists.Given as goal
 
 -- the lists so far
 abbrev pub invariant-loop-at : goal.invariant-loop-at
