@@ -10,5 +10,6 @@ mod HomeLemmas
 mod RootLemmas
 mod MovedLemmas
 mod TurnEdgeLemmas
+pub mod ShownFaultLemmas
 mod RegionLemmas
 mod StateLemmas

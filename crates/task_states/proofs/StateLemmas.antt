@@ -1,8 +1,8 @@
 -- What the states after all records say, and the causes that they exclude.
 use Rattle.std.proofs.Common.{◌≡◌, ◌∙◌, ℕ, zero, suc, ◌<◌, ◌≤◌, List, [], ◌∷◌, ◌++◌, length, Option, Some, None, Bool, true, false, cond, refl, sym, ap, subst, arith, inl, inr, ◌⊎◌}
 use Rattle.std.proofs.lemmas.Bool.{eqb-true, and_parts, false≢true}
-use Rattle.std.proofs.lemmas.Option.{none-some, same_Some, slice_get_within, slice_get-get_or}
-use Rattle.std.specs.Prelude.{◌==◌, ◌↔◌, map, filter, slice_get, Contains, IsSomeAnd, option_and_then, slice_index_or, MatchOption}
+use Rattle.std.proofs.lemmas.Option.{none-some, same_Some, slice_get_within}
+use Rattle.std.specs.Prelude.{◌==◌, ◌↔◌, map, filter, slice_get, Contains, IsSomeAnd, option_and_then}
 use Rattle.std.specs.Option.{option_map_or}
 use Rattle.std.specs.List.{flat_map, range_with_len}
 use Rattle.std.proofs.lemmas.List.Elements.{Contains-append_cases, Contains-append_left}
@@ -17,7 +17,7 @@ use Rattle.ompt_events.specs.Causes.{HasCause, status_order, HasNoState, IsFirst
 use Rattle.ompt_events.specs.Turns.{is_turn, turns_in}
 use Rattle.ompt_events.specs.Flags as flag
 use Rattle.ompt_events.specs.Flags.{has_flag}
-use Rattle.ompt_events.specs.Records.{made, region, started, begun_turn, ended_turn, discarded}
+use Rattle.ompt_events.specs.Records.{made, started, begun_turn, ended_turn, discarded}
 use Rattle.ompt_events.specs.Places.{at, places}
 use Rattle.ompt_events.specs.States.{Move, Stopped, Started, Discarded, is_task, stops, moves_by, moves_at, places_of, moves_of, has_moved, turn_starts_at, turn_ends_at, turn_moves, moves_by_file, moved_moves, all_moves_of, is_early_move, is_apart, nature_of, state_of}
 use Rattle.ompt_events.proofs.PlaceLemmas.{at_within}
@@ -28,14 +28,14 @@ use Rattle.task_tree.specs.Subjects.{subject, object}
 use Rattle.task_tree.proofs.SubjectLemmas.{call_index}
 use Rattle.task_tree.proofs.LookupLemmas.{subject_calls, object_calls}
 use Rattle.ompt_events.specs.declared.fault.Fault.{Fault}
-use Rattle.ompt_events.specs.declared.names.SyncKind.{SyncKind}
-use Rattle.ompt_events.specs.declared.names.Endpoint.{Endpoint}
-use Rattle.ompt_events.specs.declared.names.Endpoint.TheVariants.{Begin, End, BeginEnd}
-use Rattle.ompt_events.specs.Faults.{FindsFirst, IsFault}
-use Rattle.ompt_events.specs.Regions.{EndsRegion, IsRegion, ended, at_once}
-use Rattle.ompt_events.proofs.FaultLemmas.{fault_first, fault_next}
+use Rattle.ompt_events.specs.Faults.{FindsFirst, IsFault, IsShownFault}
+use Rattle.task_tree.specs.OwnOrder.{AreAllPlaces}
+use Rattle.task_tree.specs.Own.{OwnView, of_regions, IsOwnFault}
+use Rattle.task_tree.specs.Families.{IsOwnOf}
+use Rattle.task_tree.proofs.ShownLemmas.{own_fault}
+use Rattle.task_states.proofs.ShownFaultLemmas.{shown_alone, shown_before, shown_after}
 use Rattle.task_states.specs.Progress.{ProgressView, HasCome, IsRefused}
-use Rattle.task_states.specs.States.{StatesView, AreStates, IsStates, IsLast, IsBeginOf}
+use Rattle.task_states.specs.States.{StatesView, AreStates, IsStates, IsLast}
 use Rattle.task_states.proofs.OriginLemmas.{is_the_task, the_task}
 
 -- ---- a task that moves is one that a record makes
@@ -244,7 +244,7 @@ pub refused_first : (rs : List Record) (family : FamilyView) (progress : Progres
 refused_first rs family progress None are come same = none_refused rs family progress are come (sym same)
 refused_first rs family progress (Some i) are come same = first_refused rs family progress i are come (sym same)
 
--- ---- the least of the four
+-- ---- the least of the five
 
 after_status : (other : Cause) → Contains (RegionOrder ∷ []) other → cause_number other < 6 → ⊥
 after_status other (zero, below, is) less = let number = ap cause_number is in omega (arith, number, less)
@@ -262,34 +262,36 @@ after_current : (other : Cause) → Contains (Moved ∷ TurnGap ∷ StatusOrder 
 after_current other (zero, below, is) less = let number = ap cause_number is in omega (arith, number, less)
 after_current other (suc k, below, is) less = after_moved other (k, omega arith, is) (omega arith)
 
-pub fault_current : (rs : List Record) (fault : Fault) → IsFault rs (NotCurrent ∷ []) fault → IsFault rs (NotCurrent ∷ Moved ∷ TurnGap ∷ StatusOrder ∷ RegionOrder ∷ []) fault
-fault_current rs fault found = fault_first rs NotCurrent (Moved ∷ TurnGap ∷ StatusOrder ∷ RegionOrder ∷ []) fault after_current found
+-- the trace shows the first four where a record has them
+pub fault_current : (rs : List Record) (fault : Fault) → IsFault rs (NotCurrent ∷ []) fault → IsShownFault rs (NotCurrent ∷ Moved ∷ TurnGap ∷ StatusOrder ∷ RegionOrder ∷ []) fault
+fault_current rs fault found = shown_before rs NotCurrent (Moved ∷ TurnGap ∷ StatusOrder ∷ RegionOrder ∷ []) fault after_current (shown_alone rs NotCurrent fault (λ i. (λ h. h, λ h. h)) found)
 
-pub fault_moved : (rs : List Record) (fault : Fault) → IsFreeOf rs NotCurrent → IsFault rs (Moved ∷ []) fault → IsFault rs (NotCurrent ∷ Moved ∷ TurnGap ∷ StatusOrder ∷ RegionOrder ∷ []) fault
+pub fault_moved : (rs : List Record) (fault : Fault) → IsFreeOf rs NotCurrent → IsFault rs (Moved ∷ []) fault → IsShownFault rs (NotCurrent ∷ Moved ∷ TurnGap ∷ StatusOrder ∷ RegionOrder ∷ []) fault
 fault_moved rs fault current found =
-    fault_next rs NotCurrent (Moved ∷ TurnGap ∷ StatusOrder ∷ RegionOrder ∷ []) fault current
-    (fault_first rs Moved (TurnGap ∷ StatusOrder ∷ RegionOrder ∷ []) fault after_moved found)
+    shown_after rs NotCurrent (Moved ∷ TurnGap ∷ StatusOrder ∷ RegionOrder ∷ []) fault current
+    (shown_before rs Moved (TurnGap ∷ StatusOrder ∷ RegionOrder ∷ []) fault after_moved (shown_alone rs Moved fault (λ i. (λ h. h, λ h. h)) found))
 
-pub fault_gap : (rs : List Record) (fault : Fault) → IsFreeOf rs NotCurrent → IsFreeOf rs Moved → IsFault rs (TurnGap ∷ []) fault → IsFault rs (NotCurrent ∷ Moved ∷ TurnGap ∷ StatusOrder ∷ RegionOrder ∷ []) fault
+pub fault_gap : (rs : List Record) (fault : Fault) → IsFreeOf rs NotCurrent → IsFreeOf rs Moved → IsFault rs (TurnGap ∷ []) fault → IsShownFault rs (NotCurrent ∷ Moved ∷ TurnGap ∷ StatusOrder ∷ RegionOrder ∷ []) fault
 fault_gap rs fault current stay found =
-    fault_next rs NotCurrent (Moved ∷ TurnGap ∷ StatusOrder ∷ RegionOrder ∷ []) fault current
-    (fault_next rs Moved (TurnGap ∷ StatusOrder ∷ RegionOrder ∷ []) fault stay
-    (fault_first rs TurnGap (StatusOrder ∷ RegionOrder ∷ []) fault after_gap found))
+    shown_after rs NotCurrent (Moved ∷ TurnGap ∷ StatusOrder ∷ RegionOrder ∷ []) fault current
+    (shown_after rs Moved (TurnGap ∷ StatusOrder ∷ RegionOrder ∷ []) fault stay
+    (shown_before rs TurnGap (StatusOrder ∷ RegionOrder ∷ []) fault after_gap (shown_alone rs TurnGap fault (λ i. (λ h. h, λ h. h)) found)))
 
 -- a fault behind the first three causes
-behind_gap : (rs : List Record) (fault : Fault) → IsFreeOf rs NotCurrent → IsFreeOf rs Moved → IsFreeOf rs TurnGap → IsFault rs (StatusOrder ∷ RegionOrder ∷ []) fault → IsFault rs (NotCurrent ∷ Moved ∷ TurnGap ∷ StatusOrder ∷ RegionOrder ∷ []) fault
+behind_gap : (rs : List Record) (fault : Fault) → IsFreeOf rs NotCurrent → IsFreeOf rs Moved → IsFreeOf rs TurnGap → IsShownFault rs (StatusOrder ∷ RegionOrder ∷ []) fault → IsShownFault rs (NotCurrent ∷ Moved ∷ TurnGap ∷ StatusOrder ∷ RegionOrder ∷ []) fault
 behind_gap rs fault current stay gapless found =
-    fault_next rs NotCurrent (Moved ∷ TurnGap ∷ StatusOrder ∷ RegionOrder ∷ []) fault current
-    (fault_next rs Moved (TurnGap ∷ StatusOrder ∷ RegionOrder ∷ []) fault stay
-    (fault_next rs TurnGap (StatusOrder ∷ RegionOrder ∷ []) fault gapless found))
+    shown_after rs NotCurrent (Moved ∷ TurnGap ∷ StatusOrder ∷ RegionOrder ∷ []) fault current
+    (shown_after rs Moved (TurnGap ∷ StatusOrder ∷ RegionOrder ∷ []) fault stay
+    (shown_after rs TurnGap (StatusOrder ∷ RegionOrder ∷ []) fault gapless found))
 
-pub fault_status : (rs : List Record) (fault : Fault) → IsFreeOf rs NotCurrent → IsFreeOf rs Moved → IsFreeOf rs TurnGap → IsFault rs (StatusOrder ∷ []) fault → IsFault rs (NotCurrent ∷ Moved ∷ TurnGap ∷ StatusOrder ∷ RegionOrder ∷ []) fault
+pub fault_status : (rs : List Record) (fault : Fault) → IsFreeOf rs NotCurrent → IsFreeOf rs Moved → IsFreeOf rs TurnGap → IsFault rs (StatusOrder ∷ []) fault → IsShownFault rs (NotCurrent ∷ Moved ∷ TurnGap ∷ StatusOrder ∷ RegionOrder ∷ []) fault
 fault_status rs fault current stay gapless found =
-    behind_gap rs fault current stay gapless (fault_first rs StatusOrder (RegionOrder ∷ []) fault after_status found)
+    behind_gap rs fault current stay gapless (shown_before rs StatusOrder (RegionOrder ∷ []) fault after_status (shown_alone rs StatusOrder fault (λ i. (λ h. h, λ h. h)) found))
 
-pub fault_region : (rs : List Record) (fault : Fault) → IsFreeOf rs NotCurrent → IsFreeOf rs Moved → IsFreeOf rs TurnGap → IsFreeOf rs StatusOrder → IsFault rs (RegionOrder ∷ []) fault → IsFault rs (NotCurrent ∷ Moved ∷ TurnGap ∷ StatusOrder ∷ RegionOrder ∷ []) fault
-fault_region rs fault current stay gapless ordered found =
-    behind_gap rs fault current stay gapless (fault_next rs StatusOrder (RegionOrder ∷ []) fault ordered found)
+-- and the last where a record has it in the tasks' own order
+pub fault_region : (rs : List Record) (own : OwnView) (fault : Fault) → IsOwnOf rs own → AreAllPlaces own.places (length own.run.records) → IsFreeOf rs NotCurrent → IsFreeOf rs Moved → IsFreeOf rs TurnGap → IsFreeOf rs StatusOrder → IsOwnFault own RegionOrder fault → IsShownFault rs (NotCurrent ∷ Moved ∷ TurnGap ∷ StatusOrder ∷ RegionOrder ∷ []) fault
+fault_region rs own fault of all current stay gapless ordered found =
+    behind_gap rs fault current stay gapless (shown_after rs StatusOrder (RegionOrder ∷ []) fault ordered (own_fault rs own RegionOrder fault of_regions of all found))
 
 -- ---- the states after all records
 
@@ -309,43 +311,3 @@ last_none states task index are is none = (
   λ (place, makes). let (k, stands) = contains_get states.run.family.tasks task (are.run.family.noted.each place task (at_within made states.run.records place task makes) makes) in absurd (none-some k (sym none ∙ (is k).1 stands)),
   λ unmade. refl,
 )
-
--- ---- where a region began
-
-same_says : (rs : List Record) (i own task : ℕ) (kind other : SyncKind) (first second : Endpoint) → at region rs i ≡ Some (own, kind, first) → at region rs i ≡ Some (task, other, second) → (own ≡ task) × (kind ≡ other) × (first ≡ second)
-same_says rs i own task kind other first second says there =
-    let same : (own, kind, first) ≡ (task, other, second) = same_Some (own, kind, first) (task, other, second) (sym says ∙ there) in
-    (ap (λ (r : ℕ × SyncKind × Endpoint). r.0) same, ap (λ (r : ℕ × SyncKind × Endpoint). r.1) same, ap (λ (r : ℕ × SyncKind × Endpoint). r.2) same)
-
--- a begin and end in one began there
-pub once_begin : (rs : List Record) (i own : ℕ) (kind : SyncKind) → at region rs i ≡ Some (own, kind, BeginEnd) → IsBeginOf rs i i
-once_begin rs i own kind says task other endpoint there =
-    let same = same_says rs i own task kind other BeginEnd endpoint says there in
-    let P : Endpoint → Type 0 = λ e. at region rs i ≡ Some (task, other, e) in
-    at_once (subst P (sym same.2) there)
-
-later_begin : (rs : List Record) (i own begin : ℕ) (kind : SyncKind) → at region rs i ≡ Some (own, kind, End) → EndsRegion rs i own kind begin → IsBeginOf rs i begin
-later_begin rs i own begin kind says ends task other endpoint there =
-    let same = same_says rs i own task kind other End endpoint says there in
-    let P : ℕ → Type 0 = λ t. IsRegion rs i t other begin in
-    let Q : SyncKind → Type 0 = λ k. IsRegion rs i own k begin in
-    subst P same.0 (subst Q same.1 (ended ends))
-
--- a begin ends nothing, nor does a record of no region
-pub begin_ends_none : (rs : List Record) (i own : ℕ) (kind : SyncKind) → at region rs i ≡ Some (own, kind, Begin) → (task begin : ℕ) (other : SyncKind) → IsRegion rs i task other begin → ⊥
-begin_ends_none rs i own kind says task begin other (ended ends) = let same = (same_says rs i own task kind other Begin End says ends.ends).2 in cc
-begin_ends_none rs i own kind says task begin other (at_once once) = let same = (same_says rs i own task kind other Begin BeginEnd says once).2 in cc
-
-pub silent_ends_none : (rs : List Record) (i : ℕ) → at region rs i ≡ None → (task begin : ℕ) (other : SyncKind) → IsRegion rs i task other begin → ⊥
-silent_ends_none rs i none task begin other (ended ends) = none-some (task, other, End) (sym none ∙ ends.ends)
-silent_ends_none rs i none task begin other (at_once once) = none-some (task, other, BeginEnd) (sym none ∙ once)
-
--- the begin of an end stands in the table
-pub linked_begin : (states : StatesView) (i own : ℕ) (kind : SyncKind) (found : Option ℕ) → IsStates states → at region states.run.records i ≡ Some (own, kind, End) → found ≡ slice_index_or states.begins i None → MatchOption found ((task begin : ℕ) (other : SyncKind) → IsRegion states.run.records i task other begin → ⊥) (IsBeginOf states.run.records i)
-linked_begin states i own kind found are says read =
-    let rs = states.run.records in
-    let there = are.begins i own kind (at_within region rs i (own, kind, End) says) says in
-    let within = slice_get_within states.begins i (Some there.0) there.1 in
-    let same : Some there.0 ≡ found = sym (same_Some (slice_index_or states.begins i None) (Some there.0) (sym (slice_get-get_or states.begins i None within) ∙ there.1)) ∙ sym read in
-    let P : Option ℕ → Type 0 = λ o. MatchOption o ((task begin : ℕ) (other : SyncKind) → IsRegion rs i task other begin → ⊥) (IsBeginOf rs i) in
-    subst P same (later_begin rs i own there.0 kind says there.2)

@@ -1,42 +1,146 @@
 //! Which begin the end of each synchronisation region belongs to.
-ghost use Rattle.std.specs.Prelude.{◌∷◌, [], ℕ, ◌≡◌, ◌≢◌, ◌<◌, ◌↔◌, Some, None, true, false, slice_get, slice_index_or, IsTrue, IfOk, IfErr, OnOk, length, replicate};
+ghost use Rattle.std.specs.Prelude.{◌∷◌, [], ℕ, ◌≡◌, ◌≢◌, ◌<◌, ◌+◌, ◌↔◌, Some, None, true, false, slice_get, slice_index_or, IsTrue, IfOk, IfErr, OnOk, MatchOption, length, replicate};
 ghost use Rattle.ompt_events.specs.Tree.{IsExplicit};
+ghost use Rattle.ompt_events.specs.declared.cause.Cause.{Cause};
 ghost use Rattle.ompt_events.specs.declared.cause.Cause.TheVariants.{RegionOrder};
-ghost use Rattle.ompt_events.specs.Regions.{kind_at, is_called_barrier};
-ghost use Rattle.ompt_events.specs.Causes.{IsFreeOf};
-ghost use Rattle.ompt_events.specs.Faults.{IsFault};
-ghost use Rattle.task_states.specs.Regions.{AreLinked, top_after};
+ghost use Rattle.ompt_events.specs.declared.names.SyncKind.{SyncKind};
+ghost use Rattle.ompt_events.specs.Regions.{kind_at, is_called_barrier, IsRegion};
+ghost use Rattle.ompt_events.specs.Causes.{HasCause, IsFreeOf};
+ghost use Rattle.task_tree.specs.Runs.{IsRegionEvent};
+ghost use Rattle.task_tree.specs.Own.{IsOwnFault};
+ghost use Rattle.task_states.specs.Regions.{AreLinked, AreRegions, IsBeginOf, IsEarliest, IsInnermost, IsJudged, top_after};
 
 use ompt_events::{Cause, Endpoint, Fault, SyncKind};
 use std::alloc::{AllocError, Global};
-use task_tree::{RegionEvent, Run, Slot};
+use std::marker::Model;
+use task_tree::{Own, RegionEvent, Run, Slot};
+
+/// The regions of a run in its tasks' own order: which begin the end of each belongs to.
+#[derive(Debug, Drop)]
+pub struct Regions<'a> {
+    own: Own<'a>,
+    /// For each record that ends a region the number of its begin, and for each that begins one the region
+    /// that is open below it.
+    begins: Vec<Slot>,
+}
+
+impl<'a> Model for Regions<'a> {
+    ghost use Rattle.task_states.specs.Regions.{RegionsView, AreRegions};
+
+    ghost Value = { RegionsView };
+
+    ghost view = { λ regions. record { own = regions.own; begins = regions.begins.items } };
+
+    ghost invariant = { λ regions. AreRegions (record { own = regions.own; begins = regions.begins.items }) };
+}
+
+impl<'a> Regions<'a> {
+    /// The regions of a run in its tasks' own order. Refused is a region that ends without its begin, or a
+    /// barrier of an explicit task (OpenMP 5.2, 15.3), at the first place in the file. It takes a few steps for
+    /// each record, and memory linear in the records.
+    pub fn in_own(alloc: Global, own: &Own<'a>) -> Result<Regions<'a>, Fault>
+        ensures own { IfOk result (λ regions. regions.own ≡ own.now) }
+        ensures regions { IfOk result AreRegions }
+        ensures closed { OnOk result (IsFreeOf own.now.run.records RegionOrder) }
+        ensures fault { IfErr result (IsOwnFault own.now RegionOrder) }
+    {
+        let _run = own.run();
+        let begins = find_links(alloc, own)?;
+        Ok(Regions {
+            own: own.again(),
+            begins,
+        })
+    }
+
+    /// The run in its tasks' own order.
+    pub fn own(&self) -> &Own<'a>
+        ensures value { result.now ≡ self.now.own }
+        ensures are_regions { AreRegions self.now }
+    {
+        &self.own
+    }
+
+    /// The number of the record at which the region began that the record with this number ends; a begin and
+    /// end in one began there too.
+    pub fn begin_of(&self, number: usize) -> Option<usize>
+        requires { number < length self.now.own.run.records }
+        ensures { MatchOption result ((task begin : ℕ) (kind : SyncKind)
+            → IsRegion self.now.own.run.records number task kind begin → ⊥)
+            (IsBeginOf self.now.own.run.records number) }
+    {
+        let event = self.own.run().region(number)?;
+        match event.endpoint {
+            Endpoint::Begin => None,
+            Endpoint::End => link_at(self.begins.as_slice(), number).get(),
+            Endpoint::BeginEnd => Some(number),
+        }
+    }
+}
 
 /// For each record: the begin that an end belongs to, and the innermost region of the task that is open
-/// when a begin opens another. Searches for the first end that belongs to no begin, or begin or end of a
-/// barrier by an explicit task.
-pub(crate) fn find_links(alloc: Global, run: &Run) -> Result<Vec<Slot>, Fault>
+/// when a begin opens another. Searches for the first place in the file of an end that belongs to no begin, or
+/// of a begin or end of a barrier by an explicit task. Such a record opens or closes a region as any other.
+fn find_links(alloc: Global, own: &Own) -> Result<Vec<Slot>, Fault>
     ensures linked { IfOk result (λ links.
-        AreLinked run.now.records (length run.now.records) links.items) }
-    ensures free { OnOk result (IsFreeOf run.now.records RegionOrder) }
-    ensures fault { IfErr result (IsFault run.now.records (RegionOrder ∷ [])) }
+        AreLinked own.now.run.records (length own.now.run.records) links.items) }
+    ensures free { OnOk result (IsFreeOf own.now.run.records RegionOrder) }
+    ensures fault { IfErr result (IsOwnFault own.now RegionOrder) }
 {
+    let run = own.run();
     let mut innermost = no_places(alloc, run.task_count())?;
     let mut links = no_places(alloc, run.len())?;
-    for at in 0..run.len() {
-        let Some(event) = run.region(at) else {
+    let mut earliest = None;
+    for number in 0..run.len() {
+        let Some(event) = run.region(number) else {
             continue;
         };
         let opened = innermost[event.task];
-        if misses_begin(run, opened.get(), event) || is_barred(run, event) {
-            return Err(Fault::Malformed {
-                at,
-                cause: Cause::RegionOrder,
-            });
-        }
-        innermost[event.task] = next_top(&links, opened, at, event.endpoint);
-        links[at] = opened;
+        let misplaced = is_misplaced(run, number, opened.get(), event);
+        earliest = earlier(own, earliest, number, misplaced);
+        innermost[event.task] = next_top(&links, opened, number, event.endpoint);
+        links[number] = opened;
     }
-    Ok(links)
+    match earliest {
+        Some(at) => Err(Fault::Malformed {
+            at,
+            cause: Cause::RegionOrder,
+        }),
+        None => Ok(links),
+    }
+}
+
+/// The earlier in the file of two places: the earliest so far, if there is one, and that of the record with
+/// this number, if that has the cause that is looked for.
+fn earlier(own: &Own, earliest: Option<usize>, number: usize, has: bool) -> Option<usize>
+    requires { number < length own.now.run.records }
+    ensures { (cause : Cause) → (IsTrue has ↔ HasCause own.now.run.records number cause)
+        → IsEarliest own.now cause number earliest → IsEarliest own.now cause (number + 1) result }
+{
+    if !has {
+        return earliest;
+    }
+    let place = own.place(number);
+    match earliest {
+        Some(before) => Some(before.min(place)),
+        None => Some(place),
+    }
+}
+
+/// Whether the region may not begin or end there: it ends, and the innermost open one of its task is not of
+/// that kind; or it is a barrier of an explicit task.
+fn is_misplaced(run: &Run, number: usize, opened: Option<usize>, event: RegionEvent) -> bool
+    requires event { IsRegionEvent run.now number event.task event.kind event.endpoint }
+    requires opened { IsInnermost run.now number event.task opened }
+    ensures { IsJudged run.now.records number opened result }
+{
+    let _tasks = run.task_count();
+    if misses_begin(run, opened, event) {
+        return true;
+    }
+    if is_barred(run, event) {
+        return true;
+    }
+    false
 }
 
 /// A table of so many entries, each without a place.
@@ -102,13 +206,13 @@ fn is_called_barrier(kind: SyncKind) -> bool
     }
 }
 
-/// The innermost open region of a task after its record at a place.
-fn next_top(links: &[Slot], opened: Slot, at: usize, endpoint: Endpoint) -> Slot
-    requires { at < 4294967295 }
-    ensures { result ≡ top_after links.now opened at endpoint }
+/// The innermost open region of a task after its record with this number.
+fn next_top(links: &[Slot], opened: Slot, number: usize, endpoint: Endpoint) -> Slot
+    requires { number < 4294967295 }
+    ensures { result ≡ top_after links.now opened number endpoint }
 {
     match endpoint {
-        Endpoint::Begin => Slot::some(at),
+        Endpoint::Begin => Slot::some(number),
         Endpoint::BeginEnd => opened,
         Endpoint::End => match opened.get() {
             Some(begin) => link_at(links, begin),
@@ -119,7 +223,7 @@ fn next_top(links: &[Slot], opened: Slot, at: usize, endpoint: Endpoint) -> Slot
 
 /// The begin that the end of a region at a place belongs to, or the region that is open below the one that
 /// begins there.
-pub(crate) fn link_at(links: &[Slot], at: usize) -> Slot
+fn link_at(links: &[Slot], at: usize) -> Slot
     ensures { result ≡ slice_index_or links.now at None }
 {
     if at < links.len() {

@@ -1,28 +1,26 @@
 //! The states of all tasks after all records.
-ghost use Rattle.std.specs.Prelude.{ℕ, ◌≡◌, ◌<◌, [], ◌∷◌, Some, MatchOption, IfOk, IfErr, OnOk, length};
-ghost use Rattle.ompt_events.specs.declared.names.SyncKind.{SyncKind};
+ghost use Rattle.std.specs.Prelude.{◌≡◌, [], ◌∷◌, IfOk, IfErr, OnOk, length};
 ghost use Rattle.ompt_events.specs.declared.cause.Cause.TheVariants.{NotCurrent, Moved, TurnGap, StatusOrder, RegionOrder};
 ghost use Rattle.ompt_events.specs.Causes.{IsFreeOf};
-ghost use Rattle.ompt_events.specs.Faults.{FindsFirst, IsFault};
-ghost use Rattle.ompt_events.specs.Regions.{IsRegion};
-ghost use Rattle.task_tree.specs.Runs.{IsRun};
-ghost use Rattle.task_states.specs.States.{AreStates, IsStates, IsLast, IsBeginOf};
+ghost use Rattle.ompt_events.specs.Faults.{FindsFirst, IsFault, IsShownFault};
+ghost use Rattle.task_tree.specs.Families.{IsOwnOf};
+ghost use Rattle.task_states.specs.States.{AreStates, IsStates, IsLast};
 
 use crate::current::find_misfit;
 use crate::homes::{Schedules, find_moved};
 use crate::progress::find_progress;
-use crate::regions::{find_links, link_at};
-use ompt_events::{Cause, Endpoint, Fault, State, exclude};
+use crate::regions::Regions;
+use ompt_events::{Cause, Fault, State, exclude};
 use std::alloc::Global;
 use std::marker::Model;
-use task_tree::{Run, Slot};
+use task_tree::{Own, Run};
 
-/// The state of each task of a run after all its records, and the begin of each region that ends.
+/// The state of each task of a run after all its records, and the regions in the tasks' own order.
 #[derive(Debug, Drop)]
 pub struct States<'a> {
     run: Run<'a>,
     states: Vec<Option<State>>,
-    begins: Vec<Slot>,
+    regions: Regions<'a>,
 }
 
 impl<'a> Model for States<'a> {
@@ -33,48 +31,57 @@ impl<'a> Model for States<'a> {
     ghost view = { λ states. record {
       run = states.run;
       states = states.states.items;
-      begins = states.begins.items;
+      regions = states.regions;
     } };
 
     ghost invariant = { λ states. IsStates (record {
       run = states.run;
       states = states.states.items;
-      begins = states.begins.items;
+      regions = states.regions;
     }) };
 }
 
 impl<'a> States<'a> {
     /// Takes each task of the run through its states. Malformed records are refused, with the first of these
-    /// causes that occurs, at its first record: a record of a task that its thread does not run (OpenMP 5.2,
-    /// 12.9); an explicit task that runs on two threads without turns (it is tied, 12.1), or a turn that is not
-    /// its task's; a change that a task's state does not allow (19.5.2.10); a region that ends without its
-    /// begin, or a barrier of an explicit task (15.3). The first turn gap is known already. It takes a few steps
-    /// for each record, and memory linear in the records.
-    pub fn in_run(alloc: Global, run: &Run<'a>, gap: Option<usize>) -> Result<States<'a>, Fault>
-        requires { FindsFirst run.now.records TurnGap gap }
+    /// causes that occurs, at its first record in the file: a record of a task that its thread does not run
+    /// (OpenMP 5.2, 12.9); an explicit task that runs on two threads without turns (it is tied, 12.1), or a turn
+    /// that is not its task's; a change that a task's state does not allow (19.5.2.10); a region that ends
+    /// without its begin, or a barrier of an explicit task (15.3). The run is that of the file, and `own` has its
+    /// records in the tasks' own order. The first turn gap is known already. It takes a few steps for each
+    /// record, and memory linear in the records.
+    pub fn in_run(
+        alloc: Global,
+        run: &Run<'a>,
+        own: &Own<'a>,
+        gap: Option<usize>,
+    ) -> Result<States<'a>, Fault>
+        requires own { IsOwnOf run.now.records own.now }
+        requires gap { FindsFirst run.now.records TurnGap gap }
         ensures run { IfOk result (λ states. states.run ≡ run.now) }
+        ensures own { IfOk result (λ states. states.regions.own ≡ own.now) }
         ensures states { IfOk result IsStates }
         ensures current { OnOk result (IsFreeOf run.now.records NotCurrent) }
         ensures stay { OnOk result (IsFreeOf run.now.records Moved) }
         ensures gapless { OnOk result (IsFreeOf run.now.records TurnGap) }
         ensures ordered { OnOk result (IsFreeOf run.now.records StatusOrder) }
-        ensures closed { OnOk result (IsFreeOf run.now.records RegionOrder) }
+        ensures closed { OnOk result (IsFreeOf own.now.run.records RegionOrder) }
         ensures fault { IfErr result
-            (IsFault run.now.records (NotCurrent ∷ Moved ∷ TurnGap ∷ StatusOrder ∷ RegionOrder ∷ [])) }
+            (IsShownFault run.now.records (NotCurrent ∷ Moved ∷ TurnGap ∷ StatusOrder ∷ RegionOrder ∷ [])) }
     {
+        let _records = own.run();
         find_misfit(alloc, run)?;
         let schedules = find_moved(alloc, run)?;
         exclude(Cause::TurnGap, gap)?;
         let states = find_states(alloc, &schedules)?;
-        let begins = find_links(alloc, run)?;
+        let regions = Regions::in_own(alloc, own)?;
         Ok(States {
             run: schedules.run().again(),
             states,
-            begins,
+            regions,
         })
     }
 
-    /// The run.
+    /// The run of the file.
     pub fn run(&self) -> &Run<'a>
         ensures value { result.now ≡ self.now.run }
         ensures is_states { IsStates self.now }
@@ -92,19 +99,12 @@ impl<'a> States<'a> {
         }
     }
 
-    /// Where the region began that ends at the place; a begin and end in one began there too.
-    pub fn begin_of(&self, at: usize) -> Option<usize>
-        requires { at < length self.now.run.records }
-        ensures { MatchOption result ((task begin : ℕ) (kind : SyncKind)
-            → IsRegion self.now.run.records at task kind begin → ⊥)
-            (IsBeginOf self.now.run.records at) }
+    /// The regions, whose records stand in the tasks' own order.
+    pub fn regions(&self) -> &Regions<'a>
+        ensures value { result.now ≡ self.now.regions }
+        ensures is_states { IsStates self.now }
     {
-        let event = self.run.region(at)?;
-        match event.endpoint {
-            Endpoint::Begin => None,
-            Endpoint::End => link_at(self.begins.as_slice(), at).get(),
-            Endpoint::BeginEnd => Some(at),
-        }
+        &self.regions
     }
 }
 

@@ -1,14 +1,11 @@
 //! The calls that take a trace with its tree, for callers that have no run.
-ghost use Rattle.std.specs.Prelude.{◌≡◌, [], ◌∷◌, IfOk, IfErr, OnOk, MatchOption};
-ghost use Rattle.ompt_events.specs.declared.cause.Cause.TheVariants.{NotCurrent, Moved, TurnGap, StatusOrder, RegionOrder, NestedParallel};
+ghost use Rattle.std.specs.Prelude.{◌≡◌, IfOk, IfErr, MatchOption};
+ghost use Rattle.ompt_events.specs.declared.cause.Cause.TheVariants.{NestedParallel};
 ghost use Rattle.ompt_events.specs.declared.fault.Fault.TheVariants.{Memory};
 ghost use Rattle.ompt_events.specs.Causes.{IsFreeOf, IsFirstWith};
-ghost use Rattle.ompt_events.specs.Faults.{IsFault};
 ghost use Rattle.task_tree.specs.Paths.{IsTreeOf};
-ghost use Rattle.task_states.specs.States.{IsStates};
 
 use crate::nesting::find_nested;
-use crate::states::States;
 use ompt_events::{Fault, Trace};
 use std::alloc::Global;
 use task_tree::Tree;
@@ -16,28 +13,6 @@ use task_tree::Tree;
 /// Why the states of tasks have no answer: memory, or the first that occurs of `NotCurrent`, `Moved`,
 /// `TurnGap`, `StatusOrder` and `RegionOrder`.
 pub type StateFault = Fault;
-
-/// Takes each task of a trace of version 1 through its states, as `States::in_run` does. The tree must be
-/// that of the trace's tasks.
-pub fn run<'a>(alloc: Global, trace: &'a Trace, tree: &'a Tree) -> Result<States<'a>, StateFault>
-    requires version { trace.now.version ≡ 1 }
-    requires tree { IsTreeOf trace.now.records tree.now }
-    ensures records { IfOk result (λ states. states.run.records ≡ trace.now.records) }
-    ensures family { IfOk result (λ states. states.run.family ≡ tree.now.family) }
-    ensures states { IfOk result IsStates }
-    ensures current { OnOk result (IsFreeOf trace.now.records NotCurrent) }
-    ensures stay { OnOk result (IsFreeOf trace.now.records Moved) }
-    ensures gapless { OnOk result (IsFreeOf trace.now.records TurnGap) }
-    ensures ordered { OnOk result (IsFreeOf trace.now.records StatusOrder) }
-    ensures closed { OnOk result (IsFreeOf trace.now.records RegionOrder) }
-    ensures fault { IfErr result
-        (IsFault trace.now.records (NotCurrent ∷ Moved ∷ TurnGap ∷ StatusOrder ∷ RegionOrder ∷ [])) }
-{
-    // Tells that the records are a trace of their version. Compiled, it is nothing.
-    let _records = trace.records();
-    let tasks = task_tree::Run::of(trace, tree.family());
-    States::in_run(alloc, &tasks, None)
-}
 
 /// The first record of a trace at which a parallel region lies inside another (OpenMP 5.2,
 /// 10.1), as `find_nested` finds it. The tree must be that of the trace's tasks.

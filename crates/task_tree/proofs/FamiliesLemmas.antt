@@ -15,7 +15,7 @@ use Rattle.ompt_events.specs.Causes.{IsFreeOf}
 use Rattle.ompt_events.specs.Faults.{FindsFirst}
 use Rattle.task_tree.specs.Rising.{TurnsRise}
 use Rattle.task_tree.specs.Family.{IsFamilyOf}
-use Rattle.task_tree.specs.Runs.{RunView}
+use Rattle.task_tree.specs.Runs.{RunView, IsRun}
 use Rattle.task_tree.specs.OwnOrder.{AreAllPlaces}
 use Rattle.task_tree.specs.Own.{KeepsMembers}
 use Rattle.task_tree.specs.Families.{FamiliesView, AreFamiliesOf, AreArranged, as_in_file, by_turn}
@@ -42,11 +42,11 @@ file_all_places rs = record {
 -- so the order of a trace has each place once
 pub file_order_all : (rs : List Record) (arranged : Option RunView) (order : List ℕ) → arranged ≡ None → AreArranged rs arranged order → AreAllPlaces order (length rs)
 file_order_all rs arranged order none (as_in_file rise) = file_all_places rs
-file_order_all rs arranged order none (by_turn {run = run} same) = absurd (none-some run (sym none))
+file_order_all rs arranged order none (by_turn {run = run} is same) = absurd (none-some run (sym none))
 
 pub own_order_all : (rs : List Record) (arranged : Option RunView) (run : RunView) (order : List ℕ) → arranged ≡ Some run → AreArranged rs arranged order → AreAllPlaces order (length run.records)
 own_order_all rs arranged run order some (as_in_file rise) = absurd (none-some run some)
-own_order_all rs arranged run order some (by_turn {run = own} same) =
+own_order_all rs arranged run order some (by_turn {run = own} is same) =
     let long : length run.records ≡ length rs = ap (λ (r : RunView). length r.records) (sym (same_Some own run some)) ∙ ap length same ∙ arranged_length rs in
     let P : ℕ → Type 0 = AreAllPlaces (own_places rs) in
     subst P (sym long) (own_all_places rs)
@@ -74,11 +74,11 @@ arranged_members rs number other first second less one another at_first at_secon
 
 pub file_order_members : (rs : List Record) (arranged : Option RunView) (order : List ℕ) → arranged ≡ None → AreArranged rs arranged order → KeepsMembers rs order
 file_order_members rs arranged order none (as_in_file rise) = file_members rs
-file_order_members rs arranged order none (by_turn {run = run} same) = absurd (none-some run (sym none))
+file_order_members rs arranged order none (by_turn {run = run} is same) = absurd (none-some run (sym none))
 
 pub own_order_members : (rs : List Record) (arranged : Option RunView) (run : RunView) (order : List ℕ) → arranged ≡ Some run → AreArranged rs arranged order → KeepsMembers run.records order
 own_order_members rs arranged run order some (as_in_file rise) = absurd (none-some run some)
-own_order_members rs arranged run order some (by_turn {run = own} same) =
+own_order_members rs arranged run order some (by_turn {run = own} is same) =
     let P : List Record → Type 0 = λ records. KeepsMembers records (own_places rs) in
     subst P (sym (ap (λ (r : RunView). r.records) (sym (same_Some own run some)) ∙ same)) (arranged_members rs)
 
@@ -91,10 +91,10 @@ file_families rs families file rise free none order gap = record {
   gap = rw gap free;
 }
 
-pub arranged_families : (rs : List Record) (families : FamiliesView) (run : RunView) → IsFamilyOf rs families.file → run.records ≡ in_own_order rs → FindsFirst rs TurnGap families.gap → families.arranged ≡ Some run → families.places ≡ own_places rs → AreFamiliesOf rs families
-arranged_families rs families run file records gap some order = record {
+pub arranged_families : (rs : List Record) (families : FamiliesView) (run : RunView) → IsFamilyOf rs families.file → IsRun run → run.records ≡ in_own_order rs → FindsFirst rs TurnGap families.gap → families.arranged ≡ Some run → families.places ≡ own_places rs → AreFamiliesOf rs families
+arranged_families rs families run file is records gap some order = record {
   file = file;
-  own = let P : List ℕ → Type 0 = AreArranged rs families.arranged in let Q : Option RunView → Type 0 = λ o. AreArranged rs o (own_places rs) in subst P (sym order) (subst Q (sym some) (by_turn records));
+  own = let P : List ℕ → Type 0 = AreArranged rs families.arranged in let Q : Option RunView → Type 0 = λ o. AreArranged rs o (own_places rs) in subst P (sym order) (subst Q (sym some) (by_turn is records));
   gap = gap;
 }
 

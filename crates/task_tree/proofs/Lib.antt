@@ -39,3 +39,5 @@ pub mod GapFreeLemmas
 pub mod FamiliesLemmas
 pub mod ShownLemmas
 pub mod ArrangedLemmas
+pub mod TreeLemmas
+pub mod OwnRunLemmas

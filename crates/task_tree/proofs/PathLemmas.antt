@@ -14,7 +14,7 @@ use Rattle.ompt_events.proofs.ListLemmas.{get_contains}
 use Rattle.ompt_events.proofs.TreeLemmas.{child_place}
 use Rattle.task_tree.specs.declared.links.Link.{Link}
 use Rattle.task_tree.specs.Family.{FamilyView, IsFamilyOf}
-use Rattle.task_tree.specs.Paths.{IsClimbed, TreeView, IsTreeOf}
+use Rattle.task_tree.specs.Paths.{ArePaths, IsClimbed}
 use Rattle.task_tree.specs.declared.roots.Standing.{Standing}
 use Rattle.task_tree.proofs.OnceLemmas.{one_number}
 use Rattle.task_tree.proofs.FamilyLemmas.{link_found, link_child, path_noted}
@@ -98,20 +98,20 @@ root_known rs family task index are is = of (get_or family.roots index None) (sl
     of None e = absurd (has_root rs family task index are is e)
     of (Some standing) e = let stands = are.roots.rooted index task standing is e in (standing.root, stands.0, stands.1)
 
-pub path_is : (rs : List Record) (tree : TreeView) (task index : ℕ) (found : Vec ℕ) → IsTreeOf rs tree → slice_get tree.family.tasks index ≡ Some task → index < length tree.paths → found ≡ get_or tree.paths index found → (path : List ℕ) → (Some found.items ≡ Some path) ↔ ((r : ℕ) × HasPath rs r task path)
-path_is rs tree task index found are is within read path = (
+pub path_is : (rs : List Record) (family : FamilyView) (paths : List (Vec ℕ)) (task index : ℕ) (found : Vec ℕ) → IsFamilyOf rs family → ArePaths rs family.tasks paths → slice_get family.tasks index ≡ Some task → index < length paths → found ≡ get_or paths index found → (path : List ℕ) → (Some found.items ≡ Some path) ↔ ((r : ℕ) × HasPath rs r task path)
+path_is rs family paths task index found of_records are is within read path = (
   λ says.
-      let known = root_known rs tree.family task index are.family is in
+      let known = root_known rs family task index of_records is in
       let P : List ℕ → Type 0 = λ p. HasPath rs known.0 task p in
       (known.0, subst P (sym (stored known.0 known.1 known.2) ∙ same_Some found.items path says) known.2),
   λ (r, stands). ap Some (stored r path stands),
 )
   where
     stored : (r : ℕ) (p : List ℕ) → HasPath rs r task p → found.items ≡ p
-    stored r p stands = same_Some found.items p (sym (ap (option_map (λ (l : Vec ℕ). l.items)) (slice_get_read tree.paths (length tree.paths) index found refl within read)) ∙ are.paths.each index task r p is stands)
+    stored r p stands = same_Some found.items p (sym (ap (option_map (λ (l : Vec ℕ). l.items)) (slice_get_read paths (length paths) index found refl within read)) ∙ are.each index task r p is stands)
 
-pub path_none : (rs : List Record) (tree : TreeView) (task : ℕ) → IsTreeOf rs tree → (Contains tree.family.tasks task → ⊥) → (path : List ℕ) → (None ≡ Some path) ↔ ((r : ℕ) × HasPath rs r task path)
-path_none rs tree task are none path = (
+pub path_none : (rs : List Record) (family : FamilyView) (task : ℕ) → IsFamilyOf rs family → (Contains family.tasks task → ⊥) → (path : List ℕ) → (None ≡ Some path) ↔ ((r : ℕ) × HasPath rs r task path)
+path_none rs family task are none path = (
   λ says. absurd (none-some path says),
-  λ (r, stands). absurd (none (path_noted rs tree.family.tasks r task path are.family.noted stands)),
+  λ (r, stands). absurd (none (path_noted rs family.tasks r task path are.noted stands)),
 )

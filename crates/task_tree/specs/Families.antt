@@ -1,5 +1,6 @@
 -- The families of a trace's tasks: by the file, and by the tasks' own order where that is another.
 use Rattle.std.specs.Prelude.{ℕ, ◌≡◌, List, Option, Some, None}
+use Rattle.std.specs.Option.{option_map_or}
 use Rattle.ompt_events.specs.declared.records.Record.{Record}
 use Rattle.ompt_events.specs.declared.cause.Cause.TheVariants.{TurnGap}
 use Rattle.ompt_events.specs.Places.{places}
@@ -7,7 +8,7 @@ use Rattle.ompt_events.specs.Turns.{in_own_order, own_places}
 use Rattle.ompt_events.specs.Faults.{FindsFirst}
 use Rattle.task_tree.specs.Family.{FamilyView, IsFamilyOf}
 use Rattle.task_tree.specs.Rising.{TurnsRise}
-use Rattle.task_tree.specs.Runs.{RunView}
+use Rattle.task_tree.specs.Runs.{RunView, IsRun}
 use Rattle.task_tree.specs.Own.{OwnView}
 
 -- what clauses see of families: that of the file; the run of the arranged records, where file order is not the
@@ -21,7 +22,12 @@ pub record FamiliesView : Type 0 where
 -- the records stand in the tasks' own order as in the file, or arranged
 pub data AreArranged (rs : List Record) : Option RunView → List ℕ → Type 0 where
   as_in_file : TurnsRise rs → AreArranged rs None (places rs)
-  by_turn : {run : RunView} → run.records ≡ in_own_order rs → AreArranged rs (Some run) (own_places rs)
+  by_turn : {run : RunView} → IsRun run → run.records ≡ in_own_order rs
+      → AreArranged rs (Some run) (own_places rs)
+
+-- the family by the tasks' own order
+abbrev pub own_family : FamiliesView → FamilyView
+own_family families = option_map_or (λ (run : RunView). run.family) families.arranged families.file
 
 -- the families are those of the records
 pub record AreFamiliesOf (rs : List Record) (families : FamiliesView) : Type 0 where

@@ -3,7 +3,8 @@ use Rattle.std.specs.Prelude.{ℕ, ◌≡◌, ◌++◌, List, length, reverse, S
 use Rattle.std.specs.Global.{Vec}
 use Rattle.ompt_events.specs.declared.records.Record.{Record}
 use Rattle.ompt_events.specs.Tree.{HasPath}
-use Rattle.task_tree.specs.Family.{FamilyView, IsFamilyOf}
+use Rattle.ompt_events.specs.Turns.{in_own_order}
+use Rattle.task_tree.specs.Families.{FamiliesView, AreFamiliesOf, own_family}
 
 -- at the index of each task stands its path
 pub record ArePaths (rs : List Record) (tasks : List ℕ) (paths : List (Vec ℕ)) : Type 0 where
@@ -25,12 +26,12 @@ pub record IsClimbed (rs : List Record) (tasks : List ℕ) (root : ℕ) (path : 
   pub reversed : numbers ≡ reverse passed
   pub all : length passed ≡ steps
 
--- what clauses see of a tree: its family, and by index of the task its path
+-- what clauses see of a tree: the families of its tasks, and by index of the task in its own order its path
 pub record TreeView : Type 0 where
-  pub family : FamilyView
+  pub families : FamiliesView
   pub paths : List (Vec ℕ)
 
--- the tree is that of the records
+-- the tree is that of the records' tasks, by their own order
 pub record IsTreeOf (rs : List Record) (tree : TreeView) : Type 0 where
-  pub family : IsFamilyOf rs tree.family
-  pub paths : ArePaths rs tree.family.tasks tree.paths
+  pub families : AreFamiliesOf rs tree.families
+  pub paths : ArePaths (in_own_order rs) (own_family tree.families).tasks tree.paths

@@ -8,8 +8,9 @@ ghost use Rattle.ompt_events.specs.Faults.{IsFault, FindsFirst};
 ghost use Rattle.ompt_events.specs.Turns.{in_own_order, own_places};
 ghost use Rattle.task_tree.specs.Family.{IsFamilyOf};
 ghost use Rattle.task_tree.specs.Rising.{TurnsRise};
+ghost use Rattle.task_tree.specs.Runs.{IsRun};
 ghost use Rattle.task_tree.specs.OwnOrder.{AreAllPlaces};
-ghost use Rattle.task_tree.specs.Families.{AreFamiliesOf, IsOwnOf};
+ghost use Rattle.task_tree.specs.Families.{AreFamiliesOf, IsOwnOf, own_family};
 
 use crate::copies::copy_of;
 use crate::family::Family;
@@ -112,6 +113,16 @@ impl Families {
         }
     }
 
+    /// The family by the tasks' own order.
+    pub fn own_family(&self) -> &Family
+        ensures { result.now ≡ own_family self.now }
+    {
+        match &self.arranged {
+            None => &self.file,
+            Some(arranged) => &arranged.family,
+        }
+    }
+
     /// The first record that tells turns which are not those of its tasks.
     pub fn gap(&self) -> Option<usize>
         ensures { result ≡ self.now.gap }
@@ -143,6 +154,7 @@ impl Arranged {
         requires rooted { IsFreeOf trace.now.records Rootless }
         requires order { order.now ≡ own_places trace.now.records }
         ensures records { IfOk result (λ arranged. arranged.records ≡ in_own_order trace.now.records) }
+        ensures is_run { IfOk result IsRun }
         ensures memory_alone { IfErr result (λ fault. fault ≡ Memory) }
     {
         let records = arranged_records(alloc, trace.records(), order)?;

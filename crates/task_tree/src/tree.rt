@@ -3,9 +3,12 @@ ghost use Rattle.std.specs.Prelude.{ℕ, ◌≡◌, ◌↔◌, List, [], ◌∷�
 ghost use Rattle.ompt_events.specs.declared.records.Record.{Record};
 ghost use Rattle.ompt_events.specs.Tree.{IsParent, IsChild, HasPath, children};
 ghost use Rattle.ompt_events.specs.declared.cause.Cause.TheVariants.{CreatedTwice, Rootless};
+ghost use Rattle.ompt_events.specs.Turns.{in_own_order};
 ghost use Rattle.ompt_events.specs.Faults.{IsFault};
+ghost use Rattle.task_tree.specs.Families.{own_family};
 ghost use Rattle.task_tree.specs.Paths.{IsTreeOf};
 
+use crate::families::Families;
 use crate::family::Family;
 use crate::paths::find_paths;
 use ompt_events::{Fault, Trace};
@@ -16,23 +19,26 @@ use std::marker::Model;
 pub type TreeFault = Fault;
 
 /// The tasks that the records of a trace make, each with its parent, its number, its path, its root and its
-/// children. Paths are stored: their memory is the sum of the depths of all tasks, which a chain of tasks
-/// makes quadratic. `Family` has all but the paths.
+/// children, by the tasks' own order: a task that ran on several threads has its children in the order of its
+/// turns. Paths are stored: their memory is the sum of the depths of all tasks, which a chain of tasks
+/// makes quadratic. `Families` have all but the paths.
 #[derive(Debug, Drop)]
 pub struct Tree {
-    family: Family,
+    families: Families,
+    /// By index of the task in the family of its own order.
     paths: Vec<Vec<u32>>,
 }
 
 impl Model for Tree {
     ghost use Rattle.std.specs.Prelude.{◌≡◌, length};
+    ghost use Rattle.task_tree.specs.Families.{own_family};
     ghost use Rattle.task_tree.specs.Paths.{TreeView};
 
     ghost Value = { TreeView };
 
-    ghost view = { λ tree. record { family = tree.family; paths = tree.paths.items } };
+    ghost view = { λ tree. record { families = tree.families; paths = tree.paths.items } };
 
-    ghost invariant = { λ tree. length tree.paths.items ≡ length tree.family.tasks };
+    ghost invariant = { λ tree. length tree.paths.items ≡ length (own_family tree.families).tasks };
 }
 
 impl Tree {
@@ -42,42 +48,51 @@ impl Tree {
         ensures tree { IfOk result (IsTreeOf trace.now.records) }
         ensures fault { IfErr result (IsFault trace.now.records (CreatedTwice ∷ Rootless ∷ [])) }
     {
-        let family = Family::build(alloc, trace)?;
-        let paths = find_paths(alloc, &family)?;
-        Ok(Tree { family, paths })
+        let families = Families::build(alloc, trace)?;
+        let paths = find_paths(alloc, families.own_family())?;
+        Ok(Tree { families, paths })
     }
 
-    /// The tree without its paths.
-    pub fn family(&self) -> &Family
-        ensures { result.now ≡ self.now.family }
+    /// The tree without its paths: the families of the tasks, by the file and by the tasks' own order.
+    pub fn families(&self) -> &Families
+        ensures { result.now ≡ self.now.families }
     {
-        &self.family
+        &self.families
+    }
+
+    /// The family by the tasks' own order.
+    fn family(&self) -> &Family
+        ensures { result.now ≡ own_family self.now.families }
+    {
+        self.families.own_family()
     }
 
     /// The task that created this one; none for a root, or where no record makes the task.
     pub fn parent(&self, task: u64) -> Option<u64>
         ensures { (records : List Record) → IsTreeOf records self.now → (parent : ℕ)
-            → (result ≡ Some parent) ↔ IsParent records parent task }
+            → (result ≡ Some parent) ↔ IsParent (in_own_order records) parent task }
     {
-        self.family.parent(task)
+        self.family().parent(task)
     }
 
-    /// How many children the task's parent created before it; none for a root, or where no record makes the
+    /// How many children the task's parent created before it, in its own order; none for a root, or where no record makes the
     /// task.
     pub fn number(&self, task: u64) -> Option<u32>
         ensures { (records : List Record) → IsTreeOf records self.now → (number : ℕ)
-            → (result ≡ Some number) ↔ ((parent : ℕ) × IsChild records parent number task) }
+            → (result ≡ Some number) ↔ ((parent : ℕ)
+            × IsChild (in_own_order records) parent number task) }
     {
-        self.family.number(task)
+        self.family().number(task)
     }
 
     /// The numbers of the children from the root down to the task, empty for a root; none where no record
     /// makes the task.
     pub fn path(&self, task: u64) -> Option<&[u32]>
         ensures { (records : List Record) → IsTreeOf records self.now → (path : List ℕ)
-            → (option_copied result ≡ Some path) ↔ ((root : ℕ) × HasPath records root task path) }
+            → (option_copied result ≡ Some path) ↔ ((root : ℕ)
+            × HasPath (in_own_order records) root task path) }
     {
-        match self.family.tasks().index_of(task) {
+        match self.family().tasks().index_of(task) {
             Some(index) => Some(self.paths[index].as_slice()),
             None => None,
         }
@@ -87,15 +102,17 @@ impl Tree {
     /// it is one; none where no record makes the task.
     pub fn root(&self, task: u64) -> Option<u64>
         ensures { (records : List Record) → IsTreeOf records self.now → (root : ℕ)
-            → (result ≡ Some root) ↔ ((path : List ℕ) × HasPath records root task path) }
+            → (result ≡ Some root) ↔ ((path : List ℕ)
+            × HasPath (in_own_order records) root task path) }
     {
-        self.family.root(task)
+        self.family().root(task)
     }
 
     /// The children of the task in the order of their numbers; empty where no record makes the task.
     pub fn children(&self, task: u64) -> &[u64]
-        ensures { (records : List Record) → IsTreeOf records self.now → result.now ≡ children records task }
+        ensures { (records : List Record) → IsTreeOf records self.now
+            → result.now ≡ children (in_own_order records) task }
     {
-        self.family.children(task)
+        self.family().children(task)
     }
 }

@@ -14,7 +14,7 @@ use Rattle.ompt_events.specs.Regions.{IsRegion, is_barrier, barrier_begun}
 use Rattle.ompt_events.specs.Waits.{wait_kind}
 use Rattle.task_tree.specs.Runs.{RunView, IsWaitEvent, IsNoWaitEvent}
 use Rattle.task_tree.specs.Subjects.{Calls}
-use Rattle.task_states.specs.States.{IsBeginOf}
+use Rattle.task_states.specs.Regions.{IsBeginOf}
 use Rattle.teams.specs.Missed.{IsBarrierEnd, EndsNoBarrier}
 use Rattle.teams.proofs.RegionEndLemmas.{ends_at}
 use Rattle.teams.proofs.MissedLemmas.{other_kind}

@@ -19,7 +19,7 @@ use Rattle.task_tree.proofs.NamedLemmas.{region_subject}
 use Rattle.teams.specs.Rows.{row_at}
 use Rattle.teams.specs.Teams.{AreTeams, AreBegins, AreBeginNumbers, begins_before}
 use Rattle.std.specs.Global.{Vec}
-use Rattle.task_states.specs.States.{IsBeginOf}
+use Rattle.task_states.specs.Regions.{IsBeginOf}
 use Rattle.teams.specs.Missed.{EndsBarrier, EndsNoBarrier, IsMissed}
 use Rattle.teams.specs.Fewest.{AreFewest, AreTeamsWithin}
 use Rattle.teams.proofs.BeginLemmas.{begins_cases, begins_few}

@@ -5,7 +5,7 @@ use Rattle.std.proofs.lemmas.Option.{none-some, same_Some, slice_get_within, sli
 use Rattle.std.proofs.lemmas.List.{length_push, length-set, length-replicate, get_or-replicate}
 use Rattle.std.proofs.Math.ListN.{set}
 use Rattle.std.specs.Global.{Vec}
-use Rattle.std.specs.Prelude.{slice_get, replicate, Contains}
+use Rattle.std.specs.Prelude.{is_some, slice_get, replicate, Contains}
 use Rattle.ompt_events.specs.declared.records.Record.{Record}
 use Rattle.ompt_events.specs.declared.records.Membership.{Membership}
 use Rattle.ompt_events.specs.declared.cause.Cause.TheVariants.{CreatedTwice}
@@ -161,7 +161,7 @@ one_size rs i tasks lead m e leads whole has =
     let P : ℕ → Type 0 = λ p. IsLead rs tasks p lead in
     elim (cases_eq leads.first.actual e.actual) [
       | inl same ↦ sym same
-      | inr different ↦ absurd (whole place.place place.before (elim (cases_order leads.place place.place) [
+      | inr different ↦ absurd (whole place.place place.before (ap is_some place.joins) (elim (cases_order leads.place place.place) [
         | inl same ↦ absurd (different (ap (λ (x : Membership). x.actual) (same_Some leads.first e (sym leads.joins ∙ ap (at joined rs) same ∙ place.joins))))
         | inr (inl less) ↦ other_size e leads.first place.joins (place_member rs e.parallel place.place leads.place leads.first less leads.joins (leads.same ∙ sym place.same)) different
         | inr (inr more) ↦ absurd (leads.earliest place.place e more place.joins place.same)

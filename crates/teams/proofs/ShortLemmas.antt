@@ -1,42 +1,65 @@
--- The first record that shows a team or a barrier that lacks a member, and what is known where none does.
-use Rattle.std.proofs.Common.{◌≡◌, ◌∙◌, ℕ, ◌<◌, ◌≤◌, ◌+◌, List, [], ◌∷◌, length, get_or, Option, Some, None, refl, sym, ap, subst, arith, inl, inr, ◌⊎◌}
-use Rattle.std.proofs.lemmas.Bool.{cases_eq, cases_lt}
-use Rattle.std.proofs.lemmas.Option.{same_Some, slice_get_within, slice_get_past, slice_get-get_or}
+-- The first place in the file at which a record shows a team or a barrier that lacks a member, and what is known
+-- where none does.
+use Rattle.std.proofs.Common.{◌≡◌, ◌∙◌, ℕ, ◌<◌, ◌≤◌, ◌+◌, List, [], ◌∷◌, length, get_or, Option, Some, None, true, refl, sym, ap, subst, arith, inl, inr, ◌⊎◌}
+use Rattle.std.proofs.lemmas.Bool.{cases_eq, cases_lt, cases_order, false≢true}
+use Rattle.std.proofs.lemmas.Option.{none-some, same_Some, slice_get_within, slice_get_past, slice_get-get_or}
 use Rattle.std.specs.Global.{Vec}
-use Rattle.std.specs.Prelude.{◌↔◌, slice_get}
+use Rattle.std.specs.Prelude.{◌↔◌, is_some, slice_get, option_and_then}
+use Rattle.std.specs.Option.{unwrap_or, option_or}
 use Rattle.ompt_events.specs.declared.records.Record.{Record}
+use Rattle.ompt_events.specs.declared.records.Body.{Body}
+use Rattle.ompt_events.specs.declared.records.Body.TheVariants.{SyncRegion}
 use Rattle.ompt_events.specs.declared.records.Membership.{Membership}
+use Rattle.ompt_events.specs.declared.names.Endpoint.{Endpoint}
+use Rattle.ompt_events.specs.declared.names.SyncKind.{SyncKind}
 use Rattle.ompt_events.specs.declared.cause.Cause.TheVariants.{CreatedTwice, TeamShort}
-use Rattle.ompt_events.specs.Records.{joined}
+use Rattle.ompt_events.specs.Records.{joined, region}
 use Rattle.ompt_events.specs.Places.{at}
-use Rattle.ompt_events.specs.Causes.{IsShort, outside, same_index, other_size, few, missed, HasCause, team_short, IsFreeOf, IsFirstWith}
+use Rattle.ompt_events.specs.Causes.{IsShort, outside, same_index, other_size, few, missed, HasCause, team_short, IsFreeOf}
 use Rattle.ompt_events.specs.Teams.{IsInitial}
 use Rattle.ompt_events.proofs.PlaceLemmas.{at_within}
 use Rattle.task_tree.specs.Numbering.{AreApart}
-use Rattle.teams.specs.Tables.{TablesView, AreTables}
+use Rattle.task_tree.specs.Own.{OwnView, IsOwn, HasCauseAt, IsFirstPlaceWith}
+use Rattle.teams.specs.Tables.{TablesView, AreTables, tables_own}
 use Rattle.teams.specs.Fewest.{AreTeamsWithin, AreShort}
 use Rattle.teams.specs.Members.{IsInTeam, in_own, in_joined, AreInTeams}
 use Rattle.teams.specs.Missed.{IsMissed}
 use Rattle.teams.proofs.MissedLemmas.{AreFewestOf}
 use Rattle.teams.specs.Seats.{IsSeatOf, AreSeats, AreSeated, LacksNothing, IsWholeBefore}
 use Rattle.teams.specs.Rows.{row_items, row_at}
-use Rattle.teams.specs.Short.{IsSearched}
-use Rattle.ompt_events.specs.Faults.{FindsFirst}
+use Rattle.teams.specs.Short.{IsFirstLack, IsSeated, IsMissedAt, IsMissedNowhere, FindsMissed, IsSearched}
 use Rattle.teams.specs.Teams.{IsMemberNumbered, alone, together, AreRosters, AreBegins, IsTeams}
 use Rattle.teams.proofs.BeginLemmas.{begins_few}
 use Rattle.teams.proofs.RegionEndLemmas.{ends_at}
 use Rattle.teams.proofs.MemberLemmas.{member_place, place_member, initial_once, joined_once, teams_are}
 use Rattle.teams.proofs.SeatLemmas.{all_taken}
 
--- ---- the first record
+-- ---- the first place
 
--- a record whose member lacks nothing, and that ends no barrier that a member misses, shows no lack
-pub not_short : (rs : List Record) (i : ℕ) → LacksNothing rs i → (IsMissed rs i → ⊥) → IsShort rs i → ⊥
-not_short rs i fine none (outside m joins out) = let inside = (fine m joins).fits.inside in omega (arith, inside, out)
-not_short rs i fine none (same_index m e joins has same) = (fine m joins).alone e has same
-not_short rs i fine none (other_size m e joins has different) = different ((fine m joins).fits.one_size e has)
-not_short rs i fine none (few m joins less) = let enough = (fine m joins).fits.enough in omega (arith, enough, less)
-not_short rs i fine none (missed task member begin number kind ends barrier numbered mate never) = none (record {
+-- at the end of a region no member begins
+region_joins : (rs : List Record) (i task : ℕ) (kind : SyncKind) (endpoint : Endpoint) → at region rs i ≡ Some (task, kind, endpoint) → at joined rs i ≡ None
+region_joins rs i task kind endpoint says = there (slice_get rs i) says
+  where
+    of : (b : Body) → region b ≡ Some (task, kind, endpoint) → joined b ≡ None
+    of (SyncRegion sort point parallel own) is = refl
+    of _ is = absurd (none-some (task, kind, endpoint) is)
+
+    there : (o : Option Record) → option_and_then (λ (r : Record). region r.body) o ≡ Some (task, kind, endpoint) → option_and_then (λ (r : Record). joined r.body) o ≡ None
+    there None is = refl
+    there (Some r) is = of r.body is
+
+missed_joins : (rs : List Record) (i : ℕ) → IsMissed rs i → is_some (at joined rs i) ≡ true → ⊥
+missed_joins rs i m joins =
+    let ends = ends_at rs i m.barrier.task m.begin m.barrier.kind m.barrier.ends in
+    false≢true (sym (ap is_some (region_joins rs i m.barrier.task m.barrier.kind ends.endpoint ends.says)) ∙ joins)
+
+-- a record shows a lack where a member begins, or where a barrier ends that a member misses
+short_cases : (rs : List Record) (i : ℕ) → IsShort rs i → (is_some (at joined rs i) ≡ true) ⊎ IsMissed rs i
+short_cases rs i (outside m joins out) = inl (ap is_some joins)
+short_cases rs i (same_index m e joins has same) = inl (ap is_some joins)
+short_cases rs i (other_size m e joins has different) = inl (ap is_some joins)
+short_cases rs i (few m joins less) = inl (ap is_some joins)
+short_cases rs i (missed task member begin number kind ends barrier numbered mate never) = inr (record {
   begin = begin;
   barrier = record { task = task; kind = kind; ends = ends; barrier = barrier };
   number = number;
@@ -46,7 +69,23 @@ not_short rs i fine none (missed task member begin number kind ends barrier numb
   never = never;
 })
 
-pub missed_short : (rs : List Record) (i : ℕ) → IsMissed rs i → IsShort rs i
+-- a record whose member lacks nothing shows no lack
+not_short : (rs : List Record) (i : ℕ) → LacksNothing rs i → is_some (at joined rs i) ≡ true → IsShort rs i → ⊥
+not_short rs i fine begins (outside m joins out) = let inside = (fine m joins).fits.inside in omega (arith, inside, out)
+not_short rs i fine begins (same_index m e joins has same) = (fine m joins).alone e has same
+not_short rs i fine begins (other_size m e joins has different) = different ((fine m joins).fits.one_size e has)
+not_short rs i fine begins (few m joins less) = let enough = (fine m joins).fits.enough in omega (arith, enough, less)
+not_short rs i fine begins (missed task member begin number kind ends barrier numbered mate never) = missed_joins rs i (record {
+  begin = begin;
+  barrier = record { task = task; kind = kind; ends = ends; barrier = barrier };
+  number = number;
+  numbered = numbered;
+  member = member;
+  mate = mate;
+  never = never;
+}) begins
+
+missed_short : (rs : List Record) (i : ℕ) → IsMissed rs i → IsShort rs i
 missed_short rs i m = missed m.barrier.task m.member m.begin m.number m.barrier.kind m.barrier.ends m.barrier.barrier m.numbered m.mate m.never
 
 short_within : (rs : List Record) (i : ℕ) → IsShort rs i → i < length rs
@@ -62,21 +101,73 @@ of_cause rs i (team_short is) = is
 pub whole_start : (rs : List Record) → IsWholeBefore rs 0
 whole_start rs = λ k below. absurd (omega (arith, below))
 
-pub whole_more : (rs : List Record) (n : ℕ) → IsWholeBefore rs n → (IsShort rs n → ⊥) → IsWholeBefore rs (n + 1)
-whole_more rs n whole none = λ k below short. elim (cases_eq k n) [
-  | inl same ↦ let P : ℕ → Type 0 = IsShort rs in none (subst P same short)
-  | inr apart ↦ whole k (omega (arith, below, apart)) short
+pub whole_more : (rs : List Record) (n : ℕ) → IsWholeBefore rs n → LacksNothing rs n → IsWholeBefore rs (n + 1)
+whole_more rs n whole fine = λ k below joins short. elim (cases_eq k n) [
+  | inl same ↦
+      let P : ℕ → Type 0 = IsShort rs in
+      not_short rs n fine (ap (λ j. is_some (at joined rs j)) (sym same) ∙ joins) (subst P same short)
+  | inr apart ↦ whole k (omega (arith, below, apart)) joins short
 ]
 
-pub first_short : (rs : List Record) (i : ℕ) → IsWholeBefore rs i → IsShort rs i → IsFirstWith rs TeamShort i
-first_short rs i whole short = record {
-  within = short_within rs i short;
-  has = team_short short;
-  first = λ k below has. whole k below (of_cause rs k has);
+pub nowhere_start : (own : OwnView) → IsMissedNowhere own 0
+nowhere_start own = λ k below. absurd (omega (arith, below))
+
+-- one more place at which no barrier ends that a member misses
+pub nowhere_more : (own : OwnView) (place number : ℕ) → IsOwn own → slice_get own.places number ≡ Some place → (IsMissed own.run.records number → ⊥) → IsMissedNowhere own place → IsMissedNowhere own (place + 1)
+nowhere_more own place number is stands none before = λ k below there. elim (cases_eq k place) [
+  | inl same ↦
+      let one : there.0 ≡ number = is.places.apart there.0 number place (there.1 ∙ ap Some same) stands in
+      let P : ℕ → Type 0 = IsMissed own.run.records in
+      none (subst P one there.2)
+  | inr apart ↦ before k (omega (arith, below, apart)) there
+]
+
+-- before the first place in the file at which a member lacks something none does: members keep their order
+lack_first : (own : OwnView) (place k number : ℕ) → IsOwn own → IsFirstLack own place → k < place → slice_get own.places number ≡ Some k → is_some (at joined own.run.records number) ≡ true → IsShort own.run.records number → ⊥
+lack_first own place k number is lack below stands joins short = elim (cases_order number lack.number) [
+  | inl same ↦ let e = same_Some k place (sym stands ∙ ap (slice_get own.places) same ∙ lack.stands) in omega (arith, e, below)
+  | inr (inl less) ↦ lack.first number less joins short
+  | inr (inr more) ↦ let order = is.members lack.number number place k more lack.joins joins lack.stands stands in omega (arith, order, below)
+]
+
+-- a place below both bounds
+first_of : (own : OwnView) (place : ℕ) → HasCauseAt own TeamShort place → ((k number : ℕ) → k < place → slice_get own.places number ≡ Some k → is_some (at joined own.run.records number) ≡ true → IsShort own.run.records number → ⊥) → IsMissedNowhere own place → IsFirstPlaceWith own TeamShort place
+first_of own place has whole none = record {
+  has = has;
+  first = λ k below there.
+      let short = of_cause own.run.records there.0 there.2 in
+      elim (short_cases own.run.records there.0 short) [
+        | inl joins ↦ whole k there.0 below there.1 joins short
+        | inr misses ↦ none k below (there.0, there.1, misses)
+      ];
 }
 
-pub free_short : (rs : List Record) → IsWholeBefore rs (length rs) → IsFreeOf rs TeamShort
-free_short rs whole = λ i has. let short = of_cause rs i has in whole i (short_within rs i short) short
+free_short : (own : OwnView) → IsOwn own → IsWholeBefore own.run.records (length own.run.records) → IsMissedNowhere own (length own.run.records) → IsFreeOf own.run.records TeamShort
+free_short own is whole none = λ i has.
+    let short = of_cause own.run.records i has in
+    let inside = short_within own.run.records i short in
+    elim (short_cases own.run.records i short) [
+      | inl joins ↦ whole i inside joins short
+      | inr misses ↦
+          let long = is.places.all in
+          let stands = slice_get-get_or own.places i 0 (omega (arith, inside, long)) in
+          none (get_or own.places i 0) (is.places.below i (get_or own.places i 0) stands) (i, stands, misses)
+    ]
+
+missed_at : (own : OwnView) (place : ℕ) → IsMissedAt own place → HasCauseAt own TeamShort place
+missed_at own place there = (there.0, there.1, team_short (missed_short own.run.records there.0 there.2))
+
+-- where the search for a missed barrier ends
+pub end_within : (own : OwnView) (rosters : List (Vec (Option ℕ))) (lacking : Option ℕ) → IsOwn own → IsSeated own rosters lacking → unwrap_or lacking (length own.run.records) ≤ length own.run.records
+end_within own rosters None is seated = omega arith
+end_within own rosters (Some place) is lack = let below = is.places.below lack.number place lack.stands in omega (arith, below)
+
+-- the lesser of both places
+pub searched : (own : OwnView) (rosters : List (Vec (Option ℕ))) (lacking found : Option ℕ) → IsOwn own → IsSeated own rosters lacking → FindsMissed own (unwrap_or lacking (length own.run.records)) found → IsSearched own rosters (option_or found lacking)
+searched own rosters None None is seated none = (free_short own is seated.0 none, seated.1)
+searched own rosters (Some place) None is lack none = first_of own place (lack.number, lack.stands, team_short lack.short) (λ k number below stands joins short. lack_first own place k number is lack below stands joins short) none
+searched own rosters None (Some place) is seated first = first_of own place (missed_at own place first.missed) (λ k number below stands joins short. seated.0 number (short_within own.run.records number short) joins short) first.first
+searched own rosters (Some bound) (Some place) is lack first = first_of own place (missed_at own place first.missed) (λ k number below stands joins short. lack_first own bound k number is lack (let before = first.before in omega (arith, below, before)) stands joins short) first.first
 
 -- ---- the tables
 
@@ -224,22 +315,14 @@ tables_fewest tables are = record {
   are_fewest = are.fewest;
 }
 
--- what the search for a lack found
-pub searched_finds : (rs : List Record) (tasks : List ℕ) (rosters : List (Vec (Option ℕ))) (found : Option ℕ) → IsSearched rs tasks rosters found → FindsFirst rs TeamShort found
-searched_finds rs tasks rosters None searched = searched.0
-searched_finds rs tasks rosters (Some i) searched = searched
-
-searched_none : (rs : List Record) (tasks : List ℕ) (rosters : List (Vec (Option ℕ))) (found : Option ℕ) → IsSearched rs tasks rosters found → IsFreeOf rs TeamShort → AreSeated rs (length rs) tasks rosters
-searched_none rs tasks rosters None searched free = searched.1
-searched_none rs tasks rosters (Some i) searched free = absurd (free i searched.has)
-
 -- the teams, where no record shows a lack
-pub teams_of : (tables : TablesView) (rosters : List (Vec (Option ℕ))) (found : Option ℕ) → AreTables tables → IsSearched tables.run.records tables.run.family.tasks rosters found → IsFreeOf tables.run.records TeamShort → IsTeams (record { run = tables.run; teams = tables.teams; rosters = rosters; begins = tables.begins; numbers = tables.numbers })
-teams_of tables rosters found are searched free = record {
+pub teams_of : (tables : TablesView) (rosters : List (Vec (Option ℕ))) → AreTables tables → IsSearched (tables_own tables) rosters None → IsTeams (record { run = tables.run; places = tables.places; teams = tables.teams; rosters = rosters; begins = tables.begins; numbers = tables.numbers })
+teams_of tables rosters are found = record {
   run = are.run;
+  placed = are.placed;
   teams = teams_are tables.run.records tables.run.family.tasks tables.teams are.run.family.once are.run.family.makers.apart are.teams;
-  rosters = rosters_are tables.run.records tables.run.family.tasks tables.teams rosters are.run.family.once are.run.family.makers.apart are.teams (searched_none tables.run.records tables.run.family.tasks rosters found searched free);
+  rosters = rosters_are tables.run.records tables.run.family.tasks tables.teams rosters are.run.family.once are.run.family.makers.apart are.teams found.1;
   begins = are.begins;
   numbers = are.numbers;
-  whole = free;
+  whole = found.0;
 }

@@ -1,5 +1,5 @@
 -- The seats of the members of a team, by their numbers, while the records are gone over.
-use Rattle.std.specs.Prelude.{ℕ, zero, suc, ◌≡◌, ◌<◌, ◌≤◌, ◌+◌, ◌⊎◌, ◌∷◌, [], List, length, Bool, true, false, Option, Some, None, Contains, slice_get, slice_set, replicate}
+use Rattle.std.specs.Prelude.{ℕ, zero, suc, ◌≡◌, ◌<◌, ◌≤◌, ◌+◌, ◌⊎◌, ◌∷◌, [], List, length, Bool, true, false, Option, Some, None, Contains, is_some, slice_get, slice_set, replicate}
 use Rattle.std.specs.Global.{Vec}
 use Rattle.ompt_events.specs.declared.records.Record.{Record}
 use Rattle.ompt_events.specs.declared.records.Membership.{Membership}
@@ -83,9 +83,9 @@ pub record HasSeat (rs : List Record) (i : ℕ) (m : Membership) : Type 0 where
 abbrev pub LacksNothing : List Record → ℕ → Type 0
 LacksNothing rs i = (m : Membership) → at joined rs i ≡ Some m → HasSeat rs i m
 
--- no record before the place shows a team that lacks a member
+-- no member that begins before the record shows a team that lacks a member
 abbrev pub IsWholeBefore : List Record → ℕ → Type 0
-IsWholeBefore rs i = (k : ℕ) → k < i → IsShort rs k → ⊥
+IsWholeBefore rs i = (k : ℕ) → k < i → is_some (at joined rs k) ≡ true → IsShort rs k → ⊥
 
 -- the seat was empty and is the index's now, or it is taken
 abbrev pub TakesSeat : List (Option ℕ) → List (Option ℕ) → ℕ → ℕ → Bool → Type 0
@@ -93,7 +93,7 @@ TakesSeat old new number index true =
     (slice_get old number ≡ Some None) × (new ≡ slice_set old number (Some index))
 TakesSeat old new number index false = (other : ℕ) × (slice_get old number ≡ Some (Some other))
 
--- the record shows a team that lacks a member; or its member lacks nothing, and has its seat
+-- a member begins there that shows a team which lacks a member; or it lacks nothing, and has its seat
 abbrev pub IsSeating : List Record → ℕ → List ℕ → List (Vec (Option ℕ)) → Bool → Type 0
-IsSeating rs i tasks rosters true = IsShort rs i
+IsSeating rs i tasks rosters true = (is_some (at joined rs i) ≡ true) × IsShort rs i
 IsSeating rs i tasks rosters false = LacksNothing rs i × AreSeated rs (i + 1) tasks rosters

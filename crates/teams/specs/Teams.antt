@@ -10,6 +10,7 @@ use Rattle.ompt_events.specs.Regions.{begins_barrier, barrier_begun, IsBarrierBe
 use Rattle.ompt_events.specs.Teams.{IsInitial, IsTeammate, members}
 use Rattle.ompt_events.specs.Causes.{IsFreeOf}
 use Rattle.task_tree.specs.Runs.{RunView, IsRun}
+use Rattle.task_tree.specs.Own.{OwnView, IsOwn}
 use Rattle.teams.specs.Rows.{row_at}
 
 -- the member with this number of the task's team (OpenMP 5.2, 18.2.4); an initial task is alone in its own
@@ -22,15 +23,21 @@ pub data IsMemberNumbered (rs : List Record) (task : ℕ) : ℕ → ℕ → Type
 abbrev pub begins_before : List Record → ℕ → ℕ → List ℕ
 begins_before rs task n = filter (begins_barrier rs task) (own_before rs task n)
 
--- what clauses see of teams: the run; by index of the task the number of its team, if it is in one; by number
+-- what clauses see of teams: the run, whose records stand in the tasks' own order; by number of a record its
+-- place in the file; by index of the task the number of its team, if it is in one; by number
 -- of the team its members by their own numbers; by index of the task the places at which it begins barriers;
 -- and by place of a record that begins a barrier how many its task began before
 pub record TeamsView : Type 0 where
   pub run : RunView
+  pub places : List ℕ
   pub teams : List (Option ℕ)
   pub rosters : List (Vec (Option ℕ))
   pub begins : List (Vec ℕ)
   pub numbers : List ℕ
+
+-- the run with the places of its records
+abbrev pub own_of : TeamsView → OwnView
+own_of view = record { run = view.run; places = view.places }
 
 -- two tasks have the same number where they are in one team
 pub record AreTeams (rs : List Record) (tasks : List ℕ) (teams : List (Option ℕ)) : Type 0 where
@@ -74,6 +81,7 @@ pub record AreBeginNumbers (rs : List Record) (n : ℕ) (numbers : List ℕ) : T
 -- all is that of the run, and no team or barrier lacks a member
 pub record IsTeams (view : TeamsView) : Type 0 where
   pub run : IsRun view.run
+  pub placed : IsOwn (own_of view)
   pub teams : AreTeams view.run.records view.run.family.tasks view.teams
   pub rosters : AreRosters view.run.records view.run.family.tasks view.teams view.rosters
   pub begins : AreBegins view.run.records (length view.run.records) view.run.family.tasks view.begins

@@ -1,11 +1,11 @@
-//! The teams of a run: who meets at a barrier, where each member begins barriers, and the first record that
-//! shows a team or a barrier that lacks a member.
+//! The teams of a run in its tasks' own order: who meets at a barrier, where each member begins barriers, and
+//! the first place in the file at which a record shows a team or a barrier that lacks a member.
 //!
 //! Read `teams` first, what a caller sees, then the steps of a build: `tables` brings together `begins`
 //! (where tasks begin barriers), `members` (the team of each task) and `fewest` (the least number of barriers
 //! in a team); over these go `missed` (barriers that a member doesn't begin), `seats` (the members by their
-//! numbers), and `short`, the search for the first record that shows a lack. `rows` is a table of rows, of
-//! which few are written.
+//! numbers), and `short`, the search for the first place at which a record shows a lack. `rows` is a table of
+//! rows, of which few are written.
 #![tactic(auto)]
 
 mod begins;

@@ -4,25 +4,25 @@ ghost use Rattle.teams.specs.Missed.{IsBarrierEnd, EndsNoBarrier, IsMissed};
 
 use crate::tables::Tables;
 use ompt_events::WaitKind;
-use task_states::States;
+use task_states::Regions;
 
 /// The end of a barrier.
 #[derive(Clone, Copy, Debug)]
 pub struct BarrierEnd {
     /// The index of the task that ends it.
     pub task: usize,
-    /// The place at which the task began it.
+    /// The number of the record at which the task began it.
     pub begin: usize,
 }
 
-/// Whether the record at a place ends a barrier that a member of the team doesn't begin. A member that
+/// Whether a record ends a barrier that a member of the team doesn't begin. A member that
 /// begins fewer barriers lacks the last ones, so the least number of barriers in the team decides.
 pub(crate) fn is_missed(tables: &Tables, at: usize) -> bool
     requires { at < length tables.now.run.records }
     ensures { IsTrue result ↔ IsMissed tables.now.run.records at }
 {
     let _run = tables.run();
-    let Some(end) = barrier_end(tables.states, at) else {
+    let Some(end) = barrier_end(tables.regions, at) else {
         return false;
     };
     let Some(team) = tables.team(end.task) else {
@@ -34,17 +34,17 @@ pub(crate) fn is_missed(tables: &Tables, at: usize) -> bool
     true
 }
 
-/// The barrier that ends at the place.
-pub(crate) fn barrier_end(states: &States, at: usize) -> Option<BarrierEnd>
-    requires { at < length states.now.run.records }
-    ensures { MatchOption result (EndsNoBarrier states.now.run.records at)
-        (λ end. IsBarrierEnd states.now.run at end.task end.begin) }
+/// The barrier that the record with this number ends.
+pub(crate) fn barrier_end(regions: &Regions, number: usize) -> Option<BarrierEnd>
+    requires { number < length regions.now.own.run.records }
+    ensures { MatchOption result (EndsNoBarrier regions.now.own.run.records number)
+        (λ end. IsBarrierEnd regions.now.own.run number end.task end.begin) }
 {
-    let event = states.run().wait_event(at)?;
+    let event = regions.own().run().wait_event(number)?;
     if event.kind != WaitKind::Barrier {
         return None;
     }
-    let begin = states.begin_of(at)?;
+    let begin = regions.begin_of(number)?;
     Some(BarrierEnd {
         task: event.task,
         begin,

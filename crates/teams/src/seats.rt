@@ -45,7 +45,7 @@ fn same_seats(alloc: Global, slot: Slot, count: usize) -> Result<Vec<Slot>, Allo
     vec![in alloc; slot; count]
 }
 
-/// Whether the member that begins at a place shows that its team lacks a member. Else it takes its seat.
+/// Whether the member that begins at a record shows that its team lacks a member. Else it takes its seat.
 pub(crate) fn lacks_member(tables: &Tables, rosters: &mut Vec<Vec<Slot>>, at: usize) -> bool
     requires within { at < length tables.now.run.records }
     requires whole { IsWholeBefore tables.now.run.records at }

@@ -1,24 +1,47 @@
-//! The first record that shows a team or a barrier that lacks a member.
+//! The first place in the file at which a record shows a team or a barrier that lacks a member.
+ghost use Rattle.std.specs.Prelude.{◌≤◌, length};
+ghost use Rattle.teams.specs.Tables.{tables_own};
 ghost use Rattle.teams.specs.Seats.{AreSeated};
-ghost use Rattle.teams.specs.Short.{IsSearched};
+ghost use Rattle.teams.specs.Short.{IsSeated, FindsMissed, IsSearched};
 
 use crate::missed::is_missed;
 use crate::seats::lacks_member;
 use crate::tables::Tables;
 use task_tree::Slot;
 
-/// Searches for the first record that shows a team or a barrier that lacks a member. On the way each member
-/// takes its seat.
+/// Searches for the first place in the file of a record that shows a team or a barrier that lacks a member. On
+/// the way each member takes its seat.
 pub(crate) fn find_short(tables: &Tables, rosters: &mut Vec<Vec<Slot>>) -> Option<usize>
     requires { AreSeated tables.now.run.records 0 tables.now.run.family.tasks rosters.old.items }
-    ensures { IsSearched tables.now.run.records tables.now.run.family.tasks rosters.new.items result }
+    ensures { IsSearched (tables_own tables.now) rosters.new.items result }
 {
-    for at in 0..tables.run().len() {
-        if lacks_member(tables, rosters, at) {
-            return Some(at);
+    let lacking = seat_members(tables, rosters);
+    let end = lacking.unwrap_or(tables.run().len());
+    find_missed(tables, end).or(lacking)
+}
+
+/// Gives each member its seat. Searches for the first place in the file at which a member begins that shows a
+/// team which lacks a member. Members begin in the same order in the file and in the tasks' own order.
+fn seat_members(tables: &Tables, rosters: &mut Vec<Vec<Slot>>) -> Option<usize>
+    requires { AreSeated tables.now.run.records 0 tables.now.run.family.tasks rosters.old.items }
+    ensures { IsSeated (tables_own tables.now) rosters.new.items result }
+{
+    for number in 0..tables.run().len() {
+        if lacks_member(tables, rosters, number) {
+            return Some(tables.own().place(number));
         }
-        if is_missed(tables, at) {
-            return Some(at);
+    }
+    None
+}
+
+/// Searches the file up to a place for the first end of a barrier that a member of the team doesn't begin.
+fn find_missed(tables: &Tables, end: usize) -> Option<usize>
+    requires { end ≤ length tables.now.run.records }
+    ensures { FindsMissed (tables_own tables.now) end result }
+{
+    for place in 0..end {
+        if is_missed(tables, tables.own().number(place)) {
+            return Some(place);
         }
     }
     None

@@ -1,24 +1,25 @@
 //! The tables of the teams of a run, before it is known that no member is missing.
 ghost use Rattle.std.specs.Prelude.{◌≡◌, ◌<◌, Some, IfOk, length, slice_get};
-ghost use Rattle.teams.specs.Tables.{AreTables};
+ghost use Rattle.teams.specs.Tables.{tables_own, AreTables};
 
 use crate::begins::{Begins, find_begins};
 use crate::fewest::find_fewest;
 use crate::members::{Members, find_members};
 use std::alloc::{AllocError, Global};
 use std::marker::Model;
-use task_states::States;
-use task_tree::{Run, Slot};
+use task_states::Regions;
+use task_tree::{Own, Run, Slot};
 
 /// Who is in which team, how many members each has, and which barriers they begin.
 #[derive(Drop)]
 pub(crate) struct Tables<'a> {
-    pub(crate) states: &'a States<'a>,
+    pub(crate) regions: &'a Regions<'a>,
     /// By index of the task the number of its team; none for an explicit task.
     pub(crate) teams: Vec<Slot>,
     /// By number of the team how many members it has.
     sizes: Vec<u32>,
-    /// By index of the task the places at which it begins barriers; no row past the last task that begins one.
+    /// By index of the task the numbers of the records at which it begins barriers; no row past the last task
+    /// that begins one.
     pub(crate) begins: Vec<Vec<u32>>,
     /// For each record that begins a barrier how many its task began before.
     pub(crate) numbers: Vec<u32>,
@@ -32,7 +33,8 @@ impl<'a> Model for Tables<'a> {
     ghost Value = { TablesView };
 
     ghost view = { λ tables. record {
-      run = tables.states.now.run;
+      run = tables.regions.now.own.run;
+      places = tables.regions.now.own.places;
       teams = tables.teams.items;
       sizes = tables.sizes.items;
       begins = tables.begins.items;
@@ -41,7 +43,8 @@ impl<'a> Model for Tables<'a> {
     } };
 
     ghost invariant = { λ tables. AreTables (record {
-      run = tables.states.now.run;
+      run = tables.regions.now.own.run;
+      places = tables.regions.now.own.places;
       teams = tables.teams.items;
       sizes = tables.sizes.items;
       begins = tables.begins.items;
@@ -53,15 +56,16 @@ impl<'a> Model for Tables<'a> {
 impl<'a> Tables<'a> {
     /// The tables of the run. It takes a few steps for each record, and a look-up of logarithmic time for each
     /// member.
-    pub(crate) fn in_run(alloc: Global, states: &'a States<'a>) -> Result<Tables<'a>, AllocError>
-        ensures { IfOk result (λ tables. tables.run ≡ states.now.run) }
+    pub(crate) fn in_own(alloc: Global, regions: &'a Regions<'a>) -> Result<Tables<'a>, AllocError>
+        ensures run { IfOk result (λ tables. tables.run ≡ regions.now.own.run) }
+        ensures places { IfOk result (λ tables. tables.places ≡ regions.now.own.places) }
     {
-        let run = states.run();
+        let run = regions.own().run();
         let Begins { begins, numbers } = find_begins(alloc, run)?;
         let Members { teams, sizes } = find_members(alloc, run)?;
         let fewest = find_fewest(alloc, teams.as_slice(), begins.as_slice())?;
         Ok(Tables {
-            states,
+            regions,
             teams,
             sizes,
             begins,
@@ -75,7 +79,15 @@ impl<'a> Tables<'a> {
         ensures value { result.now ≡ self.now.run }
         ensures are_tables { AreTables self.now }
     {
-        self.states.run()
+        self.regions.own().run()
+    }
+
+    /// The run with the places of its records in the file.
+    pub(crate) fn own(&self) -> &Own<'a>
+        ensures value { result.now ≡ tables_own self.now }
+        ensures are_tables { AreTables self.now }
+    {
+        self.regions.own()
     }
 
     /// The number of the team of the task at this index.
@@ -94,7 +106,7 @@ impl<'a> Tables<'a> {
         self.sizes[team]
     }
 
-    /// How many barriers the task that begins one at this place began before.
+    /// How many barriers the task that begins one at this record began before.
     pub(crate) fn number(&self, at: usize) -> u32
         requires { at < length self.now.numbers }
         ensures { slice_get self.now.numbers at ≡ Some result }

@@ -1,35 +1,36 @@
-//! The teams of a run, the barriers of their members, and the first record at which one lacks a member.
-ghost use Rattle.std.specs.Prelude.{ℕ, ◌≡◌, ◌<◌, ◌∷◌, [], Option, Some, IfOk, IfErr, MatchOption, length, slice_get};
+//! The teams of a run, the barriers of their members, and the first place at which one lacks a member.
+ghost use Rattle.std.specs.Prelude.{ℕ, ◌≡◌, ◌<◌, Option, Some, IfOk, IfErr, MatchOption, length, slice_get};
 ghost use Rattle.std.specs.Global.{Vec};
 ghost use Rattle.ompt_events.specs.declared.names.SyncKind.{SyncKind};
 ghost use Rattle.ompt_events.specs.declared.cause.Cause.TheVariants.{TeamShort};
-ghost use Rattle.ompt_events.specs.Faults.{IsFault};
 ghost use Rattle.ompt_events.specs.Regions.{IsRegion};
-ghost use Rattle.task_states.specs.States.{IsBeginOf};
+ghost use Rattle.task_tree.specs.Own.{IsOwnFault};
+ghost use Rattle.task_states.specs.Regions.{IsBeginOf};
 ghost use Rattle.teams.specs.Missed.{IsBarrierEnd, EndsNoBarrier};
 ghost use Rattle.teams.specs.Rows.{row_at};
-ghost use Rattle.teams.specs.Teams.{IsTeams};
+ghost use Rattle.teams.specs.Teams.{own_of, IsTeams};
 
 use crate::missed::{BarrierEnd, barrier_end};
 use crate::rows::row;
 use crate::seats::empty_rosters;
 use crate::short::find_short;
 use crate::tables::Tables;
-use ompt_events::{Cause, Fault, exclude};
+use ompt_events::{Cause, Fault};
 use std::alloc::Global;
 use std::marker::Model;
-use task_states::States;
-use task_tree::{Run, Slot};
+use task_states::Regions;
+use task_tree::{Own, Run, Slot};
 
-/// The teams of a run (OpenMP 5.2, 1.2.2), and where their members begin barriers.
+/// The teams of a run in its tasks' own order (OpenMP 5.2, 1.2.2), and where their members begin barriers.
 #[derive(Debug, Drop)]
 pub struct Teams<'a> {
-    states: &'a States<'a>,
+    regions: &'a Regions<'a>,
     /// By index of the task the number of its team; none for an explicit task.
     teams: Vec<Slot>,
     /// By number of the team the indices of its members, by their own numbers.
     rosters: Vec<Vec<Slot>>,
-    /// By index of the task the places at which it begins barriers; no row past the last task that begins one.
+    /// By index of the task the numbers of the records at which it begins barriers; no row past the last task
+    /// that begins one.
     begins: Vec<Vec<u32>>,
     /// For each record that begins a barrier how many its task began before.
     numbers: Vec<u32>,
@@ -41,7 +42,8 @@ impl<'a> Model for Teams<'a> {
     ghost Value = { TeamsView };
 
     ghost view = { λ teams. record {
-      run = teams.states.now.run;
+      run = teams.regions.now.own.run;
+      places = teams.regions.now.own.places;
       teams = teams.teams.items;
       rosters = teams.rosters.items;
       begins = teams.begins.items;
@@ -49,7 +51,8 @@ impl<'a> Model for Teams<'a> {
     } };
 
     ghost invariant = { λ teams. IsTeams (record {
-      run = teams.states.now.run;
+      run = teams.regions.now.own.run;
+      places = teams.regions.now.own.places;
       teams = teams.teams.items;
       rosters = teams.rosters.items;
       begins = teams.begins.items;
@@ -58,20 +61,25 @@ impl<'a> Model for Teams<'a> {
 }
 
 impl<'a> Teams<'a> {
-    /// The teams of the run. Refused is a team or a barrier that lacks a member (OpenMP 5.2, 10.1 and 15.3),
-    /// at its first record. It takes a few steps for each record, and a look-up of logarithmic time for each
-    /// member; memory is linear in the records.
-    pub fn in_run(alloc: Global, states: &'a States<'a>) -> Result<Teams<'a>, Fault>
-        ensures run { IfOk result (λ teams. teams.run ≡ states.now.run) }
+    /// The teams of a run in its tasks' own order. Refused is a team or a barrier that lacks a member (OpenMP
+    /// 5.2, 10.1 and 15.3), at its first place in the file. It takes a few steps for each record, and a look-up of
+    /// logarithmic time for each member; memory is linear in the records.
+    pub fn in_own(alloc: Global, regions: &'a Regions<'a>) -> Result<Teams<'a>, Fault>
+        ensures run { IfOk result (λ teams. teams.run ≡ regions.now.own.run) }
+        ensures places { IfOk result (λ teams. teams.places ≡ regions.now.own.places) }
         ensures teams { IfOk result IsTeams }
-        ensures fault { IfErr result (IsFault states.now.run.records (TeamShort ∷ [])) }
+        ensures fault { IfErr result (IsOwnFault regions.now.own TeamShort) }
     {
-        let tables = Tables::in_run(alloc, states)?;
+        let tables = Tables::in_own(alloc, regions)?;
         let mut rosters = empty_rosters(alloc, &tables)?;
-        let short = find_short(&tables, &mut rosters);
-        exclude(Cause::TeamShort, short)?;
+        if let Some(at) = find_short(&tables, &mut rosters) {
+            return Err(Fault::Malformed {
+                at,
+                cause: Cause::TeamShort,
+            });
+        }
         Ok(Teams {
-            states,
+            regions,
             teams: tables.teams,
             rosters,
             begins: tables.begins,
@@ -79,31 +87,40 @@ impl<'a> Teams<'a> {
         })
     }
 
-    /// The run.
+    /// The run, whose records stand in the tasks' own order.
     pub fn run(&self) -> &'a Run<'a>
         ensures value { result.now ≡ self.now.run }
         ensures is_teams { IsTeams self.now }
     {
-        self.states.run()
+        self.regions.own().run()
     }
 
-    /// Where the region began that ends at the place; a begin and end in one began there too.
-    pub fn begin_of(&self, at: usize) -> Option<usize>
-        requires { at < length self.now.run.records }
+    /// The run with the places of its records in the file.
+    pub fn own(&self) -> &'a Own<'a>
+        ensures value { result.now ≡ own_of self.now }
+        ensures is_teams { IsTeams self.now }
+    {
+        self.regions.own()
+    }
+
+    /// The number of the record at which the region began that the record with this number ends; a begin and
+    /// end in one began there too.
+    pub fn begin_of(&self, number: usize) -> Option<usize>
+        requires { number < length self.now.run.records }
         ensures { MatchOption result ((task begin : ℕ) (kind : SyncKind)
-            → IsRegion self.now.run.records at task kind begin → ⊥)
-            (IsBeginOf self.now.run.records at) }
+            → IsRegion self.now.run.records number task kind begin → ⊥)
+            (IsBeginOf self.now.run.records number) }
     {
-        self.states.begin_of(at)
+        self.regions.begin_of(number)
     }
 
-    /// The barrier that ends at the place, if one does.
-    pub fn barrier_end(&self, at: usize) -> Option<BarrierEnd>
-        requires { at < length self.now.run.records }
-        ensures { MatchOption result (EndsNoBarrier self.now.run.records at)
-            (λ end. IsBarrierEnd self.now.run at end.task end.begin) }
+    /// The barrier that the record with this number ends, if it ends one.
+    pub fn barrier_end(&self, number: usize) -> Option<BarrierEnd>
+        requires { number < length self.now.run.records }
+        ensures { MatchOption result (EndsNoBarrier self.now.run.records number)
+            (λ end. IsBarrierEnd self.now.run number end.task end.begin) }
     {
-        barrier_end(self.states, at)
+        barrier_end(self.regions, number)
     }
 
     /// The number of the team of the task at this index.
@@ -123,14 +140,14 @@ impl<'a> Teams<'a> {
         self.rosters[team].as_slice()
     }
 
-    /// The places at which the task at this index begins barriers.
+    /// The numbers of the records at which the task at this index begins barriers.
     pub fn begins(&self, index: usize) -> &[u32]
         ensures { result.now ≡ row_at self.now.begins index }
     {
         row(&self.begins, index)
     }
 
-    /// How many barriers the task that begins one at this place began before.
+    /// How many barriers the task that begins one at this record began before.
     pub fn number(&self, at: usize) -> u32
         requires { at < length self.now.numbers }
         ensures { slice_get self.now.numbers at ≡ Some result }

@@ -1,4 +1,4 @@
-use Rattle.std.proofs.Common.{◌≡◌, ◌∙◌, ◌<◌, Some, None, length, sym, ap, subst, arith, rules}
+use Rattle.std.proofs.Common.{◌≡◌, ◌∙◌, ◌<◌, Some, None, is_some, length, sym, ap, subst, arith, rules}
 use Rattle.std.proofs.lemmas.Option.{slice_get_within}
 use Rattle.ompt_events.specs.Records.{joined, begun_root}
 use Rattle.ompt_events.specs.Places.{at}
@@ -143,6 +143,12 @@ returns-then-take_seat c =
       seated_more rs c.args.at tasks c.args.rosters.now.items m lead index old c.take_seat.new.roster are.run.family.once are.run.family.makers.apart c.requires.seated joins leads is stands c.if-take_seat.ensures.0 c.if-take_seat.ensures.1,
     )
 
+pub returns-then-not-fits : goal.returns-then-not-fits
+returns-then-not-fits c =
+    let P : RunView → Type 0 = λ r. c.joined.result ≡ at joined r.records c.args.at in
+    let joins : at joined c.args.tables.now.run.records c.args.at ≡ Some c.in-Some.member = sym (subst P c.run-run.ensures.value c.joined.ensures) ∙ c.in-Some.is in
+    (ap is_some joins, c.if-not-fits.ensures)
+
 pub returns : goal.returns
 returns c =
     let tables = c.args.tables.now in
@@ -162,4 +168,4 @@ returns c =
     let within = lead_within rs tasks c.args.rosters.now.items m.parallel lead leads c.requires.seated.all in
     let stands = read_at c.args.rosters.now.items lead old within c.index_mut.ensures.value in
     let seats = c.requires.seated.each m.parallel lead old leads stands in
-    seat_taken rs c.args.at tasks m old.items c.if-take_seat.ensures.0 joins seats c.if-take_seat.ensures.1
+    (ap is_some joins, seat_taken rs c.args.at tasks m old.items c.if-take_seat.ensures.0 joins seats c.if-take_seat.ensures.1)

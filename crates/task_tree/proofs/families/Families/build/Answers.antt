@@ -26,4 +26,4 @@ returns-clause-families c =
     let rs = c.args.trace.now.records in
     let gap = rw c.records-3.ensures.value at c.in_ok-gap.ensures in
     let order = c.in_ok-order.ensures ∙ ap (λ (l : List Record). own_places l) c.records-4.ensures.value in
-    arranged_families rs _ c.in_ok-of.field-0 c.in_ok-file.ensures.family c.in_ok-of.ensures.records gap refl order
+    arranged_families rs _ c.in_ok-of.field-0 c.in_ok-file.ensures.family c.in_ok-of.ensures.is_run c.in_ok-of.ensures.records gap refl order

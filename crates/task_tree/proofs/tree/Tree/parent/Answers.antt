@@ -1,4 +1,5 @@
+use Rattle.task_tree.proofs.TreeLemmas.{parent_found}
 use Rattle.task_tree.proofs.tree.Tree.parent.Goals as goal
 
 pub returns : goal.returns
-returns c = λ records are. let own = rw (← c.self.view_is) at are in c.parent.ensures records own.family
+returns c = λ records are. parent_found records c.args.self.now c.args.task c.parent.result are (rw c.family.ensures at c.parent.ensures)

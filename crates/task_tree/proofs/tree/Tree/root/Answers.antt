@@ -1,4 +1,5 @@
+use Rattle.task_tree.proofs.TreeLemmas.{root_found}
 use Rattle.task_tree.proofs.tree.Tree.root.Goals as goal
 
 pub returns : goal.returns
-returns c = λ records are. let own = rw (← c.self.view_is) at are in c.root.ensures records own.family
+returns c = λ records are. root_found records c.args.self.now c.args.task c.root.result are (rw c.family.ensures at c.root.ensures)
