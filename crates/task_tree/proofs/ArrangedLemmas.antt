@@ -1,5 +1,5 @@
 -- The records in the tasks' own order are a trace as those of the file are, and make the same tasks.
-use Rattle.std.proofs.Common.{◌≡◌, ◌≢◌, ◌∙◌, zero, suc, zero-add, ℕ, ◌<◌, ◌≤◌, ◌+◌, cond, List, [], ◌∷◌, ◌++◌, length, take, Option, Some, None, refl, sym, ap, subst, arith, inl, inr}
+use Rattle.std.proofs.Common.{◌≡◌, ◌≢◌, ◌∙◌, zero, suc, zero-add, ℕ, Bool, ◌<◌, ◌≤◌, ◌+◌, cond, List, [], ◌∷◌, ◌++◌, length, take, Option, Some, None, refl, sym, ap, subst, arith, inl, inr}
 use Rattle.std.proofs.lemmas.Bool.{cases_lt}
 use Rattle.std.proofs.lemmas.Option.{none-some, same_Some, slice_get-get_or, slice_get_within, get_or_from_slice_get}
 use Rattle.std.proofs.lemmas.List.{length-take, take_more, take_all, take-append-drop, map-id}
@@ -7,7 +7,7 @@ use Rattle.std.proofs.lemmas.List.Elements.{All-take, filter_map-append}
 use Rattle.std.proofs.lemmas.List.FromFn.{map-range_with_len_more}
 use Rattle.std.proofs.lemmas.List.Sums.{sum_by-append}
 use Rattle.std.proofs.lemmas.List.Sorted.{sum_by-IsPermutation}
-use Rattle.std.specs.Prelude.{All, Contains, IfErr, IsOk, Result, Ok, Err, slice_get, slice_index_or, is_some, option_and_then, drop}
+use Rattle.std.specs.Prelude.{All, Contains, count_by, IfErr, IsOk, Result, Ok, Err, slice_get, slice_index_or, is_some, option_and_then, drop}
 use Rattle.std.specs.List.{filter_map, range_with_len, sum_by}
 use Rattle.std.specs.Option.{option_map_or}
 use Rattle.std.specs.Global.{Vec}
@@ -100,15 +100,19 @@ all_places rs = first (length rs) (omega arith) ∙ take_all (length rs) rs (ome
             ∙ sym (take_more rs n r below)
             ∙ ap (λ m. take m rs) (sym (next n))
 
--- as many tasks are made
-tasks_arranged : (rs : List Record) → tasks_in (in_own_order rs) ≡ tasks_in rs
-tasks_arranged rs =
-    let f : Record → ℕ = λ r. cond (is_some (made r.body)) 1 0 in
+-- as many of the records pass a test
+pub counted_arranged : (passes : Record → Bool) (rs : List Record) → count_by passes (in_own_order rs) ≡ count_by passes rs
+counted_arranged passes rs =
+    let f : Record → ℕ = λ r. cond (passes r) 1 0 in
     let g : ℕ → ℕ = λ i. option_map_or f (slice_get rs i) 0 in
     sum_places f rs (own_places rs)
     ∙ sum_by-IsPermutation g (places rs) (own_places rs) (own_permuted rs)
     ∙ sym (sum_places f rs (places rs))
     ∙ ap (sum_by f) (all_places rs)
+
+-- so as many tasks are made
+tasks_arranged : (rs : List Record) → tasks_in (in_own_order rs) ≡ tasks_in rs
+tasks_arranged rs = counted_arranged (λ r. is_some (made r.body)) rs
 
 pub arranged_trace : (version : ℕ) (rs : List Record) → IsTraceOf version rs → IsTraceOf version (in_own_order rs)
 arranged_trace version rs trace = record {
@@ -151,13 +155,13 @@ said_there f rs i x says =
     (has.0, said f rs has.0 i has.1 ∙ says)
 
 -- and what the arranged records say is said in the file
-said_here : {X : Type 0} (f : Body → Option X) (rs : List Record) (n : ℕ) (x : X) → at f (in_own_order rs) n ≡ Some x → (i : ℕ) × (slice_get (own_places rs) n ≡ Some i) × (at f rs i ≡ Some x)
+pub said_here : {X : Type 0} (f : Body → Option X) (rs : List Record) (n : ℕ) (x : X) → at f (in_own_order rs) n ≡ Some x → (i : ℕ) × (slice_get (own_places rs) n ≡ Some i) × (at f rs i ≡ Some x)
 said_here f rs n x says =
     let there = placed rs n (rw (arranged_length rs) at (at_within f (in_own_order rs) n x says)) in
     (there.0, there.1, sym (said f rs n there.0 there.1) ∙ says)
 
 -- of two places the later one in the file has an earlier one
-apart_places : (rs : List Record) (k n i j : ℕ) → k < n → slice_get (own_places rs) k ≡ Some i → slice_get (own_places rs) n ≡ Some j → i ≢ j
+pub apart_places : (rs : List Record) (k n i j : ℕ) → k < n → slice_get (own_places rs) k ≡ Some i → slice_get (own_places rs) n ≡ Some j → i ≢ j
 apart_places rs k n i j less one other same =
     let P : ℕ → Type 0 = λ p. slice_get (own_places rs) k ≡ Some p in
     let e = sym (own_place_of rs k j (subst P same one)) ∙ own_place_of rs n j other in

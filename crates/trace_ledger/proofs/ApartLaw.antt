@@ -1,10 +1,11 @@
 -- Entries of two records don't overlap.
-use Rattle.std.proofs.Common.{◌≡◌, ◌≢◌, ◌∙◌, ℕ, Bool, true, false, List, ◌++◌, length, replicate, Some, sym, ap, subst, arith, inl, inr}
+use Rattle.std.proofs.Common.{◌≡◌, ◌≢◌, ◌∙◌, ℕ, Bool, true, false, List, ◌++◌, length, replicate, Some, refl, sym, ap, subst, inl, inr}
 use Rattle.std.specs.Prelude.{◌==◌, ◌||◌}
 use Rattle.std.proofs.lemmas.Bool.{cases_Bool, and_parts, or_cases, or_left, or_right, eqb-true, false≢true, false_from_ne_true}
 use Rattle.std.proofs.lemmas.List.{append_assoc}
 use Rattle.ompt_events.specs.declared.records.Record.{Record}
-use Rattle.ompt_events.specs.declared.cause.Cause.TheVariants.{TurnGap, StatusOrder, ShareWrong}
+use Rattle.ompt_events.specs.declared.records.Part.{Part}
+use Rattle.ompt_events.specs.declared.records.Part.TheVariants.{Whole, Body, Event}
 use Rattle.ompt_events.specs.Tree.{children, HasPath}
 use Rattle.credit.specs.declared.share.Half.{Half}
 use Rattle.credit.specs.declared.share.Half.TheVariants.{Keep}
@@ -13,12 +14,11 @@ use Rattle.credit_ledger.specs.declared.entry.Entry.{Entry}
 use Rattle.credit_ledger.specs.Entries.{part_halves, tree_share, parent_and_number, is_same_path, overlaps_in_pool, is_overlap}
 use Rattle.credit_ledger.proofs.CodeLemmas.{same_path-true}
 use Rattle.credit_ledger.proofs.OverlapLemmas.{overlaps_in_pool-root, overlaps_in_pool-other, overlaps_in_pool-same}
-use Rattle.trace_ledger.specs.Entries.{IsEntryAt, IsFreeUpTo}
+use Rattle.trace_ledger.specs.Entries.{IsEntryAt, HasRightEntries}
 use Rattle.trace_ledger.proofs.HalfLemmas.{meet}
 use Rattle.trace_ledger.proofs.EntryLemmas.{IsRight, entry_says, entry_right}
 use Rattle.trace_ledger.proofs.StandLemmas.{one_task}
 use Rattle.trace_ledger.proofs.MeetLemmas.{IsOneTask, one_of_meeting}
-use Rattle.trace_ledger.proofs.MoveLemmas.{parts_apart}
 
 -- the entries are of one task, and of parts that have a half in common
 record AreOfOneHalf (e f : Entry) : Type 0 where
@@ -88,14 +88,23 @@ of_overlap rs e f right also on =
       | inr pool ↦ in_pool rs e f right also root pool
     ]
 
-pub entries_apart : (rs : List Record) (i j index other : ℕ) (e f : Entry) → IsFreeUpTo rs 13 → i ≢ j → IsEntryAt rs i index e → IsEntryAt rs j other f → is_overlap e f ≡ false
-entries_apart rs i j index other e f free apart made also =
+-- different parts of a task, neither of them all of it, have no half in common
+halves_apart : (p q : Part) → (p ≢ Whole) × (p ≢ q) → (q ≢ Whole) × (q ≢ p) → overlaps (part_halves p) (part_halves q) ≡ false
+halves_apart Whole q one other = absurd (one.0 refl)
+halves_apart p Whole one other = absurd (other.0 refl)
+halves_apart Body Body one other = absurd (one.1 refl)
+halves_apart Event Event one other = absurd (one.1 refl)
+halves_apart Body Event one other = refl
+halves_apart Event Body one other = refl
+
+pub entries_apart : (rs : List Record) (i j index other : ℕ) (e f : Entry) → HasRightEntries rs → i ≢ j → IsEntryAt rs i index e → IsEntryAt rs j other f → is_overlap e f ≡ false
+entries_apart rs i j index other e f entries apart made also =
     let from = entry_says rs i e made.made in
     let from_other = entry_says rs j f also.made in
     false_from_ne_true (is_overlap e f) (λ on.
-    entry_right rs i e (free ShareWrong (omega arith)) from (λ right.
-    entry_right rs j f (free ShareWrong (omega arith)) from_other (λ right_other.
+    entry_right rs i e entries.right from (λ right.
+    entry_right rs j f entries.right from_other (λ right_other.
     let one = of_overlap rs e f right right_other on in
     let finishes = from.finishes ∙ ap (λ t. Some (t, e.part)) one.task_is in
-    let off = parts_apart rs i j f.task e.part f.part (free TurnGap (omega arith)) (free StatusOrder (omega arith)) apart finishes from_other.finishes in
+    let off = halves_apart e.part f.part (entries.parts i j f.task e.part f.part apart finishes from_other.finishes) (entries.parts j i f.task f.part e.part (λ same. apart (sym same)) from_other.finishes finishes) in
     false≢true (sym off ∙ one.parts))))

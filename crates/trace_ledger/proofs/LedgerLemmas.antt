@@ -13,7 +13,7 @@ use Rattle.ompt_events.specs.Records.{finish}
 use Rattle.ompt_events.specs.Places.{at, seen_at}
 use Rattle.ompt_events.specs.Traces.{IsTrace, IsSound}
 use Rattle.ompt_events.specs.HappensBefore.{IsFinishing}
-use Rattle.ompt_events.specs.Causes.{entry_twice, entries_in, entry, length_ahead}
+use Rattle.ompt_events.specs.Causes.{entry_twice, entries_in, entry, length_ahead, IsFreeOf}
 use Rattle.ompt_events.proofs.ListLemmas.{pushed_cases}
 use Rattle.credit_ledger.specs.declared.entry.Entry.{Entry}
 use Rattle.credit_ledger.specs.declared.fault.LedgerFault.{LedgerFault}
@@ -22,7 +22,7 @@ use Rattle.credit_ledger.specs.declared.view.Call.TheVariants.{Enter}
 use Rattle.credit_ledger.specs.Entries.{is_overlap, is_full, fault_of}
 use Rattle.credit_ledger.specs.Histories.{IsPossible}
 use Rattle.credit_ledger.proofs.OverlapLemmas.{position_from-none}
-use Rattle.trace_ledger.specs.Entries.{entry_of, IsEntryAt, IsLedgerOf, IsFreeUpTo}
+use Rattle.trace_ledger.specs.Entries.{entry_of, IsEntryAt, IsLedgerOf, HasRightEntries}
 use Rattle.trace_ledger.specs.Ledger.{AreEntered}
 use Rattle.trace_ledger.specs.Makers.{AreMakers}
 use Rattle.trace_ledger.proofs.EntryLemmas.{entry_says, entry_made}
@@ -98,9 +98,9 @@ few_entries rs trace =
     omega (arith, few, less)
 
 pub may_enter : (rs : List Record) (entries : List Entry) (i n : ℕ) (e : Entry) → IsTrace rs
-    → IsFreeUpTo rs 13 → n < entries_in rs → AreEntered rs n entries → IsEntryAt rs i n e
+    → HasRightEntries rs → n < entries_in rs → AreEntered rs n entries → IsEntryAt rs i n e
     → IsPossible entries (Enter e)
-may_enter rs entries i n e trace free within are made = (
+may_enter rs entries i n e trace right within are made = (
   lt-leb (2 ^ 22) (length entries) (let few = few_entries rs trace in let long = are.long in
       omega (arith, few, long, within)),
   list_any_none (is_overlap e) entries (λ k d inside. apart k (get_or entries k d) inside
@@ -110,7 +110,7 @@ may_enter rs entries i n e trace free within are made = (
     apart : (k : ℕ) (f : Entry) → k < length entries → slice_get entries k ≡ Some f → is_overlap e f ≡ false
     apart k f inside is =
         let (j, also) = are.made k f is in
-        entries_apart rs i j n k e f free (λ same. let mine = made.seen in let other = also.seen in
+        entries_apart rs i j n k e f right (λ same. let mine = made.seen in let other = also.seen in
         let one = ap (seen_at rs) same in let long = are.long in
         omega (arith, mine, other, one, long, inside)) made also
 
@@ -142,32 +142,32 @@ finishing : (rs : List Record) (i index : ℕ) (e : Entry) → IsEntryAt rs i in
 finishing rs i index e made = ap is_some ((entry_says rs i e made.made).finishes)
 
 -- the record of an entry that the ledger has is the one that made it
-one_maker : (rs : List Record) (i j index : ℕ) (e f : Entry) → IsFreeUpTo rs 13 → IsEntryAt rs i index e
+one_maker : (rs : List Record) (i j index : ℕ) (e f : Entry) → IsFreeOf rs EntryTwice → IsEntryAt rs i index e
     → IsEntryAt rs j index f → f ≡ e
-one_maker rs i j index e f free made also =
+one_maker rs i j index e f apart made also =
     let seen : seen_at rs i ≡ seen_at rs j = made.seen ∙ sym also.seen in
     let first = finishing rs i index e made in
     let second = finishing rs j index f also in
     let same : j ≡ i = elim (cases_lt i j) [
-      | inl less ↦ absurd (free EntryTwice (omega arith) j (entry_twice (i, less, first, second, seen)))
+      | inl less ↦ absurd (apart j (entry_twice (i, less, first, second, seen)))
       | inr most ↦ elim (cases_lt j i) [
-        | inl less ↦ absurd (free EntryTwice (omega arith) i (entry_twice (j, less, second, first, sym seen)))
+        | inl less ↦ absurd (apart i (entry_twice (j, less, second, first, sym seen)))
         | inr least ↦ omega (arith, most, least)
       ]
     ] in
     same_Some f e (sym also.made ∙ ap (λ k. option_and_then entry_of (slice_get rs k)) same ∙ made.made)
 
-pub are_all : (rs : List Record) (entries : List Entry) → IsFreeUpTo rs 13
+pub are_all : (rs : List Record) (entries : List Entry) → IsFreeOf rs EntryTwice → IsFreeOf rs LengthAhead
     → AreEntered rs (entries_in rs) entries → IsLedgerOf rs entries
-are_all rs entries free are index e = (are.made index e, λ made. there made.0 made.1)
+are_all rs entries apart ahead are index e = (are.made index e, λ made. there made.0 made.1)
   where
     there : (i : ℕ) → IsEntryAt rs i index e → slice_get entries index ≡ Some e
     there i made = elim (cases_lt index (length entries)) [
-      | inr past ↦ absurd (free LengthAhead (omega arith) i
+      | inr past ↦ absurd (ahead i
           (length_ahead (entry (finishing rs i index e made)
           (let long = are.long in let seen = made.seen in omega (arith, past, long, seen)))))
       | inl inside ↦
           let is = slice_get-get_or entries index e inside in
           let (j, also) = are.made index (get_or entries index e) is in
-          is ∙ ap Some (one_maker rs i j index e (get_or entries index e) free made also)
+          is ∙ ap Some (one_maker rs i j index e (get_or entries index e) apart made also)
     ]

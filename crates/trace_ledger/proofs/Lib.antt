@@ -11,3 +11,4 @@ pub mod CreditLaw
 pub mod ApartLaw
 pub mod MakerLemmas
 pub mod LedgerLemmas
+pub mod RightLemmas

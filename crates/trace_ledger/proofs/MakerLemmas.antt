@@ -11,10 +11,9 @@ use Rattle.ompt_events.specs.declared.cause.Cause.TheVariants.{EntryTwice, Lengt
 use Rattle.ompt_events.specs.Records.{finish}
 use Rattle.ompt_events.specs.Places.{at, seen_at}
 use Rattle.ompt_events.specs.HappensBefore.{IsFinishing}
-use Rattle.ompt_events.specs.Causes.{entry_twice, entries_in, entry, length_ahead}
+use Rattle.ompt_events.specs.Causes.{entry_twice, entries_in, entry, length_ahead, IsFreeOf}
 use Rattle.ompt_events.proofs.PlaceLemmas.{at_index}
 use Rattle.task_tree.proofs.LinkLemmas.{get_set_same, get_set_other}
-use Rattle.trace_ledger.specs.Entries.{IsFreeUpTo}
 use Rattle.trace_ledger.specs.Makers.{IsMaker, free_entries, AreMakers}
 
 -- ---- entries without a record
@@ -75,7 +74,7 @@ makers_start rs makers empty = record {
   entries = ap length empty ∙ length-replicate (entries_in rs) None;
   makes = λ index place is. absurd (none_placed (entries_in rs) index place
       (ap (λ l. slice_get l index) (sym empty) ∙ is));
-  all = λ free. let few = ap free_entries empty ∙ free_all (entries_in rs) in
+  all = λ apart ahead. let few = ap free_entries empty ∙ free_all (entries_in rs) in
       let long = ap length empty ∙ length-replicate (entries_in rs) None in omega (arith, few, long);
 }
 
@@ -84,14 +83,14 @@ pub makers_same : (rs : List Record) (n : ℕ) (makers : List (Option ℕ)) → 
 makers_same rs n makers within none are = record {
   entries = are.entries;
   makes = λ index place is. maker_later rs n index place (are.makes index place is);
-  all = λ free. ap (λ k. free_entries makers + k) (entries_same rs n within none) ∙ are.all free;
+  all = λ apart ahead. ap (λ k. free_entries makers + k) (entries_same rs n within none) ∙ are.all apart ahead;
 }
 
 -- a finishing record names an entry of the table, which no earlier one names
-entry_free : (rs : List Record) (n : ℕ) (makers : List (Option ℕ)) → IsFinishing rs n → IsFreeUpTo rs 13
-    → AreMakers rs n makers → slice_get makers (seen_at rs n) ≡ Some None
-entry_free rs n makers finishes free are = elim (cases_lt (seen_at rs n) (length makers)) [
-  | inr past ↦ absurd (free LengthAhead (omega arith) n
+entry_free : (rs : List Record) (n : ℕ) (makers : List (Option ℕ)) → IsFinishing rs n → IsFreeOf rs EntryTwice
+    → IsFreeOf rs LengthAhead → AreMakers rs n makers → slice_get makers (seen_at rs n) ≡ Some None
+entry_free rs n makers finishes apart ahead are = elim (cases_lt (seen_at rs n) (length makers)) [
+  | inr past ↦ absurd (ahead n
       (length_ahead (entry finishes (let all = are.entries in omega (arith, past, all)))))
   | inl within ↦ of (get_or makers (seen_at rs n) None) (slice_get-get_or makers (seen_at rs n) None within)
 ]
@@ -101,18 +100,18 @@ entry_free rs n makers finishes free are = elim (cases_lt (seen_at rs n) (length
     of None is = is
     of (Some place) is =
         let (below, earlier, seen) = are.makes (seen_at rs n) place is in
-        absurd (free EntryTwice (omega arith) n (entry_twice (place, below, earlier, finishes, seen)))
+        absurd (apart n (entry_twice (place, below, earlier, finishes, seen)))
 
 pub makers_more : (rs : List Record) (n : ℕ) (old new : List (Option ℕ)) → n < length rs → IsFinishing rs n
     → new ≡ set old (seen_at rs n) (Some n) → AreMakers rs n old → AreMakers rs (n + 1) new
 makers_more rs n old new within finishes noted are = record {
   entries = ap length noted ∙ length-set old (seen_at rs n) (Some n) ∙ are.entries;
   makes = λ index place is. named index place (ap (λ l. slice_get l index) (sym noted) ∙ is);
-  all = λ free.
+  all = λ apart ahead.
       let few = ap free_entries noted in
-      let less = free_set old (seen_at rs n) n (entry_free rs n old finishes free are) in
+      let less = free_set old (seen_at rs n) n (entry_free rs n old finishes apart ahead are) in
       let more = entries_more rs n within finishes in
-      let before = are.all free in
+      let before = are.all apart ahead in
       let long = ap length noted ∙ length-set old (seen_at rs n) (Some n) in
       omega (arith, few, less, more, before, long);
 }
@@ -135,9 +134,9 @@ makers_more rs n old new within finishes noted are = record {
 
 -- at the end each entry has its record
 pub all_made : (rs : List Record) (makers : List (Option ℕ)) (index : ℕ) → AreMakers rs (length rs) makers
-    → IsFreeUpTo rs 13 → slice_get makers index ≡ Some None → ⊥
-all_made rs makers index are free is =
-    let all = are.all free in
+    → IsFreeOf rs EntryTwice → IsFreeOf rs LengthAhead → slice_get makers index ≡ Some None → ⊥
+all_made rs makers index are apart ahead is =
+    let all = are.all apart ahead in
     let count : entries_in (take (length rs) rs) ≡ entries_in rs =
     ap entries_in (take_all (length rs) rs (omega arith)) in
     let long = are.entries in

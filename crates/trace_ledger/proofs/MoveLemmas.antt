@@ -30,8 +30,7 @@ use Rattle.ompt_events.specs.Causes.{status_order, IsFreeOf}
 use Rattle.ompt_events.proofs.ListLemmas.{get_contains, contains_get}
 use Rattle.ompt_events.proofs.TurnLemmas.{ended_low}
 use Rattle.ompt_events.proofs.PlaceLemmas.{at_within, contains_place, Contains-filter}
-use Rattle.credit.specs.Shares.{overlaps}
-use Rattle.credit_ledger.specs.Entries.{part_halves}
+use Rattle.trace_ledger.specs.Entries.{IsFinishedInParts}
 
 -- the part of its task that a move finishes
 abbrev pub part_of : Move → Option Part
@@ -362,15 +361,16 @@ all_allowed rs task free =
     let all = take_all (length (all_moves_of rs task)) (all_moves_of rs task) (omega arith) in
     ap (λ l. is_some (state_of (nature_of rs task) l)) (sym all) ∙ first_allowed rs task (length (all_moves_of rs task)) free
 
-halves_apart : (p q : Part) → p ≡ Body → q ≡ Event → overlaps (part_halves p) (part_halves q) ≡ false
-halves_apart p q body event = ap (λ a. overlaps (part_halves a) (part_halves q)) body ∙ ap (λ b. overlaps (part_halves Body) (part_halves b)) event
+-- the body and the event are different parts, and neither is all of the task
+first_apart : (p q : Part) → p ≡ Body → q ≡ Event → (p ≢ Whole) × (p ≢ q)
+first_apart p q body event = rw (body, event) (λ e. cc, λ e. cc)
 
-halves_apart_too : (p q : Part) → p ≡ Body → q ≡ Event → overlaps (part_halves q) (part_halves p) ≡ false
-halves_apart_too p q body event = ap (λ a. overlaps (part_halves q) (part_halves a)) body ∙ ap (λ b. overlaps (part_halves b) (part_halves Body)) event
+second_apart : (p q : Part) → p ≡ Body → q ≡ Event → (q ≢ Whole) × (q ≢ p)
+second_apart p q body event = rw (body, event) (λ e. cc, λ e. cc)
 
 -- two records that finish one task finish different halves of it
-pub parts_apart : (rs : List Record) (i j task : ℕ) (p q : Part) → IsFreeOf rs TurnGap → IsFreeOf rs StatusOrder → i ≢ j → at finish rs i ≡ Some (task, p) → at finish rs j ≡ Some (task, q) → overlaps (part_halves p) (part_halves q) ≡ false
-parts_apart rs i j task p q gapless free apart finishes also =
+pub finished_in_parts : (rs : List Record) → IsFreeOf rs TurnGap → IsFreeOf rs StatusOrder → IsFinishedInParts rs
+finished_in_parts rs gapless free i j task p q apart finishes also =
     let a = finishing_move rs i task p gapless finishes in
     let b = finishing_move rs j task q gapless also in
     let all = all_allowed rs task free in
@@ -379,8 +379,8 @@ parts_apart rs i j task p q gapless free apart finishes also =
       | inl same ↦ absurd (apart (ap (λ (s : ℕ × Move). s.0) (same_Some (i, a.move) (j, b.move) (sym a.there ∙ ap (slice_get (all_moves_of rs task)) same ∙ b.there))))
       | inr (inl before) ↦
           let parts = twice nature (first_state nature) (all_moves_of rs task) a.number b.number (i, a.move) (j, b.move) p q all before a.there b.there a.ends b.ends in
-          halves_apart p q parts.0 parts.1
+          first_apart p q parts.0 parts.1
       | inr (inr behind) ↦
           let parts = twice nature (first_state nature) (all_moves_of rs task) b.number a.number (j, b.move) (i, a.move) q p all behind b.there a.there b.ends a.ends in
-          halves_apart_too q p parts.0 parts.1
+          second_apart q p parts.0 parts.1
     ]

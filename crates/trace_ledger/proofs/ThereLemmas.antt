@@ -1,4 +1,4 @@
--- Each trace without the causes 1 to 13 has a ledger.
+-- Each trace with right entries has a ledger.
 use Rattle.std.proofs.Common.{◌≡◌, ℕ, zero, suc, ◌<◌, ◌≤◌, Bool, true, false, List, [], ◌∷◌, ◌++◌, length, get_or, Option, Some, None, refl, subst, arith}
 use Rattle.std.specs.Prelude.{is_some, slice_get, replicate}
 use Rattle.std.proofs.Math.ListN.{set}
@@ -9,7 +9,7 @@ use Rattle.ompt_events.specs.Places.{at, seen_at}
 use Rattle.ompt_events.specs.Traces.{IsTrace}
 use Rattle.ompt_events.specs.Causes.{entries_in}
 use Rattle.credit_ledger.specs.declared.entry.Entry.{Entry}
-use Rattle.trace_ledger.specs.Entries.{IsEntryAt, IsLedgerOf, IsFreeUpTo}
+use Rattle.trace_ledger.specs.Entries.{IsEntryAt, IsLedgerOf, HasRightEntries}
 use Rattle.trace_ledger.specs.Ledger.{AreEntered}
 use Rattle.trace_ledger.specs.Makers.{AreMakers}
 use Rattle.trace_ledger.proofs.MakerLemmas.{record_at, makers_start, makers_same, makers_more, all_made}
@@ -33,11 +33,11 @@ makers_there rs (suc n) low = of (is_some (at finish rs n)) refl (makers_there r
     )
 
 -- the entries with the first n indices
-entered_there : (rs : List Record) (makers : List (Option ℕ)) (n : ℕ) → IsTrace rs → IsFreeUpTo rs 13
+entered_there : (rs : List Record) (makers : List (Option ℕ)) (n : ℕ) → IsTrace rs → HasRightEntries rs
     → AreMakers rs (length rs) makers → n ≤ entries_in rs → (entries : List Entry) × AreEntered rs n entries
-entered_there rs makers zero trace free are low = ([], none_entered rs)
-entered_there rs makers (suc n) trace free are low =
-    let (entries, entered) = entered_there rs makers n trace free are (omega (arith, low)) in
+entered_there rs makers zero trace right are low = ([], none_entered rs)
+entered_there rs makers (suc n) trace right are low =
+    let (entries, entered) = entered_there rs makers n trace right are (omega (arith, low)) in
     let (i, e, made) = maker (get_or makers n None) (slice_get-get_or makers n None within) in (
       entries ++ e ∷ [],
       subst (λ k. AreEntered rs k (entries ++ e ∷ [])) (omega arith)
@@ -48,15 +48,15 @@ entered_there rs makers (suc n) trace free are low =
     within = let long = are.entries in omega (arith, low, long)
 
     maker : (slot : Option ℕ) → slice_get makers n ≡ Some slot → (i : ℕ) × (e : Entry) × IsEntryAt rs i n e
-    maker None is = absurd (all_made rs makers n are free is)
+    maker None is = absurd (all_made rs makers n are right.apart right.within is)
     maker (Some i) is =
         let below = (are.makes n i is).0 in
         let (r, here) = record_at rs i below in
         let makes = made_by rs makers n i r trace are is here in
         (i, makes.entry, makes.there)
 
-pub ledger_there : (rs : List Record) → IsTrace rs → IsFreeUpTo rs 13 → (entries : List Entry) × IsLedgerOf rs entries
-ledger_there rs trace free =
+pub ledger_there : (rs : List Record) → IsTrace rs → HasRightEntries rs → (entries : List Entry) × IsLedgerOf rs entries
+ledger_there rs trace right =
     let (makers, are) = makers_there rs (length rs) (omega arith) in
-    let (entries, entered) = entered_there rs makers (entries_in rs) trace free are (omega arith) in
-    (entries, are_all rs entries free entered)
+    let (entries, entered) = entered_there rs makers (entries_in rs) trace right are (omega arith) in
+    (entries, are_all rs entries right.apart right.within entered)

@@ -1,15 +1,17 @@
 -- The ledger of a trace: the entries that its finishing records make.
-use Rattle.std.specs.Prelude.{◌≡◌, ◌↔◌, ◌<◌, ◌≤◌, ℕ, List, Option, Some, slice_get}
+use Rattle.std.specs.Prelude.{◌≡◌, ◌≢◌, ◌↔◌, ◌<◌, ◌≤◌, ℕ, List, Option, Some, slice_get}
 use Rattle.std.specs.Option.{option_map, option_and_then}
 use Rattle.ompt_events.specs.declared.records.Record.{Record}
 use Rattle.ompt_events.specs.declared.records.Claim.{Claim}
 use Rattle.ompt_events.specs.declared.records.Part.{Part}
+use Rattle.ompt_events.specs.declared.records.Part.TheVariants.{Whole}
 use Rattle.ompt_events.specs.Records.{finish, claim}
-use Rattle.ompt_events.specs.Places.{seen_at}
+use Rattle.ompt_events.specs.Places.{at, seen_at}
 use Rattle.ompt_events.specs.Completion.{IsFinished}
 use Rattle.ompt_events.specs.declared.cause.Cause.{Cause}
+use Rattle.ompt_events.specs.declared.cause.Cause.TheVariants.{CreatedTwice, ShareWrong, EntryTwice, LengthAhead}
 use Rattle.ompt_events.specs.CauseNames.{cause_number}
-use Rattle.ompt_events.specs.Causes.{IsFreeOf}
+use Rattle.ompt_events.specs.Causes.{IsFreeOf, ShowsNowhere}
 use Rattle.credit_ledger.specs.declared.entry.Entry.{Entry}
 
 -- what a finishing record brings back, by what it claims
@@ -42,6 +44,34 @@ IsLedgerOf rs entries =
 abbrev pub IsDone : List Record → ℕ → ℕ → Type 0
 IsDone rs n task = IsFinished rs (λ k. seen_at rs k < n) task
 
+-- ---- what a ledger stands on
+
+-- where two records finish one task, they finish different parts of it, and neither finishes all of it
+abbrev pub IsFinishedInParts : List Record → Type 0
+IsFinishedInParts rs =
+    (i j task : ℕ) (part other : Part) → i ≢ j → at finish rs i ≡ Some (task, part)
+    → at finish rs j ≡ Some (task, other) → (part ≢ Whole) × (part ≢ other)
+
+-- the finishing records make a ledger whose credit tells which tasks are finished. Only the shares that are
+-- claimed speak of the order in which the records stand.
+pub record HasRightEntries (rs : List Record) : Type 0 where
+  -- no task is made twice, and no parallel region begun twice
+  pub once : IsFreeOf rs CreatedTwice
+  -- each finishing record claims the share that its task has left
+  pub right : IsFreeOf rs ShareWrong
+  -- a task is finished by one record, or its body by one and its event by another
+  pub parts : IsFinishedInParts rs
+  -- no two finishing records name one index of the ledger
+  pub apart : IsFreeOf rs EntryTwice
+  -- and none names an index past the ledger's end
+  pub within : IsFreeOf rs LengthAhead
+
+-- ---- causes up to a number
+
 -- no cause with this number or a lower one occurs
 abbrev pub IsFreeUpTo : List Record → ℕ → Type 0
 IsFreeUpTo rs number = (cause : Cause) → cause_number cause ≤ number → IsFreeOf rs cause
+
+-- the trace shows none of them
+abbrev pub ShowsNoneUpTo : List Record → ℕ → Type 0
+ShowsNoneUpTo rs number = (cause : Cause) → cause_number cause ≤ number → ShowsNowhere rs cause

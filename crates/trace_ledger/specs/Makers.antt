@@ -1,10 +1,10 @@
 -- Which record makes each entry of the ledger, in a table by entry.
 use Rattle.std.specs.Prelude.{◌≡◌, ◌<◌, ◌+◌, ℕ, zero, suc, List, [], ◌∷◌, Option, Some, None, length, take, slice_get}
 use Rattle.ompt_events.specs.declared.records.Record.{Record}
+use Rattle.ompt_events.specs.declared.cause.Cause.TheVariants.{EntryTwice, LengthAhead}
 use Rattle.ompt_events.specs.Places.{seen_at}
 use Rattle.ompt_events.specs.HappensBefore.{IsFinishing}
-use Rattle.ompt_events.specs.Causes.{entries_in}
-use Rattle.trace_ledger.specs.Entries.{IsFreeUpTo}
+use Rattle.ompt_events.specs.Causes.{entries_in, IsFreeOf}
 
 -- one of the first n records makes the entry
 abbrev pub IsMaker : List Record → ℕ → ℕ → ℕ → Type 0
@@ -21,4 +21,5 @@ free_entries (Some place ∷ makers) = free_entries makers
 pub record AreMakers (rs : List Record) (n : ℕ) (makers : List (Option ℕ)) : Type 0 where
   pub entries : length makers ≡ entries_in rs
   pub makes : (index place : ℕ) → slice_get makers index ≡ Some (Some place) → IsMaker rs n index place
-  pub all : IsFreeUpTo rs 13 → free_entries makers + entries_in (take n rs) ≡ length makers
+  pub all : IsFreeOf rs EntryTwice → IsFreeOf rs LengthAhead
+      → free_entries makers + entries_in (take n rs) ≡ length makers

@@ -4,36 +4,45 @@ ghost use Rattle.std.specs.Prelude.{◌≡◌, ◌≢◌, ◌↔◌, ℕ, false,
 ghost use Rattle.ompt_events.specs.declared.records.Record.{Record};
 ghost use Rattle.ompt_events.specs.Traces.{IsTrace};
 ghost use Rattle.ompt_events.specs.Tree.{HasPath, IsChild};
+ghost use Rattle.ompt_events.specs.Turns.{in_own_order};
 ghost use Rattle.credit_ledger.specs.declared.entry.Entry.{Entry};
 ghost use Rattle.credit_ledger.specs.Entries.{is_overlap};
-ghost use Rattle.trace_ledger.specs.Entries.{IsEntryAt, IsLedgerOf, IsDone, IsFreeUpTo};
+ghost use Rattle.trace_ledger.specs.Entries.{IsEntryAt, IsLedgerOf, IsDone, HasRightEntries};
+ghost use Rattle.trace_ledger.specs.Entries.{IsFreeUpTo, ShowsNoneUpTo};
 ghost use Rattle.trace_ledger.specs.Credits.{IsHeldInTree, IsHeldInPool, IsFamilyDone};
 
-/// Credit that is held means finished tasks. In a trace without causes 1 to 13 the first n entries finish a
+/// Records without the causes 1 to 13 have right entries, and so have the records of a trace in the tasks' own
+/// order where it shows none of these causes. Right entries are all that the other laws ask for.
+pub fn entries_are_right()
+    ensures listed { (rs : List Record) → IsFreeUpTo rs 13 → HasRightEntries rs }
+    ensures shown { (rs : List Record) → ShowsNoneUpTo rs 13 → HasRightEntries (in_own_order rs) }
+{}
+
+/// Credit that is held means finished tasks. In a trace with right entries the first n entries finish a
 /// task exactly where they hold the share with which it starts in its parent's pool, and the task with all
 /// its descendants exactly where they hold the share with which it starts in its root's tree
 /// (F. Mattern, 1989: work is over exactly where all of its credit has come back).
 pub fn held_is_done()
     ensures pool { (rs : List Record) (entries : List Entry) (n root parent number task : ℕ) (path : List ℕ)
-        → IsTrace rs → IsFreeUpTo rs 13 → IsLedgerOf rs entries
+        → IsTrace rs → HasRightEntries rs → IsLedgerOf rs entries
         → HasPath rs root parent path → IsChild rs parent number task
         → IsDone rs n task ↔ IsHeldInPool (take n entries) root path number }
     ensures tree { (rs : List Record) (entries : List Entry) (n root task : ℕ) (path : List ℕ)
-        → IsTrace rs → IsFreeUpTo rs 13 → IsLedgerOf rs entries
+        → IsTrace rs → HasRightEntries rs → IsLedgerOf rs entries
         → HasPath rs root task path
         → IsFamilyDone rs n task ↔ IsHeldInTree (take n entries) root path }
 {}
 
-/// Entries of two records don't overlap: in records without causes 1 to 13 no two of them bring back one share,
+/// Entries of two records don't overlap: in records with right entries no two of them bring back one share,
 /// or a share and a part of it, neither of a root's tree nor of a pool.
 pub fn entries_are_apart()
     ensures { (rs : List Record) (i j index other : ℕ) (e f : Entry)
-        → IsFreeUpTo rs 13 → i ≢ j → IsEntryAt rs i index e → IsEntryAt rs j other f
+        → HasRightEntries rs → i ≢ j → IsEntryAt rs i index e → IsEntryAt rs j other f
         → is_overlap e f ≡ false }
 {}
 
-/// Each trace without causes 1 to 13 has a ledger: its finishing records make the entries, one an index.
+/// Each trace with right entries has a ledger: its finishing records make the entries, one an index.
 pub fn ledger_is_there()
-    ensures { (rs : List Record) → IsTrace rs → IsFreeUpTo rs 13
+    ensures { (rs : List Record) → IsTrace rs → HasRightEntries rs
         → (entries : List Entry) × IsLedgerOf rs entries }
 {}

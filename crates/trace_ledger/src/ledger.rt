@@ -5,7 +5,7 @@ ghost use Rattle.credit_ledger.specs.declared.entry.Entry.{Entry};
 ghost use Rattle.credit_ledger.specs.declared.fault.LedgerFault.TheVariants.{Memory};
 ghost use Rattle.credit_ledger.specs.declared.view.Call.TheVariants.{Enter};
 ghost use Rattle.credit_ledger.specs.Histories.{IsPossible};
-ghost use Rattle.trace_ledger.specs.Entries.{entry_of, IsFreeUpTo, IsLedgerOf};
+ghost use Rattle.trace_ledger.specs.Entries.{entry_of, IsLedgerOf, HasRightEntries};
 
 use crate::entries::entry_of;
 use crate::makers::find_makers;
@@ -14,13 +14,13 @@ use ompt_events::Record;
 use std::alloc::Global;
 use task_tree::Run;
 
-/// The ledger of the run: each finishing record's entry stands at the index that the record names. Where none
-/// of the causes 1 to 13 occurs it has all of them and no other, and `Memory` is the only refusal; else
-/// nothing is promised.
+/// The ledger of the run: each finishing record's entry stands at the index that the record names. Where the
+/// records have right entries, as those without the causes 1 to 13 have (`laws::entries_are_right`), it has all
+/// of them and no other, and `Memory` is the only refusal; else nothing is promised.
 pub fn ledger_of(alloc: Global, run: &Run) -> Result<Ledger, LedgerFault>
-    ensures ledger { IsFreeUpTo run.now.records 13
+    ensures ledger { HasRightEntries run.now.records
         → IfOk result (λ ledger. IsLedgerOf run.now.records ledger) }
-    ensures memory { IsFreeUpTo run.now.records 13 → IsOkUnless result Memory }
+    ensures memory { HasRightEntries run.now.records → IsOkUnless result Memory }
 {
     let Ok(makers) = find_makers(alloc, run) else {
         return Err(LedgerFault::Memory);

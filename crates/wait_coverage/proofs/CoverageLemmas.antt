@@ -27,7 +27,7 @@ use Rattle.credit_ledger.specs.declared.entry.Span.{Span}
 use Rattle.credit_ledger.specs.declared.entry.Cover.{Cover}
 use Rattle.credit_ledger.specs.declared.entry.Cover.TheVariants.{Children, Descendants}
 use Rattle.credit_ledger.specs.Entries.{IsSpanHeld}
-use Rattle.trace_ledger.specs.Entries.{IsLedgerOf, IsFreeUpTo}
+use Rattle.trace_ledger.specs.Entries.{IsLedgerOf, HasRightEntries}
 use Rattle.wait_coverage.specs.Spans as spans
 use Rattle.wait_coverage.specs.Spans.{AreSpans, AreMemberSpans, IsSpan, IsCoverComplete}
 use Rattle.teams.specs.Teams.{TeamsView, IsTeams, AreTeams, IsMemberNumbered}
@@ -313,10 +313,10 @@ held_more entries cover list n last before here held k span below there = elim (
   | inr apart ↦ before k span (omega (arith, below, apart)) there
 ]
 
-pub held_complete : (coverage : CoverageView) (entries : List Entry) (end seen : ℕ) (cover : Cover) (list : List Span) → IsCoverage coverage → IsFreeUpTo coverage.teams.run.records 13 → IsLedgerOf coverage.teams.run.records entries → AreSpans coverage.teams.run.records end cover list → seen_at coverage.teams.run.records end ≡ seen → ((span : Span) → Contains list span → IsSpanHeld (take seen entries) span cover) → IsCoverComplete coverage.teams.run.records end
-held_complete coverage entries end seen cover list is free ledger are names held =
+pub held_complete : (coverage : CoverageView) (entries : List Entry) (end seen : ℕ) (cover : Cover) (list : List Span) → IsCoverage coverage → HasRightEntries coverage.teams.run.records → IsLedgerOf coverage.teams.run.records entries → AreSpans coverage.teams.run.records end cover list → seen_at coverage.teams.run.records end ≡ seen → ((span : Span) → Contains list span → IsSpanHeld (take seen entries) span cover) → IsCoverComplete coverage.teams.run.records end
+held_complete coverage entries end seen cover list is right ledger are names held =
     let P : ℕ → Type 0 = λ n. AreHeldBelow n in
-    (held_is_complete coverage.teams.run.records entries end cover list is.teams.run.trace free ledger are).1 (subst P (sym names) held)
+    (held_is_complete coverage.teams.run.records entries end cover list is.teams.run.trace right is.teams.whole ledger are).1 (subst P (sym names) held)
   where
     AreHeldBelow : ℕ → Type 0
     AreHeldBelow n = (span : Span) → Contains list span → IsSpanHeld (take n entries) span cover

@@ -6,7 +6,7 @@ use Rattle.std.proofs.lemmas.Option.{slice_get-get_or}
 use Rattle.ompt_events.specs.declared.records.Record.{Record}
 use Rattle.ompt_events.specs.declared.names.SyncKind.TheVariants.{Taskwait, Taskgroup}
 use Rattle.ompt_events.specs.declared.names.SyncKind.{SyncKind}
-use Rattle.ompt_events.specs.declared.cause.Cause.TheVariants.{CreatedTwice, TeamShort, ShareWrong}
+use Rattle.ompt_events.specs.declared.cause.Cause.TheVariants.{CreatedTwice, TeamShort}
 use Rattle.ompt_events.specs.Places.{seen_at}
 use Rattle.ompt_events.specs.Traces.{IsTrace}
 use Rattle.ompt_events.specs.Tree.{children_before, children_between, child_number, below}
@@ -15,13 +15,14 @@ use Rattle.ompt_events.specs.Teams.{IsTeammate}
 use Rattle.ompt_events.specs.Coverage.{Covers, IsFamily}
 use Rattle.ompt_events.specs.Coverage as coverage
 use Rattle.ompt_events.specs.Completion.{IsCompleteAt}
+use Rattle.ompt_events.specs.Causes.{IsFreeOf}
 use Rattle.credit_ledger.specs.declared.entry.Entry.{Entry}
 use Rattle.credit_ledger.specs.declared.entry.Span.{Span}
 use Rattle.credit_ledger.specs.declared.entry.Cover.{Cover}
 use Rattle.credit_ledger.specs.declared.entry.Cover.TheVariants.{Children, Descendants}
 use Rattle.credit_ledger.specs.Entries.{IsSpanHeld}
 use Rattle.ompt_events.proofs.ListLemmas.{get_contains, contains_get}
-use Rattle.trace_ledger.specs.Entries.{IsLedgerOf, IsFreeUpTo}
+use Rattle.trace_ledger.specs.Entries.{IsLedgerOf, HasRightEntries}
 use Rattle.teams.specs.Teams.{IsMemberNumbered}
 use Rattle.wait_coverage.specs.Spans.{IsSpan, AreSpans, waited, grouped, synchronised, AreMemberSpans, AreHeldAt, IsCoverComplete}
 use Rattle.teams.proofs.RegionEndLemmas.{ends_at, one_region}
@@ -30,11 +31,9 @@ use Rattle.teams.proofs.BarrierLemmas.{one_number}
 use Rattle.wait_coverage.proofs.MateLemmas.{one_member, number_of_mate, mate_of_number, begin_within}
 use Rattle.trace_ledger.proofs.TreeLaw.{IsKnown, tree_held, tree_done}
 use Rattle.trace_ledger.proofs.PoolLaw.{pool_held, pool_done}
+use Rattle.trace_ledger.proofs.CreditLaw.{known_of}
 
 -- ---- a span is held where its children are finished
-
-pub known_of : (rs : List Record) (entries : List Entry) → IsTrace rs → IsFreeUpTo rs 13 → IsLedgerOf rs entries → IsKnown rs entries
-known_of rs entries trace free are = record { trace = trace; once = free CreatedTwice (omega arith); right = free ShareWrong (omega arith); ledger = are }
 
 waited_held : (rs : List Record) (entries : List Entry) (i task begin : ℕ) (span : Span) → IsKnown rs entries → IsRegion rs i task Taskwait begin → IsSpan rs task 0 (child_number rs task begin) span → IsCoverComplete rs i → IsSpanHeld (take (seen_at rs i) entries) span Children
 waited_held rs entries i task begin span known region is complete number enough few =
@@ -157,8 +156,8 @@ record HasSpan (rs : List Record) (task number member start : ℕ) (spans : List
   found : Contains spans span
   is : IsSpan rs member 0 (child_number rs member start) span
 
-mate_span : (rs : List Record) (task number member start : ℕ) (spans : List Span) → IsFreeUpTo rs 13 → AreMemberSpans rs task number spans → IsTeammate rs task member → IsBarrierBegin rs member number start → HasSpan rs task number member start spans
-mate_span rs task number member start spans free are mate its =
+mate_span : (rs : List Record) (task number member start : ℕ) (spans : List Span) → IsFreeOf rs CreatedTwice → IsFreeOf rs TeamShort → AreMemberSpans rs task number spans → IsTeammate rs task member → IsBarrierBegin rs member number start → HasSpan rs task number member start spans
+mate_span rs task number member start spans once whole are mate its =
     let numbered = number_of_mate rs task member mate in
     let inside = are.all numbered.0 member numbered.1 in
     of numbered.0 numbered.1 inside
@@ -169,7 +168,7 @@ mate_span rs task number member start spans free are mate its =
         with_span : (span : Span) → slice_get spans index ≡ Some span → HasSpan rs task number member start spans
         with_span span there =
             let (other, place, other_numbered, other_its, is) = are.each index span there in
-            let same = one_member rs task index index other member (free CreatedTwice (omega arith)) (free TeamShort (omega arith)) other_numbered numbered refl in
+            let same = one_member rs task index index other member once whole other_numbered numbered refl in
             let P : ℕ → Type 0 = λ m. IsBarrierBegin rs m number place in
             let place_is : place ≡ start = Rattle.std.proofs.lemmas.Option.same_Some place start (sym (subst P same other_its) ∙ its) in
             record {
@@ -178,31 +177,31 @@ mate_span rs task number member start spans free are mate its =
               is = subst (λ p. IsSpan rs member 0 (child_number rs member p) span) place_is (subst (λ m. IsSpan rs m 0 (child_number rs m place) span) same is);
             }
 
-synchronised_complete : (rs : List Record) (entries : List Entry) (i task begin number covered : ℕ) (kind : SyncKind) (spans : List Span) → IsKnown rs entries → IsFreeUpTo rs 13 → IsRegion rs i task kind begin → is_barrier kind ≡ true → IsBarrierBegin rs task number begin → AreMemberSpans rs task number spans → AreHeldAt rs entries i Descendants spans → Covers rs i covered → IsCompleteAt rs covered i
-synchronised_complete rs entries i task begin number covered kind spans known free region barrier own are held (coverage.waited {parent = parent} {begin = start} other found) =
+synchronised_complete : (rs : List Record) (entries : List Entry) (i task begin number covered : ℕ) (kind : SyncKind) (spans : List Span) → IsKnown rs entries → IsFreeOf rs TeamShort → IsRegion rs i task kind begin → is_barrier kind ≡ true → IsBarrierBegin rs task number begin → AreMemberSpans rs task number spans → AreHeldAt rs entries i Descendants spans → Covers rs i covered → IsCompleteAt rs covered i
+synchronised_complete rs entries i task begin number covered kind spans known whole region barrier own are held (coverage.waited {parent = parent} {begin = start} other found) =
     let one = one_region rs i task parent begin start kind Taskwait region other in
     absurd (false≢true (ap is_barrier (sym one.kind_is) ∙ barrier))
-synchronised_complete rs entries i task begin number covered kind spans known free region barrier own are held (coverage.grouped {parent = parent} {begin = start} {child = child} other found of) =
+synchronised_complete rs entries i task begin number covered kind spans known whole region barrier own are held (coverage.grouped {parent = parent} {begin = start} {child = child} other found of) =
     let one = one_region rs i task parent begin start kind Taskgroup region other in
     absurd (false≢true (ap is_barrier (sym one.kind_is) ∙ barrier))
-synchronised_complete rs entries i task begin number covered kind spans known free region barrier own are held (coverage.synchronised {own = self} {begin = start} {member = member} {start = its_start} {child = child} {kind = another} its_number other also self_own mate its found of) =
+synchronised_complete rs entries i task begin number covered kind spans known whole region barrier own are held (coverage.synchronised {own = self} {begin = start} {member = member} {start = its_start} {child = child} {kind = another} its_number other also self_own mate its found of) =
     let one = one_region rs i task self begin start kind another region other in
     let P : ℕ → ℕ → Type 0 = λ t b. IsBarrierBegin rs t its_number b in
     let here : IsBarrierBegin rs task its_number begin = subst (λ b. IsBarrierBegin rs task its_number b) (sym one.begin_is) (subst (λ t. IsBarrierBegin rs t its_number start) (sym one.task_is) self_own) in
     let number_is = one_number rs task its_number number begin here own in
     let its_begin : IsBarrierBegin rs member number its_start = subst (λ n. IsBarrierBegin rs member n its_start) number_is its in
-    let has = mate_span rs task number member its_start spans free are (subst (λ t. IsTeammate rs t member) (sym one.task_is) mate) its_begin in
+    let has = mate_span rs task number member its_start spans known.once whole are (subst (λ t. IsTeammate rs t member) (sym one.task_is) mate) its_begin in
     member_done rs entries i member its_start number child covered has.span known its_begin has.is (held has.span has.found) found of
 
-complete_from : (rs : List Record) (entries : List Entry) (i : ℕ) (cover : Cover) (spans : List Span) → IsKnown rs entries → IsFreeUpTo rs 13 → AreSpans rs i cover spans → AreHeldAt rs entries i cover spans → IsCoverComplete rs i
-complete_from rs entries i cover spans known free (waited {task = task} {begin = begin} {span = own} region is) held covered covers =
+complete_from : (rs : List Record) (entries : List Entry) (i : ℕ) (cover : Cover) (spans : List Span) → IsKnown rs entries → IsFreeOf rs TeamShort → AreSpans rs i cover spans → AreHeldAt rs entries i cover spans → IsCoverComplete rs i
+complete_from rs entries i cover spans known whole (waited {task = task} {begin = begin} {span = own} region is) held covered covers =
     waited_complete rs entries i task begin covered own known region is (held own (get_contains (own ∷ []) own 0 refl)) covers
-complete_from rs entries i cover spans known free (grouped {task = task} {begin = begin} {span = own} region is) held covered covers =
+complete_from rs entries i cover spans known whole (grouped {task = task} {begin = begin} {span = own} region is) held covered covers =
     grouped_complete rs entries i task begin covered own known region is (held own (get_contains (own ∷ []) own 0 refl)) covers
-complete_from rs entries i cover spans known free (synchronised {task = task} {begin = begin} {kind = kind} number region barrier own are) held covered covers =
-    synchronised_complete rs entries i task begin number covered kind spans known free region barrier own are held covers
+complete_from rs entries i cover spans known whole (synchronised {task = task} {begin = begin} {kind = kind} number region barrier own are) held covered covers =
+    synchronised_complete rs entries i task begin number covered kind spans known whole region barrier own are held covers
 
-pub held_is_complete : (rs : List Record) (entries : List Entry) (i : ℕ) (cover : Cover) (spans : List Span) → IsTrace rs → IsFreeUpTo rs 13 → IsLedgerOf rs entries → AreSpans rs i cover spans → IsCoverComplete rs i ↔ AreHeldAt rs entries i cover spans
-held_is_complete rs entries i cover spans trace free are spans_are =
-    let known = known_of rs entries trace free are in
-    (held_from rs entries i cover spans known spans_are, complete_from rs entries i cover spans known free spans_are)
+pub held_is_complete : (rs : List Record) (entries : List Entry) (i : ℕ) (cover : Cover) (spans : List Span) → IsTrace rs → HasRightEntries rs → IsFreeOf rs TeamShort → IsLedgerOf rs entries → AreSpans rs i cover spans → IsCoverComplete rs i ↔ AreHeldAt rs entries i cover spans
+held_is_complete rs entries i cover spans trace right whole are spans_are =
+    let known = known_of rs entries trace right are in
+    (held_from rs entries i cover spans known spans_are, complete_from rs entries i cover spans known whole spans_are)

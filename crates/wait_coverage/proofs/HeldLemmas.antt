@@ -13,7 +13,7 @@ use Rattle.ompt_events.specs.Records.{creation}
 use Rattle.task_tree.specs.Family.{FamilyView, IsFamilyOf}
 use Rattle.task_tree.proofs.PathLemmas.{root_known}
 use Rattle.credit_ledger.specs.declared.entry.Entry.{Entry}
-use Rattle.trace_ledger.specs.Entries.{IsDone, IsLedgerOf, IsFreeUpTo}
+use Rattle.trace_ledger.specs.Entries.{IsDone, IsLedgerOf, HasRightEntries}
 use Rattle.trace_ledger.specs.Credits.{IsFamilyDone}
 use Rattle.trace_ledger.proofs.CreditLaw.{held_in_pool, held_in_tree}
 use Rattle.wait_coverage.specs.Done.{DoneView, records_of, tasks_of, IsEarly, IsFamilyEarly, IsDoneView, AreDone, AreChildrenDone}
@@ -69,16 +69,16 @@ family_early done index task m is are here small = (
 
 -- ---- what the ledger holds
 
-pub held_from : (done : DoneView) (entries : List Entry) → IsDoneView done → AreDone done → IsFreeUpTo (records_of done) 13 → IsLedgerOf (records_of done) entries → AreHeldFrom done entries
-held_from done entries is are free ledger = record {
+pub held_from : (done : DoneView) (entries : List Entry) → IsDoneView done → AreDone done → HasRightEntries (records_of done) → IsLedgerOf (records_of done) entries → AreHeldFrom done entries
+held_from done entries is are right ledger = record {
   pool = λ index task limit n root parent number path here stands has_path is_child small.
       let from = are.each index task limit here stands n small in
-      let held = held_in_pool (records_of done) entries n root parent number task path is.teams.run.trace free ledger has_path is_child in
+      let held = held_in_pool (records_of done) entries n root parent number task path is.teams.run.trace right ledger has_path is_child in
       (λ low. held.0 (from.0 low), λ holds. from.1 (held.1 holds));
   tree = λ index task limit n root path here stands has_path small.
       let greatest = is.families.each index task limit n here stands in
       let early = family_early done index task n is are here small in
-      let held = held_in_tree (records_of done) entries n root task path is.teams.run.trace free ledger has_path in
+      let held = held_in_tree (records_of done) entries n root task path is.teams.run.trace right ledger has_path in
       (λ low. held.0 (early.0 (greatest.0 low)), λ holds. greatest.1 (early.1 (held.1 holds)));
 }
 
@@ -110,10 +110,10 @@ place_of rs family task are (i, is) =
       is_child = numbered.1;
     }
 
-pub held_children_done : (done : DoneView) (entries : List Entry) → IsDoneView done → IsFreeUpTo (records_of done) 13 → IsLedgerOf (records_of done) entries → AreHeldFrom done entries → AreChildrenDone done
-held_children_done done entries is free ledger from = λ task m explicit small.
+pub held_children_done : (done : DoneView) (entries : List Entry) → IsDoneView done → HasRightEntries (records_of done) → IsLedgerOf (records_of done) entries → AreHeldFrom done entries → AreChildrenDone done
+held_children_done done entries is right ledger from = λ task m explicit small.
     let at = place_of (records_of done) done.teams.run.family task is.teams.run.family explicit in
-    let held = held_in_pool (records_of done) entries m at.root at.parent at.number task at.path is.teams.run.trace free ledger at.has_path at.is_child in (
+    let held = held_in_pool (records_of done) entries m at.root at.parent at.number task at.path is.teams.run.trace right ledger at.has_path at.is_child in (
       λ early.
           let there = own_there done at.index task is at.indexed in
           held.1 ((from.pool at.index task (slice_index done.own at.index) m at.root at.parent at.number at.path at.indexed there at.has_path at.is_child small).0 (early at.index (slice_index done.own at.index) at.indexed there)),

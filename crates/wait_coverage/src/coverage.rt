@@ -9,7 +9,7 @@ ghost use Rattle.task_tree.specs.Paths.{IsTreeOf};
 ghost use Rattle.credit_ledger.specs.declared.entry.Span.{Span};
 ghost use Rattle.credit_ledger.specs.declared.entry.Cover.{Cover};
 ghost use Rattle.credit_ledger.specs.Entries.{IsSpanHeld};
-ghost use Rattle.trace_ledger.specs.Entries.{IsLedgerOf, IsFreeUpTo};
+ghost use Rattle.trace_ledger.specs.Entries.{IsLedgerOf, HasRightEntries};
 ghost use Rattle.wait_coverage.specs.declared.waits.Wait.TheVariants.{Barrier};
 ghost use Rattle.wait_coverage.specs.Spans.{AreSpans, AreMemberSpans, IsSpan, IsCoverComplete};
 ghost use Rattle.wait_coverage.specs.Waits.{IsWaitAt, IsFirstOpen, cover_of};
@@ -122,12 +122,13 @@ impl<'a> Coverage<'a> {
     /// Of the tasks that the end with this number among the ends covers the first created one that is not
     /// finished by the entries of the ledger below the length that the end names: none where these hold the
     /// credit that it waits for (F. Mattern, 1989). That is promised where the ledger is that of the trace
-    /// and none of the causes 1 to 13 occurs in it. `Memory` is the only refusal.
+    /// and its records have right entries, as those without the causes 1 to 13 have. `Memory` is the only
+    /// refusal.
     pub fn first_open(&self, number: usize, ledger: &Ledger) -> Result<Option<u64>, CoverFault>
         requires { number < length self.now.ends }
         ensures fault { IfErr result (λ fault. fault ≡ Memory) }
         ensures first { IsLedgerOf self.now.teams.run.records ledger.now
-            → IsFreeUpTo self.now.teams.run.records 13
+            → HasRightEntries self.now.teams.run.records
             → IfOk result (λ found. (end : ℕ) → slice_get self.now.ends number ≡ Some end
             → MatchOption found (IsCoverComplete self.now.teams.run.records end)
             (IsFirstOpen self.now.teams.run.records end)) }
@@ -151,7 +152,7 @@ impl<'a> Coverage<'a> {
         requires { All (λ number. number < length self.now.ends) of.now }
         ensures fault { IfErr result (λ fault. fault ≡ Memory) }
         ensures first { IsLedgerOf self.now.teams.run.records ledger.now
-            → IsFreeUpTo self.now.teams.run.records 13
+            → HasRightEntries self.now.teams.run.records
             → IfOk result (λ found.
             AreFirstOpen self.now.teams.run.records self.now.ends of.now (length of.now) found.items) }
     {
@@ -197,7 +198,7 @@ impl<'a> Coverage<'a> {
         requires { number < length self.now.ends }
         ensures fault { IfErr result (λ fault. fault ≡ Memory) }
         ensures held { IsLedgerOf self.now.teams.run.records ledger.now
-            → IsFreeUpTo self.now.teams.run.records 13
+            → HasRightEntries self.now.teams.run.records
             → IfOk result (λ held. IsTrue held → (end : ℕ) → slice_get self.now.ends number ≡ Some end
             → IsCoverComplete self.now.teams.run.records end) }
     {

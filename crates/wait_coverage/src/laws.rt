@@ -2,18 +2,23 @@
 //! does nothing.
 ghost use Rattle.std.specs.Prelude.{◌↔◌, ℕ, List};
 ghost use Rattle.ompt_events.specs.declared.records.Record.{Record};
+ghost use Rattle.ompt_events.specs.declared.cause.Cause.TheVariants.{TeamShort};
+ghost use Rattle.ompt_events.specs.Causes.{IsFreeOf};
 ghost use Rattle.ompt_events.specs.Traces.{IsTrace};
 ghost use Rattle.credit_ledger.specs.declared.entry.Entry.{Entry};
 ghost use Rattle.credit_ledger.specs.declared.entry.Span.{Span};
 ghost use Rattle.credit_ledger.specs.declared.entry.Cover.{Cover};
-ghost use Rattle.trace_ledger.specs.Entries.{IsLedgerOf, IsFreeUpTo};
+ghost use Rattle.trace_ledger.specs.Entries.{IsLedgerOf, HasRightEntries};
 ghost use Rattle.wait_coverage.specs.Spans.{AreSpans, AreHeldAt, IsCoverComplete};
 
 /// The entries below the ledger length that an end names finish each task that it covers exactly where they
 /// hold the start share of each child of its spans: in its parent's pool for a taskwait, in the tree for the
-/// others (F. Mattern, 1989: work is over exactly where all of its credit has come back).
+/// others (F. Mattern, 1989: work is over exactly where all of its credit has come back). The trace must
+/// have right entries, and each team and barrier all its members; a trace without the causes 1 to 13 is such a
+/// one (`trace_ledger::laws::entries_are_right`).
 pub fn held_is_complete()
     ensures { (rs : List Record) (entries : List Entry) (i : ℕ) (cover : Cover) (spans : List Span)
-        → IsTrace rs → IsFreeUpTo rs 13 → IsLedgerOf rs entries → AreSpans rs i cover spans
+        → IsTrace rs → HasRightEntries rs → IsFreeOf rs TeamShort → IsLedgerOf rs entries
+        → AreSpans rs i cover spans
         → IsCoverComplete rs i ↔ AreHeldAt rs entries i cover spans }
 {}

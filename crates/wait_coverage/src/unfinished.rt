@@ -1,7 +1,7 @@
 //! The first end of a region that covers an unfinished task, and whether an end covers a given one.
 ghost use Rattle.std.specs.Prelude.{ℕ, ◌≡◌, ◌<◌, ◌↔◌, List, IfOk, IfErr, IsTrue, MatchOption, length};
 ghost use Rattle.ompt_events.specs.declared.fault.Fault.TheVariants.{Memory};
-ghost use Rattle.trace_ledger.specs.Entries.{IsFreeUpTo, IsLedgerOf};
+ghost use Rattle.trace_ledger.specs.Entries.{HasRightEntries, IsLedgerOf};
 ghost use Rattle.wait_coverage.specs.Done.{IsDoneView, AreDone, AreChildrenDone};
 ghost use Rattle.wait_coverage.specs.Known.{AreHeldFrom, AreCreditLengths};
 ghost use Rattle.wait_coverage.specs.Limits.{IsEndLimit};
@@ -51,7 +51,7 @@ impl<'a> Known<'a> {
         ensures teams { IfOk result (λ known. known.done.teams ≡ teams.now) }
         ensures done { IsLedgerOf teams.now.run.records ledger.now
             → IfOk result (λ known. AreDone known.done) }
-        ensures credit { IsLedgerOf teams.now.run.records ledger.now → IsFreeUpTo teams.now.run.records 13
+        ensures credit { IsLedgerOf teams.now.run.records ledger.now → HasRightEntries teams.now.run.records
             → IfOk result (λ known. AreHeldFrom known.done ledger.now) }
         ensures fault { IfErr result (λ fault. fault ≡ Memory) }
     {
@@ -105,13 +105,14 @@ impl<'a> Known<'a> {
     }
 }
 
-/// What is known of all tasks and records, by what the records say. Where none of the causes 1 to 13 occurs
-/// the lengths are exactly those from which on the trace's ledger holds the tasks' credit. It takes a few
-/// steps for each record, and memory linear in the records. `Memory` is the only refusal.
+/// What is known of all tasks and records, by what the records say. Where these have right entries, as those
+/// without the causes 1 to 13 have, the lengths are exactly those from which on the trace's ledger holds the
+/// tasks' credit. It takes a few steps for each record, and memory linear in the records. `Memory` is the only
+/// refusal.
 pub fn find_known<'a>(alloc: Global, teams: &'a Teams<'a>) -> Result<Known<'a>, Fault>
     ensures teams { IfOk result (λ known. known.done.teams ≡ teams.now) }
     ensures done { IfOk result (λ known. AreDone known.done) }
-    ensures credit { IsFreeUpTo teams.now.run.records 13
+    ensures credit { HasRightEntries teams.now.run.records
         → IfOk result (λ known. AreCreditLengths known.done) }
     ensures fault { IfErr result (λ fault. fault ≡ Memory) }
 {
@@ -130,7 +131,7 @@ pub fn find_open(alloc: Global, known: &Known) -> Result<Option<(usize, u64)>, F
     ensures first { AreDone known.now.done → IfOk result (λ found.
         MatchOption found ((i : ℕ) → IsCoverComplete known.now.done.teams.run.records i)
         (λ f. IsFirstOpenEnd known.now.done.teams.run.records f.0 f.1)) }
-    ensures first_by_credit { IsFreeUpTo known.now.done.teams.run.records 13
+    ensures first_by_credit { HasRightEntries known.now.done.teams.run.records
         → AreCreditLengths known.now.done → IfOk result (λ found.
         MatchOption found ((i : ℕ) → IsCoverComplete known.now.done.teams.run.records i)
         (λ f. IsFirstOpenEnd known.now.done.teams.run.records f.0 f.1)) }

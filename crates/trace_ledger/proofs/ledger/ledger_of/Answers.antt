@@ -25,7 +25,7 @@ enter-requires c =
     makes.sound
 
 pub returns-in_err-enter-clause-memory : goal.returns-in_err-enter-clause-memory
-returns-in_err-enter-clause-memory c = λ free.
+returns-in_err-enter-clause-memory c = λ right.
     let long : c.len-index-end.result ≡ length c.in-Ok.makers.items =
     omega (arith, c.len-index-end.ensures, c.in-Ok.makers.ok.0) in
     let rs = c.args.run.now.records in
@@ -35,14 +35,14 @@ returns-in_err-enter-clause-memory c = λ free.
     c.in-Ok.ensures long c.loop-index-test.true c.index.ensures c.in-Some.is c.index-records-at.is in
     let within : c.loop-index.index < entries_in rs =
     omega (arith, c.loop-index-test.true, c.len-index-end.ensures, c.in-Ok.ensures.entries) in
-    let possible = may_enter rs c.loop-index.ledger c.in-Some.at c.loop-index.index makes.entry trace free
-    within (c.loop-index.invariant free) makes.there in
+    let possible = may_enter rs c.loop-index.ledger c.in-Some.at c.loop-index.index makes.entry trace right
+    within (c.loop-index.invariant right) makes.there in
     let memory = c.in_err-enter.ensures.memory makes.entry makes.made possible in
     let p = err_from_is_err_and c.from_residual.result c.from_residual.ensures.1 in
     rw (p.1, p.2) memory
 
 pub loop-index-preserved : goal.loop-index-preserved
-loop-index-preserved c = λ free.
+loop-index-preserved c = λ right.
     let long : c.len-index-end.result ≡ length c.in-Ok.makers.items =
     omega (arith, c.len-index-end.ensures, c.in-Ok.makers.ok.0) in
     let rs = c.args.run.now.records in
@@ -53,15 +53,15 @@ loop-index-preserved c = λ free.
           c.in-Ok.ensures long c.loop-index-test.true c.index.ensures w.in-Some.is w.index-records-at.is in
           one_entered rs c.loop-index.ledger c.match-index.ledger w.in-Some.at c.loop-index.index
           makes.entry (w.ledger-is ∙ w.in_ok-enter.ensures.entered makes.entry makes.made)
-          (c.loop-index.invariant free) makes.there
+          (c.loop-index.invariant right) makes.there
       | in_default-index w ↦
-          absurd (all_made rs c.in-Ok.makers.items c.loop-index.index c.in-Ok.ensures free
+          absurd (all_made rs c.in-Ok.makers.items c.loop-index.index c.in-Ok.ensures right.apart right.within
           (slice_get_read _ _ _ _ long c.loop-index-test.true c.index.ensures
           ∙ ap Some w.in_default-index.is))
     ]
 
 pub returns-clause-ledger : goal.returns-clause-ledger
-returns-clause-ledger c = λ free.
+returns-clause-ledger c = λ right.
     let rs = c.args.run.now.records in
     let last : c.loop-index.index ≡ entries_in rs =
     omega (
@@ -71,5 +71,5 @@ returns-clause-ledger c = λ free.
       c.len-index-end.ensures,
       c.in-Ok.ensures.entries,
     ) in
-    are_all rs c.loop-index.ledger free (subst (λ n. AreEntered rs n c.loop-index.ledger) last
-    (c.loop-index.invariant free))
+    are_all rs c.loop-index.ledger right.apart right.within (subst (λ n. AreEntered rs n c.loop-index.ledger) last
+    (c.loop-index.invariant right))

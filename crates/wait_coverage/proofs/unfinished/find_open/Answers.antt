@@ -7,8 +7,8 @@ pub returns-clause-first : goal.returns-clause-first
 returns-clause-first c = λ are. c.in_ok-first_open_end.ensures (own_children_done c.args.known.now.done c.done-done.ensures.is_done are)
 
 pub returns-clause-first_by_credit : goal.returns-clause-first_by_credit
-returns-clause-first_by_credit c = λ free credit.
+returns-clause-first_by_credit c = λ right credit.
     let done = c.args.known.now.done in
     let is = c.done-done.ensures.is_done in
-    let ledger = ledger_there (records_of done) is.teams.run.trace free in
-    c.in_ok-first_open_end.ensures (held_children_done done ledger.0 is free ledger.1 (credit ledger.0 ledger.1))
+    let ledger = ledger_there (records_of done) is.teams.run.trace right in
+    c.in_ok-first_open_end.ensures (held_children_done done ledger.0 is right ledger.1 (credit ledger.0 ledger.1))

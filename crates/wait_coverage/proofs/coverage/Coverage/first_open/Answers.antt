@@ -6,10 +6,10 @@ use Rattle.wait_coverage.proofs.CoverageLemmas.{open_first}
 use Rattle.wait_coverage.proofs.coverage.Coverage.first_open.Goals as goal
 
 pub returns-then-branch-clause-first : goal.returns-then-branch-clause-first
-returns-then-branch-clause-first c = λ ledger free. c.in_ok-is_end_held.ensures.held ledger free c.if-branch.true
+returns-then-branch-clause-first c = λ ledger right. c.in_ok-is_end_held.ensures.held ledger right c.if-branch.true
 
 pub returns-clause-first : goal.returns-clause-first
-returns-clause-first c = λ ledger free end here.
+returns-clause-first c = λ ledger right end here.
     let P : TeamsView → Type 0 = λ t. IsLedgerOf t.run.records c.args.ledger.now in
     let known = c.in_ok-known.ensures in
     open_first c.args.self.now.teams c.in_ok-known.known.done c.end.result end c.in_ok-open_at.field-0

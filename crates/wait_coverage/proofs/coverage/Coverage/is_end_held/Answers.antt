@@ -9,7 +9,7 @@ use Rattle.wait_coverage.proofs.CoverageLemmas.{held_complete}
 use Rattle.wait_coverage.proofs.coverage.Coverage.is_end_held.Goals as goal
 
 pub returns-clause-held : goal.returns-clause-held
-returns-clause-held c = λ ledger free.
+returns-clause-held c = λ ledger right.
     let coverage = c.args.self.now in
     let run = coverage.teams.run in
     let wait = c.wait-wait.result.now in
@@ -18,6 +18,6 @@ returns-clause-held c = λ ledger free.
     if_ok-map (λ held tells is end here.
     let at_end = same_Some c.end.result end (sym c.end.ensures.value ∙ here) in
     let names = ap (seen_at run.records) (sym at_end) ∙ sym seen in
-    held_complete coverage c.args.ledger.now end c.seen-seen.result (cover_of wait) c.in_ok-spans.spans.items c.teams.ensures.is_coverage free ledger
+    held_complete coverage c.args.ledger.now end c.seen-seen.result (cover_of wait) c.in_ok-spans.spans.items c.teams.ensures.is_coverage right ledger
     (c.in_ok-spans.ensures end (c.wait-wait.ensures end here)) names (rw (c.cover.ensures, c.as_slice.ensures.value) at (tells is))
     ) c.are_held.result c.are_held.ensures.held

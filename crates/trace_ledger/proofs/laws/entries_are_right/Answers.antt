@@ -1,0 +1,8 @@
+use Rattle.trace_ledger.proofs.RightLemmas.{right_entries, shown_entries}
+use Rattle.trace_ledger.proofs.laws.entries_are_right.Goals as goal
+
+pub returns-clause-listed : goal.returns-clause-listed
+returns-clause-listed c = right_entries
+
+pub returns-clause-shown : goal.returns-clause-shown
+returns-clause-shown c = shown_entries
