@@ -12,4 +12,4 @@ max_turns = 10000
 
 -- the newest version of the format that the program reads
 abbrev pub newest_version : ℕ
-newest_version = 1
+newest_version = 2

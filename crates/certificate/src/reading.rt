@@ -21,7 +21,7 @@ use std::alloc::Global;
 const LAST_LINE: u32 = 2 + MAX_RECORDS as u32;
 
 /// The newest version of the format that [`read`] takes.
-pub const NEWEST_VERSION: u32 = 1;
+pub const NEWEST_VERSION: u32 = 2;
 
 /// Reads a trace file of a version up to [`NEWEST_VERSION`] to its end. At most 131,074 bytes wait at a
 /// time, two of the longest lines with their line feeds, and the source is asked for no more than there is

@@ -15,10 +15,10 @@ use Rattle.ompt_events.proofs.PlaceLemmas.{at_within}
 use Rattle.task_tree.specs.OwnOrder.{AreAllPlaces}
 use Rattle.task_tree.specs.Own.{OwnView, IsFirstPlaceWith}
 
-wrong : (rs : List Record) (i : ℕ) → HasCause rs i ShareWrong → HasWrongShare rs i
+pub wrong : (rs : List Record) (i : ℕ) → HasCause rs i ShareWrong → HasWrongShare rs i
 wrong rs i (share_wrong has) = has
 
-wrong_within : (rs : List Record) (i : ℕ) → HasWrongShare rs i → i < length rs
+pub wrong_within : (rs : List Record) (i : ℕ) → HasWrongShare rs i → i < length rs
 wrong_within rs i (task, part, claimed, finishes, claims, not_right) = at_within finish rs i (task, part) finishes
 
 -- no record at the first places in the file claims wrongly

@@ -16,7 +16,8 @@ use Rattle.ompt_events.specs.HappensBefore.{IsStart}
 use Rattle.ompt_events.specs.Linearization.{IsLinearization, IsGreedy}
 use Rattle.ompt_events.specs.Completion.{IsCompleteIn, IsCompleteAt}
 use Rattle.ompt_events.specs.Violations as violations
-use Rattle.ompt_events.specs.Causes.{IsShownMalformed}
+use Rattle.ompt_events.specs.declared.cause.Cause.TheVariants.{ShareWrong}
+use Rattle.ompt_events.specs.Causes.{IsFreeOf, ShowsNowhere, IsShownMalformed}
 use Rattle.ompt_events.proofs.PlaceLemmas.{at_within}
 use Rattle.ompt_events.proofs.TurnLemmas.{first_version_tells_none}
 use Rattle.task_tree.specs.Rising.{TurnsRise}
@@ -35,9 +36,11 @@ use Rattle.checker.specs.Search.{IsClear, IsOfRecords, AreAllCovered, AreAllRead
 use Rattle.checker.specs.Starts.{AreReady, IsFirstLateStart}
 use Rattle.ompt_events.specs.Coverage.{Covers}
 use Rattle.ompt_events.proofs.TurnLemmas.{start_starts}
-use Rattle.task_tree.specs.Own.{OwnView, IsOwn}
+use Rattle.task_tree.specs.Own.{OwnView, IsOwn, of_claims}
 use Rattle.task_tree.specs.Families.{IsOwnOf}
-use Rattle.task_tree.proofs.OwnRunLemmas.{own_says, own_covers, number_of_place}
+use Rattle.task_tree.proofs.OwnRunLemmas.{own_says, own_covers, place_of_number, number_of_place}
+use Rattle.task_tree.proofs.ShownLemmas.{shown_there}
+use Rattle.checker.proofs.ClaimLemmas.{wrong, wrong_within}
 use Rattle.trace_ledger.specs.Entries.{IsDone}
 use Rattle.wait_coverage.specs.Spans.{IsCoverComplete}
 use Rattle.wait_coverage.specs.Waits.{IsOpen, IsFirstOpenPlace}
@@ -234,6 +237,12 @@ least_shown rs i cause is = record {
 
 pub shows_none : (rs : List Record) → IsClear rs all_causes → ShowsNone (by_task rs)
 shows_none rs clear i cause shown = clear cause (listed cause) i shown
+
+-- claims that the trace shows to be right are right in the tasks' own order
+pub claims_right : (rs : List Record) (own : OwnView) → IsOwnOf rs own → IsOwn own → ShowsNowhere rs ShareWrong → IsFreeOf own.run.records ShareWrong
+claims_right rs own of is_own none number has =
+    let place = place_of_number rs own is_own.places number (wrong_within own.run.records number (wrong own.run.records number has)) in
+    none place.0 ((shown_there rs own ShareWrong of_claims of number place.0 place.1).1 has)
 
 -- ---- what the searches in the tasks' own order find
 

@@ -1,5 +1,5 @@
 //! The audit of a file, with its report alone or with an order that shows the verdict.
-ghost use Rattle.std.specs.Prelude.{◌≡◌, IfOk, IfErr, None};
+ghost use Rattle.std.specs.Prelude.{IfOk, IfErr, None};
 ghost use Rattle.checker.specs.Verdicts.{IsVerdict};
 ghost use Rattle.taskaudit.specs.Audits.{Prints, Reports, Leaves, IsReadRightly};
 ghost use Rattle.taskaudit.specs.Devices.{TellsDevices, IsOfNoDevice};
@@ -86,7 +86,6 @@ fn audit_for<I: Source, O: Sink>(
 
 /// The verdict on the trace, and what the job prints of it.
 fn answer(alloc: Global, job: Job, trace: &Trace) -> Result<(Verdict, Vec<u8>), AuditFault>
-    requires { trace.now.version ≡ 1 }
     ensures verdict { IfOk result (λ answer. IsVerdict trace.now.records answer.0) }
     ensures text { IfOk result (λ answer. Prints job trace.now.records answer.0 answer.1.items) }
     ensures no_device { IfErr result IsOfNoDevice }

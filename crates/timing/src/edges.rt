@@ -14,9 +14,7 @@ pub fn of_input(rt: &HostRuntime) -> Result<()> {
     of_trace(rt, &trace_of_input(rt)?)
 }
 
-fn of_trace(rt: &HostRuntime, trace: &Trace) -> Result<()>
-    requires { trace.now.version ≡ 1 }
-{
+fn of_trace(rt: &HostRuntime, trace: &Trace) -> Result<()> {
     match Tree::build(rt.alloc(), trace) {
         Ok(tree) => of_tree(rt, trace, &tree),
         Err(_) => bail!("no tree"),
@@ -25,8 +23,7 @@ fn of_trace(rt: &HostRuntime, trace: &Trace) -> Result<()>
 
 /// Prints the predecessors, or the first record with misplaced dependences.
 fn of_tree(rt: &HostRuntime, trace: &Trace, tree: &Tree) -> Result<()>
-    requires version { trace.now.version ≡ 1 }
-    requires tree { IsTreeOf trace.now.records tree.now }
+    requires { IsTreeOf trace.now.records tree.now }
 {
     match Edges::build(rt.alloc(), trace, tree) {
         Ok(edges) => of_edges(rt, &edges),

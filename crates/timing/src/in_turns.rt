@@ -2,7 +2,7 @@
 ghost use Rattle.std.specs.Prelude.{IfOk};
 ghost use Rattle.task_tree.specs.Family.{IsFamilyOf};
 
-use crate::lines::any_trace_of_input;
+use crate::lines::trace_of_input;
 use anyhow::{Result, bail};
 use ompt_events::Trace;
 use task_tree::{Families, Family, Own, OwnOrder, arrange, find_gap, turns_of, turns_rise};
@@ -11,7 +11,7 @@ use task_tree::{Families, Family, Own, OwnOrder, arrange, find_gap, turns_of, tu
 /// gap, the places in the tasks' own order, whether turns are found to rise along the file, and the children of
 /// each task.
 pub fn of_input(rt: &HostRuntime) -> Result<()> {
-    let trace = any_trace_of_input(rt)?;
+    let trace = trace_of_input(rt)?;
     let family = family_of(rt, &trace)?;
     let found = turns_of(rt.alloc(), trace.records(), &family)?;
     let gap = find_gap(rt.alloc(), trace.records(), &family, &found)?;
@@ -76,14 +76,14 @@ fn told_rising(rt: &HostRuntime, trace: &Trace, family: &Family) -> Result<()>
 
 /// Reads the trace on standard input and asks whether its turns rise.
 pub fn rise(rt: &HostRuntime) -> Result<()> {
-    let trace = any_trace_of_input(rt)?;
+    let trace = trace_of_input(rt)?;
     let family = family_of(rt, &trace)?;
     told_rising(rt, &trace, &family)
 }
 
 /// Reads the trace on standard input, searches for a turn gap and puts its records into the tasks' own order.
 pub fn arranged(rt: &HostRuntime) -> Result<()> {
-    let trace = any_trace_of_input(rt)?;
+    let trace = trace_of_input(rt)?;
     let family = family_of(rt, &trace)?;
     let turns = turns_of(rt.alloc(), trace.records(), &family)?;
     let gap = find_gap(rt.alloc(), trace.records(), &family, &turns)?;

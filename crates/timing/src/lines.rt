@@ -1,8 +1,6 @@
 //! Standard input as lines and as traces, and what single lines stand for.
-ghost use Rattle.std.specs.Prelude.{◌≡◌, IfOk};
-
 use anyhow::{Result, bail};
-use certificate::{FromRead, ReadFault, ToWrite, read, read_to, write};
+use certificate::{FromRead, ReadFault, ToWrite, read, write};
 use memchr::memchr;
 use ompt_events::Trace;
 use std::alloc::Global;
@@ -28,19 +26,9 @@ pub fn text_of_input(rt: &HostRuntime) -> Result<String> {
     Ok(text)
 }
 
-/// The trace of version 1 that stands on standard input.
-pub fn trace_of_input(rt: &HostRuntime) -> Result<Trace>
-    ensures { IfOk result (λ trace. trace.version ≡ 1) }
-{
+/// The trace that stands on standard input.
+pub fn trace_of_input(rt: &HostRuntime) -> Result<Trace> {
     trace_of(rt.alloc(), input(rt)?.as_slice())
-}
-
-/// The trace of either version that stands on standard input.
-pub fn any_trace_of_input(rt: &HostRuntime) -> Result<Trace> {
-    match read_to(rt.alloc(), 2, &mut FromRead::new(rt.reader())) {
-        Ok(trace) => Ok(trace),
-        Err(fault) => bail!("{}", told(rt.alloc(), fault)?),
-    }
 }
 
 /// The traces of the files that stand one after another on standard input.
@@ -49,7 +37,7 @@ pub fn traces_of_input(rt: &HostRuntime) -> Result<Vec<Trace>> {
     let mut traces = Vec::new(rt.alloc());
     let mut file: Vec<u8> = Vec::new(rt.alloc());
     for line in lines_of(rt.alloc(), &bytes)?.iter() {
-        if *line == HEADER.trim_ascii_end().as_bytes() && !file.is_empty() {
+        if is_header(*line) && !file.is_empty() {
             traces.push(trace_of(rt.alloc(), file.as_slice())?)?;
             file.clear();
         }
@@ -60,13 +48,16 @@ pub fn traces_of_input(rt: &HostRuntime) -> Result<Vec<Trace>> {
     Ok(traces)
 }
 
-/// The trace of a file of version 1.
-fn trace_of(alloc: Global, file: &[u8]) -> Result<Trace>
-    ensures { IfOk result (λ trace. trace.version ≡ 1) }
-{
+/// Whether the line is the first one of a file.
+fn is_header(line: &[u8]) -> bool {
+    line == HEADER.trim_ascii_end().as_bytes()
+        || line == HEADER_WITH_TURNS.trim_ascii_end().as_bytes()
+}
+
+/// The trace of a file.
+fn trace_of(alloc: Global, file: &[u8]) -> Result<Trace> {
     match read(alloc, &mut FromRead::new(file)) {
-        Ok(trace) if trace.version() == 1 => Ok(trace),
-        Ok(_) => bail!("a trace of version 2"),
+        Ok(trace) => Ok(trace),
         Err(fault) => bail!("{}", told(alloc, fault)?),
     }
 }

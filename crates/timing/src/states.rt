@@ -18,9 +18,6 @@ pub fn each(rt: &HostRuntime) -> Result<()> {
 
 /// Prints the states of one trace, or why there is no tree.
 fn of_trace(rt: &HostRuntime, trace: &Trace) -> Result<()> {
-    if trace.version() != 1 {
-        bail!("a trace of version 2");
-    }
     match Tree::build(rt.alloc(), trace) {
         Ok(tree) => {
             of_tasks(rt, trace, &tree)?;
@@ -36,12 +33,11 @@ fn of_trace(rt: &HostRuntime, trace: &Trace) -> Result<()> {
 
 /// Prints each task's state, or why there are none.
 fn of_tasks(rt: &HostRuntime, trace: &Trace, tree: &Tree) -> Result<()>
-    requires version { trace.now.version ≡ 1 }
-    requires tree { IsTreeOf trace.now.records tree.now }
+    requires { IsTreeOf trace.now.records tree.now }
 {
     match run(rt.alloc(), trace, tree) {
         Ok(states) => {
-            for task in tree.family().tasks().as_slice() {
+            for task in tree.families().own_family().tasks().as_slice() {
                 let state = states.last(*task);
                 println!(rt; "{task}: {state:?}")?;
             }
@@ -59,8 +55,7 @@ fn of_tasks(rt: &HostRuntime, trace: &Trace, tree: &Tree) -> Result<()>
 
 /// Prints where a parallel region lies inside another.
 fn of_regions(rt: &HostRuntime, trace: &Trace, tree: &Tree) -> Result<()>
-    requires version { trace.now.version ≡ 1 }
-    requires tree { IsTreeOf trace.now.records tree.now }
+    requires { IsTreeOf trace.now.records tree.now }
 {
     match nested(rt.alloc(), trace, tree) {
         Ok(found) => {

@@ -14,9 +14,7 @@ pub fn of_input(rt: &HostRuntime) -> Result<()> {
 }
 
 /// Prints the answers of the calls on the trace.
-fn of_trace(rt: &HostRuntime, trace: &Trace) -> Result<()>
-    requires { trace.now.version ≡ 1 }
-{
+fn of_trace(rt: &HostRuntime, trace: &Trace) -> Result<()> {
     let gap = gap(trace);
     let target = target(trace);
     println!(rt; "gap {gap:?}, target {target:?}")?;
@@ -46,9 +44,7 @@ pub fn counters_of_input(rt: &HostRuntime) -> Result<()> {
 }
 
 /// Prints those at one record.
-fn counters_at(rt: &HostRuntime, trace: &Trace, at: usize) -> Result<()>
-    requires { trace.now.version ≡ 1 }
-{
+fn counters_at(rt: &HostRuntime, trace: &Trace, at: usize) -> Result<()> {
     for event in trace.records() {
         if let Some(task) = event.body.created() {
             if let Some(order) = counter_order(rt.alloc(), trace, at, task)? {

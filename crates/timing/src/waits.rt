@@ -64,9 +64,6 @@ fn numbers_below(alloc: Global, count: usize) -> Result<Vec<usize>, AllocError>
 }
 
 fn of_trace(rt: &HostRuntime, trace: &Trace) -> Result<()> {
-    if trace.version() != 1 {
-        bail!("a trace of version 2");
-    }
     match Tree::build(rt.alloc(), trace) {
         Ok(tree) => of_tree(rt, trace, &tree),
         Err(_) => bail!("no tree"),
@@ -74,7 +71,6 @@ fn of_trace(rt: &HostRuntime, trace: &Trace) -> Result<()> {
 }
 
 fn of_tree(rt: &HostRuntime, trace: &Trace, tree: &Tree) -> Result<()>
-    requires version { trace.now.version ≡ 1 }
     requires tree { IsTreeOf trace.now.records tree.now }
 {
     match run(rt.alloc(), trace, tree) {

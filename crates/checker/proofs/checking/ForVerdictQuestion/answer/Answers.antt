@@ -1,21 +1,22 @@
 use Rattle.std.proofs.Common.{ℕ, ap, subst}
-use Rattle.checker.specs.Readings.{by_file, by_task}
+use Rattle.checker.specs.Readings.{by_task}
 use Rattle.checker.specs.Verdicts.{AreComplete}
 use Rattle.checker.specs.Search.{ClearView, IsClearView, IsFirstViolation}
 use Rattle.checker.proofs.VerdictLemmas.{approved}
-use Rattle.checker.proofs.MissedLemmas.{file_shows_none, rejected}
-use Rattle.checker.proofs.ReadingLemmas.{clear_alike, alike_yes, alike_no}
+use Rattle.checker.proofs.MissedLemmas.{rejected}
+use Rattle.checker.proofs.ReadingLemmas.{shows_none}
 use Rattle.checker.proofs.checking.ForVerdictQuestion.answer.Goals as goal
 
 pub returns-in-Some-clause-right : goal.returns-in-Some-clause-right
 returns-in-Some-clause-right c =
     let clear : IsClearView c.args.clear = subst IsClearView c.clear.view_is c.clear.invariant in
-    let found : IsFirstViolation (by_file c.args.clear.run.records) c.in-Some.at c.in-Some.why = rw c.in-Some.is at c.in_ok-at.ensures.found in
-    alike_no (by_file c.args.clear.run.records) (by_task c.args.clear.run.records) c.in-Some.at c.in-Some.why (clear_alike c.args.clear clear) (rejected c.args.clear c.in-Some.at c.in-Some.why clear found)
+    let found : IsFirstViolation (by_task c.args.clear.run.records) c.in-Some.at c.in-Some.why = rw c.in-Some.is at c.in_ok-at.ensures.found in
+    rejected c.args.clear c.in-Some.at c.in-Some.why clear found
 
 pub returns-in-None-clause-right : goal.returns-in-None-clause-right
 returns-in-None-clause-right c =
+    let rs = c.args.clear.run.records in
     let clear : IsClearView c.args.clear = subst IsClearView c.clear.view_is c.clear.invariant in
-    let complete : (i : ℕ) → AreComplete (by_file c.args.clear.run.records) i = rw c.in-None.is at c.in_ok-at.ensures.found in
+    let complete : (i : ℕ) → AreComplete (by_task rs) i = rw c.in-None.is at c.in_ok-at.ensures.found in
     let order_is = ap (λ (v : ClearView). v.order) c.clear.view_is in
-    rw order_is (alike_yes (by_file c.args.clear.run.records) (by_task c.args.clear.run.records) c.args.clear.order (clear_alike c.args.clear clear) (approved (by_file c.args.clear.run.records) c.args.clear.order (file_shows_none c.args.clear.run.records clear.well_formed) clear.linearization clear.greedy complete))
+    rw order_is (approved (by_task rs) c.args.clear.order (shows_none rs clear.well_formed) clear.linearization clear.greedy complete)
