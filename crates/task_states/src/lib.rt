@@ -28,4 +28,4 @@ pub use regions::Regions;
 pub use states::States;
 pub use table::{discard_state, next_state, start_state};
 pub use targets::target;
-pub use trace_calls::{StateFault, nested};
+pub use trace_calls::{StateFault, nested, run};
