@@ -13,7 +13,7 @@ enum { MAX_RECORDS = 1 << 22, MAX_TASKS = 1 << 20, MAX_THREADS = 256, MAX_DEPEND
 
 /* The versions of a trace file. The first cannot say that a task goes on on another thread. TASKAUDIT_VERSION in the
    environment chooses one; without it the file is of the default version. */
-enum { FIRST_VERSION = 1, LAST_VERSION = 2, DEFAULT_VERSION = FIRST_VERSION };
+enum { FIRST_VERSION = 1, LAST_VERSION = 2, DEFAULT_VERSION = LAST_VERSION };
 
 /* Rooms are taken in blocks, so that threads seldom meet at the counters of all. */
 enum { RECORDS_OF_BLOCK = 1024, TASKS_OF_BLOCK = 256 };
