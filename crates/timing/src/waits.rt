@@ -82,7 +82,6 @@ fn of_tree(rt: &HostRuntime, trace: &Trace, tree: &Tree) -> Result<()>
 fn of_states(rt: &HostRuntime, trace: &Trace, tree: &Tree, states: &States) -> Result<()>
     requires tree { IsTreeOf trace.now.records tree.now }
     requires records { states.now.run.records ≡ trace.now.records }
-    requires family { states.now.run.family ≡ tree.now.family }
 {
     let coverage = match Coverage::build(rt.alloc(), trace, tree, states) {
         Ok(coverage) => coverage,
