@@ -9,6 +9,7 @@ mod PassLemmas
 mod HomeLemmas
 mod RootLemmas
 mod MovedLemmas
+pub mod RowLemmas
 mod TurnEdgeLemmas
 pub mod ShownFaultLemmas
 mod RegionLemmas

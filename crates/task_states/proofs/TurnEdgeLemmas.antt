@@ -1,8 +1,8 @@
 -- Where tasks that moved begin and end their turns, one record on, and the moves that they make there.
-use Rattle.std.proofs.Common.{◌≡◌, ◌∙◌, ℕ, ◌<◌, ◌≤◌, ◌+◌, List, [], ◌∷◌, ◌++◌, length, Option, Some, None, Bool, true, false, cond, get_or, refl, sym, ap, arith, inl, inr, set}
-use Rattle.std.proofs.lemmas.Bool.{cases_eq, cases_lt, eq-eqb, ne_eqb, eqb-true, false≢true}
-use Rattle.std.proofs.lemmas.Option.{none-some, same_Some, slice_get_within, slice_get_past, slice_get-get_or}
-use Rattle.std.proofs.lemmas.List.{append-nil, append_assoc, length_push}
+use Rattle.std.proofs.Common.{◌≡◌, ◌∙◌, ℕ, ◌<◌, ◌≤◌, ◌+◌, List, [], ◌∷◌, ◌++◌, Option, Some, None, Bool, true, false, cond, get_or, refl, sym, ap, arith, inl, inr, set}
+use Rattle.std.proofs.lemmas.Bool.{cases_eq, eq-eqb, ne_eqb, eqb-true, false≢true}
+use Rattle.std.proofs.lemmas.Option.{none-some, same_Some, slice_get_within, slice_get-get_or}
+use Rattle.std.proofs.lemmas.List.{append-nil, append_assoc}
 use Rattle.std.proofs.lemmas.List.Elements.{filter-append, All-filter}
 use Rattle.std.proofs.lemmas.List.FromFn.{length-range_with_len, get_or-range_with_len}
 use Rattle.std.proofs.lemmas.Grind.{flat_map-append}
@@ -21,12 +21,12 @@ use Rattle.ompt_events.specs.Turns.{is_turn}
 use Rattle.ompt_events.specs.States.{Move, Stopped, Started, stops, has_moved, turn_starts_at, turn_ends_at, turn_moves}
 use Rattle.ompt_events.proofs.PlaceLemmas.{range_more}
 use Rattle.ompt_events.proofs.EveryLemmas.{every_get, every_passes}
-use Rattle.ompt_events.proofs.ListLemmas.{get_pushed, get_last}
-use Rattle.task_tree.proofs.LinkLemmas.{get_set_same, get_set_other}
 use Rattle.task_states.specs.declared.turn_edges.Edge.{Edge}
 use Rattle.task_states.specs.declared.turn_edges.Edge.TheVariants.{Begins, Ends}
 use Rattle.task_states.specs.Progress.{turned}
-use Rattle.task_states.specs.TurnEdges.{edge_turn, moved_turn, is_edge, edge_moves, row_items, row_at, AreEdges, IsNoted, IsNoEdge}
+use Rattle.task_states.specs.Rows.{row_at, AreSameRows}
+use Rattle.task_states.proofs.RowLemmas.{row_here, row_set_same, row_set_other}
+use Rattle.task_states.specs.TurnEdges.{edge_turn, moved_turn, is_edge, edge_moves, AreEdges, IsNoted, IsNoEdge}
 use Rattle.task_states.proofs.PassLemmas.{record_there}
 
 -- ---- the turn at a place
@@ -107,25 +107,11 @@ edges_noted edge rs n turns turn before after are is noted other below = elim (c
 pub edges_none : (edge : Edge) (rs : List Record) (turns : ℕ) (rows : List (Vec ℕ)) → rows ≡ [] → AreEdges edge rs 0 turns rows
 edges_none edge rs turns rows empty turn low = ap (λ l. row_at l turn) empty
 
--- an empty row changes nothing
-pub row_made : (rows : List (Vec ℕ)) (new : Vec ℕ) (index : ℕ) → new.items ≡ [] → row_at (rows ++ new ∷ []) index ≡ row_at rows index
-row_made rows new index empty = elim (cases_lt index (length rows)) [
-  | inl within ↦
-      let there = slice_get-get_or rows index new within in
-      ap row_items (get_pushed rows new _ index there ∙ sym there)
-  | inr past ↦ elim (cases_eq index (length rows)) [
-    | inl last ↦ ap row_items (get_last rows new index last) ∙ empty ∙ sym (ap row_items (slice_get_past rows index past))
-    | inr apart ↦
-        let long = length_push rows new in
-        ap row_items (slice_get_past (rows ++ new ∷ []) index (omega (arith, past, apart, long)) ∙ sym (slice_get_past rows index past))
-  ]
-]
-
 -- a place is noted in a row
-pub row_noted : (before rows : List (Vec ℕ)) (turn place : ℕ) (old new : Vec ℕ) → ((other : ℕ) → row_at rows other ≡ row_at before other) → slice_get rows turn ≡ Some old → new.items ≡ old.items ++ place ∷ [] → IsNoted before (set rows turn new) turn place
+pub row_noted : (before rows : List (Vec ℕ)) (turn place : ℕ) (old new : Vec ℕ) → AreSameRows before rows → slice_get rows turn ≡ Some old → new.items ≡ old.items ++ place ∷ [] → IsNoted before (set rows turn new) turn place
 row_noted before rows turn place old new same stands pushed = record {
-  here = ap row_items (get_set_same rows turn new (slice_get_within rows turn old stands)) ∙ pushed ∙ ap (λ l. l ++ place ∷ []) (sym (ap row_items stands) ∙ same turn);
-  others = λ other apart. ap row_items (get_set_other rows turn other new apart) ∙ same other;
+  here = row_set_same rows turn new (slice_get_within rows turn old stands) ∙ pushed ∙ ap (λ l. l ++ place ∷ []) (sym (row_here rows turn old stands) ∙ same turn);
+  others = λ other apart. row_set_other rows turn other new apart ∙ same other;
 }
 
 -- a turn that is not among those that are asked for, or none

@@ -6,5 +6,6 @@ pub mod Walks
 pub mod Homes
 pub mod Regions
 pub mod Progress
+pub mod Rows
 pub mod TurnEdges
 pub mod States

@@ -14,6 +14,7 @@ use Rattle.task_states.specs.declared.moves.Move.{Move}
 use Rattle.task_states.specs.declared.turn_edges.Edge.{Edge}
 use Rattle.task_states.specs.declared.turn_edges.Edge.TheVariants.{Begins, Ends}
 use Rattle.task_states.specs.Progress.{the_move}
+use Rattle.task_states.specs.Rows.{row_at}
 
 -- the task that begins a turn, or ends one, and the turn
 abbrev pub edge_turn : Edge → Body → Option (ℕ × ℕ)
@@ -33,14 +34,6 @@ is_edge edge rs turn i = option_map_or (λ t. t == turn) (moved_turn edge rs i) 
 abbrev pub edge_moves : Edge → List Record → ℕ → ℕ → ℕ → List (ℕ × states.Move)
 edge_moves Begins rs task turn i = turn_starts_at rs task turn i
 edge_moves Ends rs task turn i = turn_ends_at rs task turn i
-
--- what stands in the row with this index; nothing past the last row
-abbrev pub row_items : Option (Vec ℕ) → List ℕ
-row_items None = []
-row_items (Some row) = row.items
-
-abbrev pub row_at : List (Vec ℕ) → ℕ → List ℕ
-row_at rows index = row_items (slice_get rows index)
 
 -- by turn the places below n at which tasks that moved begin it, or end it
 abbrev pub AreEdges : Edge → List Record → ℕ → ℕ → List (Vec ℕ) → Type 0

@@ -2,8 +2,9 @@
 //!
 //! Read `table` first, the states and what changes them, and `walk`, the tasks that a thread runs; then
 //! `states`, which takes all tasks of a run through their states: `current`, `homes`, `progress` (with
-//! `moves`, `origins` and `turn_edges`) and `regions` find one cause each. `numbering`, `targets` and `nesting` are calls
-//! of their own. `trace_calls` has the same calls for a trace with its tree.
+//! `moves`, `origins` and `turn_edges`) and `regions` find one cause each. `numbering`, `targets` and `nesting`
+//! are calls of their own. `trace_calls` has the same calls for a trace with its tree. `rows` is a table of rows,
+//! of which few are written.
 #![tactic(auto)]
 
 mod current;
@@ -14,6 +15,7 @@ mod numbering;
 mod origins;
 mod progress;
 mod regions;
+mod rows;
 mod states;
 mod table;
 mod targets;
@@ -25,7 +27,8 @@ pub use nesting::find_nested;
 pub use numbering::gap;
 pub use ompt_events::State;
 pub use regions::Regions;
+pub use rows::{reach, row};
 pub use states::States;
 pub use table::{discard_state, next_state, start_state};
 pub use targets::target;
-pub use trace_calls::{StateFault, nested};
+pub use trace_calls::{StateFault, nested, run};

@@ -16,7 +16,8 @@ ghost use Rattle.task_states.specs.Progress.{the_nature, the_move, earlier, refu
 use crate::homes::Schedules;
 use crate::moves::{Move, Nature, after_move, fulfils_early, is_early_move};
 use crate::origins::{Origins, is_at, is_turned};
-use crate::turn_edges::{Edge, find_edges, row, turn_count};
+use crate::rows::row;
+use crate::turn_edges::{Edge, find_edges, turn_count};
 use ompt_events::State;
 use std::alloc::{AllocError, Global};
 use std::marker::Model;

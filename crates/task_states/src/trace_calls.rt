@@ -1,11 +1,15 @@
 //! The calls that take a trace with its tree, for callers that have no run.
-ghost use Rattle.std.specs.Prelude.{◌≡◌, IfOk, IfErr, MatchOption};
-ghost use Rattle.ompt_events.specs.declared.cause.Cause.TheVariants.{NestedParallel};
+ghost use Rattle.std.specs.Prelude.{◌≡◌, [], ◌∷◌, IfOk, IfErr, OnOk, MatchOption};
+ghost use Rattle.ompt_events.specs.declared.cause.Cause.TheVariants.{NotCurrent, Moved, TurnGap, StatusOrder, RegionOrder, NestedParallel};
 ghost use Rattle.ompt_events.specs.declared.fault.Fault.TheVariants.{Memory};
-ghost use Rattle.ompt_events.specs.Causes.{IsFreeOf, IsFirstWith};
+ghost use Rattle.ompt_events.specs.Causes.{IsFreeOf, IsFirstWith, ShowsNowhere};
+ghost use Rattle.ompt_events.specs.Faults.{IsShownFault};
 ghost use Rattle.task_tree.specs.Paths.{IsTreeOf};
+ghost use Rattle.task_tree.specs.Families.{IsOwnOf};
+ghost use Rattle.task_states.specs.States.{IsStates};
 
 use crate::nesting::find_nested;
+use crate::states::States;
 use ompt_events::{Fault, Trace};
 use std::alloc::Global;
 use task_tree::Tree;
@@ -13,6 +17,27 @@ use task_tree::Tree;
 /// Why the states of tasks have no answer: memory, or the first that occurs of `NotCurrent`, `Moved`,
 /// `TurnGap`, `StatusOrder` and `RegionOrder`.
 pub type StateFault = Fault;
+
+/// Takes each task of a trace through its states, as `States::in_run` does. The tree must be that of the
+/// trace's tasks.
+pub fn run<'a>(alloc: Global, trace: &'a Trace, tree: &'a Tree) -> Result<States<'a>, StateFault>
+    requires { IsTreeOf trace.now.records tree.now }
+    ensures records { IfOk result (λ states. states.run.records ≡ trace.now.records) }
+    ensures family { IfOk result (λ states. states.run.family ≡ tree.now.families.file) }
+    ensures own { IfOk result (λ states. IsOwnOf trace.now.records states.regions.own) }
+    ensures states { IfOk result IsStates }
+    ensures current { OnOk result (IsFreeOf trace.now.records NotCurrent) }
+    ensures stay { OnOk result (IsFreeOf trace.now.records Moved) }
+    ensures gapless { OnOk result (IsFreeOf trace.now.records TurnGap) }
+    ensures ordered { OnOk result (IsFreeOf trace.now.records StatusOrder) }
+    ensures closed { OnOk result (ShowsNowhere trace.now.records RegionOrder) }
+    ensures fault { IfErr result
+        (IsShownFault trace.now.records (NotCurrent ∷ Moved ∷ TurnGap ∷ StatusOrder ∷ RegionOrder ∷ [])) }
+{
+    let families = tree.families();
+    let own = families.own(trace);
+    States::in_run(alloc, &families.run(trace), &own, families.gap())
+}
 
 /// The first record of a trace at which a parallel region lies inside another (OpenMP 5.2,
 /// 10.1), as `find_nested` finds it. The tree must be that of the trace's tasks.
@@ -22,6 +47,5 @@ pub fn nested(alloc: Global, trace: &Trace, tree: &Tree) -> Result<Option<usize>
         (IsFreeOf trace.now.records NestedParallel) (IsFirstWith trace.now.records NestedParallel)) }
     ensures memory_alone { IfErr result (λ fault. fault ≡ Memory) }
 {
-    let tasks = task_tree::Run::of(trace, tree.family());
-    Ok(find_nested(alloc, &tasks)?)
+    Ok(find_nested(alloc, &tree.families().run(trace))?)
 }

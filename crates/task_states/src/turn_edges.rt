@@ -4,9 +4,10 @@ ghost use Rattle.std.specs.Option.{option_map_or};
 ghost use Rattle.ompt_events.specs.Records.{begun_turn};
 ghost use Rattle.ompt_events.specs.Turns.{turns_in};
 ghost use Rattle.task_states.specs.declared.turn_edges.Edge.TheVariants.{Begins, Ends};
-ghost use Rattle.task_states.specs.TurnEdges.{moved_turn, row_at, AreEdges, IsNoted};
+ghost use Rattle.task_states.specs.TurnEdges.{moved_turn, AreEdges, IsNoted};
 
 use crate::origins::Origins;
+use crate::rows::reach;
 use ompt_events::Record;
 use std::alloc::{AllocError, Global};
 use task_tree::Run;
@@ -60,16 +61,6 @@ pub(crate) fn find_edges(
     Ok(rows)
 }
 
-/// The places in the row of this turn.
-pub(crate) fn row(rows: &[Vec<u32>], turn: usize) -> &[u32]
-    ensures { result.now ≡ row_at rows.now turn }
-{
-    match rows.get(turn) {
-        Some(row) => row.as_slice(),
-        None => &[],
-    }
-}
-
 /// Notes the place in the row of this turn. Rows are made only up to the turn: most turns are those of roots,
 /// which never move.
 fn note_place(
@@ -83,18 +74,6 @@ fn note_place(
 {
     reach(alloc, rows, turn)?;
     rows[turn].push(at as u32)?;
-    Ok(())
-}
-
-/// Makes the rows up to this turn, each of them empty.
-fn reach(alloc: Global, rows: &mut Vec<Vec<u32>>, turn: usize) -> Result<(), AllocError>
-    ensures made { OnOk result (turn < length rows.new.items) }
-    ensures same { OnOk result ((other : ℕ) → row_at rows.new.items other
-        ≡ row_at rows.old.items other) }
-{
-    'room: while rows.len() <= turn {
-        rows.push(Vec::new(alloc))?;
-    }
     Ok(())
 }
 

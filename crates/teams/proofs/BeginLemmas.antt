@@ -23,7 +23,7 @@ use Rattle.task_tree.specs.Subjects.{subject}
 use Rattle.task_tree.proofs.LinkLemmas.{get_set_same, get_set_other}
 use Rattle.task_tree.proofs.NamedLemmas.{region_subject}
 use Rattle.teams.specs.Begins.{AreNumbered, IsPlaceAdded}
-use Rattle.teams.specs.Rows.{row_at}
+use Rattle.task_states.specs.Rows.{row_at}
 use Rattle.teams.specs.Teams.{begins_before, AreBegins, IsNumberOf, AreBeginNumbers}
 
 -- ---- the record that begins a barrier

@@ -8,7 +8,7 @@ use Rattle.std.specs.Global.{Vec}
 use Rattle.std.specs.Prelude.{slice_get, replicate, min}
 use Rattle.task_tree.proofs.LinkLemmas.{get_set_same, get_set_other}
 use Rattle.teams.specs.Fewest.{IsReached, AreFewest}
-use Rattle.teams.specs.Rows.{row_at}
+use Rattle.task_states.specs.Rows.{row_at}
 
 pub fewest_start : (teams : List (Option ℕ)) (begins : List (Vec ℕ)) (fewest : List ℕ) → fewest ≡ replicate (length teams) 4294967295 → AreFewest teams begins 0 fewest
 fewest_start teams begins fewest is = record {

@@ -1,7 +1,6 @@
 pub mod CallLemmas
 pub mod RegionEndLemmas
 pub mod BarrierLemmas
-pub mod RowLemmas
 pub mod BeginLemmas
 pub mod MemberLemmas
 pub mod FewestLemmas

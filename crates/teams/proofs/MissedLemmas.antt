@@ -16,7 +16,7 @@ use Rattle.ompt_events.proofs.RegionLemmas.{own_begin}
 use Rattle.task_tree.specs.Makers.{AreNoted}
 use Rattle.task_tree.specs.Subjects.{subject}
 use Rattle.task_tree.proofs.NamedLemmas.{region_subject}
-use Rattle.teams.specs.Rows.{row_at}
+use Rattle.task_states.specs.Rows.{row_at}
 use Rattle.teams.specs.Teams.{AreTeams, AreBegins, AreBeginNumbers, begins_before}
 use Rattle.std.specs.Global.{Vec}
 use Rattle.task_states.specs.Regions.{IsBeginOf}

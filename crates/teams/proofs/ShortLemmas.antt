@@ -26,7 +26,7 @@ use Rattle.teams.specs.Members.{IsInTeam, in_own, in_joined, AreInTeams}
 use Rattle.teams.specs.Missed.{IsMissed}
 use Rattle.teams.proofs.MissedLemmas.{AreFewestOf}
 use Rattle.teams.specs.Seats.{IsSeatOf, AreSeats, AreSeated, LacksNothing, IsWholeBefore}
-use Rattle.teams.specs.Rows.{row_items, row_at}
+use Rattle.task_states.specs.Rows.{row_items, row_at}
 use Rattle.teams.specs.Short.{IsFirstLack, IsSeated, IsMissedAt, IsMissedNowhere, FindsMissed, IsSearched}
 use Rattle.teams.specs.Teams.{IsMemberNumbered, alone, together, AreRosters, AreBegins, IsTeams}
 use Rattle.teams.proofs.BeginLemmas.{begins_few}

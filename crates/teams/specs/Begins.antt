@@ -2,7 +2,7 @@
 use Rattle.std.specs.Prelude.{ℕ, ◌≡◌, ◌≢◌, ◌<◌, ◌≤◌, List, [], ◌∷◌, ◌++◌, length, Some, slice_get}
 use Rattle.std.specs.Global.{Vec}
 use Rattle.ompt_events.specs.declared.records.Record.{Record}
-use Rattle.teams.specs.Rows.{row_at}
+use Rattle.task_states.specs.Rows.{row_at}
 use Rattle.teams.specs.Teams.{IsNumberOf}
 
 -- at each of the first n records that begins a barrier stands how many its task began before

@@ -1,7 +1,7 @@
 -- The least number of barriers that a member of a team begins, by the tables of all tasks.
 use Rattle.std.specs.Prelude.{ℕ, ◌≡◌, ◌<◌, ◌≤◌, ◌⊎◌, List, length, Option, Some, slice_get}
 use Rattle.std.specs.Global.{Vec}
-use Rattle.teams.specs.Rows.{row_at}
+use Rattle.task_states.specs.Rows.{row_at}
 
 -- a member of the team, of the first n tasks, begins at most so many barriers
 pub record IsReached (teams : List (Option ℕ)) (begins : List (Vec ℕ)) (n team count : ℕ) : Type 0 where

@@ -11,7 +11,7 @@ use Rattle.ompt_events.specs.Teams.{IsInitial, IsTeammate, members}
 use Rattle.ompt_events.specs.Causes.{IsFreeOf}
 use Rattle.task_tree.specs.Runs.{RunView, IsRun}
 use Rattle.task_tree.specs.Own.{OwnView, IsOwn}
-use Rattle.teams.specs.Rows.{row_at}
+use Rattle.task_states.specs.Rows.{row_at}
 
 -- the member with this number of the task's team (OpenMP 5.2, 18.2.4); an initial task is alone in its own
 pub data IsMemberNumbered (rs : List Record) (task : ℕ) : ℕ → ℕ → Type 0 where

@@ -5,12 +5,12 @@ ghost use Rattle.ompt_events.specs.Places.{at as says_at};
 ghost use Rattle.ompt_events.specs.Regions.{barrier_begun};
 ghost use Rattle.task_tree.specs.Subjects.{Calls};
 ghost use Rattle.teams.specs.Begins.{IsPlaceAdded};
-ghost use Rattle.teams.specs.Rows.{row_at};
+ghost use Rattle.task_states.specs.Rows.{row_at};
 ghost use Rattle.teams.specs.Teams.{AreBegins, AreBeginNumbers};
 
-use crate::rows::reach;
 use ompt_events::{Endpoint, WaitKind};
 use std::alloc::{AllocError, Global};
+use task_states::reach;
 use task_tree::Run;
 
 /// By index of the task the places at which it begins barriers, and by place of a record that begins one how

@@ -2,8 +2,8 @@
 ghost use Rattle.std.specs.Prelude.{◌≡◌, ◌^◌, IfOk, length, min, replicate};
 ghost use Rattle.teams.specs.Fewest.{AreFewest, AreTeamsWithin, AreShort};
 
-use crate::rows::row;
 use std::alloc::{AllocError, Global};
+use task_states::row;
 use task_tree::Slot;
 
 /// By number of the team the least number of barriers that a member begins.

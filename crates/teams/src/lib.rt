@@ -4,15 +4,13 @@
 //! Read `teams` first, what a caller sees, then the steps of a build: `tables` brings together `begins`
 //! (where tasks begin barriers), `members` (the team of each task) and `fewest` (the least number of barriers
 //! in a team); over these go `missed` (barriers that a member doesn't begin), `seats` (the members by their
-//! numbers), and `short`, the search for the first place at which a record shows a lack. `rows` is a table of
-//! rows, of which few are written.
+//! numbers), and `short`, the search for the first place at which a record shows a lack.
 #![tactic(auto)]
 
 mod begins;
 mod fewest;
 mod members;
 mod missed;
-mod rows;
 mod seats;
 mod short;
 mod tables;
@@ -20,5 +18,4 @@ mod teams;
 
 pub use begins::barrier_begun;
 pub use missed::BarrierEnd;
-pub use rows::reach;
 pub use teams::Teams;

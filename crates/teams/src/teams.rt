@@ -7,18 +7,17 @@ ghost use Rattle.ompt_events.specs.Regions.{IsRegion};
 ghost use Rattle.task_tree.specs.Own.{IsOwnFault};
 ghost use Rattle.task_states.specs.Regions.{IsBeginOf};
 ghost use Rattle.teams.specs.Missed.{IsBarrierEnd, EndsNoBarrier};
-ghost use Rattle.teams.specs.Rows.{row_at};
+ghost use Rattle.task_states.specs.Rows.{row_at};
 ghost use Rattle.teams.specs.Teams.{own_of, IsTeams};
 
 use crate::missed::{BarrierEnd, barrier_end};
-use crate::rows::row;
 use crate::seats::empty_rosters;
 use crate::short::find_short;
 use crate::tables::Tables;
 use ompt_events::{Cause, Fault};
 use std::alloc::Global;
 use std::marker::Model;
-use task_states::Regions;
+use task_states::{Regions, row};
 use task_tree::{Own, Run, Slot};
 
 /// The teams of a run in its tasks' own order (OpenMP 5.2, 1.2.2), and where their members begin barriers.

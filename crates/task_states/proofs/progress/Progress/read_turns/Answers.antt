@@ -7,7 +7,8 @@ use Rattle.ompt_events.specs.Turns.{turns_in}
 use Rattle.task_states.specs.declared.progress.Pass.TheVariants.{Home, Rest}
 use Rattle.task_states.specs.declared.turn_edges.Edge.TheVariants.{Begins, Ends}
 use Rattle.task_states.specs.Progress.{moves_before, turned}
-use Rattle.task_states.specs.TurnEdges.{is_edge, edge_moves, row_at}
+use Rattle.task_states.specs.Rows.{row_at}
+use Rattle.task_states.specs.TurnEdges.{is_edge, edge_moves}
 use Rattle.task_states.proofs.ProgressLemmas.{come_same}
 use Rattle.task_states.proofs.PassLemmas.{rest_start}
 use Rattle.task_states.proofs.TurnEdgeLemmas.{row_within, row_edges, turned_none, turned_more}

@@ -8,7 +8,7 @@ use Rattle.std.specs.Global.{Vec}
 use Rattle.std.specs.Prelude.{slice_get}
 use Rattle.ompt_events.proofs.ListLemmas.{get_pushed, get_last}
 use Rattle.task_tree.proofs.LinkLemmas.{get_set_same, get_set_other}
-use Rattle.teams.specs.Rows.{row_items, row_at}
+use Rattle.task_states.specs.Rows.{row_items, row_at}
 
 -- an empty row changes nothing
 pub row_pushed : {X : Type 0} (rows : List (Vec X)) (new : Vec X) (index : ℕ) → new.items ≡ [] → row_at (rows ++ new ∷ []) index ≡ row_at rows index

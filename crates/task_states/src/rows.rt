@@ -1,7 +1,7 @@
 //! Rows by index, made only up to the greatest index at which one is written: an index may be as great as
 //! there are tasks, and few of them may have a row.
 ghost use Rattle.std.specs.Prelude.{ℕ, ◌≡◌, ◌<◌, ◌≤◌, OnOk, length};
-ghost use Rattle.teams.specs.Rows.{row_at, AreSameRows};
+ghost use Rattle.task_states.specs.Rows.{row_at, AreSameRows};
 
 use std::alloc::{AllocError, Global};
 

@@ -1,8 +1,8 @@
 use Rattle.std.proofs.Common.{◌∙◌, length, ap, arith}
 use Rattle.std.proofs.lemmas.List.{length_push}
-use Rattle.teams.specs.Rows.{row_at}
-use Rattle.teams.proofs.RowLemmas.{row_pushed}
-use Rattle.teams.proofs.rows.reach.Goals as goal
+use Rattle.task_states.specs.Rows.{row_at}
+use Rattle.task_states.proofs.RowLemmas.{row_pushed}
+use Rattle.task_states.proofs.rows.reach.Goals as goal
 
 pub room-preserved : goal.room-preserved
 room-preserved g c = record {

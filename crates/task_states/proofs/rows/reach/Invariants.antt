@@ -1,6 +1,6 @@
 use Rattle.std.proofs.Common.{ℕ, ◌<◌, ◌≤◌, ◌+◌, ◌-◌, length}
-use Rattle.teams.specs.Rows.{AreSameRows}
-use Rattle.teams.proofs.rows.reach.Given as goal
+use Rattle.task_states.specs.Rows.{AreSameRows}
+use Rattle.task_states.proofs.rows.reach.Given as goal
 
 -- the rows stay as they are, and no more are made than asked for
 abbrev pub invariant-room : goal.invariant-room
