@@ -30,9 +30,14 @@ use Rattle.credit_ledger.specs.Entries.{IsSpanHeld}
 use Rattle.trace_ledger.specs.Entries.{IsLedgerOf, HasRightEntries}
 use Rattle.wait_coverage.specs.Spans as spans
 use Rattle.wait_coverage.specs.Spans.{AreSpans, AreMemberSpans, IsSpan, IsCoverComplete}
-use Rattle.teams.specs.Teams.{TeamsView, IsTeams, AreTeams, IsMemberNumbered}
+use Rattle.task_tree.specs.Own.{OwnView, IsOwn}
+use Rattle.task_tree.specs.Runs.{RunView}
+use Rattle.task_tree.specs.Families.{IsOwnOf}
+use Rattle.task_states.specs.Regions.{RegionsView}
+use Rattle.task_states.specs.States.{StatesView, IsStates}
+use Rattle.teams.specs.Teams.{TeamsView, own_of, IsTeams, AreTeams, IsMemberNumbered}
 use Rattle.wait_coverage.specs.Waits.{EndsNoWaitAt, IsWaitAt, waits, groups, meets, cover_of, IsFirstOpen, waiting}
-use Rattle.wait_coverage.specs.Coverage.{IsEnd, AreEnds, AreWaits, IsCoverAt, IsOnly, HasBegun, HaveBegun, IsMemberSpan, AreRosterSpans, CoverageView, IsCoverage, AreFirstOpen}
+use Rattle.wait_coverage.specs.Coverage.{IsEnd, IsEndPlace, AreEnds, AreWaits, IsEndNumber, IsAnswer, IsCoverAt, IsOnly, HasBegun, HaveBegun, IsMemberSpan, AreRosterSpans, CoverageView, IsCoverage, AreFirstOpen}
 use Rattle.wait_coverage.specs.declared.waits.Wait.{Wait}
 use Rattle.wait_coverage.specs.declared.waits.Wait.TheVariants.{Taskwait as ForTaskwait, Taskgroup as ForTaskgroup, Barrier as ForBarrier}
 use Rattle.teams.proofs.RegionEndLemmas.{ends_at}
@@ -46,6 +51,20 @@ use Rattle.wait_coverage.proofs.OpenLemmas.{barrier_waits}
 use Rattle.teams.specs.Rows.{row_at}
 use Rattle.teams.proofs.RowLemmas.{row_there}
 
+-- ---- the run
+
+-- the teams of the states of a trace are those of its run in the tasks' own order
+pub build_own : (rs : List Record) (states : StatesView) (regions : RegionsView) (teams : TeamsView) → states.run.records ≡ rs → IsStates states → regions ≡ states.regions → teams.run ≡ regions.own.run → teams.places ≡ regions.own.places → IsOwnOf rs (own_of teams)
+build_own rs states regions teams records is same run places =
+    let P : List Record → Type 0 = λ l. IsOwnOf l states.regions.own in
+    let Q : OwnView → Type 0 = IsOwnOf rs in
+    let own : own_of teams ≡ states.regions.own =
+    ap (λ (r : RunView). own_at r teams.places) run ∙ ap (own_at regions.own.run) places ∙ ap (λ (r : RegionsView). r.own) same in
+    subst Q (sym own) (subst P records is.own)
+  where
+    own_at : RunView → List ℕ → OwnView
+    own_at run places = record { run = run; places = places }
+
 -- ---- the ends
 
 no_end : (rs : List Record) (i : ℕ) → EndsNoWaitAt rs i → IsEnd rs i → ⊥
@@ -56,8 +75,8 @@ wait_end rs tasks i wait (waits {parent = parent} {begin = begin} is_parent ther
 wait_end rs tasks i wait (groups {parent = parent} {begin = begin} is_parent there) = (parent, begin, Taskgroup, there, refl)
 wait_end rs tasks i wait (meets {own = own} {begin = begin} {kind = kind} is_own there barrier begins) = (own, begin, kind, there, barrier_waits kind barrier)
 
-pub ends_start : (rs : List Record) (ends : List ℕ) → ends ≡ [] → AreEnds rs 0 ends
-ends_start rs ends empty = record {
+pub ends_start : (own : OwnView) (ends : List ℕ) → ends ≡ [] → AreEnds own 0 ends
+ends_start own ends empty = record {
   each = λ i below is. absurd (omega arith);
   only = λ k i there. absurd (nothing k i there);
   rising = λ k j i after less there then. absurd (nothing k i there);
@@ -66,18 +85,24 @@ ends_start rs ends empty = record {
     nothing : (k i : ℕ) → slice_get ends k ≡ Some i → ⊥
     nothing k i there = let inside = slice_get_within ends k i there in let none = ap length empty in omega (arith, inside, none)
 
-pub ends_other : (rs : List Record) (n : ℕ) (ends : List ℕ) → AreEnds rs n ends → EndsNoWaitAt rs n → AreEnds rs (n + 1) ends
-ends_other rs n ends are ends_none = record {
+-- the end at a place is the record that stands there
+one_end : (own : OwnView) (number place : ℕ) → IsOwn own → slice_get own.places number ≡ Some place → IsEndPlace own place → IsEnd own.run.records number
+one_end own number place is stands (other, there, end) =
+    let P : ℕ → Type 0 = IsEnd own.run.records in
+    subst P (is.places.apart other number place there stands) end
+
+pub ends_other : (own : OwnView) (n number : ℕ) (ends : List ℕ) → IsOwn own → slice_get own.places number ≡ Some n → AreEnds own n ends → EndsNoWaitAt own.run.records number → AreEnds own (n + 1) ends
+ends_other own n number ends is_own stands are ends_none = record {
   each = λ i below is. elim (cases_eq i n) [
-    | inl same ↦ absurd (let P : ℕ → Type 0 = IsEnd rs in no_end rs n ends_none (subst P same is))
+    | inl same ↦ absurd (let P : ℕ → Type 0 = IsEndPlace own in no_end own.run.records number ends_none (one_end own number n is_own stands (subst P same is)))
     | inr apart ↦ are.each i (omega (arith, below, apart)) is
   ];
   only = λ k i there. let old = are.only k i there in let less = old.0 in (omega (arith, less), old.1);
   rising = are.rising;
 }
 
-pub ends_more : (rs : List Record) (tasks : List ℕ) (n : ℕ) (wait : Wait) (ends : List ℕ) → AreEnds rs n ends → IsWaitAt rs tasks n wait → AreEnds rs (n + 1) (ends ++ n ∷ [])
-ends_more rs tasks n wait ends are is_wait = record {
+pub ends_more : (own : OwnView) (n number : ℕ) (wait : Wait) (ends : List ℕ) → slice_get own.places number ≡ Some n → AreEnds own n ends → IsWaitAt own.run.records own.run.family.tasks number wait → AreEnds own (n + 1) (ends ++ n ∷ [])
+ends_more own n number wait ends stands are is_wait = record {
   each = λ i below is. elim (cases_eq i n) [
     | inl same ↦ get_contains (ends ++ n ∷ []) i (length ends) (get_last ends n (length ends) refl ∙ ap Some (sym same))
     | inr apart ↦
@@ -86,7 +111,7 @@ ends_more rs tasks n wait ends are is_wait = record {
   ];
   only = λ k i there. elim (pushed_cases ends n i k there) [
     | inl old ↦ let known = are.only k i old in let less = known.0 in (omega (arith, less), known.1)
-    | inr last ↦ let same = last.1 in let P : ℕ → Type 0 = IsEnd rs in (omega (arith, same), subst P same (wait_end rs tasks n wait is_wait))
+    | inr last ↦ let same = last.1 in let P : ℕ → Type 0 = IsEndPlace own in (omega (arith, same), subst P same (number, stands, wait_end own.run.records own.run.family.tasks number wait is_wait))
   ];
   rising = λ k j i after less there then. elim (pushed_cases ends n after j then) [
     | inl old ↦ elim (pushed_cases ends n i k there) [
@@ -100,26 +125,26 @@ ends_more rs tasks n wait ends are is_wait = record {
   ];
 }
 
-pub waits_start : (rs : List Record) (tasks ends : List ℕ) (found : List Wait) → ends ≡ [] → found ≡ [] → AreWaits rs tasks ends found
-waits_start rs tasks ends found no_end no_wait = record {
-  all = ap length no_wait ∙ sym (ap length no_end);
-  each = λ k i wait there stands. absurd (let inside = slice_get_within ends k i there in let none = ap length no_end in omega (arith, inside, none));
+pub waits_start : (own : OwnView) (ends : List ℕ) (found : List Wait) → ends ≡ [] → found ≡ [] → AreWaits own ends found
+waits_start own ends found empty no_wait = record {
+  all = ap length no_wait ∙ sym (ap length empty);
+  each = λ k place number wait there at_place stands. absurd (let inside = slice_get_within ends k place there in let none = ap length empty in omega (arith, inside, none));
 }
 
-pub waits_more : (rs : List Record) (tasks : List ℕ) (n : ℕ) (wait : Wait) (ends : List ℕ) (found : List Wait) → AreWaits rs tasks ends found → IsWaitAt rs tasks n wait → AreWaits rs tasks (ends ++ n ∷ []) (found ++ wait ∷ [])
-waits_more rs tasks n wait ends found are is_wait = record {
+pub waits_more : (own : OwnView) (n number : ℕ) (wait : Wait) (ends : List ℕ) (found : List Wait) → IsOwn own → slice_get own.places number ≡ Some n → AreWaits own ends found → IsWaitAt own.run.records own.run.family.tasks number wait → AreWaits own (ends ++ n ∷ []) (found ++ wait ∷ [])
+waits_more own n number wait ends found is_own at_n are is_wait = record {
   all = length_push found wait ∙ ap (λ k. k + 1) are.all ∙ sym (length_push ends n);
-  each = λ k i other there stands. elim (pushed_cases ends n i k there) [
+  each = λ k i one other there at_place stands. elim (pushed_cases ends n i k there) [
     | inl old ↦ elim (pushed_cases found wait other k stands) [
-      | inl before ↦ are.each k i other old before
+      | inl before ↦ are.each k i one other old at_place before
       | inr last ↦ let inside = slice_get_within ends k i old in let end = last.0 in let all = are.all in absurd (omega (arith, inside, end, all))
     ]
     | inr end ↦ elim (pushed_cases found wait other k stands) [
       | inl before ↦ let inside = slice_get_within found k other before in let at_end = end.0 in let all = are.all in absurd (omega (arith, inside, at_end, all))
       | inr last ↦
-          let P : ℕ → Type 0 = λ j. IsWaitAt rs tasks j other in
-          let Q : Wait → Type 0 = IsWaitAt rs tasks n in
-          subst P end.1 (subst Q last.1 is_wait)
+          let P : ℕ → Type 0 = λ j. IsWaitAt own.run.records own.run.family.tasks j other in
+          let Q : Wait → Type 0 = IsWaitAt own.run.records own.run.family.tasks number in
+          subst P (is_own.places.apart number one n at_n (at_place ∙ ap Some (sym end.1))) (subst Q last.1 is_wait)
     ]
   ];
 }
@@ -321,60 +346,62 @@ held_complete coverage entries end seen cover list is right ledger are names hel
     AreHeldBelow : ℕ → Type 0
     AreHeldBelow n = (span : Span) → Contains list span → IsSpanHeld (take n entries) span cover
 
--- the wait with a number, and the end that it is of
-pub record HasWait (coverage : CoverageView) (number : ℕ) (wait : Wait) : Type 0 where
-  pub end : ℕ
-  pub here : slice_get coverage.ends number ≡ Some end
-  pub is_wait : IsWaitAt coverage.teams.run.records coverage.teams.run.family.tasks end wait
-  pub inside : end < length coverage.teams.run.records
-
-pub has_wait : (coverage : CoverageView) (number : ℕ) (wait : Wait) → IsCoverage coverage → number < length coverage.ends → wait ≡ get_or coverage.waits number wait → HasWait coverage number wait
-has_wait coverage number wait is below read =
+-- what an end waits for stands at its index
+pub wait_at_end : (coverage : CoverageView) (index end : ℕ) (wait : Wait) → IsCoverage coverage → wait ≡ get_or coverage.waits index wait → IsEndNumber coverage index end → IsWaitAt coverage.teams.run.records coverage.teams.run.family.tasks end wait
+wait_at_end coverage index end wait is read (place, here, stands) =
+    let inside = slice_get_within coverage.ends index place here in
     let all = is.waits.all in
-    let end : ℕ = get_or coverage.ends number 0 in
-    let here = slice_get-get_or coverage.ends number 0 below in
-    let is_wait = is.waits.each number end wait here (slice_get-get_or coverage.waits number wait (omega (arith, below, all)) ∙ ap Some (sym read)) in
-    record { end = end; here = here; is_wait = is_wait; inside = (is.ends.only number end here).0 }
+    is.waits.each index place end wait here stands (slice_get-get_or coverage.waits index wait (omega (arith, inside, all)) ∙ ap Some (sym read))
 
--- the end is a record
-pub end_within : (coverage : CoverageView) (number end : ℕ) → IsCoverage coverage → number < length coverage.ends → end ≡ get_or coverage.ends number end → end < length coverage.teams.run.records
-end_within coverage number end is below read = (is.ends.only number end (slice_get-get_or coverage.ends number end below ∙ ap Some (sym read))).0
+-- the wait with an index, and the end that it is of
+pub record HasWait (coverage : CoverageView) (index : ℕ) (wait : Wait) : Type 0 where
+  pub end : ℕ
+  pub is_wait : IsWaitAt coverage.teams.run.records coverage.teams.run.family.tasks end wait
 
--- the same of a given end
-pub wait_at_end : (coverage : CoverageView) (number end : ℕ) (wait : Wait) → IsCoverage coverage → wait ≡ get_or coverage.waits number wait → slice_get coverage.ends number ≡ Some end → IsWaitAt coverage.teams.run.records coverage.teams.run.family.tasks end wait
-wait_at_end coverage number end wait is read here =
-    let has = has_wait coverage number wait is (slice_get_within coverage.ends number end here) read in
-    let P : ℕ → Type 0 = λ e. IsWaitAt coverage.teams.run.records coverage.teams.run.family.tasks e wait in
-    subst P (same_Some has.end end (sym has.here ∙ here)) has.is_wait
+pub has_wait : (coverage : CoverageView) (index : ℕ) (wait : Wait) → IsCoverage coverage → index < length coverage.ends → wait ≡ get_or coverage.waits index wait → HasWait coverage index wait
+has_wait coverage index wait is below read =
+    let here = slice_get-get_or coverage.ends index 0 below in
+    let there = (is.ends.only index (get_or coverage.ends index 0) here).1 in
+    record { end = there.0; is_wait = wait_at_end coverage index there.0 wait is read (get_or coverage.ends index 0, here, there.1) }
+
+-- the end is at a place of the file
+pub end_within : (coverage : CoverageView) (index place : ℕ) → IsCoverage coverage → index < length coverage.ends → place ≡ get_or coverage.ends index place → place < length coverage.teams.run.records
+end_within coverage index place is below read = (is.ends.only index place (slice_get-get_or coverage.ends index place below ∙ ap Some (sym read))).0
+
+-- one record is the end with an index
+pub one_number_of : (coverage : CoverageView) (index end other : ℕ) → IsCoverage coverage → IsEndNumber coverage index end → IsEndNumber coverage index other → end ≡ other
+one_number_of coverage index end other is (place, here, stands) (place', here', stands') =
+    is.teams.placed.places.apart end other place stands (stands' ∙ ap Some (sym (same_Some place place' (sym here ∙ here'))))
 
 pub coverage_of : (inside coverage : CoverageView) → inside ≡ coverage → IsCoverage inside → IsCoverage coverage
 coverage_of inside coverage same is = subst IsCoverage same is
 
 -- what the search finds where the lengths are those of the records
-pub open_first : (known : TeamsView) (done : DoneView) (at end : ℕ) (found : Option ℕ) → done.teams ≡ known → IsDoneView done → AreDone done → at ≡ end → (AreChildrenDone done → MatchOption found (IsCoverComplete (records_of done) at) (IsFirstOpen (records_of done) at)) → MatchOption found (IsCoverComplete known.run.records end) (IsFirstOpen known.run.records end)
-open_first known done at end found same is are at_end answer =
-    let P : TeamsView → Type 0 = λ t. MatchOption found (IsCoverComplete t.run.records at) (IsFirstOpen t.run.records at) in
-    let Q : ℕ → Type 0 = λ e. MatchOption found (IsCoverComplete known.run.records e) (IsFirstOpen known.run.records e) in
+pub open_first : (known : TeamsView) (done : DoneView) (number end : ℕ) (found : Option ℕ) → done.teams ≡ known → IsDoneView done → AreDone done → number ≡ end → (AreChildrenDone done → MatchOption found (IsCoverComplete (records_of done) number) (IsFirstOpen (own_of done.teams) number)) → MatchOption found (IsCoverComplete known.run.records end) (IsFirstOpen (own_of known) end)
+open_first known done number end found same is are at_end answer =
+    let P : TeamsView → Type 0 = λ t. MatchOption found (IsCoverComplete t.run.records number) (IsFirstOpen (own_of t) number) in
+    let Q : ℕ → Type 0 = λ e. MatchOption found (IsCoverComplete known.run.records e) (IsFirstOpen (own_of known) e) in
     subst Q at_end (subst P same (answer (own_children_done done is are)))
 
 -- ---- several ends
 
-pub none_asked : (rs : List Record) (ends of : List ℕ) (found : List (Option ℕ)) → found ≡ [] → AreFirstOpen rs ends of 0 found
-none_asked rs ends of found empty = record {
+pub none_asked : (coverage : CoverageView) (of : List ℕ) (found : List (Option ℕ)) → found ≡ [] → AreFirstOpen coverage of 0 found
+none_asked coverage of found empty = record {
   count = ap length empty;
-  each = λ k number end answer asked here there. absurd (let inside = slice_get_within found k answer there in let none = ap length empty in omega (arith, inside, none));
+  each = λ k index end answer asked here there. absurd (let inside = slice_get_within found k answer there in let none = ap length empty in omega (arith, inside, none));
 }
 
-pub one_more : (rs : List Record) (ends of : List ℕ) (n number : ℕ) (answer : Option ℕ) (found : List (Option ℕ)) → slice_get of n ≡ Some number → AreFirstOpen rs ends of n found → ((end : ℕ) → slice_get ends number ≡ Some end → MatchOption answer (IsCoverComplete rs end) (IsFirstOpen rs end)) → AreFirstOpen rs ends of (n + 1) (found ++ answer ∷ [])
-one_more rs ends of n number answer found asked are is = record {
+pub one_more : (coverage : CoverageView) (of : List ℕ) (n index : ℕ) (answer : Option ℕ) (found : List (Option ℕ)) → slice_get of n ≡ Some index → AreFirstOpen coverage of n found → ((end : ℕ) → IsEndNumber coverage index end → IsAnswer coverage end answer) → AreFirstOpen coverage of (n + 1) (found ++ answer ∷ [])
+one_more coverage of n index answer found asked are is = record {
   count = length_push found answer ∙ ap (λ k. k + 1) are.count;
   each = λ k other end x asked_there here there. elim (pushed_cases found answer x k there) [
     | inl old ↦ are.each k other end x asked_there here old
     | inr last ↦
         let at_n : k ≡ n = last.0 ∙ are.count in
-        let same = same_Some number other (sym asked ∙ ap (slice_get of) (sym at_n) ∙ asked_there) in
-        let P : Option ℕ → Type 0 = λ a. MatchOption a (IsCoverComplete rs end) (IsFirstOpen rs end) in
-        subst P last.1 (is end (ap (slice_get ends) same ∙ here))
+        let same = same_Some other index (sym asked_there ∙ ap (slice_get of) at_n ∙ asked) in
+        let P : Option ℕ → Type 0 = IsAnswer coverage end in
+        let Q : ℕ → Type 0 = λ k. IsEndNumber coverage k end in
+        subst P last.1 (is end (subst Q same here))
   ];
 }
 

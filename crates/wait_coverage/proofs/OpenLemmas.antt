@@ -1,8 +1,8 @@
 -- What of the tasks that an end covers is unfinished there.
-use Rattle.std.proofs.Common.{◌≡◌, ◌∙◌, ℕ, ◌<◌, ◌≤◌, ◌^◌, true, false, List, length, Option, Some, None, refl, sym, ap, subst, arith, inl, inr}
-use Rattle.std.proofs.lemmas.Bool.{cases_lt, false≢true}
-use Rattle.std.proofs.lemmas.Option.{same_Some, slice_get_within}
-use Rattle.std.specs.Prelude.{◌↔◌, IsTrue, MatchOption, Contains}
+use Rattle.std.proofs.Common.{◌≡◌, ◌∙◌, ℕ, ◌<◌, ◌≤◌, ◌+◌, ◌^◌, true, false, List, length, Option, Some, None, refl, sym, ap, subst, arith, inl, inr}
+use Rattle.std.proofs.lemmas.Bool.{cases_eq, cases_lt, false≢true}
+use Rattle.std.proofs.lemmas.Option.{same_Some, slice_get_within, slice_get-get_or}
+use Rattle.std.specs.Prelude.{◌↔◌, IsTrue, MatchOption, Contains, slice_get}
 use Rattle.ompt_events.specs.declared.records.Record.{Record}
 use Rattle.ompt_events.specs.declared.names.SyncKind.{SyncKind}
 use Rattle.ompt_events.specs.declared.names.SyncKind.TheVariants.{Taskwait, Taskgroup}
@@ -13,14 +13,17 @@ use Rattle.ompt_events.specs.Coverage.{Covers, IsFamily, waited, grouped, synchr
 use Rattle.ompt_events.specs.Regions.{IsRegion, IsBarrierBegin, is_barrier, waits_for_tasks}
 use Rattle.ompt_events.specs.Teams.{IsTeammate}
 use Rattle.ompt_events.proofs.RecordLemmas.{creation_at_created}
+use Rattle.ompt_events.proofs.PlaceLemmas.{at_within}
+use Rattle.task_tree.specs.Own.{OwnView, IsOwn}
+use Rattle.teams.specs.Teams.{own_of}
 use Rattle.ompt_events.proofs.TreeLemmas.{child_before}
 use Rattle.credit_ledger.specs.declared.entry.Cover.{Cover}
 use Rattle.credit_ledger.specs.declared.entry.Cover.TheVariants.{Children, Descendants}
 use Rattle.trace_ledger.specs.Entries.{IsDone}
 use Rattle.wait_coverage.specs.Spans.{IsCoverComplete}
-use Rattle.wait_coverage.specs.Done.{DoneView, records_of, tasks_of, AreChildrenDone}
+use Rattle.wait_coverage.specs.Done.{DoneView, records_of, tasks_of, IsDoneView, AreChildrenDone}
 use Rattle.wait_coverage.specs.Limits.{IsEndLimit}
-use Rattle.wait_coverage.specs.Waits.{EndsNoWaitAt, IsWaitAt, waits, groups, meets, IsWithin, before_begin, in_group, by_member, cover_of, IsAwaitedBy, IsAwaited, IsOpen, IsFirstOpen, IsFirstOpenEnd, IsLateTask, IsLateAt, IsFirstLate}
+use Rattle.wait_coverage.specs.Waits.{EndsNoWaitAt, IsWaitAt, waits, groups, meets, IsWithin, before_begin, in_group, by_member, cover_of, IsAwaitedBy, IsAwaited, IsOpen, IsFirstOpen, AreCompleteBefore, IsFirstOpenPlace, IsLateTask, IsLateAt, IsFirstLate}
 use Rattle.wait_coverage.specs.declared.waits.Wait.{Wait}
 use Rattle.wait_coverage.specs.declared.waits.Wait.TheVariants.{Taskwait as ForTaskwait, Taskgroup as ForTaskgroup, Barrier as ForBarrier}
 use Rattle.teams.proofs.BarrierLemmas.{one_number, barrier_is_other}
@@ -137,6 +140,10 @@ covered_explicit rs i task covers = elim (covers_cases rs i task covers) [
     family_explicit rs parent first task place creates (inr (child i born)) = (i, creation_at_created first task rs i born)
     family_explicit rs parent first task place creates (inr (deeper i {parent = above} below born)) = (i, creation_at_created above task rs i born)
 
+-- each record stands at a place in the file
+place_there : (own : OwnView) → IsOwn own → (number : ℕ) → number < length own.run.records → (place : ℕ) × (slice_get own.places number ≡ Some place)
+place_there own is number below = let all = is.places.all in (_, slice_get-get_or own.places number 0 (omega (arith, below, all)))
+
 abbrev done_below : DoneView → ℕ → ℕ → Type 0
 done_below done t n = IsDone (records_of done) n t
 
@@ -194,19 +201,20 @@ late_if_open done i seen task wait exact small is names = (
     ends : (own begin : ℕ) × (kind : SyncKind) × EndsAt (records_of done) i own begin kind
     ends = wait_ends (records_of done) (tasks_of done) i wait is
 
-pub late_open : (done : DoneView) (i seen : ℕ) (wait : Wait) (found : Option ℕ) → AreChildrenDone done → seen < 2 ^ 32 → IsWaitAt (records_of done) (tasks_of done) i wait → seen_at (records_of done) i ≡ seen → MatchOption found ((place task : ℕ) → IsLateAt done wait seen place task → ⊥) (IsFirstLate done wait seen) → MatchOption found (IsCoverComplete (records_of done) i) (IsFirstOpen (records_of done) i)
-late_open done i seen wait None exact small is names in_time = λ task covers. elim (done_or_not (records_of done) seen task) [
+pub late_open : (done : DoneView) (i seen : ℕ) (wait : Wait) (found : Option ℕ) → IsDoneView done → AreChildrenDone done → seen < 2 ^ 32 → IsWaitAt (records_of done) (tasks_of done) i wait → seen_at (records_of done) i ≡ seen → MatchOption found ((place task : ℕ) → IsLateAt done wait seen place task → ⊥) (IsFirstLate done wait seen) → MatchOption found (IsCoverComplete (records_of done) i) (IsFirstOpen (own_of done.teams) i)
+late_open done i seen wait None view exact small is names in_time = λ task covers. elim (done_or_not (records_of done) seen task) [
   | inl finished ↦ complete_there (records_of done) i task (subst (done_below done task) (sym names) finished)
   | inr not_done ↦
       let awaited = covered_awaited (records_of done) (tasks_of done) i task wait is covers in
-      let place = awaited_created (records_of done) (tasks_of done) task wait awaited in
-      absurd (in_time place.0 task (place.1, (awaited, λ early. not_done ((exact task seen place small).0 early))))
+      let made = awaited_created (records_of done) (tasks_of done) task wait awaited in
+      let there = place_there (own_of done.teams) view.teams.placed made.0 (at_within created (records_of done) made.0 task made.1) in
+      absurd (in_time there.0 task ((made.0, there.1, made.1), (awaited, λ early. not_done ((exact task seen made small).0 early))))
 ]
-late_open done i seen wait (Some task) exact small is names late = record {
+late_open done i seen wait (Some task) view exact small is names late = record {
   is_open = (late_if_open done i seen task wait exact small is names).0 late.late.1;
   creation = late.place;
   is_created = late.late.0;
-  created_first = λ k other below creates is_open. late.first k other below (creates, (late_if_open done i seen other wait exact small is names).1 is_open);
+  created_first = λ place other below creates is_open. late.first place other below (creates, (late_if_open done i seen other wait exact small is names).1 is_open);
 }
 
 -- where all is complete no task is open
@@ -215,12 +223,22 @@ none_open rs i task complete = ((λ never. absurd (false≢true never)), (λ is_
 
 -- ---- all ends
 
-pub first_open_end : (rs : List Record) (i task : ℕ) → ((k : ℕ) → k < i → IsCoverComplete rs k) → IsFirstOpen rs i task → IsFirstOpenEnd rs i task
-first_open_end rs i task before first = record { first_open = first; before = before }
+pub first_open_place : (own : OwnView) (place number task : ℕ) → slice_get own.places number ≡ Some place → AreCompleteBefore own place → IsFirstOpen own number task → IsFirstOpenPlace own place task
+first_open_place own place number task stands before first = record { number = number; stands = stands; first_open = first; before = before }
+
+pub none_before : (own : OwnView) → AreCompleteBefore own 0
+none_before own earlier number less stands = absurd (omega (arith, less))
+
+pub complete_more : (own : OwnView) (place number : ℕ) → IsOwn own → slice_get own.places number ≡ Some place → AreCompleteBefore own place → IsCoverComplete own.run.records number → AreCompleteBefore own (place + 1)
+complete_more own place number is stands before here earlier other less stands_other = elim (cases_eq earlier place) [
+  | inl same ↦ let P : ℕ → Type 0 = IsCoverComplete own.run.records in subst P (is.places.apart number other place stands (stands_other ∙ ap Some same)) here
+  | inr apart ↦ before earlier other (omega (arith, less, apart)) stands_other
+]
 
 -- past the last record nothing is covered
-pub complete_whole : (rs : List Record) (n : ℕ) → ((k : ℕ) → k < n → IsCoverComplete rs k) → length rs ≤ n → (i : ℕ) → IsCoverComplete rs i
-complete_whole rs n before all i task covers =
-    let one = covers_at rs i task covers in
-    let inside = (ends_at rs i one.task one.begin one.kind one.is_region).inside in
-    before i (omega (arith, inside, all)) task covers
+pub complete_whole : (own : OwnView) (n : ℕ) → IsOwn own → AreCompleteBefore own n → length own.run.records ≤ n → (i : ℕ) → IsCoverComplete own.run.records i
+complete_whole own n is before all i task covers =
+    let one = covers_at own.run.records i task covers in
+    let inside = (ends_at own.run.records i one.task one.begin one.kind one.is_region).inside in
+    let there = place_there own is i inside in
+    before there.0 i (let below = is.places.below i there.0 there.1 in omega (arith, below, all)) there.1 task covers

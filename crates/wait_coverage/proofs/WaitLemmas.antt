@@ -19,12 +19,11 @@ use Rattle.ompt_events.specs.Coverage.{IsFamily}
 use Rattle.task_tree.specs.Family.{FamilyView, IsFamilyOf}
 use Rattle.task_tree.specs.Lineage.{parent_index, IsParentAt}
 use Rattle.task_tree.specs.Runs.{RunView, IsNoWaitEvent, IsWaitEvent}
-use Rattle.task_states.specs.States.{IsBeginOf}
+use Rattle.task_states.specs.Regions.{IsBeginOf}
 use Rattle.task_tree.proofs.OnceLemmas.{made_once, creation_made}
 use Rattle.task_tree.proofs.LineageLemmas.{parent_is_at, parent_at_is}
 use Rattle.credit_ledger.specs.declared.entry.Cover.TheVariants.{Descendants}
-use Rattle.ompt_events.proofs.PlaceLemmas.{at_within}
-use Rattle.wait_coverage.specs.Done.{DoneView, records_of, IsParentsFirst}
+use Rattle.wait_coverage.specs.Done.{IsDoneView, DoneView, records_of, IsParentsFirst}
 use Rattle.wait_coverage.specs.Waits.{IsWaitAt, waits, groups, IsOwnChild, IsAwaitedBy, IsAwaited, AreAwaited, AreMarked, EndsNoWaitAt, IsLateAt, cover_of, IsWithin, before_begin, in_group, by_member, meets}
 use Rattle.wait_coverage.specs.Search.{SearchView, IsMarkedAbove}
 use Rattle.teams.specs.Teams.{AreBeginNumbers, begins_before}
@@ -230,5 +229,11 @@ late_more done wait seen n before here k task below late = elim (cases_eq k n) [
   | inr apart ↦ before k task (omega (arith, below, apart)) late
 ]
 
-pub late_within : (done : DoneView) (wait : Wait) (seen place task : ℕ) → IsLateAt done wait seen place task → place < length (records_of done)
-late_within done wait seen place task late = at_within created (records_of done) place task late.0
+pub late_within : (done : DoneView) (wait : Wait) (seen place task : ℕ) → IsDoneView done → IsLateAt done wait seen place task → place < length (records_of done)
+late_within done wait seen place task is late = is.teams.placed.places.below late.0.0 place late.0.1
+
+-- the record at a place makes no other task
+pub late_number : (done : DoneView) (wait : Wait) (seen number place task : ℕ) → IsDoneView done → slice_get done.teams.places number ≡ Some place → IsLateAt done wait seen place task → at created (records_of done) number ≡ Some task
+late_number done wait seen number place task is stands late =
+    let same = is.teams.placed.places.apart number late.0.0 place stands late.0.1 in
+    ap (at created (records_of done)) same ∙ late.0.2

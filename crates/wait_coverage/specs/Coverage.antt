@@ -13,7 +13,9 @@ use Rattle.credit_ledger.specs.Entries.{IsSpanHeld}
 use Rattle.credit_ledger.specs.declared.entry.Cover.{Cover}
 use Rattle.credit_ledger.specs.declared.entry.Cover.TheVariants.{Children}
 use Rattle.task_tree.specs.Paths.{TreeView, IsTreeOf}
-use Rattle.teams.specs.Teams.{TeamsView, IsTeams}
+use Rattle.task_tree.specs.Families.{IsOwnOf}
+use Rattle.task_tree.specs.Own.{OwnView}
+use Rattle.teams.specs.Teams.{TeamsView, own_of, IsTeams}
 use Rattle.wait_coverage.specs.Numbers.{AreNumbers}
 use Rattle.wait_coverage.specs.Spans.{IsSpan, IsCoverComplete}
 use Rattle.wait_coverage.specs.Waits.{IsWaitAt, IsFirstOpen}
@@ -24,18 +26,24 @@ abbrev pub IsEnd : List Record → ℕ → Type 0
 IsEnd rs i = (task begin : ℕ) × (kind : SyncKind) × IsRegion rs i task kind begin
     × (waits_for_tasks kind ≡ true)
 
--- the first n records' ends of such regions, in file order
-pub record AreEnds (rs : List Record) (n : ℕ) (ends : List ℕ) : Type 0 where
-  pub each : (i : ℕ) → i < n → IsEnd rs i → Contains ends i
-  pub only : (k i : ℕ) → slice_get ends k ≡ Some i → (i < n) × IsEnd rs i
-  pub rising : (k j i after : ℕ) → k < j → slice_get ends k ≡ Some i → slice_get ends j ≡ Some after
-      → i < after
+-- one does at the place in the file
+abbrev pub IsEndPlace : OwnView → ℕ → Type 0
+IsEndPlace own place =
+    (number : ℕ) × (slice_get own.places number ≡ Some place) × IsEnd own.run.records number
+
+-- those of the first n places in the file, in file order
+pub record AreEnds (own : OwnView) (n : ℕ) (ends : List ℕ) : Type 0 where
+  pub each : (place : ℕ) → place < n → IsEndPlace own place → Contains ends place
+  pub only : (k place : ℕ) → slice_get ends k ≡ Some place → (place < n) × IsEndPlace own place
+  pub rising : (k j place after : ℕ) → k < j → slice_get ends k ≡ Some place
+      → slice_get ends j ≡ Some after → place < after
 
 -- what each end waits for
-pub record AreWaits (rs : List Record) (tasks ends : List ℕ) (waits : List Wait) : Type 0 where
+pub record AreWaits (own : OwnView) (ends : List ℕ) (waits : List Wait) : Type 0 where
   pub all : length waits ≡ length ends
-  pub each : (k i : ℕ) (wait : Wait) → slice_get ends k ≡ Some i → slice_get waits k ≡ Some wait
-      → IsWaitAt rs tasks i wait
+  pub each : (k place number : ℕ) (wait : Wait) → slice_get ends k ≡ Some place
+      → slice_get own.places number ≡ Some place → slice_get waits k ≡ Some wait
+      → IsWaitAt own.run.records own.run.family.tasks number wait
 
 -- a region ends at i that waits for tasks: for the children alone where it is a taskwait, and for all
 -- descendants where it is of another kind
@@ -91,18 +99,30 @@ pub record CoverageView : Type 0 where
   pub ends : List ℕ
   pub waits : List Wait
 
+-- the tree is that of a trace, and the run has its records in the tasks' own order
+abbrev pub IsTreeOfOwn : OwnView → TreeView → Type 0
+IsTreeOfOwn own tree = (rs : List Record) × IsTreeOf rs tree × IsOwnOf rs own
+
 -- all is that of the run of the teams
 pub record IsCoverage (coverage : CoverageView) : Type 0 where
   pub teams : IsTeams coverage.teams
-  pub tree : IsTreeOf coverage.teams.run.records coverage.tree
+  pub tree : IsTreeOfOwn (own_of coverage.teams) coverage.tree
   pub numbers : AreNumbers coverage.teams.run.records (length coverage.teams.run.records) coverage.numbers
-  pub ends : AreEnds coverage.teams.run.records (length coverage.teams.run.records) coverage.ends
-  pub waits : AreWaits coverage.teams.run.records coverage.teams.run.family.tasks coverage.ends coverage.waits
+  pub ends : AreEnds (own_of coverage.teams) (length coverage.teams.run.records) coverage.ends
+  pub waits : AreWaits (own_of coverage.teams) coverage.ends coverage.waits
 
--- of the first n ends that are asked for, by their numbers, the first open task of each
-pub record AreFirstOpen (rs : List Record) (ends of : List ℕ) (n : ℕ)
-    (found : List (Option ℕ)) : Type 0 where
+-- the end with this index among the ends is the record with this number
+abbrev pub IsEndNumber : CoverageView → ℕ → ℕ → Type 0
+IsEndNumber coverage index number = (place : ℕ) × (slice_get coverage.ends index ≡ Some place)
+    × (slice_get coverage.teams.places number ≡ Some place)
+
+-- the answer is the first open task at the end with this number, or none where all that it covers is complete
+abbrev pub IsAnswer : CoverageView → ℕ → Option ℕ → Type 0
+IsAnswer coverage end answer = MatchOption answer (IsCoverComplete coverage.teams.run.records end)
+    (IsFirstOpen (own_of coverage.teams) end)
+
+-- of the first n ends that are asked for, by their indices among the ends, the answer for each
+pub record AreFirstOpen (coverage : CoverageView) (of : List ℕ) (n : ℕ) (found : List (Option ℕ)) : Type 0 where
   pub count : length found ≡ n
-  pub each : (k number end : ℕ) (answer : Option ℕ) → slice_get of k ≡ Some number
-      → slice_get ends number ≡ Some end → slice_get found k ≡ Some answer
-      → MatchOption answer (IsCoverComplete rs end) (IsFirstOpen rs end)
+  pub each : (k index end : ℕ) (answer : Option ℕ) → slice_get of k ≡ Some index
+      → IsEndNumber coverage index end → slice_get found k ≡ Some answer → IsAnswer coverage end answer

@@ -9,6 +9,8 @@ use Rattle.ompt_events.specs.Regions.{IsRegion, IsBarrierBegin, is_barrier, wait
 use Rattle.ompt_events.specs.Teams.{IsTeammate}
 use Rattle.ompt_events.specs.Coverage.{Covers, IsFamily}
 use Rattle.ompt_events.specs.Completion.{IsCompleteAt}
+use Rattle.task_tree.specs.Own.{OwnView}
+use Rattle.teams.specs.Teams.{own_of}
 use Rattle.credit_ledger.specs.declared.entry.Cover.{Cover}
 use Rattle.credit_ledger.specs.declared.entry.Cover.TheVariants.{Children, Descendants}
 use Rattle.wait_coverage.specs.Done.{DoneView, records_of, tasks_of, IsEarly}
@@ -97,30 +99,44 @@ pub record IsOpen (rs : List Record) (i task : ℕ) : Type 0 where
   pub covered : Covers rs i task
   pub incomplete : IsCompleteAt rs task i → ⊥
 
--- of the tasks that the end at i covers and that are unfinished there this one was created first in file
--- order
-pub record IsFirstOpen (rs : List Record) (i task : ℕ) : Type 0 where
-  pub is_open : IsOpen rs i task
-  pub creation : ℕ
-  pub is_created : at created rs creation ≡ Some task
-  pub created_first : (k other : ℕ) → k < creation → at created rs k ≡ Some other → IsOpen rs i other → ⊥
+-- the record at the place in the file creates the task
+abbrev pub CreatesAtPlace : OwnView → ℕ → ℕ → Type 0
+CreatesAtPlace own place task = (number : ℕ) × (slice_get own.places number ≡ Some place)
+    × (at created own.run.records number ≡ Some task)
 
--- at the first end with an unfinished task the one of them that was created first
-pub record IsFirstOpenEnd (rs : List Record) (i task : ℕ) : Type 0 where
-  pub first_open : IsFirstOpen rs i task
-  pub before : (k : ℕ) → k < i → IsCoverComplete rs k
+-- of the tasks that the end with this number covers and that are unfinished there this one was created first
+-- in the file
+pub record IsFirstOpen (own : OwnView) (end task : ℕ) : Type 0 where
+  pub is_open : IsOpen own.run.records end task
+  pub creation : ℕ
+  pub is_created : CreatesAtPlace own creation task
+  pub created_first : (place other : ℕ) → place < creation → CreatesAtPlace own place other
+      → IsOpen own.run.records end other → ⊥
+
+-- a record at an earlier place in the file ends no wait that covers an unfinished task
+abbrev pub AreCompleteBefore : OwnView → ℕ → Type 0
+AreCompleteBefore own place = (earlier number : ℕ) → earlier < place
+    → slice_get own.places number ≡ Some earlier → IsCoverComplete own.run.records number
+
+-- at the first place in the file that ends a wait with an unfinished task: the one of them that was created
+-- first
+pub record IsFirstOpenPlace (own : OwnView) (place task : ℕ) : Type 0 where
+  pub number : ℕ
+  pub stands : slice_get own.places number ≡ Some place
+  pub first_open : IsFirstOpen own number task
+  pub before : AreCompleteBefore own place
 
 -- the task is waited for, and its length is above the one seen
 abbrev pub IsLateTask : DoneView → Wait → ℕ → ℕ → Type 0
 IsLateTask done wait seen task =
     IsAwaited (records_of done) (tasks_of done) wait task × (IsEarly done seen task → ⊥)
 
--- and is created there
+-- and is created at this place in the file
 abbrev pub IsLateAt : DoneView → Wait → ℕ → ℕ → ℕ → Type 0
 IsLateAt done wait seen place task =
-    (at created (records_of done) place ≡ Some task) × IsLateTask done wait seen task
+    CreatesAtPlace (own_of done.teams) place task × IsLateTask done wait seen task
 
--- the first such task
+-- the first such task in the file
 pub record IsFirstLate (done : DoneView) (wait : Wait) (seen task : ℕ) : Type 0 where
   pub place : ℕ
   pub late : IsLateAt done wait seen place task

@@ -3,17 +3,20 @@ ghost use Rattle.std.specs.Prelude.{ℕ, ◌≡◌, ◌<◌, ◌≤◌, ◌∷�
 ghost use Rattle.ompt_events.specs.declared.records.Record.{Record};
 ghost use Rattle.ompt_events.specs.declared.cause.Cause.TheVariants.{TeamShort};
 ghost use Rattle.ompt_events.specs.declared.fault.Fault.TheVariants.{Memory};
-ghost use Rattle.ompt_events.specs.Faults.{IsFault};
+ghost use Rattle.ompt_events.specs.Faults.{IsShownFault};
 ghost use Rattle.ompt_events.specs.Tree.{HasPath};
+ghost use Rattle.ompt_events.specs.Turns.{in_own_order};
+ghost use Rattle.task_tree.specs.Families.{IsOwnOf};
 ghost use Rattle.task_tree.specs.Paths.{IsTreeOf};
+ghost use Rattle.teams.specs.Teams.{own_of};
 ghost use Rattle.credit_ledger.specs.declared.entry.Span.{Span};
 ghost use Rattle.credit_ledger.specs.declared.entry.Cover.{Cover};
 ghost use Rattle.credit_ledger.specs.Entries.{IsSpanHeld};
 ghost use Rattle.trace_ledger.specs.Entries.{IsLedgerOf, HasRightEntries};
 ghost use Rattle.wait_coverage.specs.declared.waits.Wait.TheVariants.{Barrier};
 ghost use Rattle.wait_coverage.specs.Spans.{AreSpans, AreMemberSpans, IsSpan, IsCoverComplete};
-ghost use Rattle.wait_coverage.specs.Waits.{IsWaitAt, IsFirstOpen, cover_of};
-ghost use Rattle.wait_coverage.specs.Coverage.{IsCoverage, AreAllHeld, AreShallow, AreEnds, AreWaits, AreFirstOpen, IsCoverAt, IsOnly, HasBegun, HaveBegun, IsMemberSpan, AreRosterSpans};
+ghost use Rattle.wait_coverage.specs.Waits.{IsWaitAt, cover_of};
+ghost use Rattle.wait_coverage.specs.Coverage.{IsCoverage, AreAllHeld, AreShallow, AreEnds, AreWaits, IsEndNumber, IsAnswer, AreFirstOpen, IsCoverAt, IsOnly, HasBegun, HaveBegun, IsMemberSpan, AreRosterSpans};
 
 use crate::numbers::find_numbers;
 use crate::unfinished::{Known, open_at};
@@ -64,7 +67,8 @@ impl<'a> Model for Coverage<'a> {
 
 impl<'a> Coverage<'a> {
     /// What each wait of the trace waits for. Refused is a team or a barrier that lacks a member (OpenMP
-    /// 5.2, 10.1 and 15.3), at its first record. The tree and the states must be those of the trace.
+    /// 5.2, 10.1 and 15.3), at its first record in the file. The tree and the states must be those of the
+    /// trace. What a record is of is read in the tasks' own order; ends and creations are told in file order.
     pub fn build(
         alloc: Global,
         trace: &'a Trace,
@@ -73,11 +77,10 @@ impl<'a> Coverage<'a> {
     ) -> Result<Coverage<'a>, CoverFault>
         requires tree { IsTreeOf trace.now.records tree.now }
         requires records { states.now.run.records ≡ trace.now.records }
-        requires family { states.now.run.family ≡ tree.now.family }
-        ensures coverage { IfOk result (λ coverage. coverage.teams.run.records ≡ trace.now.records) }
-        ensures fault { IfErr result (IsFault trace.now.records (TeamShort ∷ [])) }
+        ensures coverage { IfOk result (λ coverage. IsOwnOf trace.now.records (own_of coverage.teams)) }
+        ensures fault { IfErr result (IsShownFault trace.now.records (TeamShort ∷ [])) }
     {
-        let teams = Teams::in_run(alloc, states)?;
+        let teams = Teams::in_own(alloc, states.regions())?;
         let numbers = find_numbers(alloc, teams.run())?;
         let (ends, waits) = find_ends(alloc, &teams)?;
         Ok(Coverage {
@@ -89,57 +92,56 @@ impl<'a> Coverage<'a> {
         })
     }
 
-    /// The places of the records that end a wait, in file order.
+    /// The places in the file of the records that end a wait, in file order.
     pub fn ends(&self) -> &[usize]
         ensures value { result.now ≡ self.now.ends }
-        ensures ends { AreEnds self.now.teams.run.records (length self.now.teams.run.records) result.now }
+        ensures ends { AreEnds (own_of self.now.teams) (length self.now.teams.run.records) result.now }
     {
         self.ends.as_slice()
     }
 
-    /// Whether the end with this number among the ends waits for children alone or for all descendants.
-    pub fn cover(&self, number: usize) -> Cover
-        requires { number < length self.now.ends }
-        ensures { (end : ℕ) → slice_get self.now.ends number ≡ Some end
+    /// Whether the end with this index among the ends waits for children alone or for all descendants.
+    pub fn cover(&self, index: usize) -> Cover
+        requires { index < length self.now.ends }
+        ensures { (end : ℕ) → IsEndNumber self.now index end
             → IsCoverAt self.now.teams.run.records end result }
     {
-        self.wait(number).cover()
+        self.wait(index).cover()
     }
 
-    /// The credit that the end with this number among the ends waits for: the spans of children whose start
+    /// The credit that the end with this index among the ends waits for: the spans of children whose start
     /// shares must have come back. `Memory` is the only refusal.
-    pub fn spans(&self, number: usize) -> Result<Vec<Span>, CoverFault>
-        requires { number < length self.now.ends }
+    pub fn spans(&self, index: usize) -> Result<Vec<Span>, CoverFault>
+        requires { index < length self.now.ends }
         ensures fault { IfErr result (λ fault. fault ≡ Memory) }
-        ensures spans { IfOk result (λ spans. (end : ℕ) → slice_get self.now.ends number ≡ Some end
+        ensures spans { IfOk result (λ spans. (end : ℕ) → IsEndNumber self.now index end
             → (cover : Cover) × IsCoverAt self.now.teams.run.records end cover
             × AreSpans self.now.teams.run.records end cover spans.items) }
     {
-        let _end = self.end(number);
-        Ok(self.spans_of(self.wait(number))?)
+        let _end = self.end(index);
+        Ok(self.spans_of(self.wait(index))?)
     }
 
-    /// Of the tasks that the end with this number among the ends covers the first created one that is not
-    /// finished by the entries of the ledger below the length that the end names: none where these hold the
-    /// credit that it waits for (F. Mattern, 1989). That is promised where the ledger is that of the trace
+    /// Of the tasks that the end with this index among the ends covers the one created first in the file that
+    /// is not finished by the entries of the ledger below the length that the end names: none where these hold
+    /// the credit that it waits for (F. Mattern, 1989). That is promised where the ledger is that of the trace
     /// and its records have right entries, as those without the causes 1 to 13 have. `Memory` is the only
     /// refusal.
-    pub fn first_open(&self, number: usize, ledger: &Ledger) -> Result<Option<u64>, CoverFault>
-        requires { number < length self.now.ends }
+    pub fn first_open(&self, index: usize, ledger: &Ledger) -> Result<Option<u64>, CoverFault>
+        requires { index < length self.now.ends }
         ensures fault { IfErr result (λ fault. fault ≡ Memory) }
         ensures first { IsLedgerOf self.now.teams.run.records ledger.now
             → HasRightEntries self.now.teams.run.records
-            → IfOk result (λ found. (end : ℕ) → slice_get self.now.ends number ≡ Some end
-            → MatchOption found (IsCoverComplete self.now.teams.run.records end)
-            (IsFirstOpen self.now.teams.run.records end)) }
+            → IfOk result (λ found. (end : ℕ) → IsEndNumber self.now index end
+            → IsAnswer self.now end found) }
     {
-        if self.is_end_held(number, ledger)? {
+        if self.is_end_held(index, ledger)? {
             return Ok(None);
         }
         let alloc = *self.ends.allocator();
         let known = Known::of_ledger(alloc, self.teams(), ledger)?;
         let _done = known.done();
-        Ok(open_at(alloc, &known, self.end(number))?)
+        Ok(open_at(alloc, &known, self.end(index))?)
     }
 
     /// The same for several ends. It goes over the ledger's entries once, for all of them, and takes a few
@@ -149,39 +151,38 @@ impl<'a> Coverage<'a> {
         of: &[usize],
         ledger: &Ledger,
     ) -> Result<Vec<Option<u64>>, CoverFault>
-        requires { All (λ number. number < length self.now.ends) of.now }
+        requires { All (λ index. index < length self.now.ends) of.now }
         ensures fault { IfErr result (λ fault. fault ≡ Memory) }
         ensures first { IsLedgerOf self.now.teams.run.records ledger.now
             → HasRightEntries self.now.teams.run.records
-            → IfOk result (λ found.
-            AreFirstOpen self.now.teams.run.records self.now.ends of.now (length of.now) found.items) }
+            → IfOk result (λ found. AreFirstOpen self.now of.now (length of.now) found.items) }
     {
         let alloc = *self.ends.allocator();
         let known = Known::of_ledger(alloc, self.teams(), ledger)?;
         let _done = known.done();
         let mut found = Vec::with_capacity(alloc, of.len())?;
-        for index in 0..of.len() {
-            found.push(open_at(alloc, &known, self.end(of[index]))?)?;
+        for asked in 0..of.len() {
+            found.push(open_at(alloc, &known, self.end(of[asked]))?)?;
         }
         Ok(found)
     }
 
-    /// The place of the end with this number among the ends.
-    fn end(&self, number: usize) -> usize
-        requires { number < length self.now.ends }
-        ensures value { slice_get self.now.ends number ≡ Some result }
+    /// The number in the tasks' own order of the end with this index among the ends.
+    fn end(&self, index: usize) -> usize
+        requires { index < length self.now.ends }
+        ensures value { IsEndNumber self.now index result }
         ensures within { result < length self.now.teams.run.records }
     {
-        self.ends[number]
+        self.teams.own().number(self.ends[index])
     }
 
     /// What it waits for.
-    fn wait(&self, number: usize) -> &Wait
-        requires { number < length self.now.ends }
-        ensures { (end : ℕ) → slice_get self.now.ends number ≡ Some end → IsWaitAt
+    fn wait(&self, index: usize) -> &Wait
+        requires { index < length self.now.ends }
+        ensures { (end : ℕ) → IsEndNumber self.now index end → IsWaitAt
             self.now.teams.run.records self.now.teams.run.family.tasks end result.now }
     {
-        &self.waits[number]
+        &self.waits[index]
     }
 
     /// The teams of the run.
@@ -192,18 +193,18 @@ impl<'a> Coverage<'a> {
         &self.teams
     }
 
-    /// Whether the entries of the ledger below the length that the end with this number names hold the credit
+    /// Whether the entries of the ledger below the length that the end with this index names hold the credit
     /// that it waits for.
-    fn is_end_held(&self, number: usize, ledger: &Ledger) -> Result<bool, CoverFault>
-        requires { number < length self.now.ends }
+    fn is_end_held(&self, index: usize, ledger: &Ledger) -> Result<bool, CoverFault>
+        requires { index < length self.now.ends }
         ensures fault { IfErr result (λ fault. fault ≡ Memory) }
         ensures held { IsLedgerOf self.now.teams.run.records ledger.now
             → HasRightEntries self.now.teams.run.records
-            → IfOk result (λ held. IsTrue held → (end : ℕ) → slice_get self.now.ends number ≡ Some end
+            → IfOk result (λ held. IsTrue held → (end : ℕ) → IsEndNumber self.now index end
             → IsCoverComplete self.now.teams.run.records end) }
     {
-        let seen = self.teams().run().seen(self.end(number));
-        let wait = self.wait(number);
+        let seen = self.teams().run().seen(self.end(index));
+        let wait = self.wait(index);
         let spans = self.spans_of(wait)?;
         are_held(ledger, seen, spans.as_slice(), wait.cover())
     }
@@ -296,8 +297,8 @@ impl<'a> Coverage<'a> {
 /// The root and the path of a task.
 fn stands_at(alloc: Global, tree: &Tree, task: u64) -> Result<(u64, Path), AllocError>
     ensures { IfOk result (λ place. (records : List Record) (root : ℕ) (path : List ℕ)
-        → IsTreeOf records tree.now → HasPath records root task path
-        → HasPath records place.0 task place.1) }
+        → IsTreeOf records tree.now → HasPath (in_own_order records) root task path
+        → HasPath (in_own_order records) place.0 task place.1) }
 {
     let root = tree.root(task).unwrap_or(0);
     let mut numbers = Vec::new(alloc);
@@ -340,18 +341,17 @@ fn is_held(ledger: &Ledger, seen: u32, span: &Span, cover: Cover) -> Result<bool
     }
 }
 
-/// The records that end a wait, and what each waits for.
+/// The places in the file of the records that end a wait, and what each waits for.
 fn find_ends(alloc: Global, teams: &Teams) -> Result<(Vec<usize>, Vec<Wait>), AllocError>
     ensures ends { IfOk result (λ found.
-        AreEnds teams.now.run.records (length teams.now.run.records) found.0.items) }
-    ensures waits { IfOk result (λ found.
-        AreWaits teams.now.run.records teams.now.run.family.tasks found.0.items found.1.items) }
+        AreEnds (own_of teams.now) (length teams.now.run.records) found.0.items) }
+    ensures waits { IfOk result (λ found. AreWaits (own_of teams.now) found.0.items found.1.items) }
 {
     let mut ends = Vec::new(alloc);
     let mut waits = Vec::new(alloc);
-    for at in 0..teams.run().len() {
-        if let Some(wait) = wait_at(teams, at) {
-            ends.push(at)?;
+    for place in 0..teams.run().len() {
+        if let Some(wait) = wait_at(teams, teams.own().number(place)) {
+            ends.push(place)?;
             waits.push(wait)?;
         }
     }

@@ -2,7 +2,7 @@
 ghost use Rattle.std.specs.Prelude.{ℕ, ◌≡◌, ◌<◌, List, Option, Some, IfOk, MatchOption, length, map, slice_get};
 ghost use Rattle.ompt_events.specs.declared.names.SyncKind.{SyncKind};
 ghost use Rattle.ompt_events.specs.Regions.{IsRegion};
-ghost use Rattle.task_states.specs.States.{IsBeginOf};
+ghost use Rattle.task_states.specs.Regions.{IsBeginOf};
 ghost use Rattle.task_tree.specs.Lineage.{parent_index};
 ghost use Rattle.teams.specs.Missed.{IsBarrierEnd, EndsNoBarrier};
 ghost use Rattle.trace_ledger.specs.Entries.{IsLedgerOf};

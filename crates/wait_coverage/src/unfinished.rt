@@ -1,12 +1,13 @@
 //! The first end of a region that covers an unfinished task, and whether an end covers a given one.
 ghost use Rattle.std.specs.Prelude.{ℕ, ◌≡◌, ◌<◌, ◌↔◌, List, IfOk, IfErr, IsTrue, MatchOption, length};
 ghost use Rattle.ompt_events.specs.declared.fault.Fault.TheVariants.{Memory};
+ghost use Rattle.teams.specs.Teams.{own_of};
 ghost use Rattle.trace_ledger.specs.Entries.{HasRightEntries, IsLedgerOf};
 ghost use Rattle.wait_coverage.specs.Done.{IsDoneView, AreDone, AreChildrenDone};
 ghost use Rattle.wait_coverage.specs.Known.{AreHeldFrom, AreCreditLengths};
 ghost use Rattle.wait_coverage.specs.Limits.{IsEndLimit};
 ghost use Rattle.wait_coverage.specs.Spans.{IsCoverComplete};
-ghost use Rattle.wait_coverage.specs.Waits.{IsWaitAt, AreAwaited, IsOpen, IsFirstOpen, IsFirstOpenEnd, waiting};
+ghost use Rattle.wait_coverage.specs.Waits.{IsWaitAt, AreAwaited, IsOpen, IsFirstOpen, IsFirstOpenPlace, waiting};
 
 use crate::done::Done;
 use crate::limit::Limit;
@@ -130,11 +131,11 @@ pub fn find_known<'a>(alloc: Global, teams: &'a Teams<'a>) -> Result<Known<'a>, 
 pub fn find_open(alloc: Global, known: &Known) -> Result<Option<(usize, u64)>, Fault>
     ensures first { AreDone known.now.done → IfOk result (λ found.
         MatchOption found ((i : ℕ) → IsCoverComplete known.now.done.teams.run.records i)
-        (λ f. IsFirstOpenEnd known.now.done.teams.run.records f.0 f.1)) }
+        (λ f. IsFirstOpenPlace (own_of known.now.done.teams) f.0 f.1)) }
     ensures first_by_credit { HasRightEntries known.now.done.teams.run.records
         → AreCreditLengths known.now.done → IfOk result (λ found.
         MatchOption found ((i : ℕ) → IsCoverComplete known.now.done.teams.run.records i)
-        (λ f. IsFirstOpenEnd known.now.done.teams.run.records f.0 f.1)) }
+        (λ f. IsFirstOpenPlace (own_of known.now.done.teams) f.0 f.1)) }
     ensures fault { IfErr result (λ fault. fault ≡ Memory) }
 {
     let _done = known.done();
@@ -145,11 +146,12 @@ pub fn find_open(alloc: Global, known: &Known) -> Result<Option<(usize, u64)>, F
 fn first_open_end(alloc: Global, known: &Known) -> Result<Option<(usize, u64)>, AllocError>
     ensures { AreChildrenDone known.now.done → IfOk result (λ found.
         MatchOption found ((i : ℕ) → IsCoverComplete known.now.done.teams.run.records i)
-        (λ f. IsFirstOpenEnd known.now.done.teams.run.records f.0 f.1)) }
+        (λ f. IsFirstOpenPlace (own_of known.now.done.teams) f.0 f.1)) }
 {
-    for at in 0..known.done().run().len() {
+    for place in 0..known.done().run().len() {
+        let at = known.done().teams().own().number(place);
         if let Some(task) = open_at(alloc, known, at)? {
-            return Ok(Some((at, task)));
+            return Ok(Some((place, task)));
         }
     }
     Ok(None)
@@ -160,7 +162,7 @@ pub(crate) fn open_at(alloc: Global, known: &Known, at: usize) -> Result<Option<
     requires { at < length known.now.done.teams.run.records }
     ensures { AreChildrenDone known.now.done → IfOk result (λ found.
         MatchOption found (IsCoverComplete known.now.done.teams.run.records at)
-        (IsFirstOpen known.now.done.teams.run.records at)) }
+        (IsFirstOpen (own_of known.now.done.teams) at)) }
 {
     let done = known.done();
     match unmet_wait(known, at) {

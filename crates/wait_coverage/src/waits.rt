@@ -1,7 +1,7 @@
 //! What the end of a region waits for, and what of it is unfinished.
 ghost use Rattle.std.specs.Prelude.{ℕ, ◌≡◌, ◌<◌, ◌≤◌, ◌↔◌, IfOk, IsTrue, MatchOption, length, slice_get, replicate, Some, false};
 ghost use Rattle.ompt_events.specs.Teams.{IsTeammate};
-ghost use Rattle.task_states.specs.States.{IsBeginOf};
+ghost use Rattle.task_states.specs.Regions.{IsBeginOf};
 ghost use Rattle.task_tree.specs.Runs.{IsWaitEvent};
 ghost use Rattle.teams.specs.Rows.{row_at};
 ghost use Rattle.wait_coverage.specs.Done.{IsParentsFirst};
@@ -226,7 +226,8 @@ fn is_before_begin(teams: &Teams, index: usize, number: usize, place: usize) -> 
     }
 }
 
-/// The first created task that is marked and whose length is above the one seen.
+/// Of the tasks that are marked and whose length is above the one seen the one that was created first in the
+/// file.
 pub(crate) fn first_late(done: &Done, marks: &[bool], seen: u32) -> Option<u64>
     requires { length marks.now ≡ length done.now.teams.run.family.tasks }
     ensures { (wait : Wait)
@@ -242,7 +243,7 @@ pub(crate) fn first_late(done: &Done, marks: &[bool], seen: u32) -> Option<u64>
     None
 }
 
-/// The task that is created at the place, if it is marked and its length is above the one seen.
+/// The task that is created at the place in the file, if it is marked and its length is above the one seen.
 fn late_at(done: &Done, marks: &[bool], place: usize, seen: u32) -> Option<u64>
     requires within { place < length done.now.teams.run.records }
     requires all { length marks.now ≡ length done.now.teams.run.family.tasks }
@@ -252,7 +253,7 @@ fn late_at(done: &Done, marks: &[bool], place: usize, seen: u32) -> Option<u64>
         (IsLateAt done.now wait seen place) }
 {
     let run = done.run();
-    let index = run.created(place)?;
+    let index = run.created(done.teams().own().number(place))?;
     if is_late_index(done, marks, index, seen) {
         Some(run.task(index))
     } else {

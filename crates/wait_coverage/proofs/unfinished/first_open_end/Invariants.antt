@@ -1,8 +1,8 @@
-use Rattle.std.specs.Prelude.{ℕ, ◌<◌}
-use Rattle.wait_coverage.specs.Done.{AreChildrenDone, records_of}
-use Rattle.wait_coverage.specs.Spans.{IsCoverComplete}
+use Rattle.teams.specs.Teams.{own_of}
+use Rattle.wait_coverage.specs.Done.{AreChildrenDone}
+use Rattle.wait_coverage.specs.Waits.{AreCompleteBefore}
 use Rattle.wait_coverage.proofs.unfinished.first_open_end.Given as goal
 
--- what the ends so far cover is finished
-abbrev pub invariant-loop-at : goal.invariant-loop-at
-invariant-loop-at l = AreChildrenDone l.known.done → (k : ℕ) → k < l.at → IsCoverComplete (records_of l.known.done) k
+-- what the ends at the places so far cover is finished
+abbrev pub invariant-loop-place : goal.invariant-loop-place
+invariant-loop-place l = AreChildrenDone l.known.done → AreCompleteBefore (own_of l.known.done.teams) l.place

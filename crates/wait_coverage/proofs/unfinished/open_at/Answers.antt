@@ -15,4 +15,4 @@ returns-in_ok-marks-in-Some c = λ exact.
     let names = c.seen.ensures ∙ ap (λ (r : RunView). seen_at r.records c.args.at) (c.run.ensures.value ∙ ap (λ (d : DoneView). d.teams.run) c.done-done.ensures.value) in
     let late = rw c.done-done.ensures.value at c.first_late.ensures in
     let marked = rw c.done-done.ensures.value at c.in_ok-marks-in-Some.ensures in
-    late_open done c.args.at c.seen.result c.in-Some.wait c.first_late.result exact (omega (arith, c.seen.type_inv)) c.in-Some.ensures (sym names) (late c.in-Some.wait (rw c.as_slice.ensures.value marked))
+    late_open done c.args.at c.seen.result c.in-Some.wait c.first_late.result c.done-done.ensures.is_done exact (omega (arith, c.seen.type_inv)) c.in-Some.ensures (sym names) (late c.in-Some.wait (rw c.as_slice.ensures.value marked))

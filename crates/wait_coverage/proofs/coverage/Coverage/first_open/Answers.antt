@@ -1,8 +1,7 @@
 use Rattle.std.proofs.Common.{◌∙◌, sym, subst}
-use Rattle.std.proofs.lemmas.Option.{same_Some}
 use Rattle.teams.specs.Teams.{TeamsView}
 use Rattle.trace_ledger.specs.Entries.{IsLedgerOf}
-use Rattle.wait_coverage.proofs.CoverageLemmas.{open_first}
+use Rattle.wait_coverage.proofs.CoverageLemmas.{one_number_of, open_first}
 use Rattle.wait_coverage.proofs.coverage.Coverage.first_open.Goals as goal
 
 pub returns-then-branch-clause-first : goal.returns-then-branch-clause-first
@@ -15,4 +14,4 @@ returns-clause-first c = λ ledger right end here.
     open_first c.args.self.now.teams c.in_ok-known.known.done c.end.result end c.in_ok-open_at.field-0
     (known.teams ∙ c.teams.ensures.value) c.done-done.ensures.is_done
     (known.done (subst P (sym c.teams.ensures.value) ledger))
-    (same_Some c.end.result end (sym c.end.ensures.value ∙ here)) c.in_ok-open_at.ensures
+    (one_number_of c.args.self.now c.args.index c.end.result end c.teams.ensures.is_coverage c.end.ensures.value here) c.in_ok-open_at.ensures

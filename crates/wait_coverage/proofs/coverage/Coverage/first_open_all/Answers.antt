@@ -1,23 +1,23 @@
 use Rattle.std.proofs.Common.{◌∙◌, get_or, sym, subst}
-use Rattle.std.proofs.lemmas.Option.{same_Some, slice_get-get_or}
+use Rattle.std.proofs.lemmas.Option.{slice_get-get_or}
 use Rattle.teams.specs.Teams.{TeamsView}
 use Rattle.trace_ledger.specs.Entries.{IsLedgerOf}
-use Rattle.wait_coverage.proofs.CoverageLemmas.{none_asked, one_more, open_first}
+use Rattle.wait_coverage.proofs.CoverageLemmas.{none_asked, one_number_of, one_more, open_first}
 use Rattle.wait_coverage.proofs.coverage.Coverage.first_open_all.Goals as goal
 
-pub loop-index-init : goal.loop-index-init
-loop-index-init c = λ ledger right. none_asked c.args.self.now.teams.run.records c.args.self.now.ends c.args.of.now c.in_ok-found.found.items c.in_ok-found.ensures.items
+pub loop-asked-init : goal.loop-asked-init
+loop-asked-init c = λ ledger right. none_asked c.args.self.now c.args.of.now c.in_ok-found.found.items c.in_ok-found.ensures.items
 
-pub loop-index-preserved : goal.loop-index-preserved
-loop-index-preserved c = λ ledger right.
+pub loop-asked-preserved : goal.loop-asked-preserved
+loop-asked-preserved c = λ ledger right.
     let coverage = c.args.self.now in
-    let number = get_or c.args.of.now c.loop-index.index 0 in
+    let index = get_or c.args.of.now c.loop-asked.asked 0 in
     let P : TeamsView → Type 0 = λ t. IsLedgerOf t.run.records c.args.ledger.now in
     let known = c.in_ok-known.ensures in
-    rw c.in_ok-push.ensures.items (one_more coverage.teams.run.records coverage.ends c.args.of.now c.loop-index.index number
-    c.in_ok-open_at.field-0 c.loop-index.found.items (slice_get-get_or c.args.of.now c.loop-index.index 0 c.loop-index-test.true)
-    (c.loop-index.invariant ledger right)
+    rw c.in_ok-push.ensures.items (one_more coverage c.args.of.now c.loop-asked.asked index
+    c.in_ok-open_at.field-0 c.loop-asked.found.items (slice_get-get_or c.args.of.now c.loop-asked.asked 0 c.loop-asked-test.true)
+    (c.loop-asked.invariant ledger right)
     (λ end here. open_first coverage.teams c.in_ok-known.known.done c.end.result end c.in_ok-open_at.field-0
     (known.teams ∙ c.teams.ensures.value) c.done-done.ensures.is_done
     (known.done (subst P (sym c.teams.ensures.value) ledger))
-    (same_Some c.end.result end (sym c.end.ensures.value ∙ here)) c.in_ok-open_at.ensures))
+    (one_number_of coverage index c.end.result end c.teams.ensures.is_coverage c.end.ensures.value here) c.in_ok-open_at.ensures))

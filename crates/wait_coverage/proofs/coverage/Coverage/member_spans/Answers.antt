@@ -1,8 +1,17 @@
-use Rattle.std.proofs.Common.{◌∙◌, Some, ap}
+use Rattle.std.proofs.Common.{◌∙◌, Some, ap, arith}
 use Rattle.credit_ledger.proofs.LockLemmas.{if_ok-map}
+use Rattle.wait_coverage.specs.declared.waits.Wait.TheVariants.{Barrier}
 use Rattle.wait_coverage.proofs.WaitLemmas.{stands_there}
-use Rattle.wait_coverage.proofs.CoverageLemmas.{have_begun, member_spans_are, teamless_spans}
+use Rattle.wait_coverage.proofs.CoverageLemmas.{have_begun, member_spans_are, teamless_spans, waiting_within}
 use Rattle.wait_coverage.proofs.coverage.Coverage.member_spans.Goals as goal
+
+pub team-requires : goal.team-requires
+team-requires c =
+    let known = rw (← c.self.view_is) at c.requires in
+    let teams = c.self.invariant.teams in
+    let within = waiting_within c.self.inside.teams.run.records c.self.inside.teams.run.family.tasks known.0 (Barrier c.args.task c.args.number) known.1 in
+    let all = teams.teams.all in
+    omega (arith, within, all)
 
 pub roster_spans-requires : goal.roster_spans-requires
 roster_spans-requires c =

@@ -3,6 +3,8 @@ use Rattle.std.specs.Prelude.{slice_get}
 use Rattle.std.proofs.lemmas.Option.{same_Some}
 use Rattle.ompt_events.specs.Tree.{HasPath}
 use Rattle.task_tree.specs.Runs.{RunView}
+use Rattle.task_tree.proofs.OwnRunLemmas.{own_tree}
+use Rattle.teams.specs.Teams.{own_of}
 use Rattle.wait_coverage.proofs.CoverageLemmas.{span_is}
 use Rattle.wait_coverage.proofs.coverage.Coverage.span.Goals as goal
 
@@ -16,5 +18,8 @@ returns c =
     span_is run.records run.family c.args.task id _ is.teams.run.family here (λ root path stands.
     let P : ℕ → Type 0 = λ t. HasPath run.records c.in_ok-root.root t c.in_ok-root.path in
     let Q : ℕ → Type 0 = λ t. HasPath run.records root t path in
-    subst P same (c.in_ok-root.ensures run.records root path is.tree (subst Q (sym same) stands)))
+    let paths = (own_tree is.tree.0 (own_of c.self.inside.teams) is.tree.2).paths in
+    subst P same ((paths c.in_ok-root.root c.task-id.result c.in_ok-root.path).1
+    (c.in_ok-root.ensures is.tree.0 root path is.tree.1
+    ((paths root c.task-id.result path).0 (subst Q (sym same) stands)))))
     )
