@@ -48,8 +48,8 @@ use Rattle.teams.proofs.BarrierLemmas.{barrier_is_other, begun_subject, begin_sa
 use Rattle.wait_coverage.proofs.MateLemmas.{mate_of_number, begin_within}
 use Rattle.teams.proofs.MemberLemmas.{mate_index}
 use Rattle.wait_coverage.proofs.OpenLemmas.{barrier_waits}
-use Rattle.teams.specs.Rows.{row_at}
-use Rattle.teams.proofs.RowLemmas.{row_there}
+use Rattle.task_states.specs.Rows.{row_at}
+use Rattle.task_states.proofs.RowLemmas.{row_there}
 
 -- ---- the run
 

@@ -23,13 +23,13 @@ use Rattle.wait_coverage.specs.Done.{DoneView, records_of, tasks_of}
 use Rattle.wait_coverage.specs.Limits.{IsFamiliesLimit, IsWaitLimit, IsEndLimit, AreEndLimits}
 use Rattle.wait_coverage.specs.declared.limits.Node.{Node}
 use Rattle.wait_coverage.specs.Meetings.{IsMeeting, AreMet, IsRaised, AreMeetingsAdded}
-use Rattle.teams.specs.Rows.{row_at, AreSameRows}
+use Rattle.task_states.specs.Rows.{row_at, AreSameRows}
 use Rattle.teams.specs.Missed.{EndsBarrier, EndsNoBarrier, IsBarrierEnd}
 use Rattle.teams.specs.Teams.{IsTeams}
 use Rattle.teams.proofs.BarrierLemmas.{barrier_begins_at, begin_says, begun_subject, begun_region, one_number, barrier_is_other}
 use Rattle.teams.proofs.RegionEndLemmas.{IsSameRegion, ends_at, one_region}
 use Rattle.wait_coverage.proofs.LimitLemmas.{covers_cases}
-use Rattle.teams.proofs.RowLemmas.{row_here, row_there, row_set_same, row_set_other}
+use Rattle.task_states.proofs.RowLemmas.{row_here, row_there, row_set_same, row_set_other}
 
 -- ---- the members' begins, one record more
 

@@ -6,7 +6,7 @@ use Rattle.ompt_events.specs.declared.names.SyncKind.{SyncKind}
 use Rattle.ompt_events.specs.declared.names.SyncKind.TheVariants.{Taskwait}
 use Rattle.ompt_events.specs.Tree.{child_number}
 use Rattle.ompt_events.specs.Regions.{IsRegion, IsBarrierBegin, waits_for_tasks}
-use Rattle.teams.specs.Rows.{row_at}
+use Rattle.task_states.specs.Rows.{row_at}
 use Rattle.credit_ledger.specs.declared.entry.Entry.{Entry}
 use Rattle.credit_ledger.specs.declared.entry.Span.{Span}
 use Rattle.credit_ledger.specs.Entries.{IsSpanHeld}

@@ -12,7 +12,8 @@ use crate::done::Done;
 use crate::limit::Limit;
 use crate::limits::Node;
 use std::alloc::{AllocError, Global};
-use teams::{BarrierEnd, barrier_begun, reach};
+use task_states::reach;
+use teams::{BarrierEnd, barrier_begun};
 
 /// Makes the nodes of the ends of barriers right; those of all other records stay as they are. It takes a
 /// few steps for each record.

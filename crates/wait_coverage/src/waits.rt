@@ -3,7 +3,7 @@ ghost use Rattle.std.specs.Prelude.{ℕ, ◌≡◌, ◌<◌, ◌≤◌, ◌↔�
 ghost use Rattle.ompt_events.specs.Teams.{IsTeammate};
 ghost use Rattle.task_states.specs.Regions.{IsBeginOf};
 ghost use Rattle.task_tree.specs.Runs.{IsWaitEvent};
-ghost use Rattle.teams.specs.Rows.{row_at};
+ghost use Rattle.task_states.specs.Rows.{row_at};
 ghost use Rattle.wait_coverage.specs.Done.{IsParentsFirst};
 ghost use Rattle.wait_coverage.specs.Search.{IsSearch, IsMarkedAbove};
 ghost use Rattle.wait_coverage.specs.Waits.{EndsNoWaitAt, IsWaitAt, IsWithin, IsOwnChild, IsAwaited, AreAwaited, IsLateTask, IsLateAt, IsFirstLate, cover_of, waiting};

@@ -2,7 +2,7 @@ use Rattle.std.proofs.Common.{◌≡◌, ◌∙◌, ◌<◌, Some, length, get_o
 use Rattle.std.proofs.lemmas.Option.{slice_get-get_or}
 use Rattle.std.specs.Prelude.{◌↔◌, IsTrue, slice_get}
 use Rattle.ompt_events.specs.Teams.{IsTeammate}
-use Rattle.teams.specs.Rows.{row_at}
+use Rattle.task_states.specs.Rows.{row_at}
 use Rattle.teams.specs.Teams.{TeamsView}
 use Rattle.wait_coverage.specs.Search.{SearchView, IsSearch}
 use Rattle.wait_coverage.specs.Waits.{IsWithin, waiting}
