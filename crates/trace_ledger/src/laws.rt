@@ -11,8 +11,8 @@ ghost use Rattle.trace_ledger.specs.Entries.{IsEntryAt, IsLedgerOf, IsDone, HasR
 ghost use Rattle.trace_ledger.specs.Entries.{IsFreeUpTo, ShowsNoneUpTo};
 ghost use Rattle.trace_ledger.specs.Credits.{IsHeldInTree, IsHeldInPool, IsFamilyDone};
 
-/// Records without the causes 1 to 13 have right entries, and so have the records of a trace in the tasks' own
-/// order where it shows none of these causes. Right entries are all that the other laws ask for.
+/// Records without the causes 1 to 13 have right entries, and so have the records of a trace in the tasks'
+/// own order where it shows none of these causes. Right entries are all that the other laws ask for.
 pub fn entries_are_right()
     ensures listed { (rs : List Record) → IsFreeUpTo rs 13 → HasRightEntries rs }
     ensures shown { (rs : List Record) → ShowsNoneUpTo rs 13 → HasRightEntries (in_own_order rs) }

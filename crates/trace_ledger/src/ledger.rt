@@ -15,8 +15,8 @@ use std::alloc::Global;
 use task_tree::Run;
 
 /// The ledger of the run: each finishing record's entry stands at the index that the record names. Where the
-/// records have right entries, as those without the causes 1 to 13 have (`laws::entries_are_right`), it has all
-/// of them and no other, and `Memory` is the only refusal; else nothing is promised.
+/// records have right entries, as those without the causes 1 to 13 have (`laws::entries_are_right`), it has
+/// all of them and no other, and `Memory` is the only refusal; else nothing is promised.
 pub fn ledger_of(alloc: Global, run: &Run) -> Result<Ledger, LedgerFault>
     ensures ledger { HasRightEntries run.now.records
         → IfOk result (λ ledger. IsLedgerOf run.now.records ledger) }

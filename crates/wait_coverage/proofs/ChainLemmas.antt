@@ -19,7 +19,7 @@ use Rattle.wait_coverage.specs.declared.limits.Node.{Node}
 
 -- one with a node has a head
 pub chain_head : (nodes : List Node) (head : Option ℕ) (place : ℕ) → IsOnChain nodes head place → (top : ℕ) × (head ≡ Some top)
-chain_head nodes head place (here {place = top}) = (top, refl)
+chain_head nodes head place (here {number = top}) = (top, refl)
 chain_head nodes head place (later {head = from} there rest) = (from, refl)
 
 -- it falls
@@ -39,10 +39,10 @@ chain_stays nodes new head place (later {head = from} {node = node} there rest) 
 
 pub node_stays : (done : DoneView) (nodes : List Node) (new : Node) (head : Option ℕ) (c child : ℕ) → HasNode done nodes head c child → HasNode done (nodes ++ new ∷ []) head c child
 node_stays done nodes new head c child has = record {
-  place = has.place;
+  number = has.number;
   node = has.node;
-  on = chain_stays nodes new head has.place has.on;
-  there = get_pushed nodes new has.node has.place has.there;
+  on = chain_stays nodes new head has.number has.on;
+  there = get_pushed nodes new has.node has.number has.there;
   after = has.after;
   limit = has.limit;
 }
@@ -175,14 +175,14 @@ chains_more done nodes new heads own task apart are is_own known makes kept = re
     new_there = get_last nodes new (length nodes) refl
 
     by_new : (c child : ℕ) → c ≤ length nodes → IsFamilyLimit done child new.limit → HasNode done (nodes ++ new ∷ []) (Some (length nodes)) c child
-    by_new c child low limit = record { place = length nodes; node = new; on = here; there = new_there; after = low; limit = limit }
+    by_new c child low limit = record { number = length nodes; node = new; on = here; there = new_there; after = low; limit = limit }
 
     linked : (c child : ℕ) → HasNode done nodes new.previous c child → HasNode done (nodes ++ new ∷ []) (Some (length nodes)) c child
     linked c child has = record {
-      place = has.place;
+      number = has.number;
       node = has.node;
-      on = later new_there (chain_stays nodes new new.previous has.place has.on);
-      there = get_pushed nodes new has.node has.place has.there;
+      on = later new_there (chain_stays nodes new new.previous has.number has.on);
+      there = get_pushed nodes new has.node has.number has.there;
       after = has.after;
       limit = has.limit;
     }

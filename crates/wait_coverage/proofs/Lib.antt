@@ -14,3 +14,4 @@ pub mod NumberLemmas
 pub mod MateLemmas
 pub mod CreditLaw
 pub mod CoverageLemmas
+pub mod ShownLemmas

@@ -305,11 +305,11 @@ closed_noted done n own parent begin nodes new before after apart are ends is_ow
 
     kept : (c born : ℕ) (first : Option ℕ) → slice_get before.heads.items own ≡ Some first → c < length nodes → HasNode done nodes first c born → HasNode done nodes new.previous c born ⊎ IsFamilyLimit done born new.limit
     kept c born first stands less has =
-        let P : Option ℕ → Type 0 = λ h. IsOnChain nodes h has.place in
-        let on : IsOnChain nodes head has.place = subst P (same_Some first head (sym stands ∙ head_there)) has.on in
-        elim (cases_lt begin has.place) [
-          | inl later ↦ inr (weaker born has.node has.limit (gathered.within has.place has.node on later has.there))
-          | inr earlier ↦ inl record { place = has.place; node = has.node; on = gathered.rest has.place on earlier; there = has.there; after = has.after; limit = has.limit }
+        let P : Option ℕ → Type 0 = λ h. IsOnChain nodes h has.number in
+        let on : IsOnChain nodes head has.number = subst P (same_Some first head (sym stands ∙ head_there)) has.on in
+        elim (cases_lt begin has.number) [
+          | inl later ↦ inr (weaker born has.node has.limit (gathered.within has.number has.node on later has.there))
+          | inr earlier ↦ inl record { number = has.number; node = has.node; on = gathered.rest has.number on earlier; there = has.there; after = has.after; limit = has.limit }
         ]
 
     grouped_limit : (c born : ℕ) → begin ≤ c → c < n → at creation (records_of done) c ≡ Some (parent, born) → IsFamilyLimit done born new.limit
@@ -319,8 +319,8 @@ closed_noted done n own parent begin nodes new before after apart are ends is_ow
         let begins = own_begin (records_of done) n parent begin Taskgroup ends in
         let apart_from : c ≢ begin = λ same. creates_no_region (records_of done) c parent born parent begins.kind Begin creates (ap (at region (records_of done)) same ∙ begins.begins) in
         let after = has.after in
-        let later : begin < has.place = elim (cases_eq c begin) [ inl same ↦ absurd (apart_from same) | inr other ↦ omega (arith, from, after, other) ] in
-        weaker born has.node has.limit (gathered.within has.place has.node has.on later has.there)
+        let later : begin < has.number = elim (cases_eq c begin) [ inl same ↦ absurd (apart_from same) | inr other ↦ omega (arith, from, after, other) ] in
+        weaker born has.node has.limit (gathered.within has.number has.node has.on later has.there)
 
 -- the begin of a region that ends at a later record
 pub ended_region : (rs : List Record) (i task begin : ℕ) (kind : SyncKind) → at region rs i ≡ Some (task, kind, End) → IsRegion rs i task kind begin → EndsRegion rs i task kind begin

@@ -75,7 +75,7 @@ covered_awaited rs tasks i task wait (waits {parent = parent} {begin = begin} is
       let same = one_region rs i one.parent parent one.begin begin Taskwait Taskwait one.is_region there in
       let begins = same.begin_is in
       let before = one.before in
-      record { parent = parent; place = one.place; within = before_begin is_parent (omega (arith, begins, before)); creates = one.creates ∙ ap (λ p. Some (p, task)) same.task_is }
+      record { parent = parent; made = one.place; within = before_begin is_parent (omega (arith, begins, before)); creates = one.creates ∙ ap (λ p. Some (p, task)) same.task_is }
   | inr other ↦ elim other [
     | inl one ↦ let same = (one_region rs i one.parent parent one.begin begin Taskgroup Taskwait one.is_region there).kind_is in absurd (cc)
     | inr one ↦ absurd (barrier_is_other one.kind Taskwait one.barrier refl (one_region rs i one.own parent one.begin begin one.kind Taskwait one.is_region there).kind_is)
@@ -88,7 +88,7 @@ covered_awaited rs tasks i task wait (groups {parent = parent} {begin = begin} i
         let same = one_region rs i one.parent parent one.begin begin Taskgroup Taskgroup one.is_region there in
         let begins = same.begin_is in
         let from = one.from in
-        (one.child, record { parent = parent; place = one.place; within = in_group is_parent (omega (arith, begins, from)) one.before; creates = one.creates ∙ ap (λ p. Some (p, one.child)) same.task_is }, one.of)
+        (one.child, record { parent = parent; made = one.place; within = in_group is_parent (omega (arith, begins, from)) one.before; creates = one.creates ∙ ap (λ p. Some (p, one.child)) same.task_is }, one.of)
     | inr one ↦ absurd (barrier_is_other one.kind Taskgroup one.barrier refl (one_region rs i one.own parent one.begin begin one.kind Taskgroup one.is_region there).kind_is)
   ]
 ]
@@ -103,7 +103,7 @@ covered_awaited rs tasks i task wait (meets {own = waiter} {begin = begin} {numb
         let R : ℕ → Type 0 = λ b. IsBarrierBegin rs waiter one.number b in
         let S : ℕ → Type 0 = λ n. IsBarrierBegin rs one.member n one.start in
         let is_number = one_number rs waiter one.number number begin (subst R same.begin_is (subst Q same.task_is one.begins)) begins in
-        (one.child, record { parent = one.member; place = one.place; within = by_member is_own (subst P same.task_is one.mate) (subst S is_number one.starts) one.before; creates = one.creates }, one.of)
+        (one.child, record { parent = one.member; made = one.place; within = by_member is_own (subst P same.task_is one.mate) (subst S is_number one.starts) one.before; creates = one.creates }, one.of)
   ]
 ]
 
@@ -120,8 +120,8 @@ awaited_created : (rs : List Record) (tasks : List ℕ) (task : ℕ) (wait : Wai
 awaited_created rs tasks task wait is = of (cover_of wait) is
   where
     of : (cover : Cover) → IsAwaitedBy rs tasks task wait cover → (place : ℕ) × (at created rs place ≡ Some task)
-    of Children own = (own.place, creation_at_created own.parent task rs own.place own.creates)
-    of Descendants (first, own, inl same) = (own.place, creation_at_created own.parent first rs own.place own.creates ∙ ap Some (sym same))
+    of Children own = (own.made, creation_at_created own.parent task rs own.made own.creates)
+    of Descendants (first, own, inl same) = (own.made, creation_at_created own.parent first rs own.made own.creates ∙ ap Some (sym same))
     of Descendants (first, own, inr (child i creates)) = (i, creation_at_created first task rs i creates)
     of Descendants (first, own, inr (deeper i {parent = parent} above creates)) = (i, creation_at_created parent task rs i creates)
 
@@ -167,7 +167,7 @@ pub record EndsWaitAt (rs : List Record) (i : ℕ) : Type 0 where
   pub is_region : IsRegion rs i task kind begin
   pub demands : waits_for_tasks kind ≡ true
 
-covers_at : (rs : List Record) (i task : ℕ) → Covers rs i task → EndsWaitAt rs i
+pub covers_at : (rs : List Record) (i task : ℕ) → Covers rs i task → EndsWaitAt rs i
 covers_at rs i task covers = elim (covers_cases rs i task covers) [
   | inl one ↦ record { task = one.parent; begin = one.begin; kind = Taskwait; is_region = one.is_region; demands = refl }
   | inr other ↦ elim other [

@@ -42,9 +42,9 @@ use Rattle.wait_coverage.proofs.WaitKindLemmas.{taskwait_sync, taskgroup_sync, s
 -- a task with a parent is one where its parent's index and the place of its creation are
 pub own_by : (rs : List Record) (family : FamilyView) (index task up place : ℕ) (wait : Wait) (answer : Bool) → IsFamilyOf rs family → slice_get family.tasks index ≡ Some task → parent_index family index ≡ Some up → at made rs place ≡ slice_get family.tasks index → ((parent : ℕ) → slice_get family.tasks up ≡ Some parent → IsTrue answer ↔ IsWithin rs family.tasks parent place wait) → IsTrue answer ↔ IsOwnChild rs family.tasks wait task
 own_by rs family index task up place wait answer are here above is_made exact = (
-  λ yes_it. record { parent = known.0; place = place; within = (exact known.0 known.1).0 yes_it; creates = creates },
+  λ yes_it. record { parent = known.0; made = place; within = (exact known.0 known.1).0 yes_it; creates = creates },
   λ own.
-      let same_place : own.place ≡ place = made_once rs task own.place place are.once (creation_made rs own.parent task own.place own.creates) (is_made ∙ here) in
+      let same_place : own.made ≡ place = made_once rs task own.made place are.once (creation_made rs own.parent task own.made own.creates) (is_made ∙ here) in
       let pair = same_Some (own.parent, task) (known.0, task) (sym own.creates ∙ ap (at creation rs) same_place ∙ creates) in
       let P : ℕ → Type 0 = λ k. IsWithin rs family.tasks own.parent k wait in
       let Q : ℕ → Type 0 = λ p. IsWithin rs family.tasks p place wait in
@@ -60,8 +60,8 @@ own_by rs family index task up place wait answer are here above is_made exact = 
 -- and one with none is none
 pub own_parentless : (rs : List Record) (family : FamilyView) (index task : ℕ) (wait : Wait) → IsFamilyOf rs family → slice_get family.tasks index ≡ Some task → parent_index family index ≡ None → IsOwnChild rs family.tasks wait task → ⊥
 own_parentless rs family index task wait are here none own =
-    let known = indices_of rs family own.place own.parent task are own.creates in
-    none-some known.up (sym none ∙ parent_at_is rs family index task known.up are here (own.parent, known.is_parent, (own.place, own.creates)))
+    let known = indices_of rs family own.made own.parent task are own.creates in
+    none-some known.up (sym none ∙ parent_at_is rs family index task known.up are here (own.parent, known.is_parent, (own.made, own.creates)))
 
 some_within : {X : Type 0} (table : List X) (index : ℕ) → index < length table → slice_get table index ≡ None → ⊥
 some_within [] index inside none = absurd (omega (arith, inside))

@@ -116,13 +116,15 @@ abbrev pub IsEndNumber : CoverageView → ℕ → ℕ → Type 0
 IsEndNumber coverage index number = (place : ℕ) × (slice_get coverage.ends index ≡ Some place)
     × (slice_get coverage.teams.places number ≡ Some place)
 
--- the answer is the first open task at the end with this number, or none where all that it covers is complete
+-- the answer is the first open task at the end with this number, or none where all that it covers is
+-- complete
 abbrev pub IsAnswer : CoverageView → ℕ → Option ℕ → Type 0
 IsAnswer coverage end answer = MatchOption answer (IsCoverComplete coverage.teams.run.records end)
     (IsFirstOpen (own_of coverage.teams) end)
 
 -- of the first n ends that are asked for, by their indices among the ends, the answer for each
-pub record AreFirstOpen (coverage : CoverageView) (of : List ℕ) (n : ℕ) (found : List (Option ℕ)) : Type 0 where
+pub record AreFirstOpen (coverage : CoverageView) (of : List ℕ) (n : ℕ)
+    (found : List (Option ℕ)) : Type 0 where
   pub count : length found ≡ n
   pub each : (k index end : ℕ) (answer : Option ℕ) → slice_get of k ≡ Some index
       → IsEndNumber coverage index end → slice_get found k ≡ Some answer → IsAnswer coverage end answer

@@ -9,6 +9,7 @@ pub mod Done
 pub mod Limits
 pub mod Meetings
 pub mod Waits
+pub mod Shown
 pub mod Search
 pub mod Known
 pub mod Numbers

@@ -16,13 +16,13 @@ abbrev pub IsFamilyLimit : DoneView → ℕ → ℕ → Type 0
 IsFamilyLimit done task limit = (m t : ℕ) → m < 2 ^ 32 → limit ≤ m → IsFamily (records_of done) task t
     → IsEarly done m t
 
--- from this ledger length on the children that the task created before the place i are finished
+-- from this ledger length on the children that the task created before the record i are finished
 abbrev pub IsChildLimit : DoneView → ℕ → ℕ → ℕ → Type 0
 IsChildLimit done i task limit =
     (m c child : ℕ) → m < 2 ^ 32 → limit ≤ m → c < i → at creation (records_of done) c ≡ Some (task, child)
     → IsEarly done m child
 
--- from this ledger length on the children that the task created before the place i are finished, and so are
+-- from this ledger length on the children that the task created before the record i are finished, and so are
 -- their descendants
 abbrev pub IsFamiliesLimit : DoneView → ℕ → ℕ → ℕ → Type 0
 IsFamiliesLimit done i task limit =
@@ -44,24 +44,24 @@ IsEndLimit done i limit =
 
 -- ---- what is noted at the records
 
--- the node at the place is reached from that at the head, by their links to an earlier one
+-- the node with this number is reached from that at the head, by their links to an earlier one
 pub data IsOnChain (nodes : List Node) : Option ℕ → ℕ → Type 0 where
-  here : {place : ℕ} → IsOnChain nodes (Some place) place
-  later : {head place : ℕ} {node : Node} → slice_get nodes head ≡ Some node
-      → IsOnChain nodes node.previous place → IsOnChain nodes (Some head) place
+  here : {number : ℕ} → IsOnChain nodes (Some number) number
+  later : {head number : ℕ} {node : Node} → slice_get nodes head ≡ Some node
+      → IsOnChain nodes node.previous number → IsOnChain nodes (Some head) number
 
 -- each node's link is to an earlier one
 abbrev pub AreFalling : List Node → Type 0
-AreFalling nodes = (place next : ℕ) (node : Node) → slice_get nodes place ≡ Some node
-    → node.previous ≡ Some next → next < place
+AreFalling nodes = (number next : ℕ) (node : Node) → slice_get nodes number ≡ Some node
+    → node.previous ≡ Some next → next < number
 
 -- the node stands for those of a chain that are later than the begin, and links to the others
 pub record Gathers (nodes : List Node) (head : Option ℕ) (begin : ℕ) (gathered : Node) : Type 0 where
   pub known : (next : ℕ) → gathered.previous ≡ Some next → next < length nodes
-  pub within : (place : ℕ) (node : Node) → IsOnChain nodes head place → begin < place
-      → slice_get nodes place ≡ Some node → node.limit ≤ gathered.limit
-  pub rest : (place : ℕ) → IsOnChain nodes head place → place ≤ begin
-      → IsOnChain nodes gathered.previous place
+  pub within : (number : ℕ) (node : Node) → IsOnChain nodes head number → begin < number
+      → slice_get nodes number ≡ Some node → node.limit ≤ gathered.limit
+  pub rest : (number : ℕ) → IsOnChain nodes head number → number ≤ begin
+      → IsOnChain nodes gathered.previous number
 
 -- what stands at the begin of the taskwait that ends at i
 abbrev pub IsLimitOfBegin : List Record → List Node → ℕ → ℕ → Type 0
@@ -70,11 +70,11 @@ IsLimitOfBegin rs nodes i limit = (task begin : ℕ) → EndsRegion rs i task Ta
 
 -- a node on the chain stands for the child that is created at c
 pub record HasNode (done : DoneView) (nodes : List Node) (head : Option ℕ) (c child : ℕ) : Type 0 where
-  pub place : ℕ
+  pub number : ℕ
   pub node : Node
-  pub on : IsOnChain nodes head place
-  pub there : slice_get nodes place ≡ Some node
-  pub after : c ≤ place
+  pub on : IsOnChain nodes head number
+  pub there : slice_get nodes number ≡ Some node
+  pub after : c ≤ number
   pub limit : IsFamilyLimit done child node.limit
 
 -- at the index of each task stands the limit of its children, of those that the first n records create

@@ -1,4 +1,5 @@
--- What the end of a region waits for, by the places of the creations, and what of it is unfinished.
+-- What the end of a region waits for, by the records that create tasks, and what of it is unfinished. Records
+-- are named by their numbers in the tasks' own order.
 use Rattle.std.specs.Prelude.{ℕ, ◌≡◌, ◌<◌, ◌≤◌, ◌↔◌, Bool, false, true, IsTrue, List, length, Some, slice_get, slice_index_or}
 use Rattle.ompt_events.specs.declared.records.Record.{Record}
 use Rattle.ompt_events.specs.declared.names.SyncKind.{SyncKind}
@@ -37,25 +38,25 @@ abbrev pub EndsNoWaitAt : List Record → ℕ → Type 0
 EndsNoWaitAt rs i =
     (task begin : ℕ) (kind : SyncKind) → waits_for_tasks kind ≡ true → IsRegion rs i task kind begin → ⊥
 
--- a child that the parent creates at the place is waited for
-pub data IsWithin (rs : List Record) (tasks : List ℕ) (parent place : ℕ) : Wait → Type 0 where
+-- a child that the parent creates at this record is waited for
+pub data IsWithin (rs : List Record) (tasks : List ℕ) (parent made : ℕ) : Wait → Type 0 where
   -- it is created before the taskwait begins
-  before_begin : {index begin : ℕ} → slice_get tasks index ≡ Some parent → place < begin
-      → IsWithin rs tasks parent place (ForTaskwait index begin)
+  before_begin : {index begin : ℕ} → slice_get tasks index ≡ Some parent → made < begin
+      → IsWithin rs tasks parent made (ForTaskwait index begin)
   -- in the taskgroup
-  in_group : {index begin end : ℕ} → slice_get tasks index ≡ Some parent → begin ≤ place → place < end
-      → IsWithin rs tasks parent place (ForTaskgroup index begin end)
+  in_group : {index begin end : ℕ} → slice_get tasks index ≡ Some parent → begin ≤ made → made < end
+      → IsWithin rs tasks parent made (ForTaskgroup index begin end)
   -- or by a member of the team before its barrier with this number begins
   by_member : {index number own start : ℕ} → slice_get tasks index ≡ Some own → IsTeammate rs own parent
-      → IsBarrierBegin rs parent number start → place < start
-      → IsWithin rs tasks parent place (ForBarrier index number)
+      → IsBarrierBegin rs parent number start → made < start
+      → IsWithin rs tasks parent made (ForBarrier index number)
 
 -- the child is one of those that are waited for
 pub record IsOwnChild (rs : List Record) (tasks : List ℕ) (wait : Wait) (child : ℕ) : Type 0 where
   pub parent : ℕ
-  pub place : ℕ
-  pub within : IsWithin rs tasks parent place wait
-  pub creates : at creation rs place ≡ Some (parent, child)
+  pub made : ℕ
+  pub within : IsWithin rs tasks parent made wait
+  pub creates : at creation rs made ≡ Some (parent, child)
 
 -- whether the descendants of the children are waited for too
 abbrev pub cover_of : Wait → Cover

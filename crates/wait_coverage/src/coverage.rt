@@ -123,10 +123,10 @@ impl<'a> Coverage<'a> {
     }
 
     /// Of the tasks that the end with this index among the ends covers the one created first in the file that
-    /// is not finished by the entries of the ledger below the length that the end names: none where these hold
-    /// the credit that it waits for (F. Mattern, 1989). That is promised where the ledger is that of the trace
-    /// and its records have right entries, as those without the causes 1 to 13 have. `Memory` is the only
-    /// refusal.
+    /// is not finished by the entries of the ledger below the length that the end names: none where these
+    /// hold the credit that it waits for (F. Mattern, 1989). That is promised where the ledger is that of the
+    /// trace and its records have right entries, as those without the causes 1 to 13 have. `Memory` is the
+    /// only refusal.
     pub fn first_open(&self, index: usize, ledger: &Ledger) -> Result<Option<u64>, CoverFault>
         requires { index < length self.now.ends }
         ensures fault { IfErr result (λ fault. fault ≡ Memory) }

@@ -124,7 +124,7 @@ impl<'a> Done<'a> {
         self.teams.run()
     }
 
-    /// Where the region began that ends at the place.
+    /// The number of the record at which the region began that this one ends.
     pub(crate) fn begin_of(&self, at: usize) -> Option<usize>
         requires { at < length self.now.teams.run.records }
         ensures { MatchOption result ((task begin : ℕ) (kind : SyncKind)
@@ -134,7 +134,7 @@ impl<'a> Done<'a> {
         self.teams.begin_of(at)
     }
 
-    /// The barrier that ends at the place, if one does.
+    /// The barrier that the record ends, if it ends one.
     pub(crate) fn barrier_end(&self, at: usize) -> Option<BarrierEnd>
         requires { at < length self.now.teams.run.records }
         ensures { MatchOption result (EndsNoBarrier self.now.teams.run.records at)
@@ -151,7 +151,7 @@ impl<'a> Done<'a> {
         self.teams.team(index)
     }
 
-    /// How many barriers the task that begins one at this place began before.
+    /// How many barriers the task that begins one at this record began before.
     pub(crate) fn number(&self, at: usize) -> u32
         requires { at < length self.now.teams.numbers }
         ensures { slice_get self.now.teams.numbers at ≡ Some result }

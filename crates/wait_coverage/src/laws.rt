@@ -1,24 +1,38 @@
-//! What held credit tells of tasks: a law over the definitions alone, proved for every trace. The function
-//! does nothing.
-ghost use Rattle.std.specs.Prelude.{◌↔◌, ℕ, List};
+//! What held credit tells of tasks, and what an answer in the tasks' own order tells of the file: laws over
+//! the definitions alone, proved for every trace. The functions do nothing.
+ghost use Rattle.std.specs.Prelude.{◌↔◌, ℕ, List, Option, MatchOption};
 ghost use Rattle.ompt_events.specs.declared.records.Record.{Record};
 ghost use Rattle.ompt_events.specs.declared.cause.Cause.TheVariants.{TeamShort};
 ghost use Rattle.ompt_events.specs.Causes.{IsFreeOf};
 ghost use Rattle.ompt_events.specs.Traces.{IsTrace};
+ghost use Rattle.task_tree.specs.Own.{OwnView, IsOwn};
+ghost use Rattle.task_tree.specs.Families.{IsOwnOf};
 ghost use Rattle.credit_ledger.specs.declared.entry.Entry.{Entry};
 ghost use Rattle.credit_ledger.specs.declared.entry.Span.{Span};
 ghost use Rattle.credit_ledger.specs.declared.entry.Cover.{Cover};
 ghost use Rattle.trace_ledger.specs.Entries.{IsLedgerOf, HasRightEntries};
 ghost use Rattle.wait_coverage.specs.Spans.{AreSpans, AreHeldAt, IsCoverComplete};
+ghost use Rattle.wait_coverage.specs.Waits.{IsFirstOpenPlace};
+ghost use Rattle.wait_coverage.specs.Shown.{IsCompleteShown, IsFirstOpenShown};
 
 /// The entries below the ledger length that an end names finish each task that it covers exactly where they
 /// hold the start share of each child of its spans: in its parent's pool for a taskwait, in the tree for the
-/// others (F. Mattern, 1989: work is over exactly where all of its credit has come back). The trace must
-/// have right entries, and each team and barrier all its members; a trace without the causes 1 to 13 is such a
-/// one (`trace_ledger::laws::entries_are_right`).
+/// others (F. Mattern, 1989: work is over exactly where all of its credit has come back). The trace must have
+/// right entries, and each team and barrier all its members; a trace without the causes 1 to 13 is such a one
+/// (`trace_ledger::laws::entries_are_right`).
 pub fn held_is_complete()
     ensures { (rs : List Record) (entries : List Entry) (i : ℕ) (cover : Cover) (spans : List Span)
         → IsTrace rs → HasRightEntries rs → IsFreeOf rs TeamShort → IsLedgerOf rs entries
         → AreSpans rs i cover spans
         → IsCoverComplete rs i ↔ AreHeldAt rs entries i cover spans }
+{}
+
+/// What the records in the tasks' own order tell of open waits is what the trace shows. `find_open` answers by
+/// the run in that order (`IsFirstOpenPlace`); the same answer is right by the trace alone
+/// (`IsFirstOpenShown`).
+pub fn open_is_shown()
+    ensures { (rs : List Record) (own : OwnView) (found : Option (ℕ × ℕ)) → IsOwnOf rs own → IsOwn own
+        → MatchOption found ((number : ℕ) → IsCoverComplete own.run.records number)
+        (λ f. IsFirstOpenPlace own f.0 f.1)
+        → MatchOption found ((place : ℕ) → IsCompleteShown rs place) (λ f. IsFirstOpenShown rs f.0 f.1) }
 {}

@@ -104,7 +104,7 @@ fn new_lengths(alloc: Global, tasks: usize) -> Result<Vec<Lengths>, AllocError>
     vec![in alloc; Lengths::none(); tasks]
 }
 
-/// Notes what the record at a place finishes.
+/// Notes what a record finishes.
 fn note_finish(run: &Run, table: &mut Vec<Lengths>, at: usize)
     requires within { at < length run.now.records }
     requires table { AreLengths run.now.records at run.now.family.tasks table.old.items }

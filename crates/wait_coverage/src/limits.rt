@@ -89,7 +89,7 @@ fn no_progress(alloc: Global, tasks: usize) -> Result<Progress, AllocError>
     })
 }
 
-/// The node of the record at a place.
+/// The node of a record.
 fn node_at(done: &Done, nodes: &[Node], progress: &mut Progress, at: usize) -> Node
     requires within { at < length done.now.teams.run.records }
     requires noted { AreNoted done.now at nodes.now progress.old }
@@ -170,14 +170,14 @@ fn close(done: &Done, nodes: &[Node], progress: &mut Progress, event: WaitEvent,
 /// One node for those of a chain that are later than the begin.
 fn gather(nodes: &[Node], head: Slot, begin: usize) -> Node
     requires falling { AreFalling nodes.now }
-    requires known { (place : ℕ) → head ≡ Some place → place < length nodes.now }
+    requires known { (number : ℕ) → head ≡ Some number → number < length nodes.now }
     ensures { Gathers nodes.now head begin result }
 {
     let mut limit = Limit::zero();
     let mut rest = head;
-    'nodes: while let Some(place) = later(rest, begin) {
-        limit = limit.max(nodes[place].limit);
-        rest = nodes[place].previous;
+    'nodes: while let Some(number) = later(rest, begin) {
+        limit = limit.max(nodes[number].limit);
+        rest = nodes[number].previous;
     }
     Node {
         limit,
@@ -185,17 +185,17 @@ fn gather(nodes: &[Node], head: Slot, begin: usize) -> Node
     }
 }
 
-/// The place in the slot, if it is later than the begin.
+/// The number in the slot, if it is later than the begin.
 fn later(slot: Slot, begin: usize) -> Option<usize>
-    ensures { (place : ℕ) → (result ≡ Some place) ↔ ((slot ≡ Some place) × (begin < place)) }
+    ensures { (number : ℕ) → (result ≡ Some number) ↔ ((slot ≡ Some number) × (begin < number)) }
 {
     match slot.get() {
-        Some(place) if place > begin => Some(place),
+        Some(number) if number > begin => Some(number),
         _ => None,
     }
 }
 
-/// The limit at the begin of the taskwait that ends at the place.
+/// The limit at the begin of the taskwait that the record ends.
 fn limit_of_begin(done: &Done, nodes: &[Node], at: usize) -> Limit
     requires within { at < length done.now.teams.run.records }
     requires count { length nodes.now ≡ at }

@@ -27,7 +27,7 @@ pub(crate) fn add_meetings(done: &Done, meetings: &[Vec<Limit>], nodes: &mut Vec
     }
 }
 
-/// The meeting with the member that begins a barrier at the place, if one does. The limit is that of what it
+/// The meeting with the member that begins a barrier at the record, if one does. The limit is that of what it
 /// created before. Rows are made only up to the team of a member that begins one: its number may be as great
 /// as there are tasks, and most teams may begin no barrier.
 pub(crate) fn meet(
@@ -64,7 +64,7 @@ fn raise(limits: &mut Vec<Limit>, number: usize, limit: Limit) -> Result<(), All
     Ok(())
 }
 
-/// Writes the limit of the record at the place if it ends a barrier.
+/// Writes the limit of the record if it ends a barrier.
 fn add_meeting(done: &Done, meetings: &[Vec<Limit>], nodes: &mut Vec<Node>, at: usize)
     requires within { at < length done.now.teams.run.records }
     requires met { AreMet done.now (length done.now.teams.run.records) meetings.now }
@@ -76,7 +76,7 @@ fn add_meeting(done: &Done, meetings: &[Vec<Limit>], nodes: &mut Vec<Node>, at: 
     }
 }
 
-/// The limit of the barrier that ends at the place; 0 where its task is in no team.
+/// The limit of the barrier that the record ends; 0 where its task is in no team.
 fn end_limit(done: &Done, meetings: &[Vec<Limit>], end: BarrierEnd, at: usize) -> Limit
     requires ends { IsBarrierEnd done.now.teams.run at end.task end.begin }
     requires met { AreMet done.now (length done.now.teams.run.records) meetings.now }

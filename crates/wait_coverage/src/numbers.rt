@@ -25,7 +25,7 @@ fn no_counts(alloc: Global, tasks: usize) -> Result<Vec<u32>, AllocError>
     vec![in alloc; 0; tasks]
 }
 
-/// How many children the task of the record at a place has created so far; 0 where it is of none.
+/// How many children the task of a record has created so far; 0 where it is of none.
 fn number_at(run: &Run, counts: &[u32], at: usize) -> u32
     requires { AreCounts run.now.records at run.now.family.tasks counts.now }
     ensures { IsNumberAt run.now.records at result }
@@ -36,7 +36,7 @@ fn number_at(run: &Run, counts: &[u32], at: usize) -> u32
     }
 }
 
-/// Counts the child that is created at a place.
+/// Counts the child that a record creates.
 fn count_child(run: &Run, counts: &mut Vec<u32>, at: usize)
     requires within { at < length run.now.records }
     requires counts { AreCounts run.now.records at run.now.family.tasks counts.old.items }

@@ -83,12 +83,12 @@ impl<'a> Known<'a> {
         &self.done
     }
 
-    /// The ledger length from which on all is finished that the end at the place covers.
-    fn limit(&self, at: usize) -> Limit
-        requires { at < length self.now.done.teams.run.records }
-        ensures { IsEndLimit self.now.done at result }
+    /// The ledger length from which on all is finished that the end with this number covers.
+    fn limit(&self, number: usize) -> Limit
+        requires { number < length self.now.done.teams.run.records }
+        ensures { IsEndLimit self.now.done number result }
     {
-        self.nodes[at].limit
+        self.nodes[number].limit
     }
 
     /// By index of the task the ledger length from which on it is finished.
@@ -108,8 +108,8 @@ impl<'a> Known<'a> {
 
 /// What is known of all tasks and records, by what the records say. Where these have right entries, as those
 /// without the causes 1 to 13 have, the lengths are exactly those from which on the trace's ledger holds the
-/// tasks' credit. It takes a few steps for each record, and memory linear in the records. `Memory` is the only
-/// refusal.
+/// tasks' credit. It takes a few steps for each record, and memory linear in the records. `Memory` is the
+/// only refusal.
 pub fn find_known<'a>(alloc: Global, teams: &'a Teams<'a>) -> Result<Known<'a>, Fault>
     ensures teams { IfOk result (λ known. known.done.teams ≡ teams.now) }
     ensures done { IfOk result (λ known. AreDone known.done) }
@@ -123,18 +123,18 @@ pub fn find_known<'a>(alloc: Global, teams: &'a Teams<'a>) -> Result<Known<'a>, 
     Ok(known)
 }
 
-/// The first record that ends a region that waits for tasks, and that covers an unfinished one; and of the
-/// tasks that it covers the first created one that is unfinished (OpenMP 5.2, 15.3 to 15.5). The lengths that
-/// are known must be those from which on the tasks are finished, or those from which on their credit is held
-/// (F. Mattern, 1989). It takes a few steps for each record, and memory linear in the records. `Memory` is
-/// the only refusal.
+/// The first place in the file at which a region ends that waits for tasks, and that covers an unfinished one;
+/// and of the unfinished tasks that it covers the one created first in the file (OpenMP 5.2, 15.3 to 15.5).
+/// What it covers is read in the tasks' own order. The lengths that are known must be those from which on the
+/// tasks are finished, or those from which on their credit is held (F. Mattern, 1989). It takes a few steps
+/// for each record, and memory linear in the records. `Memory` is the only refusal.
 pub fn find_open(alloc: Global, known: &Known) -> Result<Option<(usize, u64)>, Fault>
     ensures first { AreDone known.now.done → IfOk result (λ found.
-        MatchOption found ((i : ℕ) → IsCoverComplete known.now.done.teams.run.records i)
+        MatchOption found ((number : ℕ) → IsCoverComplete known.now.done.teams.run.records number)
         (λ f. IsFirstOpenPlace (own_of known.now.done.teams) f.0 f.1)) }
     ensures first_by_credit { HasRightEntries known.now.done.teams.run.records
         → AreCreditLengths known.now.done → IfOk result (λ found.
-        MatchOption found ((i : ℕ) → IsCoverComplete known.now.done.teams.run.records i)
+        MatchOption found ((number : ℕ) → IsCoverComplete known.now.done.teams.run.records number)
         (λ f. IsFirstOpenPlace (own_of known.now.done.teams) f.0 f.1)) }
     ensures fault { IfErr result (λ fault. fault ≡ Memory) }
 {
@@ -145,67 +145,72 @@ pub fn find_open(alloc: Global, known: &Known) -> Result<Option<(usize, u64)>, F
 /// The same, where the lengths are those from which on the tasks are finished.
 fn first_open_end(alloc: Global, known: &Known) -> Result<Option<(usize, u64)>, AllocError>
     ensures { AreChildrenDone known.now.done → IfOk result (λ found.
-        MatchOption found ((i : ℕ) → IsCoverComplete known.now.done.teams.run.records i)
+        MatchOption found ((number : ℕ) → IsCoverComplete known.now.done.teams.run.records number)
         (λ f. IsFirstOpenPlace (own_of known.now.done.teams) f.0 f.1)) }
 {
     for place in 0..known.done().run().len() {
-        let at = known.done().teams().own().number(place);
-        if let Some(task) = open_at(alloc, known, at)? {
+        let number = known.done().teams().own().number(place);
+        if let Some(task) = open_at(alloc, known, number)? {
             return Ok(Some((place, task)));
         }
     }
     Ok(None)
 }
 
-/// Of the tasks that the end at a place covers the first created one that is unfinished there.
-pub(crate) fn open_at(alloc: Global, known: &Known, at: usize) -> Result<Option<u64>, AllocError>
-    requires { at < length known.now.done.teams.run.records }
+/// Of the tasks that the end with this number covers and that are unfinished there the one created first in
+/// the file.
+pub(crate) fn open_at(
+    alloc: Global,
+    known: &Known,
+    number: usize,
+) -> Result<Option<u64>, AllocError>
+    requires { number < length known.now.done.teams.run.records }
     ensures { AreChildrenDone known.now.done → IfOk result (λ found.
-        MatchOption found (IsCoverComplete known.now.done.teams.run.records at)
-        (IsFirstOpen (own_of known.now.done.teams) at)) }
+        MatchOption found (IsCoverComplete known.now.done.teams.run.records number)
+        (IsFirstOpen (own_of known.now.done.teams) number)) }
 {
     let done = known.done();
-    match unmet_wait(known, at) {
+    match unmet_wait(known, number) {
         Some(wait) => {
             let marks = find_marks(alloc, done, wait)?;
-            Ok(first_late(done, marks.as_slice(), done.run().seen(at)))
+            Ok(first_late(done, marks.as_slice(), done.run().seen(number)))
         }
         None => Ok(None),
     }
 }
 
-/// Whether the end at a place covers the task, and the task is unfinished there (OpenMP 5.2, 15.3 to 15.5).
-/// The lengths that are known must be those from which on the tasks are finished. It takes a few steps for
-/// each record, and memory linear in the records. `Memory` is the only refusal.
-pub fn is_open(alloc: Global, known: &Known, at: usize, task: u64) -> Result<bool, Fault>
-    requires { at < length known.now.done.teams.run.records }
+/// Whether the end with this number in the tasks' own order covers the task, and the task is unfinished there
+/// (OpenMP 5.2, 15.3 to 15.5). The lengths that are known must be those from which on the tasks are finished.
+/// It takes a few steps for each record, and memory linear in the records. `Memory` is the only refusal.
+pub fn is_open(alloc: Global, known: &Known, number: usize, task: u64) -> Result<bool, Fault>
+    requires { number < length known.now.done.teams.run.records }
     ensures open { AreDone known.now.done → IfOk result (λ found.
-        IsTrue found ↔ IsOpen known.now.done.teams.run.records at task) }
+        IsTrue found ↔ IsOpen known.now.done.teams.run.records number task) }
     ensures fault { IfErr result (λ fault. fault ≡ Memory) }
 {
     let done = known.done();
-    match unmet_wait(known, at) {
+    match unmet_wait(known, number) {
         Some(wait) => {
             let marks = find_marks(alloc, done, wait)?;
-            Ok(is_late_task(done, marks.as_slice(), task, done.run().seen(at)))
+            Ok(is_late_task(done, marks.as_slice(), task, done.run().seen(number)))
         }
         None => Ok(false),
     }
 }
 
-/// What the end at a place waits for, unless it is known that all of it is finished there.
-fn unmet_wait(known: &Known, at: usize) -> Option<Wait>
-    requires { at < length known.now.done.teams.run.records }
+/// What the end with this number waits for, unless it is known that all of it is finished there.
+fn unmet_wait(known: &Known, number: usize) -> Option<Wait>
+    requires { number < length known.now.done.teams.run.records }
     ensures { MatchOption result
-        (AreChildrenDone known.now.done → IsCoverComplete known.now.done.teams.run.records at)
-        (IsWaitAt known.now.done.teams.run.records known.now.done.teams.run.family.tasks at) }
+        (AreChildrenDone known.now.done → IsCoverComplete known.now.done.teams.run.records number)
+        (IsWaitAt known.now.done.teams.run.records known.now.done.teams.run.family.tasks number) }
 {
     let done = known.done();
     // Most waits end in time: only where this one did not is a late task looked for.
-    if known.limit(at).is_reached(done.run().seen(at)) {
+    if known.limit(number).is_reached(done.run().seen(number)) {
         return None;
     }
-    wait_at(done.teams(), at)
+    wait_at(done.teams(), number)
 }
 
 /// By index of the task whether it is waited for.

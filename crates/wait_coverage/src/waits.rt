@@ -17,7 +17,7 @@ use std::marker::Model;
 use task_tree::WaitEvent;
 use teams::Teams;
 
-/// What the end of a region waits for. The task is an index, and the others but the number are places.
+/// What the end of a region waits for. The task is an index, and a begin or an end is the number of its record.
 #[derive(Clone, Copy, Debug)]
 pub(crate) enum Wait {
     /// The children that the task created before the begin.
@@ -25,7 +25,7 @@ pub(crate) enum Wait {
         task: usize,
         begin: usize,
     },
-    /// The children that the task created between the two places, and their descendants.
+    /// The children that the task created between the two records, and their descendants.
     Taskgroup {
         task: usize,
         begin: usize,
@@ -51,7 +51,7 @@ impl Wait {
     }
 }
 
-/// What the record at a place waits for, if it ends a region that waits for tasks.
+/// What a record waits for, if it ends a region that waits for tasks.
 pub(crate) fn wait_at(teams: &Teams, at: usize) -> Option<Wait>
     requires { at < length teams.now.run.records }
     ensures { MatchOption result (EndsNoWaitAt teams.now.run.records at)
@@ -62,7 +62,7 @@ pub(crate) fn wait_at(teams: &Teams, at: usize) -> Option<Wait>
     Some(wait_of(teams, event, begin, at))
 }
 
-/// What a region waits for that began at the one place and ends at the other.
+/// What a region waits for that began at the one record and ends at the other.
 fn wait_of(teams: &Teams, event: WaitEvent, begin: usize, end: usize) -> Wait
     requires event { IsWaitEvent teams.now.run end event.task event.kind event.endpoint }
     requires begin { IsBeginOf teams.now.run.records end begin }
@@ -159,19 +159,19 @@ impl<'a> Search<'a> {
         }
     }
 
-    /// Whether a child is waited for that the task at the index creates at the place.
-    fn is_within(&self, index: usize, place: usize) -> bool
+    /// Whether a child is waited for that the task at the index creates at the record.
+    fn is_within(&self, index: usize, made: usize) -> bool
         requires { index < length self.now.teams.run.family.tasks }
         ensures { (parent : ℕ) → slice_get self.now.teams.run.family.tasks index ≡ Some parent
             → IsTrue result ↔ IsWithin self.now.teams.run.records self.now.teams.run.family.tasks
-            parent place self.now.wait }
+            parent made self.now.wait }
     {
         match self.wait {
-            Wait::Taskwait { task, begin } => is_between(task, index, 0, begin, place),
-            Wait::Taskgroup { task, begin, end } => is_between(task, index, begin, end, place),
+            Wait::Taskwait { task, begin } => is_between(task, index, 0, begin, made),
+            Wait::Taskgroup { task, begin, end } => is_between(task, index, begin, end, made),
             Wait::Barrier { task, number } => {
                 if are_teammates(self.teams, task, index) {
-                    is_before_begin(self.teams, index, number, place)
+                    is_before_begin(self.teams, index, number, made)
                 } else {
                     false
                 }
@@ -187,17 +187,17 @@ fn no_marks(alloc: Global, tasks: usize) -> Result<Vec<bool>, AllocError>
     vec![in alloc; false; tasks]
 }
 
-/// Whether the two indices are the same, and the place is from the one on and before the other.
-fn is_between(task: usize, index: usize, from: usize, to: usize, place: usize) -> bool
-    ensures { IsTrue result ↔ ((task ≡ index) × (from ≤ place) × (place < to)) }
+/// Whether the two indices are the same, and the number is from the one on and before the other.
+fn is_between(task: usize, index: usize, from: usize, to: usize, made: usize) -> bool
+    ensures { IsTrue result ↔ ((task ≡ index) × (from ≤ made) × (made < to)) }
 {
     if task != index {
         return false;
     }
-    if place < from {
+    if made < from {
         return false;
     }
-    place < to
+    made < to
 }
 
 /// Whether the tasks at the two indices are in one team.
@@ -215,13 +215,13 @@ fn are_teammates(teams: &Teams, task: usize, index: usize) -> bool
     }
 }
 
-/// Whether the place is before that at which the task at the index begins its barrier with this number.
-fn is_before_begin(teams: &Teams, index: usize, number: usize, place: usize) -> bool
+/// Whether the record is before that at which the task at the index begins its barrier with this number.
+fn is_before_begin(teams: &Teams, index: usize, number: usize, made: usize) -> bool
     ensures { IsTrue result ↔ ((start : ℕ)
-        × (slice_get (row_at teams.now.begins index) number ≡ Some start) × (place < start)) }
+        × (slice_get (row_at teams.now.begins index) number ≡ Some start) × (made < start)) }
 {
     match teams.begins(index).get(number) {
-        Some(start) => place < *start as usize,
+        Some(start) => made < *start as usize,
         None => false,
     }
 }

@@ -7,9 +7,9 @@ use Rattle.wait_coverage.proofs.limits.gather.Given as goal
 abbrev pub invariant-nodes : goal.invariant-nodes
 invariant-nodes l = record {
   gathered : IsGathered l.nodes l.fn.head l.begin l.limit l.rest;
-  known : (place : ℕ) → l.rest ≡ Some place → place < length l.nodes;
+  known : (number : ℕ) → l.rest ≡ Some number → number < length l.nodes;
 }
 
 -- each link is to an earlier one
 abbrev pub decreases-nodes : goal.decreases-nodes
-decreases-nodes l = option_map_or (λ place. place + 1) l.rest 0
+decreases-nodes l = option_map_or (λ number. number + 1) l.rest 0

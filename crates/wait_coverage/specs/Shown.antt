@@ -1,0 +1,28 @@
+-- What of a wait is unfinished, in terms of the trace alone: what a wait covers is read in the tasks' own
+-- order, all else as the file has it.
+use Rattle.std.specs.Prelude.{ℕ, ◌≡◌, ◌<◌, List, Some}
+use Rattle.ompt_events.specs.declared.records.Record.{Record}
+use Rattle.ompt_events.specs.Records.{created}
+use Rattle.ompt_events.specs.Places.{at}
+use Rattle.ompt_events.specs.Turns.{in_own_order, own_place}
+use Rattle.ompt_events.specs.Coverage.{Covers}
+use Rattle.ompt_events.specs.Completion.{IsCompleteAt}
+
+-- a wait ends at the place in the file that covers the task, which is unfinished there
+pub record IsOpenShown (rs : List Record) (place task : ℕ) : Type 0 where
+  pub covered : Covers (in_own_order rs) (own_place rs place) task
+  pub incomplete : IsCompleteAt rs task place → ⊥
+
+-- each task that the wait covers is complete at its end
+abbrev pub IsCompleteShown : List Record → ℕ → Type 0
+IsCompleteShown rs place =
+    (task : ℕ) → Covers (in_own_order rs) (own_place rs place) task → IsCompleteAt rs task place
+
+-- at the first such place: of the tasks that are unfinished there the one that was created first in the file
+pub record IsFirstOpenShown (rs : List Record) (place task : ℕ) : Type 0 where
+  pub open_there : IsOpenShown rs place task
+  pub before : (k other : ℕ) → k < place → IsOpenShown rs k other → ⊥
+  pub creation : ℕ
+  pub is_created : at created rs creation ≡ Some task
+  pub created_first : (k other : ℕ) → k < creation → at created rs k ≡ Some other
+      → IsOpenShown rs place other → ⊥
