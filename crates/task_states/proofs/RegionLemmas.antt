@@ -24,7 +24,7 @@ use Rattle.task_tree.proofs.LinkLemmas.{get_set_same, get_set_other}
 use Rattle.task_tree.specs.OwnOrder.{AreAllPlaces}
 use Rattle.task_tree.specs.Own.{OwnView, HasCauseAt, IsFirstPlaceWith}
 use Rattle.task_tree.specs.Runs.{RunView, IsRegionEvent}
-use Rattle.task_states.specs.Regions.{RegionsView, AreRegions, IsLinked, AreLinked, IsBeginOf, below_of, top_after, IsStack, IsInnermost, IsInPlace, IsJudged, AreLinkedOrNot, IsEarliestPlace, IsEarliest}
+use Rattle.task_states.specs.Regions.{RegionsView, AreRegions, IsLinked, IsBeginOf, below_of, top_after, IsStack, IsInnermost, IsInPlace, IsJudged, AreLinkedOrNot, IsEarliestPlace, IsEarliest}
 
 -- a stack stays when one more link is written, or none
 stack_more : (links : List (Option ℕ)) (n : ℕ) (link top : Option ℕ) (stack : List ℕ) → IsStack links n top stack → IsStack (set links n link) (n + 1) top stack
@@ -87,13 +87,6 @@ linked_still rs n links linked none i task kind below ends = elim (cases_eq i n)
   | inr apart ↦ linked i task kind (omega arith) ends
 ]
 
--- each end has its begin where no record has the cause
-pub linked_all : (rs : List Record) (n : ℕ) (links : List (Option ℕ)) → IsFreeOf rs RegionOrder → length rs ≤ n → AreLinkedOrNot rs n links → AreLinked rs (length rs) links
-linked_all rs n links free last linked i task kind below ends = elim (linked i task kind (omega (arith, last, below)) ends) [
-  | inl has ↦ absurd (free i has)
-  | inr is ↦ is
-]
-
 -- a record of no region
 pub open_more_none : (rs : List Record) (n : ℕ) (tasks : List ℕ) (innermost links : List (Option ℕ)) → AreOpen rs n tasks innermost links → at region rs n ≡ None → AreOpen rs (n + 1) tasks innermost links
 open_more_none rs n tasks innermost links are none = record {
@@ -137,7 +130,7 @@ open_more_own run n index kind endpoint innermost links link misplaced apart_all
 
 -- ---- the cause
 
-pub order_within : (rs : List Record) (i : ℕ) → HasCause rs i RegionOrder → i < length rs
+order_within : (rs : List Record) (i : ℕ) → HasCause rs i RegionOrder → i < length rs
 order_within rs i (region_order (task, kind, h)) = at_within region rs i (task, kind, End) h.ends
 order_within rs i (barrier_order (task, kind, endpoint, says, called, explicit)) = at_within region rs i (task, kind, endpoint) says
 
@@ -213,10 +206,6 @@ earliest_still own cause n (Some place) none is = record {
     | inr apart ↦ is.least number other (omega (arith, below, apart)) stands has
   ];
 }
-
--- a record without the cause
-pub earlier_without : (own : OwnView) (cause : Cause) (n : ℕ) (found : Option ℕ) (has : Bool) → has ≡ false → (IsTrue has ↔ HasCause own.run.records n cause) → IsEarliest own cause n found → IsEarliest own cause (n + 1) found
-earlier_without own cause n found has is_false has_it is = earliest_still own cause n found (λ h. false≢true (sym is_false ∙ has_it.1 h)) is
 
 -- a record of no region
 pub earliest_silent : (own : OwnView) (n : ℕ) (found : Option ℕ) → at region own.run.records n ≡ None → IsEarliest own RegionOrder n found → IsEarliest own RegionOrder (n + 1) found

@@ -2,9 +2,9 @@
 //!
 //! Read `table` first, the states and what changes them, and `walk`, the tasks that a thread runs; then
 //! `states`, which takes all tasks of a run through their states: `current`, `homes`, `progress` (with
-//! `moves`, `origins` and `turn_edges`) and `regions` find one cause each. `numbering`, `targets` and `nesting`
-//! are calls of their own. `trace_calls` has the same calls for a trace with its tree. `rows` is a table of rows,
-//! of which few are written.
+//! `moves`, `origins` and `turn_edges`) and `regions` find one cause each. `numbering`, `targets` and
+//! `nesting` are calls of their own. `trace_calls` has the same calls for a trace with its tree. `rows` is a
+//! table of rows, of which few are written.
 #![tactic(auto)]
 
 mod current;

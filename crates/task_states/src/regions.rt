@@ -36,8 +36,8 @@ impl<'a> Model for Regions<'a> {
 
 impl<'a> Regions<'a> {
     /// The regions of a run in its tasks' own order. Refused is a region that ends without its begin, or a
-    /// barrier of an explicit task (OpenMP 5.2, 15.3), at the first place in the file. It takes a few steps for
-    /// each record, and memory linear in the records.
+    /// barrier of an explicit task (OpenMP 5.2, 15.3), at the first place in the file. It takes a few steps
+    /// for each record, and memory linear in the records.
     pub fn in_own(alloc: Global, own: &Own<'a>) -> Result<Regions<'a>, Fault>
         ensures own { IfOk result (λ regions. regions.own ≡ own.now) }
         ensures regions { IfOk result AreRegions }
@@ -77,9 +77,9 @@ impl<'a> Regions<'a> {
     }
 }
 
-/// For each record: the begin that an end belongs to, and the innermost region of the task that is open
-/// when a begin opens another. Searches for the first place in the file of an end that belongs to no begin, or
-/// of a begin or end of a barrier by an explicit task. Such a record opens or closes a region as any other.
+/// For each record: the begin that an end belongs to, and the innermost region of the task that is open when
+/// a begin opens another. Searches for the first place in the file of an end that belongs to no begin, or of
+/// a begin or end of a barrier by an explicit task. Such a record opens or closes a region as any other.
 fn find_links(alloc: Global, own: &Own) -> Result<Vec<Slot>, Fault>
     ensures linked { IfOk result (λ links.
         AreLinked own.now.run.records (length own.now.run.records) links.items) }

@@ -44,11 +44,11 @@ impl<'a> Model for States<'a> {
 impl<'a> States<'a> {
     /// Takes each task of the run through its states. Malformed records are refused, with the first of these
     /// causes that occurs, at its first record in the file: a record of a task that its thread does not run
-    /// (OpenMP 5.2, 12.9); an explicit task that runs on two threads without turns (it is tied, 12.1), or a turn
-    /// that is not its task's; a change that a task's state does not allow (19.5.2.10); a region that ends
-    /// without its begin, or a barrier of an explicit task (15.3). The run is that of the file, and `own` has its
-    /// records in the tasks' own order. The first turn gap is known already. It takes a few steps for each
-    /// record, and memory linear in the records.
+    /// (OpenMP 5.2, 12.9); an explicit task that runs on two threads without turns (it is tied, 12.1), or a
+    /// turn that is not its task's; a change that a task's state does not allow (19.5.2.10); a region that
+    /// ends without its begin, or a barrier of an explicit task (15.3). The run is that of the file, and
+    /// `own` has its records in the tasks' own order. The first turn gap is known already. It takes a few
+    /// steps for each record, and memory linear in the records.
     pub fn in_run(
         alloc: Global,
         run: &Run<'a>,

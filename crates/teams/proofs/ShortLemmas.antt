@@ -98,9 +98,6 @@ short_within rs i (missed task member begin number kind ends barrier numbered ma
 of_cause : (rs : List Record) (i : ℕ) → HasCause rs i TeamShort → IsShort rs i
 of_cause rs i (team_short is) = is
 
-pub whole_start : (rs : List Record) → IsWholeBefore rs 0
-whole_start rs = λ k below. absurd (omega (arith, below))
-
 pub whole_more : (rs : List Record) (n : ℕ) → IsWholeBefore rs n → LacksNothing rs n → IsWholeBefore rs (n + 1)
 whole_more rs n whole fine = λ k below joins short. elim (cases_eq k n) [
   | inl same ↦
@@ -108,9 +105,6 @@ whole_more rs n whole fine = λ k below joins short. elim (cases_eq k n) [
       not_short rs n fine (ap (λ j. is_some (at joined rs j)) (sym same) ∙ joins) (subst P same short)
   | inr apart ↦ whole k (omega (arith, below, apart)) joins short
 ]
-
-pub nowhere_start : (own : OwnView) → IsMissedNowhere own 0
-nowhere_start own = λ k below. absurd (omega (arith, below))
 
 -- one more place at which no barrier ends that a member misses
 pub nowhere_more : (own : OwnView) (place number : ℕ) → IsOwn own → slice_get own.places number ≡ Some place → (IsMissed own.run.records number → ⊥) → IsMissedNowhere own place → IsMissedNowhere own (place + 1)

@@ -27,7 +27,8 @@ IsSeated own rosters (Some place) = IsFirstLack own place
 
 -- a barrier ends at the place in the file that a member of the team doesn't begin
 abbrev pub IsMissedAt : OwnView → ℕ → Type 0
-IsMissedAt own place = (number : ℕ) × (slice_get own.places number ≡ Some place) × IsMissed own.run.records number
+IsMissedAt own place =
+    (number : ℕ) × (slice_get own.places number ≡ Some place) × IsMissed own.run.records number
 
 -- none does before the place
 abbrev pub IsMissedNowhere : OwnView → ℕ → Type 0

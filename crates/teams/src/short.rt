@@ -9,8 +9,8 @@ use crate::seats::lacks_member;
 use crate::tables::Tables;
 use task_tree::Slot;
 
-/// Searches for the first place in the file of a record that shows a team or a barrier that lacks a member. On
-/// the way each member takes its seat.
+/// Searches for the first place in the file of a record that shows a team or a barrier that lacks a member.
+/// On the way each member takes its seat.
 pub(crate) fn find_short(tables: &Tables, rosters: &mut Vec<Vec<Slot>>) -> Option<usize>
     requires { AreSeated tables.now.run.records 0 tables.now.run.family.tasks rosters.old.items }
     ensures { IsSearched (tables_own tables.now) rosters.new.items result }

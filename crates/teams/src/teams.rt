@@ -61,8 +61,8 @@ impl<'a> Model for Teams<'a> {
 
 impl<'a> Teams<'a> {
     /// The teams of a run in its tasks' own order. Refused is a team or a barrier that lacks a member (OpenMP
-    /// 5.2, 10.1 and 15.3), at its first place in the file. It takes a few steps for each record, and a look-up of
-    /// logarithmic time for each member; memory is linear in the records.
+    /// 5.2, 10.1 and 15.3), at its first place in the file. It takes a few steps for each record, and a
+    /// look-up of logarithmic time for each member; memory is linear in the records.
     pub fn in_own(alloc: Global, regions: &'a Regions<'a>) -> Result<Teams<'a>, Fault>
         ensures run { IfOk result (λ teams. teams.run ≡ regions.now.own.run) }
         ensures places { IfOk result (λ teams. teams.places ≡ regions.now.own.places) }
