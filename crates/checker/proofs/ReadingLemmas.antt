@@ -1,7 +1,7 @@
 -- Two readings of the same records that say the same have the same verdicts; where no task's turns fall along
 -- the file, each task's own order and the order of the file are such readings.
-use Rattle.std.proofs.Common.{◌≡◌, ℕ, ◌<◌, List, length, Option, Some, None, refl, sym, subst, inl, inr}
-use Rattle.std.specs.Prelude.{◌↔◌, option_and_then}
+use Rattle.std.proofs.Common.{◌≡◌, ◌∙◌, ℕ, ◌<◌, List, length, Option, Some, None, refl, sym, subst, inl, inr}
+use Rattle.std.specs.Prelude.{◌↔◌, option_and_then, slice_get, MatchOption}
 use Rattle.ompt_events.specs.declared.records.Record.{Record}
 use Rattle.ompt_events.specs.declared.cause.Cause.{Cause}
 use Rattle.ompt_events.specs.CauseNames.{all_causes}
@@ -282,7 +282,7 @@ open_there rs own number place task of is_own stands = (
 
 -- what the search for an open end finds
 pub open_by_task : (rs : List Record) (own : OwnView) (found : Option (ℕ × ℕ)) → IsOwnOf rs own → IsOwn own → MatchOption found ((i : ℕ) → IsCoverComplete own.run.records i) (λ (f : ℕ × ℕ). IsFirstOpenPlace own f.0 f.1) → MatchOption found (AreAllCovered (by_task rs)) (λ (f : ℕ × ℕ). IsFirstOpenBy (by_task rs) f.0 f.1)
-open_by_task rs own None of is_own all i task covers =
+open_by_task rs own None of is_own all = λ i task covers.
     let there = number_of_place rs own of is_own.places i ((of_tasks rs).within i task covers) in
     let covered = (own_covers rs own of there.0 i there.1 task).1 covers in
     (end_complete rs own there.0 i task of is_own there.1 covered task).0 (all there.0 task covered)
