@@ -1,7 +1,7 @@
 -- Two readings of the same records that say the same have the same verdicts; where no task's turns fall along
 -- the file, each task's own order and the order of the file are such readings.
-use Rattle.std.proofs.Common.{◌≡◌, ℕ, ◌<◌, List, length, Option, Some, None, refl, sym, subst, inl, inr}
-use Rattle.std.specs.Prelude.{◌↔◌, option_and_then}
+use Rattle.std.proofs.Common.{◌≡◌, ◌∙◌, ℕ, ◌<◌, List, length, Option, Some, None, refl, sym, subst, arith, inl, inr}
+use Rattle.std.specs.Prelude.{◌↔◌, Bool, IsTrue, option_and_then, slice_get, MatchOption}
 use Rattle.ompt_events.specs.declared.records.Record.{Record}
 use Rattle.ompt_events.specs.declared.cause.Cause.{Cause}
 use Rattle.ompt_events.specs.CauseNames.{all_causes}
@@ -16,7 +16,7 @@ use Rattle.ompt_events.specs.HappensBefore.{IsStart}
 use Rattle.ompt_events.specs.Linearization.{IsLinearization, IsGreedy}
 use Rattle.ompt_events.specs.Completion.{IsCompleteIn, IsCompleteAt}
 use Rattle.ompt_events.specs.Violations as violations
-use Rattle.ompt_events.specs.declared.cause.Cause.TheVariants.{ShareWrong}
+use Rattle.ompt_events.specs.declared.cause.Cause.TheVariants.{CreatedTwice, TurnGap, StatusOrder, ShareWrong, EntryTwice, LengthAhead}
 use Rattle.ompt_events.specs.Causes.{IsFreeOf, ShowsNowhere, IsShownMalformed}
 use Rattle.ompt_events.proofs.PlaceLemmas.{at_within}
 use Rattle.ompt_events.proofs.TurnLemmas.{first_version_tells_none}
@@ -32,7 +32,7 @@ use Rattle.checker.specs.declared.verdict.Why.TheVariants.{Unfinished, Predecess
 use Rattle.checker.specs.Readings.{Reading, by_task, by_file, IsPrecededBy, IsRequiredBy}
 use Rattle.checker.specs.Verdicts.{ShowsNone, IsLeastShown, IsOpenBy, IsUnfinished, IsMissed, IsFirstSo, IsApproved, IsRejected, IsReason, IsVerdictBy, task_of}
 use Rattle.checker.specs.Counter.{IsEarliestOrder, IsCounterOrderBy, IsCounterBy, IsShownBy}
-use Rattle.checker.specs.Search.{IsClear, IsOfRecords, AreAllCovered, AreAllReady, IsFirstOpenBy, IsFirstLateBy}
+use Rattle.checker.specs.Search.{IsClear, ClearView, IsClearView, IsOfRecords, AreAllCovered, AreAllReady, IsFirstOpenBy, IsFirstLateBy}
 use Rattle.checker.specs.Starts.{AreReady, IsFirstLateStart}
 use Rattle.ompt_events.specs.Coverage.{Covers}
 use Rattle.ompt_events.proofs.TurnLemmas.{start_starts}
@@ -41,7 +41,8 @@ use Rattle.task_tree.specs.Families.{IsOwnOf}
 use Rattle.task_tree.proofs.OwnRunLemmas.{own_says, own_covers, place_of_number, number_of_place}
 use Rattle.task_tree.proofs.ShownLemmas.{shown_there}
 use Rattle.checker.proofs.ClaimLemmas.{wrong, wrong_within}
-use Rattle.trace_ledger.specs.Entries.{IsDone}
+use Rattle.trace_ledger.specs.Entries.{IsDone, HasRightEntries}
+use Rattle.trace_ledger.proofs.RightLemmas.{own_entries}
 use Rattle.wait_coverage.specs.Spans.{IsCoverComplete}
 use Rattle.wait_coverage.specs.Waits.{IsOpen, IsFirstOpenPlace}
 use Rattle.checker.proofs.OwnLemmas.{own_seen, own_done}
@@ -244,6 +245,16 @@ claims_right rs own of is_own none number has =
     let place = place_of_number rs own is_own.places number (wrong_within own.run.records number (wrong own.run.records number has)) in
     none place.0 ((shown_there rs own ShareWrong of_claims of number place.0 place.1).1 has)
 
+-- and the run in the tasks' own order has right entries where no cause occurs
+pub clear_entries : (view : ClearView) → IsClearView view → HasRightEntries view.own.run.records
+clear_entries view clear =
+    let rs = view.run.records in
+    let none = clear.well_formed in
+    own_entries rs view.own clear.one.of_file
+    (none CreatedTwice (1, omega arith, refl)) (none TurnGap (5, omega arith, refl)) (none StatusOrder (6, omega arith, refl))
+    (none EntryTwice (12, omega arith, refl)) (none LengthAhead (13, omega arith, refl))
+    (claims_right rs view.own clear.one.of_file clear.one.is_own (none ShareWrong (11, omega arith, refl)))
+
 -- ---- what the searches in the tasks' own order find
 
 -- the end of a wait starts nothing, so that what it has seen decides what is complete there
@@ -280,9 +291,15 @@ open_there rs own number place task of is_own stands = (
       record { covered = covered; incomplete = λ complete. is.1 ((end_complete rs own number place task of is_own stands covered task).0 complete) },
 )
 
+-- so a test by number tells it of the place
+pub open_told : (view : ClearView) (number place task : ℕ) (told : Bool) → IsClearView view → slice_get view.own.places number ≡ Some place → IsTrue told ↔ IsOpen view.own.run.records number task → IsTrue told ↔ IsOpenBy (by_task view.run.records) place task
+open_told view number place task told clear stands tells =
+    let there = open_there view.run.records view.own number place task clear.one.of_file clear.one.is_own stands in
+    (λ yes. there.0 (tells.0 yes), λ opened. tells.1 (there.1 opened))
+
 -- what the search for an open end finds
 pub open_by_task : (rs : List Record) (own : OwnView) (found : Option (ℕ × ℕ)) → IsOwnOf rs own → IsOwn own → MatchOption found ((i : ℕ) → IsCoverComplete own.run.records i) (λ (f : ℕ × ℕ). IsFirstOpenPlace own f.0 f.1) → MatchOption found (AreAllCovered (by_task rs)) (λ (f : ℕ × ℕ). IsFirstOpenBy (by_task rs) f.0 f.1)
-open_by_task rs own None of is_own all i task covers =
+open_by_task rs own None of is_own all = λ i task covers.
     let there = number_of_place rs own of is_own.places i ((of_tasks rs).within i task covers) in
     let covered = (own_covers rs own of there.0 i there.1 task).1 covers in
     (end_complete rs own there.0 i task of is_own there.1 covered task).0 (all there.0 task covered)
