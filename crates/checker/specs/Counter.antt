@@ -7,12 +7,12 @@ use Rattle.ompt_events.specs.HappensBefore.{IsFinishing, HappensBefore}
 use Rattle.ompt_events.specs.Linearization.{IsLinearization, IsGreedy, IsGreedyAfter}
 use Rattle.ompt_events.specs.Completion.{IsCompleteIn}
 use Rattle.ompt_events.specs.CauseNames.{all_causes}
-use Rattle.ompt_events.specs.Causes.{IsWellFormed}
 use Rattle.checker.specs.Entries.{MakersView, IsLedger}
 use Rattle.checker.specs.declared.verdict.Verdict.{Verdict}
 use Rattle.checker.specs.declared.verdict.Verdict.TheVariants.{No}
 use Rattle.checker.specs.Readings.{Reading, by_task, IsRequiredBy}
 use Rattle.checker.specs.Verdicts.{ShowsNone, IsMissed, task_of}
+use Rattle.checker.specs.Search.{IsClear}
 
 -- the records that happen before i, again and again the first in file order of which all that happens before
 -- it stands; then i; then the others in the same manner
@@ -63,7 +63,7 @@ pub record OrderedView : Type 0 where
 -- no cause occurs, and the order is the greedy one
 pub record IsOrdered (ordered : OrderedView) : Type 0 where
   pub ledger : IsLedger ordered.ledger
-  pub well_formed : IsWellFormed ordered.ledger.run.records all_causes
+  pub well_formed : IsClear ordered.ledger.run.records all_causes
   pub linearization : IsLinearization ordered.ledger.run.records ordered.order
   pub greedy : IsGreedy ordered.ledger.run.records ordered.order
 
