@@ -1,5 +1,5 @@
 -- What the searches of a check tell one another.
-use Rattle.std.specs.Prelude.{ℕ, ◌≡◌, ◌<◌, List, Contains, length}
+use Rattle.std.specs.Prelude.{ℕ, ◌<◌, List, Contains, length}
 use Rattle.ompt_events.specs.declared.records.Record.{Record}
 use Rattle.ompt_events.specs.declared.cause.Cause.{Cause}
 use Rattle.ompt_events.specs.declared.fault.Fault.{Fault}
