@@ -10,8 +10,12 @@ use Rattle.ompt_events.specs.declared.fault.Fault.{Fault}
 use Rattle.ompt_events.specs.declared.fault.Fault.TheVariants.{Memory, Malformed}
 use Rattle.ompt_events.specs.declared.cause.Cause.TheVariants.{NotCurrent, Moved, TurnGap, StatusOrder, RegionOrder, TeamShort, NestedParallel, DepsPlace, ShareWrong, EntryTwice}
 use Rattle.ompt_events.specs.CauseNames.{cause_number, all_causes, before}
-use Rattle.ompt_events.specs.Causes.{HasCause, Shows, ShowsNowhere}
+use Rattle.ompt_events.specs.Causes.{HasCause, IsFreeOf, Shows, ShowsNowhere}
 use Rattle.ompt_events.specs.Faults.{IsFault, IsShownFault}
+use Rattle.task_tree.specs.Runs.{RunView}
+use Rattle.task_tree.specs.Own.{OwnView, of_regions, of_teams, of_claims}
+use Rattle.task_tree.specs.Families.{IsOwnOf}
+use Rattle.task_tree.proofs.ShownLemmas.{own_free}
 use Rattle.checker.specs.Search.{IsClear, IsLeastFound}
 
 -- the causes with greater numbers than this one
@@ -63,18 +67,18 @@ are_of_file (c ∷ rest) = not (is_own_cause c) && are_of_file rest
 
 -- any other is shown where a record has it
 pub of_file_shown : (rs : List Record) (i : ℕ) (cause : Cause) → is_own_cause cause ≡ false → Shows rs i cause ↔ HasCause rs i cause
-of_file_shown rs i RegionOrder no = absurd (false≢true (sym no))
-of_file_shown rs i TeamShort no = absurd (false≢true (sym no))
-of_file_shown rs i ShareWrong no = absurd (false≢true (sym no))
-of_file_shown rs i _ no = (λ has. has, λ shown. shown)
+of_file_shown rs i RegionOrder other = absurd (false≢true (sym other))
+of_file_shown rs i TeamShort other = absurd (false≢true (sym other))
+of_file_shown rs i ShareWrong other = absurd (false≢true (sym other))
+of_file_shown rs i _ other = (λ has. has, λ shown. shown)
 
 among_file : (causes : List Cause) (cause : Cause) → are_of_file causes ≡ true → Contains causes cause → is_own_cause cause ≡ false
 among_file [] cause all (k, below, is) = absurd (omega (arith, below))
-among_file (c ∷ rest) cause all (zero, below, is) = ap is_own_cause (sym is) ∙ no (is_own_cause c) (left (not (is_own_cause c)) (are_of_file rest) all)
+among_file (c ∷ rest) cause all (zero, below, is) = ap is_own_cause (sym is) ∙ negated (is_own_cause c) (left (not (is_own_cause c)) (are_of_file rest) all)
   where
-    no : (b : Bool) → not b ≡ true → b ≡ false
-    no false h = refl
-    no true h = absurd (false≢true h)
+    negated : (b : Bool) → not b ≡ true → b ≡ false
+    negated false h = refl
+    negated true h = absurd (false≢true h)
 among_file (c ∷ rest) cause all (suc k, below, is) = among_file rest cause (right (not (is_own_cause c)) (are_of_file rest) all) (k, omega (arith, below), is)
 
 -- so a fault of the file is what the trace shows
@@ -137,21 +141,30 @@ one_clear rs cause rest free clear other (suc k, below, is) = clear other (k, om
 pub only_clear : (rs : List Record) (cause : Cause) → ShowsNowhere rs cause → IsClear rs (cause ∷ [])
 only_clear rs cause free = one_clear rs cause [] free (none_clear rs)
 
--- what is clear after each phase over a run
-pub states_clear : (rs : List Record) → IsClear rs (before NotCurrent) → ShowsNowhere rs NotCurrent → ShowsNowhere rs Moved → ShowsNowhere rs TurnGap → ShowsNowhere rs StatusOrder → ShowsNowhere rs RegionOrder → IsClear rs (before TeamShort)
-states_clear rs clear current stay gapless ordered closed = clear_more rs (before NotCurrent) (NotCurrent ∷ Moved ∷ TurnGap ∷ StatusOrder ∷ RegionOrder ∷ []) clear (one_clear rs NotCurrent (Moved ∷ TurnGap ∷ StatusOrder ∷ RegionOrder ∷ []) current (one_clear rs Moved (TurnGap ∷ StatusOrder ∷ RegionOrder ∷ []) stay (one_clear rs TurnGap (StatusOrder ∷ RegionOrder ∷ []) gapless (one_clear rs StatusOrder (RegionOrder ∷ []) ordered (only_clear rs RegionOrder closed)))))
+-- what is clear after each phase: the causes of regions, teams and claims are read in the tasks' own order
+pub states_clear : (rs : List Record) (own : OwnView) → IsOwnOf rs own → IsClear rs (before NotCurrent) → IsFreeOf rs NotCurrent → IsFreeOf rs Moved → IsFreeOf rs TurnGap → IsFreeOf rs StatusOrder → IsFreeOf own.run.records RegionOrder → IsClear rs (before TeamShort)
+states_clear rs own of clear current stay gapless ordered closed =
+    let regions = own_free rs own RegionOrder of_regions of closed in
+    clear_more rs (before NotCurrent) (NotCurrent ∷ Moved ∷ TurnGap ∷ StatusOrder ∷ RegionOrder ∷ []) clear (one_clear rs NotCurrent (Moved ∷ TurnGap ∷ StatusOrder ∷ RegionOrder ∷ []) current (one_clear rs Moved (TurnGap ∷ StatusOrder ∷ RegionOrder ∷ []) stay (one_clear rs TurnGap (StatusOrder ∷ RegionOrder ∷ []) gapless (one_clear rs StatusOrder (RegionOrder ∷ []) ordered (only_clear rs RegionOrder regions)))))
 
-pub teams_clear : (rs : List Record) → IsClear rs (before TeamShort) → ShowsNowhere rs TeamShort → IsClear rs (before NestedParallel)
-teams_clear rs clear whole = clear_more rs (before TeamShort) (TeamShort ∷ []) clear (only_clear rs TeamShort whole)
+pub teams_clear : (rs : List Record) (own : OwnView) → IsOwnOf rs own → IsClear rs (before TeamShort) → IsFreeOf own.run.records TeamShort → IsClear rs (before NestedParallel)
+teams_clear rs own of clear whole = clear_more rs (before TeamShort) (TeamShort ∷ []) clear (only_clear rs TeamShort (own_free rs own TeamShort of_teams of whole))
 
-pub nesting_clear : (rs : List Record) → IsClear rs (before NestedParallel) → ShowsNowhere rs NestedParallel → IsClear rs (before DepsPlace)
+pub nesting_clear : (rs : List Record) → IsClear rs (before NestedParallel) → IsFreeOf rs NestedParallel → IsClear rs (before DepsPlace)
 nesting_clear rs clear flat = clear_more rs (before NestedParallel) (NestedParallel ∷ []) clear (only_clear rs NestedParallel flat)
 
-pub edges_clear : (rs : List Record) → IsClear rs (before DepsPlace) → ShowsNowhere rs DepsPlace → IsClear rs (before ShareWrong)
+pub edges_clear : (rs : List Record) → IsClear rs (before DepsPlace) → IsFreeOf rs DepsPlace → IsClear rs (before ShareWrong)
 edges_clear rs clear placed = clear_more rs (before DepsPlace) (DepsPlace ∷ []) clear (only_clear rs DepsPlace placed)
 
-pub claims_clear : (rs : List Record) → IsClear rs (before ShareWrong) → ShowsNowhere rs ShareWrong → IsClear rs (before EntryTwice)
-claims_clear rs clear claims = clear_more rs (before ShareWrong) (ShareWrong ∷ []) clear (only_clear rs ShareWrong claims)
+pub claims_clear : (rs : List Record) (own : OwnView) → IsOwnOf rs own → IsClear rs (before ShareWrong) → IsFreeOf own.run.records ShareWrong → IsClear rs (before EntryTwice)
+claims_clear rs own of clear claims = clear_more rs (before ShareWrong) (ShareWrong ∷ []) clear (only_clear rs ShareWrong (own_free rs own ShareWrong of_claims of claims))
+
+-- two views of a run in its tasks' own order with the same run and the same places are the same
+pub same_own : (own other : OwnView) → own.run ≡ other.run → own.places ≡ other.places → own ≡ other
+same_own own other run places =
+    let with_run : RunView → OwnView = λ run. record { run = run; places = own.places } in
+    let with_places : List ℕ → OwnView = λ places. record { run = other.run; places = places } in
+    ap with_run run ∙ ap with_places places
 
 -- where none of the causes that a phase looks for occurs, it fails for memory alone
 pub memory_alone : (rs : List Record) (sought : List Cause) (fault : Fault) → IsClear rs sought → IsShownFault rs sought fault → fault ≡ Memory

@@ -1,7 +1,7 @@
 use Rattle.std.proofs.Common.{[], ◌∷◌, refl}
 use Rattle.std.proofs.lemmas.Result.{err_from_is_err_and}
 use Rattle.ompt_events.specs.declared.cause.Cause.TheVariants.{SeqGap, CreatedTwice, Rootless}
-use Rattle.checker.proofs.PhaseLemmas.{beyond, fault_shown, least_more, none_clear, only_clear}
+use Rattle.checker.proofs.PhaseLemmas.{beyond, fault_shown, least_more, none_clear, one_clear, only_clear}
 use Rattle.checker.proofs.phases.ask.Goals as goal
 
 pub returns-in_err-exclude-clause-malformed : goal.returns-in_err-exclude-clause-malformed
@@ -18,4 +18,7 @@ returns-in_err-families-clause-malformed g c =
     rw (p.1, p.2) (least_more rs (SeqGap ∷ []) (CreatedTwice ∷ Rootless ∷ []) (beyond Rootless) c.in_err-families.field-0.0 refl clear (fault_shown rs (CreatedTwice ∷ Rootless ∷ []) c.in_err-families.field-0.0 refl c.in_err-families.ensures.fault))
 
 pub ask_run-requires-clause-clear : goal.ask_run-requires-clause-clear
-ask_run-requires-clause-clear g c = ?
+ask_run-requires-clause-clear g c =
+    let rs = c.args.trace.now.records in
+    let file = c.in_ok-families.ensures.families.file in
+    one_clear rs SeqGap (CreatedTwice ∷ Rootless ∷ []) (c.in_ok-exclude.ensures.free rs c.gap.ensures) (one_clear rs CreatedTwice (Rootless ∷ []) file.once (only_clear rs Rootless file.rooted))

@@ -11,7 +11,7 @@ use Rattle.checker.proofs.phases.ask_sound.Goals as goal
 pub returns-in_err-exclude-clause-malformed : goal.returns-in_err-exclude-clause-malformed
 returns-in_err-exclude-clause-malformed g c =
     let rs = c.args.sound.now.run.records in
-    let same = ap (λ (v : SoundView). v.run.records) (sym c.sound.view_is) ∙ c.sound.invariant.1.0 in
+    let same = ap (λ (v : SoundView). v.run.records) (sym c.sound.view_is) ∙ c.sound.invariant.1 in
     let target : FindsFirst rs TargetTask c.target.result = rw (← same) at c.target.ensures in
     let p = err_from_is_err_and c.from_residual-in_err-exclude.result c.from_residual-in_err-exclude.ensures.1 in
     rw (p.1, p.2) (least_more rs (before TargetTask) (TargetTask ∷ []) [] c.in_err-exclude.field-0.0 refl c.in_ok-order.ensures.clear (fault_shown rs (TargetTask ∷ []) c.in_err-exclude.field-0.0 refl (c.in_err-exclude.ensures.fault rs target)))
@@ -20,7 +20,7 @@ pub invariant_of-answer : goal.invariant_of-answer
 invariant_of-answer g c =
     let rs = c.args.sound.now.run.records in
     let sound : IsSoundView c.args.sound.now = subst IsSoundView c.sound.view_is c.sound.invariant.0 in
-    let same = ap (λ (v : SoundView). v.run.records) (sym c.sound.view_is) ∙ c.sound.invariant.1.0 in
+    let same = ap (λ (v : SoundView). v.run.records) (sym c.sound.view_is) ∙ c.sound.invariant.1 in
     let target : FindsFirst rs TargetTask c.target.result = rw (← same) at c.target.ensures in
     let free : IsFreeOf rs TargetTask = c.in_ok-exclude.ensures.free rs target in
     record {
