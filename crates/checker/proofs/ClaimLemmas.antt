@@ -15,10 +15,10 @@ use Rattle.ompt_events.proofs.PlaceLemmas.{at_within}
 use Rattle.task_tree.specs.OwnOrder.{AreAllPlaces}
 use Rattle.task_tree.specs.Own.{OwnView, IsFirstPlaceWith}
 
-pub wrong : (rs : List Record) (i : ℕ) → HasCause rs i ShareWrong → HasWrongShare rs i
+wrong : (rs : List Record) (i : ℕ) → HasCause rs i ShareWrong → HasWrongShare rs i
 wrong rs i (share_wrong has) = has
 
-pub wrong_within : (rs : List Record) (i : ℕ) → HasWrongShare rs i → i < length rs
+wrong_within : (rs : List Record) (i : ℕ) → HasWrongShare rs i → i < length rs
 wrong_within rs i (task, part, claimed, finishes, claims, not_right) = at_within finish rs i (task, part) finishes
 
 -- no record at the first places in the file claims wrongly
@@ -48,25 +48,3 @@ rightly_more own n number all stands not_wrong right place other below there is 
       let one = all.apart other number n (there ∙ ap Some same) stands in
       not_wrong (subst (HasWrongShare own.run.records) one is)
 ]
-
--- a record that finishes nothing, or claims nothing, claims nothing wrong
-pub unfinished_right : (rs : List Record) (i : ℕ) → at finish rs i ≡ None → IsTrue false ↔ HasWrongShare rs i
-unfinished_right rs i none = (λ no. absurd (false≢true no), λ (task, part, claimed, finishes, claims, not_right). absurd (none-some (task, part) (sym none ∙ finishes)))
-
-pub unclaimed_right : (rs : List Record) (i : ℕ) → at claim rs i ≡ None → IsTrue false ↔ HasWrongShare rs i
-unclaimed_right rs i none = (λ no. absurd (false≢true no), λ (task, part, claimed, finishes, claims, not_right). absurd (none-some claimed (sym none ∙ claims)))
-
--- the record's one claim is wrong where it is not right
-pub wrong_where : (rs : List Record) (i task : ℕ) (part : Part) (claimed : Claim) (right : Bool) → at finish rs i ≡ Some (task, part) → at claim rs i ≡ Some claimed → IsTrue right ↔ IsRightClaim rs task claimed → IsTrue (not right) ↔ HasWrongShare rs i
-wrong_where rs i task part claimed false finishes claims is = (λ _. (task, part, claimed, finishes, claims, λ ok. false≢true (is.1 ok)), λ _. refl)
-wrong_where rs i task part claimed true finishes claims is = (
-  λ no. absurd (false≢true no),
-  λ (other, another, told, ends, says, not_right).
-      let same = ap (λ (q : ℕ × Part). q.0) (same_Some (task, part) (other, another) (sym finishes ∙ ends)) in
-      let one = same_Some claimed told (sym claims ∙ says) in
-      absurd (not_right (subst (λ t. IsRightClaim rs t told) same (subst (λ c. IsRightClaim rs task c) one (is.0 refl)))),
-)
-
--- a claim is right by the count of the children and the path
-pub right_by : (rs : List Record) (task : ℕ) (claimed : Claim) → claimed.kept ≡ length (children rs task) → HasPath rs claimed.root task claimed.path → IsRightClaim rs task claimed
-right_by rs task claimed kept stands = record { stands = stands; kept = kept }
