@@ -7,7 +7,7 @@ use Rattle.ompt_events.specs.declared.cause.Cause.{Cause}
 use Rattle.ompt_events.specs.CauseNames.{all_causes}
 use Rattle.ompt_events.specs.declared.names.SyncKind.{SyncKind}
 use Rattle.ompt_events.specs.declared.names.Endpoint.{Endpoint}
-use Rattle.ompt_events.specs.Records.{created, region, wait_completed}
+use Rattle.ompt_events.specs.Records.{created, finish, region, wait_completed}
 use Rattle.ompt_events.specs.Places.{at, seen_at}
 use Rattle.ompt_events.specs.Traces.{IsTraceOf}
 use Rattle.ompt_events.specs.Turns.{in_own_order, own_place}
@@ -17,7 +17,7 @@ use Rattle.ompt_events.specs.Linearization.{IsLinearization, IsGreedy}
 use Rattle.ompt_events.specs.Completion.{IsCompleteIn, IsCompleteAt}
 use Rattle.ompt_events.specs.Violations as violations
 use Rattle.ompt_events.specs.declared.cause.Cause.TheVariants.{CreatedTwice, TurnGap, StatusOrder, ShareWrong, EntryTwice, LengthAhead}
-use Rattle.ompt_events.specs.Causes.{IsFreeOf, ShowsNowhere, IsShownMalformed}
+use Rattle.ompt_events.specs.Causes.{IsFreeOf, ShowsNowhere, IsShownMalformed, share_wrong}
 use Rattle.ompt_events.proofs.PlaceLemmas.{at_within}
 use Rattle.ompt_events.proofs.TurnLemmas.{first_version_tells_none}
 use Rattle.task_tree.specs.Rising.{TurnsRise}
@@ -40,7 +40,6 @@ use Rattle.task_tree.specs.Own.{OwnView, IsOwn, of_claims}
 use Rattle.task_tree.specs.Families.{IsOwnOf}
 use Rattle.task_tree.proofs.OwnRunLemmas.{own_says, own_covers, place_of_number, number_of_place}
 use Rattle.task_tree.proofs.ShownLemmas.{shown_there}
-use Rattle.checker.proofs.ClaimLemmas.{wrong, wrong_within}
 use Rattle.trace_ledger.specs.Entries.{IsDone, HasRightEntries}
 use Rattle.trace_ledger.proofs.RightLemmas.{own_entries}
 use Rattle.wait_coverage.specs.Spans.{IsCoverComplete}
@@ -241,9 +240,9 @@ shows_none rs clear i cause shown = clear cause (listed cause) i shown
 
 -- claims that the trace shows to be right are right in the tasks' own order
 claims_right : (rs : List Record) (own : OwnView) → IsOwnOf rs own → IsOwn own → ShowsNowhere rs ShareWrong → IsFreeOf own.run.records ShareWrong
-claims_right rs own of is_own none number has =
-    let place = place_of_number rs own is_own.places number (wrong_within own.run.records number (wrong own.run.records number has)) in
-    none place.0 ((shown_there rs own ShareWrong of_claims of number place.0 place.1).1 has)
+claims_right rs own of is_own none number (share_wrong (task, part, claimed, finishes, claims, wrong)) =
+    let place = place_of_number rs own is_own.places number (at_within finish own.run.records number (task, part) finishes) in
+    none place.0 ((shown_there rs own ShareWrong of_claims of number place.0 place.1).1 (share_wrong (task, part, claimed, finishes, claims, wrong)))
 
 -- and the run in the tasks' own order has right entries where no cause occurs
 pub clear_entries : (view : ClearView) → IsClearView view → HasRightEntries view.own.run.records

@@ -45,8 +45,8 @@ pub record IsSoundView (view : SoundView) : Type 0 where
 
 -- ---- the first violation
 
--- what the reading says of waits is said at its records, and at none that starts a task, or at which a taskwait
--- with dependences is complete
+-- what the reading says of waits is said at its records, and at none that starts a task, or at which a
+-- taskwait with dependences is complete
 pub record IsOfRecords (reading : Reading) : Type 0 where
   pub within : (i task : ℕ) → reading.covers i task → i < length reading.records
   pub apart : (i task other : ℕ) → reading.covers i task → IsPrecededBy reading i other → ⊥
