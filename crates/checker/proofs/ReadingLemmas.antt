@@ -7,7 +7,7 @@ use Rattle.ompt_events.specs.declared.cause.Cause.{Cause}
 use Rattle.ompt_events.specs.CauseNames.{all_causes}
 use Rattle.ompt_events.specs.declared.names.SyncKind.{SyncKind}
 use Rattle.ompt_events.specs.declared.names.Endpoint.{Endpoint}
-use Rattle.ompt_events.specs.Records.{created, region, wait_completed}
+use Rattle.ompt_events.specs.Records.{created, finish, region, wait_completed}
 use Rattle.ompt_events.specs.Places.{at, seen_at}
 use Rattle.ompt_events.specs.Traces.{IsTraceOf}
 use Rattle.ompt_events.specs.Turns.{in_own_order, own_place}
@@ -17,7 +17,7 @@ use Rattle.ompt_events.specs.Linearization.{IsLinearization, IsGreedy}
 use Rattle.ompt_events.specs.Completion.{IsCompleteIn, IsCompleteAt}
 use Rattle.ompt_events.specs.Violations as violations
 use Rattle.ompt_events.specs.declared.cause.Cause.TheVariants.{CreatedTwice, TurnGap, StatusOrder, ShareWrong, EntryTwice, LengthAhead}
-use Rattle.ompt_events.specs.Causes.{IsFreeOf, ShowsNowhere, IsShownMalformed}
+use Rattle.ompt_events.specs.Causes.{IsFreeOf, ShowsNowhere, IsShownMalformed, share_wrong}
 use Rattle.ompt_events.proofs.PlaceLemmas.{at_within}
 use Rattle.ompt_events.proofs.TurnLemmas.{first_version_tells_none}
 use Rattle.task_tree.specs.Rising.{TurnsRise}
@@ -31,7 +31,7 @@ use Rattle.checker.specs.declared.verdict.Why.{Why}
 use Rattle.checker.specs.declared.verdict.Why.TheVariants.{Unfinished, Predecessor}
 use Rattle.checker.specs.Readings.{Reading, by_task, by_file, IsPrecededBy, IsRequiredBy}
 use Rattle.checker.specs.Verdicts.{ShowsNone, IsLeastShown, IsOpenBy, IsUnfinished, IsMissed, IsFirstSo, IsApproved, IsRejected, IsReason, IsVerdictBy, task_of}
-use Rattle.checker.specs.Counter.{IsEarliestOrder, IsCounterOrderBy, IsCounterBy, IsShownBy}
+use Rattle.checker.specs.Counter.{IsEarliestOrder, IsCounterOrderBy, IsCounterBy}
 use Rattle.checker.specs.Search.{IsClear, ClearView, IsClearView, IsOfRecords, AreAllCovered, AreAllReady, IsFirstOpenBy, IsFirstLateBy}
 use Rattle.checker.specs.Starts.{AreReady, IsFirstLateStart}
 use Rattle.ompt_events.specs.Coverage.{Covers}
@@ -40,7 +40,6 @@ use Rattle.task_tree.specs.Own.{OwnView, IsOwn, of_claims}
 use Rattle.task_tree.specs.Families.{IsOwnOf}
 use Rattle.task_tree.proofs.OwnRunLemmas.{own_says, own_covers, place_of_number, number_of_place}
 use Rattle.task_tree.proofs.ShownLemmas.{shown_there}
-use Rattle.checker.proofs.ClaimLemmas.{wrong, wrong_within}
 use Rattle.trace_ledger.specs.Entries.{IsDone, HasRightEntries}
 use Rattle.trace_ledger.proofs.RightLemmas.{own_entries}
 use Rattle.wait_coverage.specs.Spans.{IsCoverComplete}
@@ -97,7 +96,7 @@ alike_unfinished a b i task alike is = record {
   incomplete = let P : List Record → Type 0 = λ rs. IsCompleteAt rs task i in λ complete. is.incomplete (subst P (sym alike.same) complete);
 }
 
-pub alike_missed : (a b : Reading) (i task : ℕ) → AreAlike a b → IsMissed a i task → IsMissed b i task
+alike_missed : (a b : Reading) (i task : ℕ) → AreAlike a b → IsMissed a i task → IsMissed b i task
 alike_missed a b i task alike is = record {
   required = alike_required a b i task alike is.required;
   order = is.order;
@@ -121,7 +120,7 @@ alike_reason : (a b : Reading) (i : ℕ) (why : Why) → AreAlike a b → IsReas
 alike_reason a b i (Unfinished task) alike reason = (alike.covers i task).0 reason
 alike_reason a b i (Predecessor task) alike reason = alike_preceded a b i task alike reason
 
-pub alike_yes : (a b : Reading) (order : List ℕ) → AreAlike a b → IsApproved a order → IsApproved b order
+alike_yes : (a b : Reading) (order : List ℕ) → AreAlike a b → IsApproved a order → IsApproved b order
 alike_yes a b order alike is = record {
   well_formed = alike_none a b alike is.well_formed;
   linearization = let P : List Record → Type 0 = λ rs. IsLinearization rs order in subst P alike.same is.linearization;
@@ -133,7 +132,7 @@ alike_yes a b order alike is = record {
       subst C alike.same (is.always_complete other (subst L (sym alike.same) linear) i task (alike_required b a i task (alike_back a b alike) required));
 }
 
-pub alike_no : (a b : Reading) (i : ℕ) (why : Why) → AreAlike a b → IsRejected a i why → IsRejected b i why
+alike_no : (a b : Reading) (i : ℕ) (why : Why) → AreAlike a b → IsRejected a i why → IsRejected b i why
 alike_no a b i why alike is =
     let back = alike_back a b alike in
     record {
@@ -149,7 +148,7 @@ alike_verdict a b (Yes order) alike is = alike_yes a b order alike is
 alike_verdict a b (No i why) alike is = alike_no a b i why alike is
 alike_verdict a b (Malformed i cause) alike is = alike_least a b i cause alike is
 
-pub alike_order : (a b : Reading) (i task : ℕ) (order : List ℕ) → AreAlike a b → IsCounterOrderBy a i task order → IsCounterOrderBy b i task order
+alike_order : (a b : Reading) (i task : ℕ) (order : List ℕ) → AreAlike a b → IsCounterOrderBy a i task order → IsCounterOrderBy b i task order
 alike_order a b i task order alike is = record {
   well_formed = alike_none a b alike is.well_formed;
   required = alike_required a b i task alike is.required;
@@ -240,10 +239,10 @@ pub shows_none : (rs : List Record) → IsClear rs all_causes → ShowsNone (by_
 shows_none rs clear i cause shown = clear cause (listed cause) i shown
 
 -- claims that the trace shows to be right are right in the tasks' own order
-pub claims_right : (rs : List Record) (own : OwnView) → IsOwnOf rs own → IsOwn own → ShowsNowhere rs ShareWrong → IsFreeOf own.run.records ShareWrong
-claims_right rs own of is_own none number has =
-    let place = place_of_number rs own is_own.places number (wrong_within own.run.records number (wrong own.run.records number has)) in
-    none place.0 ((shown_there rs own ShareWrong of_claims of number place.0 place.1).1 has)
+claims_right : (rs : List Record) (own : OwnView) → IsOwnOf rs own → IsOwn own → ShowsNowhere rs ShareWrong → IsFreeOf own.run.records ShareWrong
+claims_right rs own of is_own none number (share_wrong (task, part, claimed, finishes, claims, wrong)) =
+    let place = place_of_number rs own is_own.places number (at_within finish own.run.records number (task, part) finishes) in
+    none place.0 ((shown_there rs own ShareWrong of_claims of number place.0 place.1).1 (share_wrong (task, part, claimed, finishes, claims, wrong)))
 
 -- and the run in the tasks' own order has right entries where no cause occurs
 pub clear_entries : (view : ClearView) → IsClearView view → HasRightEntries view.own.run.records

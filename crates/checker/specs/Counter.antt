@@ -102,8 +102,8 @@ pub record AreEarlierInThread (rs : List Record) (i : ℕ) (bounds : List ℕ) :
 abbrev pub MakesBelow : List Record → ℕ → ℕ → Type 0
 MakesBelow rs entries c = IsFinishing rs c × (seen_at rs c < entries)
 
--- the bounds were raised to each record with the property, and no further: just those records, and earlier ones
--- of their threads, came below
+-- the bounds were raised to each record with the property, and no further: just those records, and earlier
+-- ones of their threads, came below
 pub record AreRaisedTo (rs : List Record) (has : ℕ → Type 0) (old new : List ℕ) : Type 0 where
   pub kept : (a : ℕ) → IsBelow rs old a → IsBelow rs new a
   pub raised : (c : ℕ) → has c → IsBelow rs new c
