@@ -43,7 +43,7 @@ filter_contains p (x ∷ xs) a has = of (filter_contains p xs a) (p x) has
 
 -- those records of a greedy order that may be taken, in its order, are the greedy order of these, where with each all
 -- may be taken that happens before it
-pub greedy_filter : (rs : List Record) (may : ℕ → Type 0) (p : ℕ → Bool) (order : List ℕ) → ((a : ℕ) → (p a ≡ true) ↔ may a) → ((a b : ℕ) → HappensBefore rs a b → may b → may a) → IsGreedy rs order → IsGreedyAfter rs may [] (filter p order)
+greedy_filter : (rs : List Record) (may : ℕ → Type 0) (p : ℕ → Bool) (order : List ℕ) → ((a : ℕ) → (p a ≡ true) ↔ may a) → ((a b : ℕ) → HappensBefore rs a b → may b → may a) → IsGreedy rs order → IsGreedyAfter rs may [] (filter p order)
 greedy_filter rs may p order decides closed greedy =
     let P : List ℕ → Type 0 = λ l. IsGreedyAfter rs may [] (filter p l) in
     subst P (take_all (length order) order (omega arith)) (taken (length order) (omega arith))
@@ -112,7 +112,7 @@ below_told rs bounds a told tells = of (thread_at rs a) refl told tells
     of (Some thread) runs t is = rw runs (within thread runs t is)
 
 -- a record stands below the bound of its thread exactly where it happens before i
-pub below_before : (rs : List Record) (i : ℕ) (bounds : List ℕ) → AreBounds rs i bounds → (a : ℕ) → (is_below rs bounds a ≡ true) ↔ HappensBefore rs a i
+below_before : (rs : List Record) (i : ℕ) (bounds : List ℕ) → AreBounds rs i bounds → (a : ℕ) → (is_below rs bounds a ≡ true) ↔ HappensBefore rs a i
 below_before rs i bounds are a = (to (thread_at rs a) refl, from)
   where
     to : (o : Option ℕ) → thread_at rs a ≡ o → option_map_or (λ thread. ltb a (slice_index bounds thread)) o false ≡ true → HappensBefore rs a i
@@ -209,7 +209,7 @@ complete_earliest rs i task order free permutation is complete = elim complete [
     of p (k, finishes, counted) = (k, finishes, counts k p finishes counted)
 
 -- so that order leaves an unfinished task incomplete
-pub counter_by : (reading : Reading) (i task : ℕ) (order : List ℕ) → ShowsNone reading → IsFreeOf reading.records LengthBack → IsLinearization reading.records order → IsEarliestOrder reading.records i order → IsUnfinished reading i task → IsCounterOrderBy reading i task order
+counter_by : (reading : Reading) (i task : ℕ) (order : List ℕ) → ShowsNone reading → IsFreeOf reading.records LengthBack → IsLinearization reading.records order → IsEarliestOrder reading.records i order → IsUnfinished reading i task → IsCounterOrderBy reading i task order
 counter_by reading i task order clear free linear is unfinished = record {
   well_formed = clear;
   required = unfinished.required;

@@ -74,6 +74,9 @@ among_more tasks n last task stands (k, below, there) = elim (cases_lt k n) [
       inr (same_Some task last (sym there ∙ ap (slice_get tasks) same ∙ stands))
 ]
 
+pub get_here : (tasks : List ℕ) (n : ℕ) → n < length tasks → slice_get tasks n ≡ Some (slice_index_or tasks n 0)
+get_here tasks n within = slice_get-get_or tasks n 0 within
+
 -- a task is created once
 one_creation : (file : List Record) (task place other : ℕ) → IsFreeOf file CreatedTwice → at created file place ≡ Some task → at created file other ≡ Some task → place ≡ other
 one_creation file task place other once one another = made_once file task place other once (created_at_made task file place one) (created_at_made task file other another)

@@ -211,7 +211,7 @@ unfinished_by reading i task missed = record {
 }
 
 -- so the first unfinished task is the first missed one
-pub first_missed : (reading : Reading) (order : List ℕ) (i task : ℕ) → IsOfRecords reading → IsFreeOf reading.records LengthBack → IsLinearization reading.records order → IsFirstUnfinished reading i task → IsFirstMissed reading i task
+first_missed : (reading : Reading) (order : List ℕ) (i task : ℕ) → IsOfRecords reading → IsFreeOf reading.records LengthBack → IsLinearization reading.records order → IsFirstUnfinished reading i task → IsFirstMissed reading i task
 first_missed reading order i task of free linear is = record {
   so = missed_by reading order i task of free linear is.so;
   first = λ k other below missed. is.first k other below (unfinished_by reading k other missed);

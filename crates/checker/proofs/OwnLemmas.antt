@@ -6,7 +6,7 @@ use Rattle.ompt_events.specs.declared.records.Record.{Record}
 use Rattle.ompt_events.specs.declared.records.Part.{Part}
 use Rattle.ompt_events.specs.declared.records.Part.TheVariants.{Whole, Body, Event}
 use Rattle.ompt_events.specs.Records.{finish}
-use Rattle.ompt_events.specs.Places.{at, seen_at}
+use Rattle.ompt_events.specs.Places.{seen_at}
 use Rattle.ompt_events.specs.Completion.{IsPartFinished}
 use Rattle.ompt_events.proofs.PlaceLemmas.{at_within}
 use Rattle.task_tree.specs.OwnOrder.{AreAllPlaces}

@@ -1,13 +1,13 @@
 -- Two readings of the same records that say the same have the same verdicts; where no task's turns fall along
 -- the file, each task's own order and the order of the file are such readings.
-use Rattle.std.proofs.Common.{◌≡◌, ℕ, ◌<◌, List, length, Option, Some, None, refl, sym, subst, inl, inr}
-use Rattle.std.specs.Prelude.{◌↔◌, option_and_then}
+use Rattle.std.proofs.Common.{◌≡◌, ◌∙◌, ℕ, ◌<◌, List, length, Option, Some, None, refl, sym, subst, arith, inl, inr}
+use Rattle.std.specs.Prelude.{◌↔◌, Bool, IsTrue, option_and_then, slice_get, MatchOption}
 use Rattle.ompt_events.specs.declared.records.Record.{Record}
 use Rattle.ompt_events.specs.declared.cause.Cause.{Cause}
 use Rattle.ompt_events.specs.CauseNames.{all_causes}
 use Rattle.ompt_events.specs.declared.names.SyncKind.{SyncKind}
 use Rattle.ompt_events.specs.declared.names.Endpoint.{Endpoint}
-use Rattle.ompt_events.specs.Records.{created, region, wait_completed}
+use Rattle.ompt_events.specs.Records.{created, finish, region, wait_completed}
 use Rattle.ompt_events.specs.Places.{at, seen_at}
 use Rattle.ompt_events.specs.Traces.{IsTraceOf}
 use Rattle.ompt_events.specs.Turns.{in_own_order, own_place}
@@ -16,8 +16,8 @@ use Rattle.ompt_events.specs.HappensBefore.{IsStart}
 use Rattle.ompt_events.specs.Linearization.{IsLinearization, IsGreedy}
 use Rattle.ompt_events.specs.Completion.{IsCompleteIn, IsCompleteAt}
 use Rattle.ompt_events.specs.Violations as violations
-use Rattle.ompt_events.specs.declared.cause.Cause.TheVariants.{ShareWrong}
-use Rattle.ompt_events.specs.Causes.{IsFreeOf, ShowsNowhere, IsShownMalformed}
+use Rattle.ompt_events.specs.declared.cause.Cause.TheVariants.{CreatedTwice, TurnGap, StatusOrder, ShareWrong, EntryTwice, LengthAhead}
+use Rattle.ompt_events.specs.Causes.{IsFreeOf, ShowsNowhere, IsShownMalformed, share_wrong}
 use Rattle.ompt_events.proofs.PlaceLemmas.{at_within}
 use Rattle.ompt_events.proofs.TurnLemmas.{first_version_tells_none}
 use Rattle.task_tree.specs.Rising.{TurnsRise}
@@ -31,8 +31,8 @@ use Rattle.checker.specs.declared.verdict.Why.{Why}
 use Rattle.checker.specs.declared.verdict.Why.TheVariants.{Unfinished, Predecessor}
 use Rattle.checker.specs.Readings.{Reading, by_task, by_file, IsPrecededBy, IsRequiredBy}
 use Rattle.checker.specs.Verdicts.{ShowsNone, IsLeastShown, IsOpenBy, IsUnfinished, IsMissed, IsFirstSo, IsApproved, IsRejected, IsReason, IsVerdictBy, task_of}
-use Rattle.checker.specs.Counter.{IsEarliestOrder, IsCounterOrderBy, IsCounterBy, IsShownBy}
-use Rattle.checker.specs.Search.{IsClear, IsOfRecords, AreAllCovered, AreAllReady, IsFirstOpenBy, IsFirstLateBy}
+use Rattle.checker.specs.Counter.{IsEarliestOrder, IsCounterOrderBy, IsCounterBy}
+use Rattle.checker.specs.Search.{IsClear, ClearView, IsClearView, IsOfRecords, AreAllCovered, AreAllReady, IsFirstOpenBy, IsFirstLateBy}
 use Rattle.checker.specs.Starts.{AreReady, IsFirstLateStart}
 use Rattle.ompt_events.specs.Coverage.{Covers}
 use Rattle.ompt_events.proofs.TurnLemmas.{start_starts}
@@ -40,8 +40,8 @@ use Rattle.task_tree.specs.Own.{OwnView, IsOwn, of_claims}
 use Rattle.task_tree.specs.Families.{IsOwnOf}
 use Rattle.task_tree.proofs.OwnRunLemmas.{own_says, own_covers, place_of_number, number_of_place}
 use Rattle.task_tree.proofs.ShownLemmas.{shown_there}
-use Rattle.checker.proofs.ClaimLemmas.{wrong, wrong_within}
-use Rattle.trace_ledger.specs.Entries.{IsDone}
+use Rattle.trace_ledger.specs.Entries.{IsDone, HasRightEntries}
+use Rattle.trace_ledger.proofs.RightLemmas.{own_entries}
 use Rattle.wait_coverage.specs.Spans.{IsCoverComplete}
 use Rattle.wait_coverage.specs.Waits.{IsOpen, IsFirstOpenPlace}
 use Rattle.checker.proofs.OwnLemmas.{own_seen, own_done}
@@ -96,7 +96,7 @@ alike_unfinished a b i task alike is = record {
   incomplete = let P : List Record → Type 0 = λ rs. IsCompleteAt rs task i in λ complete. is.incomplete (subst P (sym alike.same) complete);
 }
 
-pub alike_missed : (a b : Reading) (i task : ℕ) → AreAlike a b → IsMissed a i task → IsMissed b i task
+alike_missed : (a b : Reading) (i task : ℕ) → AreAlike a b → IsMissed a i task → IsMissed b i task
 alike_missed a b i task alike is = record {
   required = alike_required a b i task alike is.required;
   order = is.order;
@@ -120,7 +120,7 @@ alike_reason : (a b : Reading) (i : ℕ) (why : Why) → AreAlike a b → IsReas
 alike_reason a b i (Unfinished task) alike reason = (alike.covers i task).0 reason
 alike_reason a b i (Predecessor task) alike reason = alike_preceded a b i task alike reason
 
-pub alike_yes : (a b : Reading) (order : List ℕ) → AreAlike a b → IsApproved a order → IsApproved b order
+alike_yes : (a b : Reading) (order : List ℕ) → AreAlike a b → IsApproved a order → IsApproved b order
 alike_yes a b order alike is = record {
   well_formed = alike_none a b alike is.well_formed;
   linearization = let P : List Record → Type 0 = λ rs. IsLinearization rs order in subst P alike.same is.linearization;
@@ -132,7 +132,7 @@ alike_yes a b order alike is = record {
       subst C alike.same (is.always_complete other (subst L (sym alike.same) linear) i task (alike_required b a i task (alike_back a b alike) required));
 }
 
-pub alike_no : (a b : Reading) (i : ℕ) (why : Why) → AreAlike a b → IsRejected a i why → IsRejected b i why
+alike_no : (a b : Reading) (i : ℕ) (why : Why) → AreAlike a b → IsRejected a i why → IsRejected b i why
 alike_no a b i why alike is =
     let back = alike_back a b alike in
     record {
@@ -148,7 +148,7 @@ alike_verdict a b (Yes order) alike is = alike_yes a b order alike is
 alike_verdict a b (No i why) alike is = alike_no a b i why alike is
 alike_verdict a b (Malformed i cause) alike is = alike_least a b i cause alike is
 
-pub alike_order : (a b : Reading) (i task : ℕ) (order : List ℕ) → AreAlike a b → IsCounterOrderBy a i task order → IsCounterOrderBy b i task order
+alike_order : (a b : Reading) (i task : ℕ) (order : List ℕ) → AreAlike a b → IsCounterOrderBy a i task order → IsCounterOrderBy b i task order
 alike_order a b i task order alike is = record {
   well_formed = alike_none a b alike is.well_formed;
   required = alike_required a b i task alike is.required;
@@ -239,10 +239,20 @@ pub shows_none : (rs : List Record) → IsClear rs all_causes → ShowsNone (by_
 shows_none rs clear i cause shown = clear cause (listed cause) i shown
 
 -- claims that the trace shows to be right are right in the tasks' own order
-pub claims_right : (rs : List Record) (own : OwnView) → IsOwnOf rs own → IsOwn own → ShowsNowhere rs ShareWrong → IsFreeOf own.run.records ShareWrong
-claims_right rs own of is_own none number has =
-    let place = place_of_number rs own is_own.places number (wrong_within own.run.records number (wrong own.run.records number has)) in
-    none place.0 ((shown_there rs own ShareWrong of_claims of number place.0 place.1).1 has)
+claims_right : (rs : List Record) (own : OwnView) → IsOwnOf rs own → IsOwn own → ShowsNowhere rs ShareWrong → IsFreeOf own.run.records ShareWrong
+claims_right rs own of is_own none number (share_wrong (task, part, claimed, finishes, claims, wrong)) =
+    let place = place_of_number rs own is_own.places number (at_within finish own.run.records number (task, part) finishes) in
+    none place.0 ((shown_there rs own ShareWrong of_claims of number place.0 place.1).1 (share_wrong (task, part, claimed, finishes, claims, wrong)))
+
+-- and the run in the tasks' own order has right entries where no cause occurs
+pub clear_entries : (view : ClearView) → IsClearView view → HasRightEntries view.own.run.records
+clear_entries view clear =
+    let rs = view.run.records in
+    let none = clear.well_formed in
+    own_entries rs view.own clear.one.of_file
+    (none CreatedTwice (1, omega arith, refl)) (none TurnGap (5, omega arith, refl)) (none StatusOrder (6, omega arith, refl))
+    (none EntryTwice (12, omega arith, refl)) (none LengthAhead (13, omega arith, refl))
+    (claims_right rs view.own clear.one.of_file clear.one.is_own (none ShareWrong (11, omega arith, refl)))
 
 -- ---- what the searches in the tasks' own order find
 
@@ -280,9 +290,15 @@ open_there rs own number place task of is_own stands = (
       record { covered = covered; incomplete = λ complete. is.1 ((end_complete rs own number place task of is_own stands covered task).0 complete) },
 )
 
+-- so a test by number tells it of the place
+pub open_told : (view : ClearView) (number place task : ℕ) (told : Bool) → IsClearView view → slice_get view.own.places number ≡ Some place → IsTrue told ↔ IsOpen view.own.run.records number task → IsTrue told ↔ IsOpenBy (by_task view.run.records) place task
+open_told view number place task told clear stands tells =
+    let there = open_there view.run.records view.own number place task clear.one.of_file clear.one.is_own stands in
+    (λ yes. there.0 (tells.0 yes), λ opened. tells.1 (there.1 opened))
+
 -- what the search for an open end finds
 pub open_by_task : (rs : List Record) (own : OwnView) (found : Option (ℕ × ℕ)) → IsOwnOf rs own → IsOwn own → MatchOption found ((i : ℕ) → IsCoverComplete own.run.records i) (λ (f : ℕ × ℕ). IsFirstOpenPlace own f.0 f.1) → MatchOption found (AreAllCovered (by_task rs)) (λ (f : ℕ × ℕ). IsFirstOpenBy (by_task rs) f.0 f.1)
-open_by_task rs own None of is_own all i task covers =
+open_by_task rs own None of is_own all = λ i task covers.
     let there = number_of_place rs own of is_own.places i ((of_tasks rs).within i task covers) in
     let covered = (own_covers rs own of there.0 i there.1 task).1 covers in
     (end_complete rs own there.0 i task of is_own there.1 covered task).0 (all there.0 task covered)

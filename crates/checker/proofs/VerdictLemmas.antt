@@ -1,6 +1,6 @@
 -- From what the searches find to the verdict.
 use Rattle.std.proofs.Common.{zero-add, ◌≡◌, ◌∙◌, ℕ, ◌<◌, ◌≤◌, ◌⊎◌, List, length, take, Option, Some, None, refl, sym, ap, subst, arith, inl, inr}
-use Rattle.std.specs.Prelude.{MatchOption, is_some, Contains, ⊤, slice_get, option_and_then}
+use Rattle.std.specs.Prelude.{is_some, Contains, ⊤, slice_get, option_and_then}
 use Rattle.std.proofs.lemmas.Option.{none-some}
 use Rattle.std.proofs.lemmas.Bool.{cases_eq}
 use Rattle.ompt_events.specs.declared.records.Record.{Record}
@@ -8,7 +8,6 @@ use Rattle.ompt_events.specs.declared.records.Part.{Part}
 use Rattle.ompt_events.specs.declared.records.Part.TheVariants as part
 use Rattle.ompt_events.specs.declared.cause.Cause.{Cause}
 use Rattle.ompt_events.specs.declared.cause.Cause.TheVariants.{SeqGap, CreatedTwice, Rootless, NotCurrent, Moved, TurnGap, StatusOrder, RegionOrder, TeamShort, NestedParallel, DepsPlace, ShareWrong, EntryTwice, LengthAhead, LengthBack, NoOrder, TargetTask}
-use Rattle.trace_ledger.specs.Entries.{IsFreeUpTo}
 use Rattle.ompt_events.specs.Records.{finish, region, started, wait_completed}
 use Rattle.ompt_events.specs.Places.{at, places}
 use Rattle.ompt_events.specs.HappensBefore.{IsStep, ledger, step}
@@ -25,18 +24,15 @@ use Rattle.ompt_events.specs.declared.names.Endpoint.{Endpoint}
 use Rattle.ompt_events.specs.declared.names.Endpoint.TheVariants.{End, BeginEnd}
 use Rattle.ompt_events.specs.Causes.{IsFreeOf, no_order}
 use Rattle.ompt_events.specs.CauseNames.{all_causes}
-use Rattle.wait_coverage.specs.Spans.{IsCoverComplete}
-use Rattle.wait_coverage.specs.Waits.{IsFirstOpenEnd}
-use Rattle.checker.specs.Starts.{AreReady, IsFirstLateStart}
-use Rattle.checker.specs.Readings.{Reading, by_file, IsPrecededBy}
+use Rattle.checker.specs.Readings.{Reading, IsPrecededBy}
 use Rattle.checker.specs.Verdicts.{ShowsNone, AreComplete, IsAlwaysComplete, IsUnfinished, IsOpenBy, IsLateBy, IsApproved}
-use Rattle.checker.specs.Search.{IsClear, IsOfRecords, AreAllCovered, AreAllReady, IsFirstOpenBy, IsFirstLateBy, IsFirstViolation}
+use Rattle.checker.specs.Search.{IsOfRecords, AreAllCovered, AreAllReady, IsFirstOpenBy, IsFirstLateBy, IsFirstViolation}
 use Rattle.checker.specs.declared.verdict.Why.TheVariants.{Unfinished, Predecessor}
 use Rattle.std.proofs.lemmas.List.{length-take, get_or-take}
 use Rattle.std.proofs.lemmas.List.FromFn.{length-range_with_len, get_or-range_with_len}
 use Rattle.std.proofs.lemmas.List.Sorted.{IsPermutation-refl}
 use Rattle.ompt_events.proofs.TurnLemmas.{start_starts}
-use Rattle.ompt_events.proofs.PlaceLemmas.{contains_place, at_within}
+use Rattle.ompt_events.proofs.PlaceLemmas.{contains_place}
 use Rattle.ompt_events.proofs.HappensBeforeLemmas.{before_to}
 use Rattle.ompt_events.proofs.LinearizationLemmas.{greedy_grounded}
 use Rattle.checker.proofs.ScheduleLemmas.{before_less}

@@ -7,12 +7,12 @@ use Rattle.ompt_events.specs.HappensBefore.{IsFinishing, HappensBefore}
 use Rattle.ompt_events.specs.Linearization.{IsLinearization, IsGreedy, IsGreedyAfter}
 use Rattle.ompt_events.specs.Completion.{IsCompleteIn}
 use Rattle.ompt_events.specs.CauseNames.{all_causes}
-use Rattle.ompt_events.specs.Causes.{IsWellFormed}
 use Rattle.checker.specs.Entries.{MakersView, IsLedger}
 use Rattle.checker.specs.declared.verdict.Verdict.{Verdict}
 use Rattle.checker.specs.declared.verdict.Verdict.TheVariants.{No}
 use Rattle.checker.specs.Readings.{Reading, by_task, IsRequiredBy}
 use Rattle.checker.specs.Verdicts.{ShowsNone, IsMissed, task_of}
+use Rattle.checker.specs.Search.{IsClear}
 
 -- the records that happen before i, again and again the first in file order of which all that happens before
 -- it stands; then i; then the others in the same manner
@@ -63,7 +63,7 @@ pub record OrderedView : Type 0 where
 -- no cause occurs, and the order is the greedy one
 pub record IsOrdered (ordered : OrderedView) : Type 0 where
   pub ledger : IsLedger ordered.ledger
-  pub well_formed : IsWellFormed ordered.ledger.run.records all_causes
+  pub well_formed : IsClear ordered.ledger.run.records all_causes
   pub linearization : IsLinearization ordered.ledger.run.records ordered.order
   pub greedy : IsGreedy ordered.ledger.run.records ordered.order
 
@@ -102,8 +102,8 @@ pub record AreEarlierInThread (rs : List Record) (i : ℕ) (bounds : List ℕ) :
 abbrev pub MakesBelow : List Record → ℕ → ℕ → Type 0
 MakesBelow rs entries c = IsFinishing rs c × (seen_at rs c < entries)
 
--- the bounds were raised to each record with the property, and no further: just those records, and earlier ones
--- of their threads, came below
+-- the bounds were raised to each record with the property, and no further: just those records, and earlier
+-- ones of their threads, came below
 pub record AreRaisedTo (rs : List Record) (has : ℕ → Type 0) (old new : List ℕ) : Type 0 where
   pub kept : (a : ℕ) → IsBelow rs old a → IsBelow rs new a
   pub raised : (c : ℕ) → has c → IsBelow rs new c

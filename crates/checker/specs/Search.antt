@@ -1,5 +1,5 @@
 -- What the searches of a check tell one another.
-use Rattle.std.specs.Prelude.{ℕ, ◌≡◌, ◌<◌, List, Contains, length}
+use Rattle.std.specs.Prelude.{ℕ, ◌<◌, List, Contains, length}
 use Rattle.ompt_events.specs.declared.records.Record.{Record}
 use Rattle.ompt_events.specs.declared.cause.Cause.{Cause}
 use Rattle.ompt_events.specs.declared.fault.Fault.{Fault}
@@ -45,8 +45,8 @@ pub record IsSoundView (view : SoundView) : Type 0 where
 
 -- ---- the first violation
 
--- what the reading says of waits is said at its records, and at none that starts a task, or at which a taskwait
--- with dependences is complete
+-- what the reading says of waits is said at its records, and at none that starts a task, or at which a
+-- taskwait with dependences is complete
 pub record IsOfRecords (reading : Reading) : Type 0 where
   pub within : (i task : ℕ) → reading.covers i task → i < length reading.records
   pub apart : (i task other : ℕ) → reading.covers i task → IsPrecededBy reading i other → ⊥

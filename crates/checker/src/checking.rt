@@ -14,10 +14,10 @@ use ompt_events::{Fault, Trace};
 use std::alloc::Global;
 use wait_coverage::{find_known, find_open};
 
-/// The verdict on the records of a trace, by each task's own order: malformed with the lowest-numbered cause that
-/// occurs, at the first record in file order that shows it; else no at the first record that ends a region which
-/// covers an unfinished task, or that starts a task before a predecessor is finished; else yes with the greedy
-/// order. Fails only when out of memory.
+/// The verdict on the records of a trace, by each task's own order: malformed with the lowest-numbered cause
+/// that occurs, at the first record in file order that shows it; else no at the first record that ends a region
+/// which covers an unfinished task, or that starts a task before a predecessor is finished; else yes with the
+/// greedy order. Fails only when out of memory.
 pub fn check(alloc: Global, trace: &Trace) -> Result<Verdict, CheckFault>
     ensures { IfOk result (IsVerdict trace.now.records) }
 {

@@ -20,10 +20,10 @@ use wait_coverage::{find_known, is_open};
 
 /// An order of all records of a trace, allowed by them, in which the task is not complete at the
 /// place, although it must be: a wait ends there that covers it, or what starts or is complete there depends
-/// on it. It is the order in which the record at the place stands as early as it can: those that happen before
-/// it, each time the first in file order of which all that happens before it stands; then the record; then the
-/// others in the same manner. None where there is no such order, and where a cause occurs. It takes n log n
-/// steps in the records. Fails only when out of memory.
+/// on it. It is the order in which the record at the place stands as early as it can: those that happen
+/// before it, each time the first in file order of which all that happens before it stands; then the record;
+/// then the others in the same manner. None where there is no such order, and where a cause occurs. It takes
+/// n log n steps in the records. Fails only when out of memory.
 pub fn counter_order(
     alloc: Global,
     trace: &Trace,
@@ -39,8 +39,8 @@ pub fn counter_order(
     }
 }
 
-/// The verdict that `check` gives, and for a no the order that `counter_order` gives for its record and task, in
-/// one pass through the phases.
+/// The verdict that `check` gives, and for a no the order that `counter_order` gives for its record and task,
+/// in one pass through the phases.
 pub fn check_with_counter(
     alloc: Global,
     trace: &Trace,

@@ -215,14 +215,18 @@ impl Precedence<'_, '_> {
             IsDependentAt self.now.file.records self.now.own.run at dependent.index dependent.bound) }
     {
         let number = self.own.number(at);
-        if start_at(self.file, started, at).is_some() {
-            let index = self.own.run().started(number)?;
-            let bound = self.start_bound(at);
-            return Some(Dependent { index, bound });
+        match start_at(self.file, started, at) {
+            Some(_first) => {
+                let index = self.own.run().started(number)?;
+                let bound = self.start_bound(at);
+                Some(Dependent { index, bound })
+            }
+            None => {
+                let index = self.own.run().wait_completed(number)?;
+                let bound = self.file.seen(at);
+                Some(Dependent { index, bound })
+            }
         }
-        let index = self.own.run().wait_completed(number)?;
-        let bound = self.file.seen(at);
-        Some(Dependent { index, bound })
     }
 
     /// Of the tasks that must be complete at the place as predecessors the first created one that isn't.
@@ -294,8 +298,6 @@ impl Precedence<'_, '_> {
             → MatchOption result (AreDoneBefore self.now.own.run.records task bound)
             (IsFirstBehind self.now.file.records self.now.own.run.records task bound) }
     {
-        // Tells that these are the tasks' lengths. Compiled, it is nothing.
-        let _lengths = self.lengths;
         let mut first = None;
         for at in 0..predecessors.len() {
             first = self.earlier_of(first, predecessors[at], bound);
@@ -314,6 +316,8 @@ impl Precedence<'_, '_> {
             → IsFirstOf self.now.file.records self.now.own.run.records predecessors bound n first
             → IsFirstOf self.now.file.records self.now.own.run.records predecessors bound (n + 1) result }
     {
+        // Tells that these are the tasks' lengths. Compiled, it is nothing.
+        let _lengths = self.lengths;
         match self.behind_at(task, bound) {
             Some(place) => Some(earlier(first, Late { place, task })),
             None => first,

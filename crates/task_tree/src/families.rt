@@ -131,7 +131,8 @@ impl Families {
     }
 }
 
-/// Whether file order is the tasks' own order already and no record has a turn gap, as in each trace of version 1.
+/// Whether file order is the tasks' own order already and no record has a turn gap, as in each trace of
+/// version 1.
 fn is_in_own_order(alloc: Global, trace: &Trace, family: &Family) -> Result<bool, AllocError>
     requires { IsFamilyOf trace.now.records family.now }
     ensures rises { IfOk result (λ own. IsTrue own → TurnsRise trace.now.records) }

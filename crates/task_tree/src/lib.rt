@@ -1,9 +1,10 @@
 //! The tree of tasks: which task created which, in which order, and the root below which each one stands.
 //!
 //! `Family` has parents, numbers, roots and children, and the index of each task that a record names, so
-//! that no later phase searches for a task again; `Tree` has the paths too. `Run` is the records with their
-//! family, which all later phases take: it says by place what a record is. `Own` is a run whose records stand
-//! in the tasks' own order. Read `run`, `own`, `family` and `tree` for what a caller sees, then `makers`, `children` (after `links`, `subjects` and `rows`), `roots` (after
+//! that no later phase searches for a task again. `Run` is the records with their family, which all later
+//! phases take: it says by place what a record is. `Own` is a run whose records stand in the tasks' own order;
+//! `Families` have both, and `Tree` has the paths too. Read `run`, `own`, `family`, `families` and `tree` for
+//! what a caller sees, then `makers`, `children` (after `links`, `subjects` and `rows`), `roots` (after
 //! `forward`) and `rootless`, the steps of a build. `numbering` is the list of ids that they share
 //! (`ranking` searches it), `slot` an index or none in 32 bits, `link_slot` a link or none, `standing_slot`
 //! where a task stands or nothing, and `hints` says where a task is looked for first.

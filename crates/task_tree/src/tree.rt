@@ -75,8 +75,8 @@ impl Tree {
         self.family().parent(task)
     }
 
-    /// How many children the task's parent created before it, in its own order; none for a root, or where no record makes the
-    /// task.
+    /// How many children the task's parent created before it, in its own order; none for a root, or where no
+    /// record makes the task.
     pub fn number(&self, task: u64) -> Option<u32>
         ensures { (records : List Record) → IsTreeOf records self.now → (number : ℕ)
             → (result ≡ Some number) ↔ ((parent : ℕ)

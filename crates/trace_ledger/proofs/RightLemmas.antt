@@ -15,6 +15,7 @@ use Rattle.ompt_events.specs.Causes.{HasCause, IsFreeOf, ShowsNowhere, share_wro
 use Rattle.ompt_events.proofs.PlaceLemmas.{at_within}
 use Rattle.task_tree.specs.Own.{OwnView}
 use Rattle.task_tree.specs.Families.{IsOwnOf, own_in_file, own_by_turn}
+use Rattle.task_tree.proofs.SayingLemmas.{shows_has}
 use Rattle.task_tree.proofs.OwnOrderLemmas.{own_place_of, arranged_at, arranged_length}
 use Rattle.task_tree.proofs.ArrangedLemmas.{placed, said_here, apart_places, arranged_once, counted_arranged}
 use Rattle.trace_ledger.specs.Entries.{IsFinishedInParts, HasRightEntries, IsFreeUpTo, ShowsNoneUpTo}
@@ -129,3 +130,18 @@ own_entries rs own (own_by_turn records order) once gapless orderly apart within
     let P : List Record → Type 0 = HasRightEntries in
     let Q : List Record → Type 0 = λ l. IsFreeOf l ShareWrong in
     subst P (sym records) (arranged_entries rs once gapless orderly apart within (subst Q records right))
+
+-- and where the trace shows none of the causes, the run has right entries
+pub own_shown_entries : (rs : List Record) (own : OwnView) → IsOwnOf rs own → ShowsNoneUpTo rs 13 → HasRightEntries own.run.records
+own_shown_entries rs own (own_in_file records order rise) none =
+    let P : List Record → Type 0 = HasRightEntries in
+    subst P (sym records) (record {
+      once = none CreatedTwice (omega arith);
+      right = λ i has. none ShareWrong (omega arith) i ((shows_has rs rise i ShareWrong).1 has);
+      parts = finished_in_parts rs (none TurnGap (omega arith)) (none StatusOrder (omega arith));
+      apart = none EntryTwice (omega arith);
+      within = none LengthAhead (omega arith);
+    })
+own_shown_entries rs own (own_by_turn records order) none =
+    let P : List Record → Type 0 = HasRightEntries in
+    subst P (sym records) (shown_entries rs none)

@@ -5,6 +5,8 @@ ghost use Rattle.ompt_events.specs.declared.records.Record.{Record};
 ghost use Rattle.ompt_events.specs.Traces.{IsTrace};
 ghost use Rattle.ompt_events.specs.Tree.{HasPath, IsChild};
 ghost use Rattle.ompt_events.specs.Turns.{in_own_order};
+ghost use Rattle.task_tree.specs.Own.{OwnView};
+ghost use Rattle.task_tree.specs.Families.{IsOwnOf};
 ghost use Rattle.credit_ledger.specs.declared.entry.Entry.{Entry};
 ghost use Rattle.credit_ledger.specs.Entries.{is_overlap};
 ghost use Rattle.trace_ledger.specs.Entries.{IsEntryAt, IsLedgerOf, IsDone, HasRightEntries};
@@ -12,10 +14,13 @@ ghost use Rattle.trace_ledger.specs.Entries.{IsFreeUpTo, ShowsNoneUpTo};
 ghost use Rattle.trace_ledger.specs.Credits.{IsHeldInTree, IsHeldInPool, IsFamilyDone};
 
 /// Records without the causes 1 to 13 have right entries, and so have the records of a trace in the tasks'
-/// own order where it shows none of these causes. Right entries are all that the other laws ask for.
+/// own order where it shows none of these causes, as a list and as the records of a run. Right entries are all
+/// that the other laws ask for.
 pub fn entries_are_right()
     ensures listed { (rs : List Record) → IsFreeUpTo rs 13 → HasRightEntries rs }
     ensures shown { (rs : List Record) → ShowsNoneUpTo rs 13 → HasRightEntries (in_own_order rs) }
+    ensures run { (rs : List Record) (own : OwnView) → IsOwnOf rs own → ShowsNoneUpTo rs 13
+        → HasRightEntries own.run.records }
 {}
 
 /// Credit that is held means finished tasks. In a trace with right entries the first n entries finish a

@@ -353,17 +353,6 @@ wait_at_end coverage index end wait is read (place, here, stands) =
     let all = is.waits.all in
     is.waits.each index place end wait here stands (slice_get-get_or coverage.waits index wait (omega (arith, inside, all)) ∙ ap Some (sym read))
 
--- the wait with an index, and the end that it is of
-pub record HasWait (coverage : CoverageView) (index : ℕ) (wait : Wait) : Type 0 where
-  pub end : ℕ
-  pub is_wait : IsWaitAt coverage.teams.run.records coverage.teams.run.family.tasks end wait
-
-pub has_wait : (coverage : CoverageView) (index : ℕ) (wait : Wait) → IsCoverage coverage → index < length coverage.ends → wait ≡ get_or coverage.waits index wait → HasWait coverage index wait
-has_wait coverage index wait is below read =
-    let here = slice_get-get_or coverage.ends index 0 below in
-    let there = (is.ends.only index (get_or coverage.ends index 0) here).1 in
-    record { end = there.0; is_wait = wait_at_end coverage index there.0 wait is read (get_or coverage.ends index 0, here, there.1) }
-
 -- the end is at a place of the file
 pub end_within : (coverage : CoverageView) (index place : ℕ) → IsCoverage coverage → index < length coverage.ends → place ≡ get_or coverage.ends index place → place < length coverage.teams.run.records
 end_within coverage index place is below read = (is.ends.only index place (slice_get-get_or coverage.ends index place below ∙ ap Some (sym read))).0
@@ -372,9 +361,6 @@ end_within coverage index place is below read = (is.ends.only index place (slice
 pub one_number_of : (coverage : CoverageView) (index end other : ℕ) → IsCoverage coverage → IsEndNumber coverage index end → IsEndNumber coverage index other → end ≡ other
 one_number_of coverage index end other is (place, here, stands) (place', here', stands') =
     is.teams.placed.places.apart end other place stands (stands' ∙ ap Some (sym (same_Some place place' (sym here ∙ here'))))
-
-pub coverage_of : (inside coverage : CoverageView) → inside ≡ coverage → IsCoverage inside → IsCoverage coverage
-coverage_of inside coverage same is = subst IsCoverage same is
 
 -- what the search finds where the lengths are those of the records
 pub open_first : (known : TeamsView) (done : DoneView) (number end : ℕ) (found : Option ℕ) → done.teams ≡ known → IsDoneView done → AreDone done → number ≡ end → (AreChildrenDone done → MatchOption found (IsCoverComplete (records_of done) number) (IsFirstOpen (own_of done.teams) number)) → MatchOption found (IsCoverComplete known.run.records end) (IsFirstOpen (own_of known) end)

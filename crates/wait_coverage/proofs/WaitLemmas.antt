@@ -11,7 +11,7 @@ use Rattle.ompt_events.specs.declared.names.Endpoint.TheVariants.{Begin, End, Be
 use Rattle.ompt_events.specs.declared.names.SyncKind.{SyncKind}
 use Rattle.ompt_events.specs.declared.names.WaitKind.{WaitKind}
 use Rattle.ompt_events.specs.declared.names.WaitKind.TheVariants.{Taskwait as TaskwaitKind, Taskgroup as TaskgroupKind, Barrier as BarrierKind}
-use Rattle.ompt_events.specs.Records.{made, created, creation, region}
+use Rattle.ompt_events.specs.Records.{made, creation, region}
 use Rattle.ompt_events.specs.Places.{at}
 use Rattle.ompt_events.specs.Tree.{child, deeper}
 use Rattle.ompt_events.specs.Regions.{IsRegion, ended, at_once}
@@ -231,9 +231,3 @@ late_more done wait seen n before here k task below late = elim (cases_eq k n) [
 
 pub late_within : (done : DoneView) (wait : Wait) (seen place task : ℕ) → IsDoneView done → IsLateAt done wait seen place task → place < length (records_of done)
 late_within done wait seen place task is late = is.teams.placed.places.below late.0.0 place late.0.1
-
--- the record at a place makes no other task
-pub late_number : (done : DoneView) (wait : Wait) (seen number place task : ℕ) → IsDoneView done → slice_get done.teams.places number ≡ Some place → IsLateAt done wait seen place task → at created (records_of done) number ≡ Some task
-late_number done wait seen number place task is stands late =
-    let same = is.teams.placed.places.apart number late.0.0 place stands late.0.1 in
-    ap (at created (records_of done)) same ∙ late.0.2

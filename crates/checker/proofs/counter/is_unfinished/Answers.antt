@@ -1,48 +1,60 @@
-use Rattle.std.proofs.Common.{◌∙◌, refl, sym, ap, subst, arith, inl, inr}
+use Rattle.std.proofs.Common.{◌∙◌, Some, refl, sym, ap, subst, arith, inl, inr}
 use Rattle.std.proofs.lemmas.Bool.{false≢true}
 use Rattle.std.proofs.lemmas.Result.{IfOk-weaker}
-use Rattle.std.specs.Prelude.{IsTrue, ◌↔◌}
+use Rattle.std.specs.Prelude.{◌≡◌, ◌↔◌, IfOk, IsTrue, slice_get}
 use Rattle.ompt_events.specs.declared.cause.Cause.TheVariants.{EntryTwice, LengthAhead}
 use Rattle.task_tree.specs.Runs.{RunView}
-use Rattle.teams.specs.Teams.{TeamsView}
+use Rattle.task_tree.specs.Own.{OwnView}
+use Rattle.task_tree.proofs.ShownLemmas.{own_long}
+use Rattle.teams.specs.Teams.{own_of}
 use Rattle.wait_coverage.specs.Waits.{IsOpen}
-use Rattle.checker.specs.Readings.{by_file}
-use Rattle.checker.specs.Verdicts.{IsUnfinished}
+use Rattle.checker.specs.Readings.{by_task}
+use Rattle.checker.specs.Verdicts.{IsOpenBy, IsUnfinished}
 use Rattle.checker.specs.Starts.{IsLate}
 use Rattle.checker.proofs.VerdictLemmas.{open_unfinished, late_unfinished, unfinished_cases}
+use Rattle.checker.proofs.ReadingLemmas.{open_told}
 use Rattle.checker.proofs.counter.is_unfinished.Goals as goal
 
+pub number-requires : goal.number-requires
+number-requires c =
+    let view = c.args.clear.now in
+    rw (c.own.ensures.value, c.sound-sound.ensures.own, own_long view.run.records view.own c.sound-sound.ensures.is_clear.one.of_file) c.requires
+
 pub of-requires-clause-once : goal.of-requires-clause-once
-of-requires-clause-once c =
-    rw (c.sound.invariant.1.1, c.sound.view_is, c.sound-sound.ensures.value) (c.sound-sound.ensures.is_clear.well_formed EntryTwice (12, omega arith, refl))
+of-requires-clause-once c = rw c.sound-sound.ensures.run (c.sound-sound.ensures.is_clear.well_formed EntryTwice (12, omega arith, refl))
 
 pub of-requires-clause-reached : goal.of-requires-clause-reached
-of-requires-clause-reached c =
-    rw (c.sound.invariant.1.1, c.sound.view_is, c.sound-sound.ensures.value) (c.sound-sound.ensures.is_clear.well_formed LengthAhead (13, omega arith, refl))
+of-requires-clause-reached c = rw c.sound-sound.ensures.run (c.sound-sound.ensures.is_clear.well_formed LengthAhead (13, omega arith, refl))
 
 pub returns-then-branch-clause-unfinished : goal.returns-then-branch-clause-unfinished
 returns-then-branch-clause-unfinished c =
-    let rs = c.args.clear.now.run.records in
-    let Tells : RunView → Type 0 = λ r. IsTrue c.in_ok-is_open.field-0 ↔ IsOpen r.records c.args.at c.args.task in
-    let same = ap (λ (t : TeamsView). t.run) c.in_ok-known.ensures.teams ∙ c.sound.view_is ∙ c.sound-sound.ensures.value in
-    let tells : IsTrue c.in_ok-is_open.field-0 ↔ IsOpen rs c.args.at c.args.task = subst Tells same (c.in_ok-is_open.ensures.open c.in_ok-known.ensures.done) in
-    ((λ _. let is = tells.0 c.if-branch.true in open_unfinished (by_file rs) c.args.at c.args.task (is.covered, is.incomplete)), (λ _. refl))
+    let view = c.args.clear.now in
+    let Stands : OwnView → Type 0 = λ own. slice_get own.places c.number.result ≡ Some c.args.at in
+    let Tells : OwnView → Type 0 = λ own. IsTrue c.in_ok-is_open.field-0 ↔ IsOpen own.run.records c.number.result c.args.task in
+    let stands = subst Stands (c.own.ensures.value ∙ c.sound-sound.ensures.own) c.number.ensures.value in
+    let known = ap own_of c.in_ok-known.ensures.teams ∙ c.teams.ensures.value ∙ c.sound-sound.ensures.own in
+    let tells = open_told view c.number.result c.args.at c.args.task c.in_ok-is_open.field-0 c.sound-sound.ensures.is_clear stands (subst Tells known (c.in_ok-is_open.ensures.open c.in_ok-known.ensures.done)) in
+    ((λ _. open_unfinished (by_task view.run.records) c.args.at c.args.task (tells.0 c.if-branch.true)), (λ _. refl))
 
 pub returns-clause-unfinished : goal.returns-clause-unfinished
 returns-clause-unfinished c =
-    let rs = c.args.clear.now.run.records in
+    let view = c.args.clear.now in
+    let rs = view.run.records in
     let at = c.args.at in
     let task = c.args.task in
-    let Tells : RunView → Type 0 = λ r. IsTrue c.in_ok-is_open.field-0 ↔ IsOpen r.records at task in
-    let same = ap (λ (t : TeamsView). t.run) c.in_ok-known.ensures.teams ∙ c.sound.view_is ∙ c.sound-sound.ensures.value in
-    let tells : IsTrue c.in_ok-is_open.field-0 ↔ IsOpen rs at task = subst Tells same (c.in_ok-is_open.ensures.open c.in_ok-known.ensures.done) in
-    let closed : IsOpen rs at task → ⊥ = λ is. false≢true (sym c.if-branch.false ∙ tells.1 is) in
-    IfOk-weaker c.is_late.result (λ found. IsTrue found ↔ IsLate rs at task) (λ found. IsTrue found ↔ IsUnfinished (by_file rs) at task)
+    let Stands : OwnView → Type 0 = λ own. slice_get own.places c.number.result ≡ Some at in
+    let Tells : OwnView → Type 0 = λ own. IsTrue c.in_ok-is_open.field-0 ↔ IsOpen own.run.records c.number.result task in
+    let TellsLate : RunView → Type 0 = λ run. IfOk c.is_late.result (λ found. IsTrue found ↔ IsLate run.records at task) in
+    let stands = subst Stands (c.own.ensures.value ∙ c.sound-sound.ensures.own) c.number.ensures.value in
+    let known = ap own_of c.in_ok-known.ensures.teams ∙ c.teams.ensures.value ∙ c.sound-sound.ensures.own in
+    let tells = open_told view c.number.result at task c.in_ok-is_open.field-0 c.sound-sound.ensures.is_clear stands (subst Tells known (c.in_ok-is_open.ensures.open c.in_ok-known.ensures.done)) in
+    let closed : IsOpenBy (by_task rs) at task → ⊥ = λ is. false≢true (sym c.if-branch.false ∙ tells.1 is) in
+    IfOk-weaker c.is_late.result (λ found. IsTrue found ↔ IsLate rs at task) (λ found. IsTrue found ↔ IsUnfinished (by_task rs) at task)
     (λ found late. (
-      (λ yes. late_unfinished (by_file rs) at task (late.0 yes)),
-      (λ is. elim (unfinished_cases (by_file rs) at task is) [
-        | inl is_open ↦ absurd (closed (record { covered = is_open.0; incomplete = is_open.1 }))
+      (λ yes. late_unfinished (by_task rs) at task (late.0 yes)),
+      (λ is. elim (unfinished_cases (by_task rs) at task is) [
+        | inl is_open ↦ absurd (closed is_open)
         | inr is_late ↦ late.1 is_late
       ]),
     ))
-    (rw (c.in_ok-precedence.ensures.run, c.sound.invariant.1.1, c.sound.view_is, c.sound-sound.ensures.value) at c.is_late.ensures.late)
+    (subst TellsLate (c.in_ok-precedence.ensures.file ∙ c.sound-sound.ensures.run) c.is_late.ensures.late)

@@ -3,7 +3,7 @@ use Rattle.std.proofs.lemmas.Result.{err_from_is_err_and}
 use Rattle.std.specs.Prelude.{filter}
 use Rattle.ompt_events.specs.declared.cause.Cause.TheVariants.{NoOrder}
 use Rattle.checker.specs.Counter.{is_below}
-use Rattle.checker.proofs.PhaseLemmas.{memory_alone, only_clear}
+use Rattle.checker.proofs.PhaseLemmas.{fault_shown, memory_alone, only_clear}
 use Rattle.checker.proofs.CounterLemmas.{base_in_turn, earliest_behind}
 use Rattle.checker.proofs.earliest.earliest_order.Goals as goal
 
@@ -23,7 +23,7 @@ pub returns-in_err-find_order-clause-memory_alone : goal.returns-in_err-find_ord
 returns-in_err-find_order-clause-memory_alone c =
     let rs = c.args.ordered.now.ledger.run.records in
     let p = err_from_is_err_and c.from_residual-in_err-find_order.result c.from_residual-in_err-find_order.ensures.1 in
-    rw (p.1, p.2) (memory_alone rs (NoOrder ∷ []) c.in_err-find_order.field-0.0 (only_clear rs NoOrder (c.makers-makers.ensures.is_ordered.well_formed NoOrder (15, omega arith, refl))) (rw c.makers-makers.ensures.value at c.in_err-find_order.ensures.fault))
+    rw (p.1, p.2) (memory_alone rs (NoOrder ∷ []) c.in_err-find_order.field-0.0 (only_clear rs NoOrder (c.makers-makers.ensures.is_ordered.well_formed NoOrder (15, omega arith, refl))) (fault_shown rs (NoOrder ∷ []) c.in_err-find_order.field-0.0 refl (rw c.makers-makers.ensures.value at c.in_err-find_order.ensures.fault)))
 
 pub overflow_cast-at : goal.overflow_cast-at
 overflow_cast-at c =

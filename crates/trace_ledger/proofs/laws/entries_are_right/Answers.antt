@@ -1,4 +1,4 @@
-use Rattle.trace_ledger.proofs.RightLemmas.{right_entries, shown_entries}
+use Rattle.trace_ledger.proofs.RightLemmas.{right_entries, shown_entries, own_shown_entries}
 use Rattle.trace_ledger.proofs.laws.entries_are_right.Goals as goal
 
 pub returns-clause-listed : goal.returns-clause-listed
@@ -6,3 +6,6 @@ returns-clause-listed c = right_entries
 
 pub returns-clause-shown : goal.returns-clause-shown
 returns-clause-shown c = shown_entries
+
+pub returns-clause-run : goal.returns-clause-run
+returns-clause-run c = own_shown_entries

@@ -1,16 +1,27 @@
-use Rattle.checker.proofs.LateLemmas.{first_here, done_more, all_done}
+use Rattle.std.proofs.Common.{Option, subst}
+use Rattle.checker.specs.declared.starts.Late.{Late}
+use Rattle.checker.specs.Starts.{IsFirstOf}
+use Rattle.checker.proofs.LateLemmas.{first_of_none, first_of_all, all_done, get_here}
 use Rattle.checker.proofs.starts.Precedence.first_behind.Goals as goal
 
-pub returns-then-is_behind : goal.returns-then-is_behind
-returns-then-is_behind c =
-    let run = c.self.inside.run.now in
-    let family = c.self.invariant.run.family in
-    rw (← c.self.view_is) (first_here run.records run.family.tasks c.args.predecessors.now c.args.bound c.loop-place.place c.is_behind.result family.once family.noted c.loop-place-test.true c.if-is_behind.true (rw (← c.self.view_is) at c.is_behind.ensures) (rw (← c.self.view_is) at c.loop-place.invariant))
+pub loop-at-init : goal.loop-at-init
+loop-at-init c = λ task are. first_of_none c.args.self.now.file.records c.args.self.now.own.run.records c.args.predecessors.now c.args.bound
 
-pub loop-place-preserved : goal.loop-place-preserved
-loop-place-preserved c =
-    let run = c.self.inside.run.now in
-    rw (← c.self.view_is) (done_more run.records run.family.tasks c.self.inside.own.now c.args.predecessors.now c.args.bound c.loop-place.place c.is_behind.result c.self.invariant.run.family.noted c.self.invariant.own c.ranges.bound.fits c.loop-place-test.true c.if-is_behind.false (rw (← c.self.view_is) at c.is_behind.ensures) (rw (← c.self.view_is) at c.loop-place.invariant))
+pub loop-at-preserved : goal.loop-at-preserved
+loop-at-preserved c = λ task are. c.earlier_of-first.ensures c.args.predecessors.now c.loop-at.at task (get_here c.args.predecessors.now c.loop-at.at c.loop-at-test.true) are (c.loop-at.invariant task are)
 
-pub returns : goal.returns
-returns c = λ task are. all_done c.args.self.now.run.records c.args.predecessors.now c.args.bound c.loop-place.place task c.loop-place.invariant c.loop-place-test.false are
+pub returns-in-Some : goal.returns-in-Some
+returns-in-Some c = λ task are.
+    let file = c.args.self.now.file.records in
+    let own = c.args.self.now.own.run.records in
+    let predecessors = c.args.predecessors.now in
+    let P : Option Late → Type 0 = IsFirstOf file own predecessors c.args.bound c.loop-at.at in
+    first_of_all file own predecessors c.args.bound c.loop-at.at task c.in-Some.late c.loop-at-test.false are (subst P c.in-Some.is (c.loop-at.invariant task are))
+
+pub returns-in-None : goal.returns-in-None
+returns-in-None c = λ task are.
+    let file = c.args.self.now.file.records in
+    let own = c.args.self.now.own.run.records in
+    let predecessors = c.args.predecessors.now in
+    let P : Option Late → Type 0 = IsFirstOf file own predecessors c.args.bound c.loop-at.at in
+    all_done file own predecessors c.args.bound c.loop-at.at task c.loop-at-test.false are (subst P c.in-None.is (c.loop-at.invariant task are))
