@@ -21,8 +21,8 @@ pub(crate) fn exclude_wrong_claims(own: &Own) -> Result<(), Fault>
     }
 }
 
-/// The first finishing record in file order whose claim is not right: its task stands at another path or below
-/// another root, or created another number of children, by the tasks' own order.
+/// The first finishing record in file order whose claim is not right by the tasks' own order: its task stands at
+/// another path or below another root, or created another number of children.
 fn find_wrong_claim(own: &Own) -> Option<usize>
     ensures { FindsFirstPlace own.now ShareWrong result }
 {

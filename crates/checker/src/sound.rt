@@ -9,8 +9,8 @@ use std::marker::Model;
 use task_tree::{Own, Run};
 use teams::Teams;
 
-/// A trace that shows none of the causes before `EntryTwice`, with its run, and the teams and the edges of its
-/// tasks by their own order.
+/// A trace that shows none of the causes before `EntryTwice`, with the run of the file, and the teams and the
+/// edges of the run in the tasks' own order.
 #[derive(Drop)]
 pub(crate) struct Sound<'a> {
     pub(crate) trace: &'a Trace,
