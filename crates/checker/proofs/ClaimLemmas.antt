@@ -1,16 +1,12 @@
 -- Which record is the first with a wrong claim.
-use Rattle.std.proofs.Common.{◌≡◌, ◌∙◌, ℕ, ◌<◌, ◌≤◌, ◌+◌, Bool, true, false, List, length, Some, None, refl, sym, ap, subst, arith, inl, inr}
-use Rattle.std.specs.Prelude.{◌↔◌, IsTrue, not, slice_get, slice_index_or}
-use Rattle.std.proofs.lemmas.Bool.{false≢true, cases_lt}
-use Rattle.std.proofs.lemmas.Option.{none-some, same_Some, slice_get-get_or}
+use Rattle.std.proofs.Common.{◌≡◌, ◌∙◌, ℕ, ◌<◌, ◌≤◌, ◌+◌, List, length, Some, ap, subst, arith, inl, inr}
+use Rattle.std.specs.Prelude.{slice_get, slice_index_or}
+use Rattle.std.proofs.lemmas.Bool.{cases_lt}
+use Rattle.std.proofs.lemmas.Option.{slice_get-get_or}
 use Rattle.ompt_events.specs.declared.records.Record.{Record}
-use Rattle.ompt_events.specs.declared.records.Claim.{Claim}
-use Rattle.ompt_events.specs.declared.records.Part.{Part}
 use Rattle.ompt_events.specs.declared.cause.Cause.TheVariants.{ShareWrong}
-use Rattle.ompt_events.specs.Records.{finish, claim}
-use Rattle.ompt_events.specs.Places.{at}
-use Rattle.ompt_events.specs.Tree.{children, HasPath}
-use Rattle.ompt_events.specs.Causes.{HasCause, IsRightClaim, HasWrongShare, share_wrong, IsFreeOf}
+use Rattle.ompt_events.specs.Records.{finish}
+use Rattle.ompt_events.specs.Causes.{HasCause, HasWrongShare, share_wrong, IsFreeOf}
 use Rattle.ompt_events.proofs.PlaceLemmas.{at_within}
 use Rattle.task_tree.specs.OwnOrder.{AreAllPlaces}
 use Rattle.task_tree.specs.Own.{OwnView, IsFirstPlaceWith}

@@ -91,8 +91,7 @@ invariant_of-sound g c =
     let clear : IsClear rs (before EntryTwice) = claims_clear rs own c.own-own.ensures of_edges c.in_ok-exclude_wrong_claims.ensures.free in
     let teams = c.in_ok-teams.ensures in
     let run = rw (c.regions.ensures.value, states.own) at teams.run in
-    let same : own_of c.in_ok-teams.teams ≡ own = same_own (own_of c.in_ok-teams.teams) own run (rw (c.regions.ensures.value, states.own) at teams.places) in
-    (
+    let same : own_of c.in_ok-teams.teams ≡ own = same_own (own_of c.in_ok-teams.teams) own run (rw (c.regions.ensures.value, states.own) at teams.places) in (
       record {
         sound = record { is_run = rw states.run at states.states.run; clear = rw c.run-run.ensures.records clear };
         one = record { is_own = teams.teams.placed; of_file = rw (same, c.run-run.ensures.records) c.own-own.ensures };
