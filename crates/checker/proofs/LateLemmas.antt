@@ -1,8 +1,8 @@
 -- The first created predecessor that is unfinished where a task starts, and whether a given one is.
-use Rattle.std.proofs.Common.{◌≡◌, ◌∙◌, ℕ, zero, suc, ◌<◌, ◌≤◌, ◌+◌, ◌-◌, ◌^◌, List, length, get_or, replicate, Option, Some, None, refl, sym, ap, subst, arith, inl, inr, ◌⊎◌, true, false}
-use Rattle.std.proofs.lemmas.Bool.{cases_lt, cases_order, false≢true}
+use Rattle.std.proofs.Common.{◌≡◌, ◌∙◌, ℕ, ◌<◌, ◌≤◌, ◌+◌, ◌^◌, List, length, get_or, replicate, Option, Some, None, refl, sym, ap, subst, arith, inl, inr, ◌⊎◌, false}
+use Rattle.std.proofs.lemmas.Bool.{cases_lt, false≢true}
 use Rattle.std.proofs.lemmas.Option.{none-some, same_Some, slice_get_within, slice_get-get_or}
-use Rattle.std.proofs.lemmas.List.{length_push, length-replicate, get_or-replicate}
+use Rattle.std.proofs.lemmas.List.{length-replicate, get_or-replicate}
 use Rattle.std.specs.Prelude.{◌↔◌, Contains, IsTrue, IfOk, MatchOption, Bool, Result, Ok, Err, option_and_then, is_some, slice_get, slice_index, slice_index_or}
 use Rattle.ompt_events.specs.declared.records.Record.{Record}
 use Rattle.ompt_events.specs.declared.records.Body.{Body}
@@ -12,7 +12,7 @@ use Rattle.ompt_events.specs.declared.cause.Cause.TheVariants.{CreatedTwice}
 use Rattle.ompt_events.specs.Records.{created, made, started, wait_completed}
 use Rattle.ompt_events.specs.Places.{at, seen_at}
 use Rattle.ompt_events.specs.Traces.{IsTrace, IsSound, HasItsNext}
-use Rattle.ompt_events.specs.Tree.{IsChild, IsExplicit, children_before, child_number}
+use Rattle.ompt_events.specs.Tree.{IsExplicit}
 use Rattle.ompt_events.specs.HappensBefore.{IsStart}
 use Rattle.ompt_events.specs.Completion.{IsCompleteAt}
 use Rattle.ompt_events.specs.Dependences.{IsPredecessor}
@@ -21,14 +21,14 @@ use Rattle.ompt_events.proofs.TurnLemmas.{start_starts}
 use Rattle.ompt_events.proofs.ListLemmas.{get_contains, contains_get}
 use Rattle.ompt_events.proofs.PlaceLemmas.{at_within}
 use Rattle.ompt_events.proofs.RecordLemmas.{creation_at_created, created_at_made}
-use Rattle.ompt_events.proofs.TreeLemmas.{child_place, children_cases}
+use Rattle.ompt_events.proofs.TreeLemmas.{child_place}
 use Rattle.ompt_events.specs.Turns.{in_own_order}
 use Rattle.task_tree.specs.Makers.{AreNoted}
 use Rattle.task_tree.specs.Own.{OwnView, IsOwn}
 use Rattle.task_tree.specs.Families.{IsOwnOf}
 use Rattle.task_tree.specs.Runs.{RunView}
 use Rattle.task_tree.proofs.OwnRunLemmas.{own_predecessor}
-use Rattle.task_tree.proofs.OnceLemmas.{made_once, one_number}
+use Rattle.task_tree.proofs.OnceLemmas.{made_once}
 use Rattle.depend_edges.specs.Edges.{ArePredecessors, AreLatest}
 use Rattle.wait_coverage.specs.Done.{AreOwn}
 use Rattle.trace_ledger.specs.Entries.{IsDone}

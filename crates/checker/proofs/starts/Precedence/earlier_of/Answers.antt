@@ -1,7 +1,6 @@
-use Rattle.std.proofs.Common.{sym, subst}
-use Rattle.std.specs.Prelude.{MatchOption, slice_get}
+use Rattle.std.proofs.Common.{subst}
 use Rattle.ompt_events.proofs.ListLemmas.{get_contains}
-use Rattle.checker.specs.Starts.{PrecedenceView, IsPrecedence}
+use Rattle.checker.specs.Starts.{IsPrecedence}
 use Rattle.checker.proofs.LateLemmas.{first_of_late, first_of_done, predecessor_index, predecessor_made}
 use Rattle.checker.proofs.starts.Precedence.earlier_of.Goals as goal
 
