@@ -1,7 +1,7 @@
 //! One layer of the audit alone, for its time.
 use crate::lines::{input, lines_of};
 use anyhow::Result;
-use certificate::{FromRead, ToWrite, read_to, write};
+use certificate::{FromRead, ToWrite, read, write};
 use serde_json::Value;
 use std::io;
 
@@ -20,14 +20,14 @@ pub fn values(rt: &HostRuntime) -> Result<()> {
 
 /// Reads the records of standard input.
 pub fn records(rt: &HostRuntime) -> Result<()> {
-    let trace = read_to(rt.alloc(), 2, &mut FromRead::new(rt.reader()))?;
+    let trace = read(rt.alloc(), &mut FromRead::new(rt.reader()))?;
     println!(rt; "{} records", trace.records().len())?;
     Ok(())
 }
 
 /// Reads the records of standard input, and writes them to standard output.
 pub fn rewrite(rt: &HostRuntime) -> Result<()> {
-    let trace = read_to(rt.alloc(), 2, &mut FromRead::new(rt.reader()))?;
+    let trace = read(rt.alloc(), &mut FromRead::new(rt.reader()))?;
     write(rt.alloc(), &trace, &mut ToWrite::new(io::writer(rt)))?;
     Ok(())
 }

@@ -101,7 +101,7 @@ fn written(alloc: Global, header: &str, line: &[u8]) -> Result<String> {
     let mut file = Vec::from_slice(alloc, header.as_bytes())?;
     file.extend_from_slice(line)?;
     file.push(b'\n')?;
-    match read_to(alloc, 2, &mut FromRead::new(file.as_slice())) {
+    match read(alloc, &mut FromRead::new(file.as_slice())) {
         Ok(trace) => {
             let mut text = Vec::new(alloc);
             write(alloc, &trace, &mut ToWrite::new(&mut text))?;

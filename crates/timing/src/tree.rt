@@ -13,7 +13,7 @@ pub fn of_input(rt: &HostRuntime) -> Result<()> {
 fn of_trace(rt: &HostRuntime, trace: &Trace) -> Result<()> {
     match Tree::build(rt.alloc(), trace) {
         Ok(tree) => {
-            for task in tree.family().tasks().as_slice() {
+            for task in tree.families().own_family().tasks().as_slice() {
                 of_task(rt, &tree, *task)?;
             }
             of_task(rt, &tree, u64::MAX)
