@@ -42,15 +42,17 @@ Exit status: 0 yes, 1 no, 2 malformed, 3 input not read or answer not written,
   4 wrong arguments, 5 out of memory. Errors go to standard error.
 
 Input: one JSON object a line, in UTF-8. The first line is
-  {"format":"task-credit-audit","version":1}
-and each other one an event of OpenMP's tool interface (OMPT), with the members
+  {"format":"task-credit-audit","version":2}
+(or 1: no turns), and each other one an event of OpenMP's tool interface (OMPT),
+with the members
   cb, thread, seq (0, 1, .. in each thread), seen, and with cb
   parallel_begin task, parallel, requested
   parallel_end   task, parallel
   implicit_task  endpoint, parallel, task, actual, index, flags
   task_create    task, child, flags, deps
   dependences    task, list
-  task_schedule  prior, status, next; where it finishes a task also root, path, kept
+  task_schedule  prior, status, next; where it finishes a task also root, path, kept;
+                 in version 2 with a next task also prior_turn, next_turn
   sync_region    kind, endpoint, parallel, task
   cancel         task, flags; with discarded_task also root, path, kept
   thread_begin   kind
@@ -60,6 +62,7 @@ that finishes a task appends an entry: its seen is the entry's index, and the
 thread then knows index + 1. A task_schedule that does not finish a task, and an
 end or beginend of a sync_region, reads the ledger's length there and then. Any
 other event repeats what its thread last knew, 0 at first.
+The turn of a task is 0 at its start, and one more each time that it runs on.
 docs/RECORDING.md says how to record, docs/FORMAT.md has the whole format."#;
 
 /// What stands below the options in the help of `order`.
