@@ -60,6 +60,8 @@ class Checker:
             yield f"{where} has {len(value)} items, and may have {part['maxItems']}"
         for at, it in enumerate(value):
             yield from self.faults(part.get('items', {}), it, f'{where}[{at}]')
+        if 'contains' in part and not any(self.accepts(part['contains'], it) for it in value):
+            yield f"{where} has no {self.described(part['contains'])}"
 
     def faults_of_object(self, part, value, where):
         for other in part.get('allOf', []):
@@ -72,6 +74,11 @@ class Checker:
                 yield from self.faults(other, value[name], f'`{name}`')
         if 'oneOf' in part:
             yield from self.faults_of_choice(part['oneOf'], value, where)
+        if 'if' in part and self.accepts(part['if'], value):
+            yield from self.faults(part['then'], value, where)
+
+    def accepts(self, part, value):
+        return not any(self.faults(part, value, ''))
 
     def faults_of_choice(self, parts, value, where):
         """A callback, or a status, says which of the parts is meant."""
@@ -89,11 +96,11 @@ class Checker:
         return part.get('enum', [part.get('const')])
 
 
-def faults_of(text):
-    """What is wrong with a line of a record, in sentences."""
+def faults_of(text, version=1):
+    """What is wrong with a line of a record in a file of this version, in sentences."""
     whole = schema()
     value = value_of(text)
     if not isinstance(value, dict):
         return ['the line is not an object']
-    records = next(it for it in whole['anyOf'] if 'oneOf' in it)
-    return [*dict.fromkeys(Checker(whole).faults(records, value, 'the line'))]
+    record = whole['$defs']['with_turns' if version == 2 else 'record']
+    return [*dict.fromkeys(Checker(whole).faults(record, value, 'the line'))]
