@@ -7,8 +7,8 @@ from itertools import islice
 
 import orders
 from fields import faults_of
-from model import (BARRIERS, CALLED_BARRIERS, DISCARD_STATE, NEXT_STATE, START_STATE, Walk, after_body, conflict,
-                   innermost, may, moves_by, state_after)
+from model import (BARRIERS, CALLED_BARRIERS, DEMANDS_NEXT, DISCARD_STATE, NEXT_STATE, START_STATE, Walk, after_body,
+                   conflict, innermost, may, moves_by, state_after)
 from traces import Trace, member
 
 ANSWER = re.compile(r'(?:malformed: (?P<malformed>.*): cause (?P<cause>\d+) \w+'
@@ -93,7 +93,7 @@ def explain_wait(found, trace, record):
     """Which region ends there, and how the task comes under it."""
     task, kind, endpoint = record.region
     if endpoint == 'end':
-        begin = open_regions(trace, task, record.number)[0]
+        begin = open_regions(trace, record)[0]
         found.show(begin, f'the begin of the {kind} that ends on line {record.number}')
     above = trace.ancestors(found.task)
     found.show(trace.creation(found.task), f'the creation of task {found.task}')
@@ -133,10 +133,15 @@ def show_life(found, trace, record):
                   ' the wait did not wait for the event, or its fulfilment was not recorded.')
     elif not parts:
         found.say(f'No record finishes task {found.task}, '
-                  + (f'which runs from line {starts[0].number} on.' if starts else 'and none starts it.'))
+                  + (f'which runs from line {min(starts, key=turn_begun).number} on.' if starts else 'and none starts it.'))
     else:
         say_when_finished(found, record, parts, starts)
     found.say('docs/CAUSES.md, "After a no", says how to tell a recorder that read too early from a runtime that was.')
+
+
+def turn_begun(record):
+    """The turn in which the next task runs on from the record."""
+    return record.begun_turn[1]
 
 
 def say_when_finished(found, record, parts, starts):
@@ -188,13 +193,16 @@ def lines_of_order(order, place_of=lambda code: None):
 
 # What several causes ask
 
-def open_regions(trace, task, before):
-    """The begins of the task's regions that are open before the line, the innermost first."""
+def open_regions(trace, record):
+    """The begins of the regions that the record's task has open before it, in the task's own order, the innermost
+    first."""
     opened = []
-    for it in trace.of_task(task, last=before - 1):
-        if it.region and it.region.task == task and it.region.endpoint == 'begin':
+    for it in trace.own_of(record.region.task):
+        if it.number == record.number:
+            break
+        if it.region and it.region.endpoint == 'begin':
             opened.append(it)
-        elif it.region and it.region.task == task and it.region.endpoint == 'end' and opened:
+        elif it.region and it.region.endpoint == 'end' and opened:
             opened.pop()
     return opened[::-1]
 
@@ -290,7 +298,47 @@ def moved(found, trace, record):
                     if it.started == record.started and it.thread != record.thread)
     found.show(earlier, f'task {record.started} ran on thread {earlier.thread}')
     found.say(f'Task {record.started} runs on thread {record.thread} here, and ran on thread {earlier.thread} on line '
-              f'{earlier.number}. This version of the file has no untied tasks that move.')
+              f'{earlier.number}. A file of version 1 cannot say that a task goes on on another thread; one of version 2 can,'
+              ' since it tells turns.')
+
+
+def turn_gap(found, trace, record):
+    """Which of the rules of docs/MODEL.md, HasTurnGap, hold of the record."""
+    say_other_turn(found, trace, record)
+    task, turn = record.begun_turn
+    begins = [it for it in trace.of_task(task) if it.begun_turn and it.begun_turn[0] == task]
+    earlier = [it for it in begins if it.number < record.number]
+    same = first(it for it in earlier if it.begun_turn[1] == turn)
+    if same:
+        found.show(same, f'begins turn {turn} of task {task}')
+        found.say(f'Line {same.number} began turn {turn} of task {task} already, so `next_turn` cannot be {turn}.')
+    later = first(it for it in earlier if it.begun_turn[1] > turn and it.thread == record.thread)
+    if later:
+        found.show(later, f'begins turn {later.begun_turn[1]} of task {task}')
+        found.say(f'Line {later.number} of the same thread began turn {later.begun_turn[1]} of task {task}, a later one than'
+                  f' `next_turn`, {turn}.')
+    made = is_made(trace, task)
+    if turn == 0 and made.begun_root == task:
+        found.show(made, f'begins task {task}')
+        found.say(f'Task {task} is in turn 0 from line {made.number} on, where it begins, so a later turn must begin here:'
+                  ' `next_turn` is 0.')
+    is_begun = turn == 1 and made.begun_root == task or any(it.begun_turn[1] == turn - 1 for it in begins)
+    if turn > 0 and not is_begun:
+        found.say(f'`next_turn` is {turn}, and no record begins turn {turn - 1} of task {task}.')
+
+
+def say_other_turn(found, trace, record):
+    """Where `prior_turn` is not the turn of the prior task, the record that began that."""
+    task, turn = record.ended_turn
+    begin = None
+    for it in trace.of_task(task, last=record.number - 1):
+        if it.thread == record.thread and (it.started == task or it.begun_root == task):
+            begin = it
+    right = begin.begun_turn[1] if begin and begin.begun_turn else 0
+    if turn != right:
+        if begin:
+            found.show(begin, f'begins turn {right} of task {task}')
+        found.say(f'Task {task} is in turn {right} here, so `prior_turn` must be {right}; it is {turn}.')
 
 
 def status_order(found, trace, record):
@@ -312,21 +360,29 @@ def status_order(found, trace, record):
 
 
 def life_of(trace, task):
-    """The task's nature, and its moves with their lines: early fulfilments on other threads than its home, those at home,
-    all others."""
+    """The task's nature, and its moves with their lines in the order in which they are read: early fulfilments on other
+    threads than its home, those at home, all others; of a task that moved early fulfilments, turn by turn its begin and its
+    end, all others."""
     nature, begun, run, moves = 'any', None, None, []
     for it in trace.of_task(task):
         if task in (it.begun_root, it.created):
             nature = 'root' if it.begun_root == task else 'taskwait' if 'taskwait' in it.flags else 'any'
         begun = it.thread if begun is None and it.begun_root == task else begun
         run = it.thread if run is None and it.started == task else run
-        moves += [(it.thread, it.number, move) for move in moves_by(task, it)]
+        moves += [(it, move) for move in moves_by(task, it)]
     home = begun if nature == 'root' else run
 
     def rank(moved):
-        thread, _, move = moved
-        return 1 if thread == home else 0 if move == ('Stopped', 'early_fulfill') else 2
-    return nature, [(line, move) for _, line, move in sorted(moves, key=rank)]
+        it, move = moved
+        return (1 if it.thread == home else 0 if move == ('Stopped', 'early_fulfill') else 2,)
+
+    def rank_by_turn(moved):
+        it, (what, status) = moved
+        if what == 'Started':
+            return 1, it.begun_turn[1], 0
+        return (1, it.ended_turn[1], 1) if status in DEMANDS_NEXT else (0 if status == 'early_fulfill' else 2,)
+    has_moved = any(it.told_turns and it.thread != home for it, (what, _) in moves if what == 'Started')
+    return nature, [(it.number, move) for it, move in sorted(moves, key=rank_by_turn if has_moved else rank)]
 
 
 def moved_by(move):
@@ -351,7 +407,7 @@ def region_order(found, trace, record):
         found.show(made, f'creates task {task}')
         found.say(f'Task {task} is an explicit task, and barriers are of initial and implicit tasks alone.')
         return
-    opened = open_regions(trace, task, record.number)
+    opened = open_regions(trace, record)
     if not opened:
         found.say(f'Task {task} has no open region here, so no {kind} can end.')
         return
@@ -470,11 +526,16 @@ def length_ahead(found, trace, record):
 def length_back(found, trace, record):
     """The record that is before it by a program step, and knew more."""
     last = previous_in_thread(trace, record)
-    tasks = {it for it in (record.started, record.discarded, record.fulfilled) if it is not None}
-    made = [is_made(trace, task) for task in tasks]
-    for other in [last, *made]:
+    steps = {'the record before it in its thread': last}
+    for task in (record.started, record.discarded, record.fulfilled):
+        if task in trace.creations:
+            steps[f'creates task {task}'] = trace.creation(task)
+    stopped = orders.stopped(record)
+    if stopped:
+        suspended = (it for it in trace.of_task(stopped[0]) if it.suspended_turn == stopped)
+        steps[f'suspends task {stopped[0]}, which goes on here'] = first(suspended)
+    for part, other in steps.items():
         if other and other.known_after() > record.seen:
-            part = 'the record before it in its thread' if other is last else f'creates task {other.created}'
             found.show(other, part)
             found.say(f'Behind line {other.number}, {part}, the ledger length {other.known_after()} is known; this record '
                       f'names {record.seen}, which is less.')
@@ -493,8 +554,12 @@ def target_task(found, trace, record):
     found.say(f'Task {record.made} has the flag `target`: it is for a device, and the audit is about the host.')
 
 
-CAUSES = (seq_gap, created_twice, rootless, not_current, moved, status_order, region_order, team_short, nested_parallel,
-          deps_place, share_wrong, entry_twice, length_ahead, length_back, no_order, target_task)
+def moved_or_turn_gap(found, trace, record):
+    (turn_gap if trace.tells_turns else moved)(found, trace, record)
+
+
+CAUSES = (seq_gap, created_twice, rootless, not_current, moved_or_turn_gap, status_order, region_order, team_short,
+          nested_parallel, deps_place, share_wrong, entry_twice, length_ahead, length_back, no_order, target_task)
 
 
 # Files that cannot be read
@@ -517,7 +582,7 @@ def not_json(found, trace):
 
 def field(found, trace):
     """Which member of the line is missing or of the wrong kind."""
-    for it in faults_of(trace.line(found.line).decode()):
+    for it in faults_of(trace.line(found.line).decode(), trace.version):
         found.say(f'{it[0].upper()}{it[1:]}.')
 
 
@@ -534,5 +599,6 @@ def unended(found, trace):
 
 UNREADABLE = {
     1: unreadable('The input failed before this line was read.'), 2: unreadable('Memory ran out.'),
-    3: unreadable('Line 1 must be {"format":"task-credit-audit","version":1}.'), 4: line_too_long, 5: not_json, 6: field,
-    7: field, 8: unended, 9: unreadable('The input asked to be read again too often.')}
+    3: unreadable('Line 1 must be {"format":"task-credit-audit","version":1}, or the same with version 2.'),
+    4: line_too_long, 5: not_json, 6: field, 7: field, 8: unended,
+    9: unreadable('The input asked to be read again too often.')}

@@ -15,40 +15,57 @@ def needs(record):
     return [it for it in (record.started, record.discarded, record.fulfilled) if it is not None]
 
 
+def stopped(record):
+    """The task that goes on in its next turn where the record begins a later turn than 0, and the turn that was before;
+    or None. The record that suspended the task in that turn comes before this one, unless it is this one."""
+    if not record.begun_turn or record.begun_turn[1] == 0:
+        return None
+    task, turn = record.begun_turn
+    return (task, turn - 1) if record.suspended_turn != (task, turn - 1) else None
+
+
 def reason(one, other):
     """Why the one record comes before the other."""
     if one.created is not None and one.created in needs(other):
         return f'since it creates task {one.created}'
+    if one.suspended_turn is not None and one.suspended_turn == stopped(other):
+        task, turn = one.suspended_turn
+        return f'since it suspends task {task} in turn {turn}'
     return f'in thread {one.thread}'
 
 
 # What a record is in the search for circles: small, since a file may have millions.
-Event = namedtuple('Event', 'number thread seq created needs started')
+Event = namedtuple('Event', 'number thread seq created needs begun_turn suspended_turn')
 
 
 class Steps:
-    """The creations of tasks, the first start of each in the file, and all records that create, start, discard or fulfil
-    a task, in file order."""
+    """The creations of tasks, their suspensions by task and turn, the start of each task, and all records that create,
+    start, discard or fulfil a task, in file order."""
 
     def __init__(self, trace):
-        self.creations, self.starts, self.events = {}, {}, []
+        self.creations, self.suspensions, self.starts, self.events = {}, defaultdict(list), {}, []
         for record in trace.called('task_create', 'task_schedule', 'cancel'):
-            it = Event(record.number, record.thread, record.seq, record.created, needs(record), record.started)
+            it = Event(record.number, record.thread, record.seq, record.created, needs(record), record.begun_turn,
+                       record.suspended_turn if trace.tells_turns else None)
             if it.created is not None:
                 self.creations.setdefault(it.created, it)
-            if it.started is not None:
-                self.starts.setdefault(it.started, it.number)
+            if it.begun_turn and it.begun_turn[1] == 0:
+                self.starts.setdefault(it.begun_turn[0], it.number)
+            if it.suspended_turn:
+                self.suspensions[it.suspended_turn].append(it)
             if it.created is not None or it.needs:
                 self.events.append(it)
 
     def awaited(self, record):
-        """The creations that the record must come behind."""
-        return [self.creations[task] for task in record.needs if task in self.creations
-                and (task != record.started or self.starts[task] == record.number)]
+        """The creations and suspensions that the record must come behind."""
+        started = record.begun_turn[0] if record.begun_turn else None
+        created = [self.creations[task] for task in record.needs if task in self.creations
+                   and (task != started or self.starts.get(task) == record.number)]
+        return created + self.suspensions.get(stopped(record), [])
 
     def stuck(self):
         """The records left of each thread, in its order, when all that can be put in an order is taken away: each first
-        one awaits a creation that is left too."""
+        one awaits a record that is left too."""
         lanes = defaultdict(deque)
         for it in self.events:
             lanes[it.thread].append(it)
@@ -56,20 +73,19 @@ class Steps:
         while ready:
             lane = lanes[ready.popleft()]
             while lane:
-                missing = next((it.created for it in self.awaited(lane[0]) if it.created not in placed), None)
+                missing = next((it.number for it in self.awaited(lane[0]) if it.number not in placed), None)
                 if missing is not None:
                     waiting[missing].append(lane[0].thread)
                     break
                 it = lane.popleft()
-                if it.created is not None:
-                    placed.add(it.created)
-                    ready.extend(waiting.pop(it.created, []))
+                placed.add(it.number)
+                ready.extend(waiting.pop(it.number, []))
         return {thread: lane for thread, lane in lanes.items() if lane}
 
 
 def shortest_circle(trace):
-    """The records of a shortest circle, or of a short one where very many records stand in circles: each creation, the
-    record that must come behind it, and in the thread of that the next creation."""
+    """The records of a shortest circle, or of a short one where very many records stand in circles: each creation or
+    suspension, the record that must come behind it, and in the thread of that the next creation or suspension."""
     steps = Steps(trace)
     lanes = steps.stuck()
     left = {it.number for lane in lanes.values() for it in lane}
@@ -86,13 +102,15 @@ def shortest_circle(trace):
         if circle and len(circle) < len(best):
             best = circle
     lines = [it.number for pair in best for it in pair]
+    # where a record awaits one and is awaited, it ends a pair and begins the next one
+    lines = [it for at, it in enumerate(lines) if it != lines[at - 1]]
     found = {it.number: it for it in trace.among(set(lines).__contains__)}
     return [found[it] for it in lines]
 
 
 def circle_of_heads(steps, lanes, left):
-    """A circle by the first stuck record of each thread: it awaits a creation, which stands behind the first stuck record
-    of its own thread."""
+    """A circle by the first stuck record of each thread: it awaits another record, which stands behind the first stuck
+    record of its own thread, or is that."""
     seen, head = {}, next(iter(lanes.values()))[0]
     found = []
     while head.thread not in seen:
@@ -104,21 +122,22 @@ def circle_of_heads(steps, lanes, left):
 
 
 def circle_from(pairs, by_thread, start):
-    """The pairs of a shortest circle through this one, or None. A pair leads to those whose creation stands behind its
-    second record in the thread: the last ones of the thread's list, which are taken from it, so each is met once."""
+    """The pairs of a shortest circle through this one, or None. A pair leads to those whose first record stands behind its
+    second one in the thread, or is that: the last ones of the thread's list, which are taken from it, so each is met
+    once."""
     left = {thread: [*found] for thread, found in by_thread.items()}
     came, queue, made = {start: None}, deque([start]), pairs[start][0]
     while queue:
         at = queue.popleft()
         after = pairs[at][1]
-        if made.thread == after.thread and made.seq > after.seq:
+        if made.thread == after.thread and made.seq >= after.seq:
             circle = []
             while at is not None:
                 circle.append(pairs[at])
                 at = came[at]
             return circle[::-1]
         found = left.get(after.thread, [])
-        while found and pairs[found[-1]][0].seq > after.seq:
+        while found and pairs[found[-1]][0].seq >= after.seq:
             other = found.pop()
             if other not in came:
                 came[other] = at
@@ -136,24 +155,25 @@ def in_order(records):
 
 
 def merged(records):
-    """Records that name one length: each behind the creations that it needs, and in the order of its thread. Those that
-    stand in a circle come at the end."""
+    """Records that name one length: each behind the creations and suspensions that it needs, and in the order of its
+    thread. Those that stand in a circle come at the end."""
     lanes, waiting, found = defaultdict(deque), defaultdict(list), []
     for it in records:
         lanes[it.thread].append(it)
-    made = {it.created for it in records if it.created is not None}
+    made = {given for it in records for given in (it.created, it.suspended_turn) if given is not None}
     ready = [(lane[0].number, thread) for thread, lane in lanes.items()]
     heapify(ready)
     while ready:
         lane = lanes[heappop(ready)[1]]
-        missing = next((task for task in needs(lane[0]) if task in made), None)
+        missing = next((needed for needed in (*needs(lane[0]), stopped(lane[0])) if needed in made), None)
         if missing is not None:
             waiting[missing].append(lane[0].thread)
             continue
         it = lane.popleft()
         found.append(it)
-        made.discard(it.created)
-        for thread in [it.thread] * bool(lane) + waiting.pop(it.created, []):
+        made -= {it.created, it.suspended_turn}
+        others = waiting.pop(it.created, []) + waiting.pop(it.suspended_turn, [])
+        for thread in [it.thread] * bool(lane) + others:
             heappush(ready, (lanes[thread][0].number, thread))
     return found + sorted((it for lane in lanes.values() for it in lane), key=lambda it: it.number)
 

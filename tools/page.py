@@ -129,8 +129,9 @@ class Sheet:
         lit, y = ' lit' * (end.number == self.found.line), self.top(end.thread) + 46
         title = f'<title>{kind} of task {task}, lines {begin.number} to {end.number}</title>'
         self.add('line', title, class_='wait' + lit, x1=self.left[begin.number], y1=y, x2=self.left[end.number], y2=y)
-        first, last = (begin.number, end.number) if kind == 'taskgroup' else (0, begin.number)
-        waited = [made.created for made in self.made.get(task, []) if first < made.number < last]
+        first, last = (self.left[it.number] for it in (begin, end))
+        first, last = (first, last) if kind == 'taskgroup' else (0, first)
+        waited = [made.created for made in self.made.get(task, []) if first < self.left[made.number] < last]
         if end.number == self.found.line and self.found.task not in waited:
             waited.append(self.found.task)
         for child in waited:

@@ -6,17 +6,17 @@ import re
 from functools import cached_property
 from types import SimpleNamespace
 
-from model import RECORDS_SAY, said_by
+from model import DEMANDS_NEXT, RECORDS_SAY, said_by
 
 TASKS = ('task', 'child', 'prior', 'next', 'root')
 
 
 class Record(SimpleNamespace):
-    """A record of a file of version 1: its line number, the text and the value of the line, and what it says (the
-    module Records of docs/MODEL.md)."""
+    """A record: its line number, the text and the value of the line, and what it says (the module Records of
+    docs/MODEL.md), in a file of version 2 its turns too."""
 
-    def __init__(self, number, text, value):
-        super().__init__(**{**dict.fromkeys(RECORDS_SAY), **said_by(value, tells_turns=False)})
+    def __init__(self, number, text, value, tells_turns):
+        super().__init__(**{**dict.fromkeys(RECORDS_SAY), **said_by(value, tells_turns)})
         self.number, self.text, self.value = number, text, value
         self.thread, self.seq, self.seen = value['thread'], value['seq'], value['seen']
 
@@ -54,6 +54,15 @@ class Trace:
             return mmap.mmap(it.fileno(), 0, access=mmap.ACCESS_READ) if os.path.getsize(self.path) else b''
 
     @cached_property
+    def version(self):
+        """The version of a file whose header can be read."""
+        return json.loads(self.line(1))['version']
+
+    @cached_property
+    def tells_turns(self):
+        return self.version == 2
+
+    @cached_property
     def has_escapes(self):
         return self.mapped().find(b'\\') >= 0
 
@@ -87,13 +96,13 @@ class Trace:
             if last is not None and number > last:
                 return
             if number > 1:
-                yield Record(number, text.decode(), json.loads(text))
+                yield Record(number, text.decode(), json.loads(text), self.tells_turns)
 
     def among(self, is_wanted):
         """Yields the records of the lines whose numbers are wanted."""
         for number, text in self.lines():
             if number > 1 and is_wanted(number):
-                yield Record(number, text.decode().rstrip(), json.loads(text))
+                yield Record(number, text.decode().rstrip(), json.loads(text), self.tells_turns)
 
     def record(self, number):
         return next(self.among(lambda it: it == number))
@@ -111,6 +120,16 @@ class Trace:
         """Yields the records that name the task."""
         return (it for it in self.records(member(TASKS, task), last) if task in it.tasks())
 
+    def own_of(self, task):
+        """The task's own records, in own order: by turn, and within a turn as they stand in the file."""
+        turns, found = {}, []
+        for it in self.of_task(task):
+            if it.running == task:
+                found.append((turns.get(it.thread, 0), it))
+            if it.started == task:
+                turns[it.thread] = it.begun_turn[1]
+        return [it for _, it in sorted(found, key=lambda own: own[0])]
+
     def of_thread(self, thread, last=None):
         return (it for it in self.records(member(['thread'], thread), last) if it.thread == thread)
 
@@ -120,15 +139,23 @@ class Trace:
 
     @cached_property
     def creations(self):
-        """Of each explicit task its parent, its number among the parent's children, and the line that creates it."""
+        """Of each explicit task its parent, its number among the parent's children in own order, and the line that
+        creates it."""
         found, counts = {}, {}
-        for number, text in self.matches(r'"cb"\s*:\s*"task_create"'):
+        for _, number, parent, child in sorted(self.created_in_turns(), key=lambda made: made[0]):
+            found[child] = (parent, counts.setdefault(parent, 0), number)
+            counts[parent] += 1
+        return found
+
+    def created_in_turns(self):
+        """Yields of each creation the turn of the parent, the line, the parent and the child."""
+        turns, schedule = {}, '|task_schedule' * self.tells_turns
+        for number, text in self.matches(rf'"cb"\s*:\s*"(?:task_create{schedule})"'):
             value = json.loads(text)
             if value.get('cb') == 'task_create':
-                parent = value['task']
-                found[value['child']] = (parent, counts.setdefault(parent, 0), number)
-                counts[parent] += 1
-        return found
+                yield turns.get((value['thread'], value['task']), 0), number, value['task'], value['child']
+            elif value.get('cb') == 'task_schedule' and self.tells_turns and value['status'] in DEMANDS_NEXT:
+                turns[value['thread'], value['next']] = value['next_turn']
 
     def ancestors(self, task):
         """The task, its parent, and so on; to the first that no task created, or that came before."""
