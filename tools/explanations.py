@@ -19,6 +19,9 @@ ANSWER = re.compile(r'(?:malformed: (?P<malformed>.*): cause (?P<cause>\d+) \w+'
 # A segment of an order: a sentence about it, its first and its last records, and how many between them are left out.
 Order = namedtuple('Order', 'sentence first left_out last')
 
+# A move of a task: its line and thread, and the turn that begins or ends by it, where one does.
+Move = namedtuple('Move', 'number thread turn move')
+
 # So many records of one kind are shown, and so many tasks named in a row.
 MOST_SHOWN = 8
 # A path has at most so many numbers.
@@ -93,7 +96,7 @@ def explain_wait(found, trace, record):
     """Which region ends there, and how the task comes under it."""
     task, kind, endpoint = record.region
     if endpoint == 'end':
-        begin = open_regions(trace, record)[0]
+        begin = open_region(trace, record)
         found.show(begin, f'the begin of the {kind} that ends on line {record.number}')
     above = trace.ancestors(found.task)
     found.show(trace.creation(found.task), f'the creation of task {found.task}')
@@ -193,18 +196,17 @@ def lines_of_order(order, place_of=lambda code: None):
 
 # What several causes ask
 
-def open_regions(trace, record):
-    """The begins of the regions that the record's task has open before it, in the task's own order, the innermost
-    first."""
+def open_region(trace, record):
+    """The begin of the innermost region that the record's task has open before it, in the task's own order, or None."""
     opened = []
-    for it in trace.own_of(record.region.task):
-        if it.number == record.number:
+    for _, number, endpoint in sorted(trace.regions_in_turns(record.region.task)):
+        if number == record.number:
             break
-        if it.region and it.region.endpoint == 'begin':
-            opened.append(it)
-        elif it.region and it.region.endpoint == 'end' and opened:
+        if endpoint == 'begin':
+            opened.append(number)
+        elif endpoint == 'end' and opened:
             opened.pop()
-    return opened[::-1]
+    return trace.record(opened[-1]) if opened else None
 
 
 def walk_before(trace, record):
@@ -298,33 +300,35 @@ def moved(found, trace, record):
                     if it.started == record.started and it.thread != record.thread)
     found.show(earlier, f'task {record.started} ran on thread {earlier.thread}')
     found.say(f'Task {record.started} runs on thread {record.thread} here, and ran on thread {earlier.thread} on line '
-              f'{earlier.number}. A file of version 1 cannot say that a task goes on on another thread; one of version 2 can,'
-              ' since it tells turns.')
+              f'{earlier.number}. A file of version 1 cannot say that a task goes on on another thread; one of version 2'
+              ' can, since it tells turns.')
 
 
 def turn_gap(found, trace, record):
     """Which of the rules of docs/MODEL.md, HasTurnGap, hold of the record."""
     say_other_turn(found, trace, record)
-    task, turn = record.begun_turn
-    begins = [it for it in trace.of_task(task) if it.begun_turn and it.begun_turn[0] == task]
-    earlier = [it for it in begins if it.number < record.number]
-    same = first(it for it in earlier if it.begun_turn[1] == turn)
+    (task, turn), made = record.begun_turn, is_made(trace, record.started)
+    same = first(it for it in begins_before(trace, record) if it.begun_turn[1] == turn)
     if same:
         found.show(same, f'begins turn {turn} of task {task}')
         found.say(f'Line {same.number} began turn {turn} of task {task} already, so `next_turn` cannot be {turn}.')
-    later = first(it for it in earlier if it.begun_turn[1] > turn and it.thread == record.thread)
+    later = first(it for it in begins_before(trace, record) if it.thread == record.thread and it.begun_turn[1] > turn)
     if later:
         found.show(later, f'begins turn {later.begun_turn[1]} of task {task}')
         found.say(f'Line {later.number} of the same thread began turn {later.begun_turn[1]} of task {task}, a later one than'
                   f' `next_turn`, {turn}.')
-    made = is_made(trace, task)
-    if turn == 0 and made.begun_root == task:
+    is_root = made.begun_root == task
+    if turn == 0 and is_root:
         found.show(made, f'begins task {task}')
         found.say(f'Task {task} is in turn 0 from line {made.number} on, where it begins, so a later turn must begin here:'
                   ' `next_turn` is 0.')
-    is_begun = turn == 1 and made.begun_root == task or any(it.begun_turn[1] == turn - 1 for it in begins)
-    if turn > 0 and not is_begun:
+    if turn > 0 and not (turn == 1 and is_root or any(it.begun_turn == (task, turn - 1) for it in trace.of_task(task))):
         found.say(f'`next_turn` is {turn}, and no record begins turn {turn - 1} of task {task}.')
+
+
+def begins_before(trace, record):
+    """Yields the earlier records after which the record's next task runs."""
+    return (it for it in trace.of_task(record.started, last=record.number - 1) if it.started == record.started)
 
 
 def say_other_turn(found, trace, record):
@@ -360,29 +364,38 @@ def status_order(found, trace, record):
 
 
 def life_of(trace, task):
-    """The task's nature, and its moves with their lines in the order in which they are read: early fulfilments on other
-    threads than its home, those at home, all others; of a task that moved early fulfilments, turn by turn its begin and its
-    end, all others."""
+    """The task's nature, and its moves with their lines in the order in which they are read."""
     nature, begun, run, moves = 'any', None, None, []
     for it in trace.of_task(task):
         if task in (it.begun_root, it.created):
             nature = 'root' if it.begun_root == task else 'taskwait' if 'taskwait' in it.flags else 'any'
         begun = it.thread if begun is None and it.begun_root == task else begun
         run = it.thread if run is None and it.started == task else run
-        moves += [(it, move) for move in moves_by(task, it)]
+        moves += [Move(it.number, it.thread, turn_of(it, move), move) for move in moves_by(task, it)]
     home = begun if nature == 'root' else run
+    has_moved = trace.tells_turns and any(it.move[0] == 'Started' and it.thread != home for it in moves)
+    ordered = sorted(moves, key=rank_by_turn if has_moved else lambda it: rank_by_home(it, home))
+    return nature, [(it.number, it.move) for it in ordered]
 
-    def rank(moved):
-        it, move = moved
-        return (1 if it.thread == home else 0 if move == ('Stopped', 'early_fulfill') else 2,)
 
-    def rank_by_turn(moved):
-        it, (what, status) = moved
-        if what == 'Started':
-            return 1, it.begun_turn[1], 0
-        return (1, it.ended_turn[1], 1) if status in DEMANDS_NEXT else (0 if status == 'early_fulfill' else 2,)
-    has_moved = any(it.told_turns and it.thread != home for it, (what, _) in moves if what == 'Started')
-    return nature, [(it.number, move) for it, move in sorted(moves, key=rank_by_turn if has_moved else rank)]
+def turn_of(record, move):
+    """The turn that begins by the move of the record, or ends by it; None for other moves."""
+    what, status = move
+    if what == 'Started':
+        return record.begun_turn[1]
+    return record.ended_turn[1] if status in DEMANDS_NEXT else None
+
+
+def rank_by_home(it, home):
+    """Early fulfilments on other threads than the task's home come first, then its moves at home, then all others."""
+    return 1 if it.thread == home else 0 if it.move == ('Stopped', 'early_fulfill') else 2
+
+
+def rank_by_turn(it):
+    """Of a task that moved early fulfilments come first, then turn by turn its begin and its end, then all others."""
+    if it.turn is not None:
+        return 1, it.turn, it.move[0] != 'Started'
+    return (0 if it.move[1] == 'early_fulfill' else 2,)
 
 
 def moved_by(move):
@@ -407,13 +420,13 @@ def region_order(found, trace, record):
         found.show(made, f'creates task {task}')
         found.say(f'Task {task} is an explicit task, and barriers are of initial and implicit tasks alone.')
         return
-    opened = open_regions(trace, record)
+    opened = open_region(trace, record)
     if not opened:
         found.say(f'Task {task} has no open region here, so no {kind} can end.')
         return
-    found.show(opened[0], f'begins the innermost open region of task {task}')
-    found.say(f'The innermost open region of task {task} is a {opened[0].region.kind} (line {opened[0].number}); a {kind}'
-              ' cannot end before it.')
+    found.show(opened, f'begins the innermost open region of task {task}')
+    found.say(f'The innermost open region of task {task} is a {opened.region.kind} (line {opened.number}); a {kind} cannot'
+              ' end before it.')
 
 
 def team_short(found, trace, record):

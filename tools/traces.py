@@ -120,15 +120,14 @@ class Trace:
         """Yields the records that name the task."""
         return (it for it in self.records(member(TASKS, task), last) if task in it.tasks())
 
-    def own_of(self, task):
-        """The task's own records, in own order: by turn, and within a turn as they stand in the file."""
-        turns, found = {}, []
+    def regions_in_turns(self, task):
+        """Yields of each begin and end of the task's regions the turn of the task, the line and the endpoint."""
+        turns = {}
         for it in self.of_task(task):
-            if it.running == task:
-                found.append((turns.get(it.thread, 0), it))
+            if it.region:
+                yield turns.get(it.thread, 0), it.number, it.region.endpoint
             if it.started == task:
                 turns[it.thread] = it.begun_turn[1]
-        return [it for _, it in sorted(found, key=lambda own: own[0])]
 
     def of_thread(self, thread, last=None):
         return (it for it in self.records(member(['thread'], thread), last) if it.thread == thread)
@@ -142,7 +141,7 @@ class Trace:
         """Of each explicit task its parent, its number among the parent's children in own order, and the line that
         creates it."""
         found, counts = {}, {}
-        for _, number, parent, child in sorted(self.created_in_turns(), key=lambda made: made[0]):
+        for _, number, parent, child in sorted(self.created_in_turns()):
             found[child] = (parent, counts.setdefault(parent, 0), number)
             counts[parent] += 1
         return found
