@@ -38,7 +38,8 @@ class Checker:
         if kind and (type(value) is not KINDS[kind]):
             yield f'{where} is {json.dumps(value)}, and must be {self.described(part)}'
             return
-        if 'const' in part and value != part['const'] or 'enum' in part and value not in part['enum']:
+        if ('const' in part and value != part['const'] or 'enum' in part and value not in part['enum']
+                or 'anyOf' in part and not any(self.accepts(it, value) for it in part['anyOf'])):
             yield f'{where} is {json.dumps(value)}, and must be {self.described(part)}'
         if isinstance(value, int) and not part.get('minimum', value) <= value <= part.get('maximum', value):
             yield f'{where} is {value}, and must be {self.described(part)}'
@@ -48,6 +49,8 @@ class Checker:
             yield from self.faults_of_object(part, value, where)
 
     def described(self, part):
+        if 'anyOf' in part:
+            return ', or '.join(self.described(self.resolved(it)) for it in part['anyOf'])
         if 'const' in part or 'enum' in part:
             return ' or '.join(json.dumps(it) for it in part.get('enum', [part.get('const')]))
         if 'maximum' in part:
