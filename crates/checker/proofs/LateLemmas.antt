@@ -35,7 +35,7 @@ use Rattle.trace_ledger.specs.Entries.{IsDone}
 use Rattle.checker.specs.declared.starts.Late.{Late}
 use Rattle.checker.specs.Readings.{by_task, IsPrecededBy}
 use Rattle.checker.specs.Starts.{IsLate, AreReady, IsFirstLateAt, IsDependentAt, IsPrecededByNone, IsBound, AreStarted, StartsAt, StartsNoneAt, IsBehind, AreDoneBefore, IsFirstBehind, IsAmongFirst, IsBehindAt, IsFirstOf, IsEarlierOf, the_only, the_first, the_other}
-use Rattle.checker.proofs.OwnLemmas.{own_done}
+use Rattle.wait_coverage.proofs.ShownLemmas.{own_done}
 use Rattle.checker.proofs.StartLemmas.{done_from, bound_still, complete_from_start}
 
 -- ---- a predecessor's index and place
@@ -180,7 +180,7 @@ none_late file own lengths latest i of is_own are_own are none predecessor prece
         let within = slice_get_within tasks index.0 dependent index.1 in
         let low : slice_index latest index.0 ≤ 0 = let zero_there = none index.0 (rw are.all within) in omega (arith, zero_there) in
         let done = done_by_latest rs tasks lengths latest index.0 dependent 0 noted are_own are index.1 (omega arith) low predecessor is in
-        complete_from_start file i predecessor ((own_done file own of is_own.places 0 predecessor).0 done)
+        complete_from_start file i predecessor ((own_done file own 0 predecessor of is_own).0 done)
 
 -- ---- what it says of the record
 
@@ -296,7 +296,7 @@ dependent_own rs own i index bound task of is_own there preceded is_bound = reco
   dependent = task;
   there = there;
   same = λ p. both (preceded p) (own_predecessor rs own of task p);
-  bounds = λ p. both (is_bound p) (own_done rs own of is_own.places bound p);
+  bounds = λ p. both (is_bound p) (own_done rs own bound p of is_own);
 }
   where
     both : {A B C : Type 0} → A ↔ B → C ↔ B → A ↔ C

@@ -15,7 +15,6 @@ mod ScheduleLemmas
 mod AwaitsOneLemmas
 mod SuspensionLemmas
 mod InOrderLemmas
-mod OwnLemmas
 mod StartLemmas
 mod LateLemmas
 mod PhaseLemmas

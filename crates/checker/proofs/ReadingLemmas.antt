@@ -1,6 +1,6 @@
 -- Two readings of the same records that say the same have the same verdicts; where no task's turns fall along
 -- the file, each task's own order and the order of the file are such readings.
-use Rattle.std.proofs.Common.{◌≡◌, ◌∙◌, ℕ, ◌<◌, List, length, Option, Some, None, refl, sym, subst, arith, inl, inr}
+use Rattle.std.proofs.Common.{◌≡◌, ℕ, ◌<◌, List, length, Option, Some, None, refl, sym, subst, arith, inl, inr}
 use Rattle.std.specs.Prelude.{◌↔◌, Bool, IsTrue, option_and_then, slice_get, MatchOption}
 use Rattle.ompt_events.specs.declared.records.Record.{Record}
 use Rattle.ompt_events.specs.declared.cause.Cause.{Cause}
@@ -8,7 +8,7 @@ use Rattle.ompt_events.specs.CauseNames.{all_causes}
 use Rattle.ompt_events.specs.declared.names.SyncKind.{SyncKind}
 use Rattle.ompt_events.specs.declared.names.Endpoint.{Endpoint}
 use Rattle.ompt_events.specs.Records.{created, finish, region, wait_completed}
-use Rattle.ompt_events.specs.Places.{at, seen_at}
+use Rattle.ompt_events.specs.Places.{at}
 use Rattle.ompt_events.specs.Traces.{IsTraceOf}
 use Rattle.ompt_events.specs.Turns.{in_own_order, own_place}
 use Rattle.ompt_events.specs.Tree.{IsExplicit}
@@ -34,18 +34,16 @@ use Rattle.checker.specs.Verdicts.{ShowsNone, IsLeastShown, IsOpenBy, IsUnfinish
 use Rattle.checker.specs.Counter.{IsEarliestOrder, IsCounterOrderBy, IsCounterBy}
 use Rattle.checker.specs.Search.{IsClear, ClearView, IsClearView, IsOfRecords, AreAllCovered, AreAllReady, IsFirstOpenBy, IsFirstLateBy}
 use Rattle.checker.specs.Starts.{AreReady, IsFirstLateStart}
-use Rattle.ompt_events.specs.Coverage.{Covers}
-use Rattle.ompt_events.proofs.TurnLemmas.{start_starts}
 use Rattle.task_tree.specs.Own.{OwnView, IsOwn, of_claims}
 use Rattle.task_tree.specs.Families.{IsOwnOf}
-use Rattle.task_tree.proofs.OwnRunLemmas.{own_says, own_covers, place_of_number, number_of_place}
+use Rattle.task_tree.proofs.OwnRunLemmas.{place_of_number}
 use Rattle.task_tree.proofs.ShownLemmas.{shown_there}
-use Rattle.trace_ledger.specs.Entries.{IsDone, HasRightEntries}
+use Rattle.trace_ledger.specs.Entries.{HasRightEntries}
 use Rattle.trace_ledger.proofs.RightLemmas.{own_entries}
 use Rattle.wait_coverage.specs.Spans.{IsCoverComplete}
 use Rattle.wait_coverage.specs.Waits.{IsOpen, IsFirstOpenPlace}
-use Rattle.checker.proofs.OwnLemmas.{own_seen, own_done}
-use Rattle.checker.proofs.StartLemmas.{bound_still}
+use Rattle.wait_coverage.specs.Shown.{IsCompleteShown, IsFirstOpenShown}
+use Rattle.wait_coverage.proofs.ShownLemmas.{own_open, open_shown}
 use Rattle.checker.proofs.VerdictLemmas.{cover_ends, preceded_starts, at_cases, listed}
 
 -- ---- readings that say the same
@@ -256,39 +254,13 @@ clear_entries view clear =
 
 -- ---- what the searches in the tasks' own order find
 
--- the end of a wait starts nothing, so that what it has seen decides what is complete there
-end_bound : (rs : List Record) (i task : ℕ) → Covers rs i task → (other : ℕ) → IsCompleteAt rs other i ↔ IsDone rs (seen_at rs i) other
-end_bound rs i task covers =
-    let ends = cover_ends rs i task covers in
-    bound_still rs i (λ (other, explicit, start). at_cases rs i other ends.0 ends.1 (inl (start_starts rs i other start)))
-
--- and the same is complete where it stands in the file
-end_complete : (rs : List Record) (own : OwnView) (number place task : ℕ) → IsOwnOf rs own → IsOwn own → slice_get own.places number ≡ Some place → Covers own.run.records number task → (other : ℕ) → IsCompleteAt own.run.records other number ↔ IsCompleteAt rs other place
-end_complete rs own number place task of is_own stands covers other = (
-  λ complete. (there other).1 (subst (λ n. IsDone rs n other) seen ((own_done rs own of is_own.places (seen_at own.run.records number) other).0 ((here other).0 complete))),
-  λ complete. (here other).1 ((own_done rs own of is_own.places (seen_at own.run.records number) other).1 (subst (λ n. IsDone rs n other) (sym seen) ((there other).0 complete))),
-)
-  where
-    seen : seen_at own.run.records number ≡ seen_at rs place
-    seen = own_seen rs own of number place stands
-
-    here : (other : ℕ) → IsCompleteAt own.run.records other number ↔ IsDone own.run.records (seen_at own.run.records number) other
-    here = end_bound own.run.records number task covers
-
-    there : (other : ℕ) → IsCompleteAt rs other place ↔ IsDone rs (seen_at rs place) other
-    there =
-        let ends = cover_ends own.run.records number task covers in
-        let says = sym (own_says region rs own of number place stands) ∙ ends.1 in
-        bound_still rs place (λ (begun, explicit, start). at_cases rs place begun ends.0 says (inl (start_starts rs place begun start)))
-
 -- a task is open at a place exactly where it is at its number
-pub open_there : (rs : List Record) (own : OwnView) (number place task : ℕ) → IsOwnOf rs own → IsOwn own → slice_get own.places number ≡ Some place → IsOpen own.run.records number task ↔ IsOpenBy (by_task rs) place task
-open_there rs own number place task of is_own stands = (
-  λ is. ((own_covers rs own of number place stands task).0 is.covered, λ complete. is.incomplete ((end_complete rs own number place task of is_own stands is.covered task).1 complete)),
-  λ is.
-      let covered = (own_covers rs own of number place stands task).1 is.0 in
-      record { covered = covered; incomplete = λ complete. is.1 ((end_complete rs own number place task of is_own stands covered task).0 complete) },
-)
+open_there : (rs : List Record) (own : OwnView) (number place task : ℕ) → IsOwnOf rs own → IsOwn own → slice_get own.places number ≡ Some place → IsOpen own.run.records number task ↔ IsOpenBy (by_task rs) place task
+open_there rs own number place task of is_own stands =
+    let shown = own_open rs own number place task of is_own stands in (
+      λ is. let there = shown.0 is in (there.covered, there.incomplete),
+      λ is. shown.1 (record { covered = is.0; incomplete = is.1 }),
+    )
 
 -- so a test by number tells it of the place
 pub open_told : (view : ClearView) (number place task : ℕ) (told : Bool) → IsClearView view → slice_get view.own.places number ≡ Some place → IsTrue told ↔ IsOpen view.own.run.records number task → IsTrue told ↔ IsOpenBy (by_task view.run.records) place task
@@ -298,24 +270,17 @@ open_told view number place task told clear stands tells =
 
 -- what the search for an open end finds
 pub open_by_task : (rs : List Record) (own : OwnView) (found : Option (ℕ × ℕ)) → IsOwnOf rs own → IsOwn own → MatchOption found ((i : ℕ) → IsCoverComplete own.run.records i) (λ (f : ℕ × ℕ). IsFirstOpenPlace own f.0 f.1) → MatchOption found (AreAllCovered (by_task rs)) (λ (f : ℕ × ℕ). IsFirstOpenBy (by_task rs) f.0 f.1)
-open_by_task rs own None of is_own all = λ i task covers.
-    let there = number_of_place rs own of is_own.places i ((of_tasks rs).within i task covers) in
-    let covered = (own_covers rs own of there.0 i there.1 task).1 covers in
-    (end_complete rs own there.0 i task of is_own there.1 covered task).0 (all there.0 task covered)
-open_by_task rs own (Some (place, task)) of is_own is = record {
-  so = (open_there rs own is.number place task of is_own is.stands).0 is.first_open.is_open;
-  first = λ k other below opened.
-      let there = number_of_place rs own of is_own.places k ((of_tasks rs).within k other opened.0) in
-      let at_number = (open_there rs own there.0 k other of is_own there.1).1 opened in
-      at_number.incomplete (is.before k there.0 below there.1 other at_number.covered);
-  creation = is.first_open.creation;
-  is_created =
-      let creates = is.first_open.is_created in
-      sym (own_says created rs own of creates.0 is.first_open.creation creates.1) ∙ creates.2;
-  created_first = λ k other below creates opened.
-      let there = number_of_place rs own of is_own.places k (at_within created rs k other creates) in
-      is.first_open.created_first k other below (there.0, there.1, own_says created rs own of there.0 k there.1 ∙ creates) ((open_there rs own is.number place other of is_own is.stands).1 opened);
-}
+open_by_task rs own found of is_own is = told found (open_shown rs own found of is_own is)
+  where
+    told : (o : Option (ℕ × ℕ)) → MatchOption o ((place : ℕ) → IsCompleteShown rs place) (λ (f : ℕ × ℕ). IsFirstOpenShown rs f.0 f.1) → MatchOption o (AreAllCovered (by_task rs)) (λ (f : ℕ × ℕ). IsFirstOpenBy (by_task rs) f.0 f.1)
+    told None all = all
+    told (Some (place, task)) first = record {
+      so = (first.open_there.covered, first.open_there.incomplete);
+      first = λ k other below opened. first.before k other below (record { covered = opened.0; incomplete = opened.1 });
+      creation = first.creation;
+      is_created = first.is_created;
+      created_first = λ k other below creates opened. first.created_first k other below creates (record { covered = opened.0; incomplete = opened.1 });
+    }
 
 -- and what that for a late start finds
 pub late_by_task : (rs : List Record) (found : Option (ℕ × ℕ)) → MatchOption found ((i : ℕ) → AreReady rs i) (λ (f : ℕ × ℕ). IsFirstLateStart rs f.0 f.1) → MatchOption found (AreAllReady (by_task rs)) (λ (f : ℕ × ℕ). IsFirstLateBy (by_task rs) f.0 f.1)
