@@ -5,3 +5,4 @@ pub mod LockLemmas
 pub mod SeatLemmas
 pub mod OverlapLemmas
 pub mod OverLemmas
+pub mod ExtendsLemmas

@@ -1,7 +1,7 @@
 //! The names of statuses, endpoints and kinds, as they stand in a file.
 ghost use Rattle.std.specs.Prelude.{◌≡◌, ◌↔◌, Some};
 ghost use Rattle.ompt_events.specs.Waits.{wait_kind};
-ghost use Rattle.ompt_events.specs.Regions.{is_barrier, waits_for_tasks};
+ghost use Rattle.ompt_events.specs.Regions.{is_barrier, is_called_barrier, waits_for_tasks};
 ghost use Rattle.ompt_events.specs.Names.{status_name, endpoint_name, sync_kind_name, dep_kind_name, thread_kind_name, status_part, demands_next, conflict};
 
 use crate::records::Part;
@@ -236,6 +236,16 @@ impl SyncKind {
             | SyncKind::BarrierImplicitWorkshare
             | SyncKind::BarrierImplicitParallel => true,
             _ => false,
+        }
+    }
+
+    /// Whether it is called a barrier, of whatever kind: an explicit task may have none (OpenMP 5.2, 15.3).
+    pub fn is_called_barrier(self) -> bool
+        ensures { result ≡ is_called_barrier self }
+    {
+        match self {
+            SyncKind::BarrierImplementation | SyncKind::BarrierTeams => true,
+            _ => self.is_barrier(),
         }
     }
 

@@ -1,6 +1,7 @@
 //! A list of numbers that contracts see as such.
-ghost use Rattle.std.specs.Prelude.{◌≡◌, ◌<◌, ◌^◌, All};
+ghost use Rattle.std.specs.Prelude.{◌≡◌, ◌<◌, ◌^◌, ◌++◌, ◌∷◌, [], All, IfOk};
 
+use std::alloc::{AllocError, Global};
 use std::marker::Model;
 
 /// Where a task stands below its root: at each step the number of the child, from the root down.
@@ -46,6 +47,25 @@ impl Path {
         ensures { result.now ≡ self.now }
     {
         self.numbers.as_slice()
+    }
+
+    /// The same path once more. Refused for memory alone.
+    pub fn copied(&self, alloc: Global) -> Result<Path, AllocError>
+        ensures { IfOk result (λ copy. copy ≡ self.now) }
+    {
+        let mut numbers = Vec::new(alloc);
+        numbers.extend_from_slice(self.as_slice())?;
+        Ok(Path::from_vec(numbers))
+    }
+
+    /// The path of the child with this number, of the task at this path. Refused for memory alone.
+    pub fn child(&self, alloc: Global, number: u32) -> Result<Path, AllocError>
+        ensures { IfOk result (λ path. path ≡ self.now ++ number ∷ []) }
+    {
+        let mut numbers = Vec::with_capacity(alloc, self.numbers.len() + 1)?;
+        numbers.extend_from_slice(self.as_slice())?;
+        numbers.push(number)?;
+        Ok(Path::from_vec(numbers))
     }
 
     /// Each is a number of 32 bits. Compiled, it is nothing.

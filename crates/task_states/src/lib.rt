@@ -23,6 +23,7 @@ mod trace_calls;
 mod turn_edges;
 mod walk;
 
+pub use moves::{Move, Nature, after_move};
 pub use nesting::find_nested;
 pub use numbering::gap;
 pub use ompt_events::State;

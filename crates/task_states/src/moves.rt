@@ -9,7 +9,7 @@ use task_tree::Run;
 
 /// What a task is: what may happen to it depends on that.
 #[derive(Clone, Copy)]
-pub(crate) enum Nature {
+pub enum Nature {
     /// An initial or implicit task.
     Root,
     /// A taskwait with dependences (OpenMP 5.2, 15.5).
@@ -20,7 +20,7 @@ pub(crate) enum Nature {
 
 /// What a record does to a task.
 #[derive(Clone, Copy)]
-pub(crate) enum Move {
+pub enum Move {
     /// The task is the prior one of a schedule with this status.
     Stopped(Status),
     /// The task is the next one of a schedule.
@@ -30,7 +30,7 @@ pub(crate) enum Move {
 }
 
 /// The state of the task after the move; none where its nature or its state allows no such move.
-pub(crate) fn after_move(nature: Nature, state: State, step: Move) -> Option<State>
+pub fn after_move(nature: Nature, state: State, step: Move) -> Option<State>
     ensures { (i : ℕ) → result ≡ state_after (the_nature nature) (Some state) (i, the_move step) }
 {
     if !may(nature, step) {

@@ -193,17 +193,7 @@ fn is_barred(run: &Run, event: RegionEvent) -> bool
     ensures { (task : ℕ) → slice_get run.now.family.tasks event.task ≡ Some task → IsTrue result
         ↔ ((is_called_barrier event.kind ≡ true) × IsExplicit run.now.records task) }
 {
-    is_called_barrier(event.kind) && run.is_explicit(event.task)
-}
-
-/// Whether the kind is called a barrier.
-fn is_called_barrier(kind: SyncKind) -> bool
-    ensures { result ≡ is_called_barrier kind }
-{
-    match kind {
-        SyncKind::BarrierImplementation | SyncKind::BarrierTeams => true,
-        _ => kind.is_barrier(),
-    }
+    event.kind.is_called_barrier() && run.is_explicit(event.task)
 }
 
 /// The innermost open region of a task after its record with this number.

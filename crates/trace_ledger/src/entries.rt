@@ -3,7 +3,7 @@ ghost use Rattle.std.specs.Prelude.{◌≡◌, IfOk};
 ghost use Rattle.trace_ledger.specs.Entries.{entry_of};
 
 use credit_ledger::Entry;
-use ompt_events::{Path, Record, finish};
+use ompt_events::{Record, finish};
 use std::alloc::{AllocError, Global};
 
 /// The entry that the record makes, by what it claims; a record that finishes no task makes none.
@@ -22,15 +22,6 @@ pub(crate) fn entry_of(alloc: Global, event: &Record) -> Result<Option<Entry>, A
         kept: claim.kept,
         task,
         root: claim.root,
-        path: copy_of(alloc, &claim.path)?,
+        path: claim.path.copied(alloc)?,
     }))
-}
-
-/// The same path once more.
-fn copy_of(alloc: Global, path: &Path) -> Result<Path, AllocError>
-    ensures { IfOk result (λ copy. copy ≡ path.now) }
-{
-    let mut numbers = Vec::new(alloc);
-    numbers.extend_from_slice(path.as_slice())?;
-    Ok(Path::from_vec(numbers))
 }

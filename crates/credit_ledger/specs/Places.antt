@@ -1,0 +1,17 @@
+-- Short words for contracts of crates above.
+use Rattle.atomic_table.specs.Seated.{TableId}
+use Rattle.credit_ledger.specs.declared.shared.Seat.{Seat}
+use Rattle.credit_ledger.specs.declared.shared.SharedLedger.{SharedLedger}
+use Rattle.credit_ledger.specs.declared.view.View.{View}
+
+-- which ledger it is
+abbrev pub ledger_id : SharedLedger → TableId
+ledger_id ledger = ledger.board.shared.table_id
+
+-- the ledger that the seat is of
+abbrev pub seat_id : Seat → TableId
+seat_id seat = seat.place.table_id
+
+-- what the seat knows
+abbrev pub view_of : Seat → View
+view_of seat = seat.place.me.0
