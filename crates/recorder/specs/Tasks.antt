@@ -1,0 +1,176 @@
+-- A tool's own value of one task, and what the events of OMPT do to it and to its credit (F. Mattern, Information
+-- Processing Letters 30, 1989).
+use Rattle.std.specs.Prelude.{ℕ, ◌^◌, ◌+◌, ◌-◌, ◌&&◌, Bool, true, false, List, [], ◌∷◌, ◌++◌, Option, Some, None, is_some, nat_eq, nat_le, nat_lt, length, slice_get, take, if◌then◌else◌}
+use Rattle.std.specs.Option.{option_map_or}
+use Rattle.ompt_events.specs.declared.records.Claim.{Claim}
+use Rattle.ompt_events.specs.declared.records.Part.{Part}
+use Rattle.ompt_events.specs.declared.names.Status.{Status}
+use Rattle.ompt_events.specs.declared.names.SyncKind.{SyncKind}
+use Rattle.ompt_events.specs.declared.state.State.{State}
+use Rattle.ompt_events.specs.declared.state.State.TheVariants.{Created, Running, Detached, Done}
+use Rattle.ompt_events.specs.Flags as flag
+use Rattle.ompt_events.specs.Flags.{has_flag}
+use Rattle.ompt_events.specs.contracts.names.SyncKindPartialEq.TheImpl as kinds
+use Rattle.ompt_events.specs.Regions.{is_called_barrier}
+use Rattle.ompt_events.specs.States as states
+use Rattle.ompt_events.specs.States.{state_after}
+use Rattle.credit.specs.declared.share.Half.{Half}
+use Rattle.credit.specs.Shares.{finish_share, give_half}
+use Rattle.credit.specs.Credits as credits
+use Rattle.credit.specs.Credits.{Credit, Holder}
+use Rattle.credit_ledger.specs.declared.entry.Entry.{Entry}
+use Rattle.credit_ledger.specs.Entries.{tree_share}
+use Rattle.trace_ledger.specs.Entries.{claimed_entry}
+use Rattle.recorder.specs.declared.task.Origin.{Origin}
+use Rattle.recorder.specs.declared.task.Origin.TheVariants.{Root, Explicit}
+use Rattle.recorder.specs.declared.task.TeamPlace.{TeamPlace}
+
+-- what clauses see of a task's value: the task, where it comes from, the bits of its flags, the turn that it began
+-- last, its state, where it stands in the tree and how many children it created, and its open regions, the
+-- innermost last
+pub record TaskView : Type 0 where
+  pub id : ℕ
+  pub origin : Origin
+  pub flags : ℕ
+  pub turn : Option ℕ
+  pub state : State
+  pub claim : Claim
+  pub regions : List SyncKind
+
+-- ---- what a task is
+
+abbrev pub parent_of : Origin → Option ℕ
+parent_of (Root place) = None
+parent_of (Explicit parent) = Some parent
+
+abbrev pub place_of : Origin → Option TeamPlace
+place_of (Root place) = Some place
+place_of (Explicit parent) = None
+
+-- an initial or implicit task begins or was begun with the flag `initial`, or without it
+abbrev pub is_initial_task : TaskView → Bool
+is_initial_task t = is_some (place_of t.origin) && has_flag t.flags flag.initial
+
+-- what may happen to the task: a taskwait with dependences was created with the flag `taskwait`
+abbrev pub nature_by : Origin → ℕ → states.Nature
+nature_by (Root place) bits = states.Root
+nature_by (Explicit parent) bits = if has_flag bits flag.taskwait then states.Wait else states.Plain
+
+abbrev pub nature : TaskView → states.Nature
+nature t = nature_by t.origin t.flags
+
+-- ---- its state
+
+-- the state after the task stops with a status, runs next, or is discarded, where its state and its nature allow it
+abbrev pub state_moved : TaskView → states.Move → Option State
+state_moved t move = state_after (nature t) (Some t.state) (0, move)
+
+-- ---- its turns
+
+-- the turn in which the task is; 0 where it has begun none
+abbrev pub turn_of : TaskView → ℕ
+turn_of t = option_map_or (λ turn. turn) t.turn 0
+
+-- the turn that it begins next, where it is a number of 32 bits
+abbrev pub next_turn : TaskView → Option ℕ
+next_turn t = option_map_or (λ turn. if nat_lt (turn + 1) (2 ^ 32) then Some (turn + 1) else None) t.turn (Some 0)
+
+-- ---- its regions
+
+-- the kind of the innermost region that is open
+abbrev pub innermost_region : TaskView → Option SyncKind
+innermost_region t = slice_get t.regions (length t.regions - 1)
+
+-- the innermost region that is open is of this kind
+abbrev pub is_innermost_region : TaskView → SyncKind → Bool
+is_innermost_region t kind = option_map_or (λ found. (kinds.ghosts).eq found kind) (innermost_region t) false
+
+-- the task after it began a region, and after it ended the innermost one
+abbrev pub with_region : TaskView → SyncKind → TaskView
+with_region t kind = record t { regions = t.regions ++ kind ∷ [] }
+
+abbrev pub without_region : TaskView → TaskView
+without_region t = record t { regions = take (length t.regions - 1) t.regions }
+
+-- a region of this kind is called a barrier, and the task is explicit, which may have none (OpenMP 5.2, 15.3)
+abbrev pub is_barred : TaskView → SyncKind → Bool
+is_barred t kind = is_called_barrier kind && is_some (parent_of t.origin)
+
+-- ---- its limits
+
+-- a child of the task would have more than 1,024 numbers in its path
+abbrev pub is_deep : TaskView → Bool
+is_deep t = nat_le 1024 (length t.claim.path)
+
+-- the task has 2^32 - 1 children
+abbrev pub is_crowded : TaskView → Bool
+is_crowded t = nat_le (2 ^ 32) (t.claim.kept + 1)
+
+-- ---- what events make of it
+
+-- a root that begins
+abbrev pub root_of : ℕ → TeamPlace → ℕ → TaskView
+root_of id place bits = record {
+  id = id;
+  origin = Root place;
+  flags = bits;
+  turn = Some 0;
+  state = Running;
+  claim = record { kept = 0; root = id; path = [] };
+  regions = [];
+}
+
+-- a child that the task creates: its number is how many the task created before
+abbrev pub child_of : TaskView → ℕ → ℕ → TaskView
+child_of t id bits = record {
+  id = id;
+  origin = Explicit t.id;
+  flags = bits;
+  turn = None;
+  state = Created;
+  claim = record { kept = 0; root = t.claim.root; path = t.claim.path ++ t.claim.kept ∷ [] };
+  regions = [];
+}
+
+-- the task after it created one more child
+abbrev pub with_child : TaskView → TaskView
+with_child t = record t { claim = record t.claim { kept = t.claim.kept + 1 } }
+
+-- the task in another state
+abbrev pub in_state : TaskView → State → TaskView
+in_state t state = record t { state = state }
+
+-- the task, running in its next turn
+abbrev pub running_in : TaskView → State → ℕ → TaskView
+running_in t state turn = record t { state = state; turn = Some turn }
+
+-- ---- its credit
+
+abbrev pub is_detached : State → Bool
+is_detached Detached = true
+is_detached _ = false
+
+-- who has the task's share: the task, once its body has ended its event, and at last nobody
+abbrev pub holder_in : State → Holder
+holder_in Detached = credits.Awaited
+holder_in Done = credits.Entered
+holder_in _ = credits.Running
+
+-- the share that the task has left: of its start share it gave a half to each child, and a detached task gave back
+-- the half of its body
+abbrev pub share_of : TaskView → List Half
+share_of t =
+    let left : List Half = finish_share t.claim.path t.claim.kept in
+    if is_detached t.state then give_half left else left
+
+abbrev pub credit_of : TaskView → Credit
+credit_of t = record { root = t.claim.root; task = t.id; holder = holder_in t.state; share = share_of t }
+
+-- what the ledger gets, on this thread, where a part of the task is finished
+abbrev pub entry_of_part : ℕ → Part → TaskView → Entry
+entry_of_part thread part t = claimed_entry thread (t.id, part) t.claim
+
+-- the credit that comes back with an entry
+abbrev pub entered_credit_of : Entry → Credit
+entered_credit_of entry =
+    record { root = entry.root; task = entry.task; holder = credits.Entered; share = tree_share entry }

@@ -1,0 +1,251 @@
+//! The recorder of one thread.
+ghost use Rattle.std.specs.Prelude.{◌≡◌, ◌≤◌, ◌<◌, ◌+◌, ◌⊎◌, [], None, Some, true, false, length, ℕ, IfOk, IfErr, OnOk, OnErr, IsErr, IsOkUnless};
+ghost use Rattle.ompt_events.specs.Limits.{max_records};
+ghost use Rattle.ompt_events.specs.Records.{finish};
+ghost use Rattle.ompt_events.specs.Traces.{IsSoundIn};
+ghost use Rattle.credit_ledger.specs.declared.view.Call.TheVariants.{Look};
+ghost use Rattle.credit_ledger.specs.Seats.{Extends, IsCopy, told_of, with_given};
+ghost use Rattle.credit_ledger.specs.Places.{ledger_id, seat_id, view_of};
+ghost use Rattle.recorder.specs.declared.fault.CallFault.TheVariants.{Memory};
+ghost use Rattle.recorder.specs.Standing.{innermost};
+ghost use Rattle.recorder.specs.Logs.{AreRecorded, standing_of};
+ghost use Rattle.recorder.specs.Recorders.{IsBacked, entries_of, with_record, IsObserved, IsConcluded, IsRefusedByLedger, entry_by, allowed, refusal_at};
+
+use crate::fault::{CallFault, of_ledger};
+use crate::log::Log;
+use credit_ledger::{Entry, Seat, SharedLedger};
+use ompt_events::Body;
+use std::alloc::Global;
+use std::marker::Model;
+use std::sync::Wait;
+use thread_buffers::Buffer;
+
+/// What one thread records into. Its calls are those of a tool that a runtime calls back (OpenMP 5.2, 19.5.2): each
+/// that is accepted appends one record. Calls that a running or finishing task makes ask the ledger that all threads
+/// share; no other call does.
+#[derive(Drop)]
+pub struct Recorder {
+    pub(crate) log: Log,
+    pub(crate) seat: Seat,
+}
+
+impl Model for Recorder {
+    ghost use Rattle.credit_ledger.specs.Places.{seat_id, view_of};
+    ghost use Rattle.recorder.specs.Recorders.{RecorderView, IsBacked};
+
+    ghost Value = { RecorderView };
+
+    ghost view = { λ recorder. record {
+      thread = recorder.log.thread;
+      records = recorder.log.records;
+      known = recorder.log.known;
+      ledger = seat_id recorder.seat;
+      seat = view_of recorder.seat;
+    } };
+
+    ghost invariant = { λ recorder. IsBacked recorder.log.records recorder.log.known (view_of recorder.seat) };
+}
+
+/// What one recorder has seen of the ledger, for another one. Whoever hands a task to another thread hands a note with
+/// it, and that thread meets the note first: what the task did here then comes before what it does there.
+#[derive(Drop)]
+pub struct Note {
+    seat: Seat,
+}
+
+impl Model for Note {
+    ghost use Rattle.credit_ledger.specs.Places.{seat_id, view_of};
+    ghost use Rattle.recorder.specs.Recorders.{NoteView};
+
+    ghost Value = { NoteView };
+
+    ghost view = { λ note. record { ledger = seat_id note.seat; seat = view_of note.seat } };
+}
+
+impl Recorder {
+    /// A recorder of the thread with this number that has recorded nothing. Each recorder of a ledger wants a seat and
+    /// a number of its own. Takes no memory.
+    pub fn new(alloc: Global, thread: u8, seat: Seat) -> Recorder
+        ensures thread { result.thread ≡ thread }
+        ensures records { result.records ≡ [] }
+        ensures known { result.known ≡ 0 }
+        ensures ledger { result.ledger ≡ seat_id seat }
+        ensures seat { result.seat ≡ view_of seat }
+    {
+        Recorder {
+            log: Log::new(alloc, thread),
+            seat,
+        }
+    }
+
+    /// The number of the thread.
+    pub fn thread(&self) -> u8
+        ensures { result ≡ self.now.thread }
+    {
+        self.log.thread()
+    }
+
+    /// The task that the thread runs, by its records.
+    pub fn current(&self) -> Option<u64>
+        ensures { result ≡ (standing_of self.now.records).current }
+    {
+        self.log.standing().current
+    }
+
+    /// The innermost initial or implicit task that is open on the thread.
+    pub fn innermost_root(&self) -> Option<u64>
+        ensures { result ≡ innermost (standing_of self.now.records) }
+    {
+        self.log.standing().innermost()
+    }
+
+    /// The task that was created last, while its dependences are awaited: they must be the next record.
+    pub fn awaits(&self) -> Option<u64>
+        ensures { result ≡ (standing_of self.now.records).awaited }
+    {
+        self.log.standing().awaited
+    }
+
+    /// The length of the ledger that the recorder knew last.
+    pub fn known(&self) -> u32
+        ensures { result ≡ self.now.known }
+    {
+        self.log.known()
+    }
+
+    /// What this recorder has seen, to be met by another one. Takes no memory.
+    pub fn note(&mut self, ledger: &SharedLedger) -> Note
+        requires { self.old.ledger ≡ ledger_id ledger.now }
+        ensures recorder { self.new ≡ record self.old { seat = with_given self.old.seat (result.seat.number + 1) } }
+        ensures ledger { result.ledger ≡ self.old.ledger }
+        ensures copy { IsCopy self.old.seat result.seat }
+        ensures knows { self.old.known ≤ length (entries_of result.seat) }
+    {
+        Note {
+            seat: ledger.split(&mut self.seat),
+        }
+    }
+
+    /// Learns what another recorder had seen when it gave the note. It looks at the ledger, and may wait for its turn
+    /// there.
+    pub fn meet<R: Wait>(&mut self, ledger: &SharedLedger, wait: &R, note: Note)
+        requires ledger { self.old.ledger ≡ ledger_id ledger.now }
+        requires note { note.ledger ≡ ledger_id ledger.now }
+        ensures thread { self.new.thread ≡ self.old.thread }
+        ensures records { self.new.records ≡ self.old.records }
+        ensures ledger { self.new.ledger ≡ self.old.ledger }
+        ensures looked { Extends (told_of self.old.seat note.seat) Look self.new.known self.new.seat }
+        ensures knows { length (entries_of note.seat) ≤ self.new.known }
+    {
+        let known = ledger.join(wait, &mut self.seat, note.seat);
+        self.log.learn(known);
+    }
+
+    /// The records and the seat, for good.
+    pub fn into_parts(self) -> (Buffer, Seat)
+        ensures thread { result.0.thread ≡ self.thread }
+        ensures records { result.0.records ≡ self.records }
+        ensures ledger { seat_id result.1 ≡ self.ledger }
+        ensures seat { view_of result.1 ≡ self.seat }
+        ensures recorded { AreRecorded self.thread self.records self.known }
+        ensures backed { IsBacked self.records self.known self.seat }
+    {
+        let Recorder { log, seat } = self;
+        (log.into_buffer(), seat)
+    }
+}
+
+// How a record comes to be.
+impl Recorder {
+    /// Why a call that would add a record with this body is refused before it needs memory, if it is. What its tasks
+    /// allow, whether they are too deep and whether they have no room for more is given.
+    #[tactic(auto, unfolding(crate::specs::Recorders::refusal_at))]
+    pub(crate) fn test(&self, may: bool, deep: bool, full: bool, body: &Body) -> Result<(), CallFault>
+        ensures passed { OnOk result (refusal_at self.now may deep full body.now ≡ None) }
+        ensures fault { IfErr result (λ fault. refusal_at self.now may deep full body.now ≡ Some fault) }
+        ensures may { OnOk result (may ≡ true) }
+        ensures allowed { OnOk result (allowed self.now body.now ≡ true) }
+        ensures deep { OnOk result (deep ≡ false) }
+        ensures full { OnOk result (full ≡ false) }
+        ensures few { OnOk result (length self.now.records < max_records) }
+    {
+        if !may || !self.log.standing().allows(body) {
+            return Err(CallFault::WrongState);
+        }
+        if deep {
+            return Err(CallFault::TooDeep);
+        }
+        if full || self.log.is_full() {
+            return Err(CallFault::Full);
+        }
+        Ok(())
+    }
+
+    /// Adds a record of a call that asks no ledger. Out of memory, the body comes back.
+    pub(crate) fn append(&mut self, body: Body) -> Result<(), Body>
+        requires few { length self.old.records < max_records }
+        requires allowed { allowed self.old body ≡ true }
+        requires sound { IsSoundIn 2 body }
+        requires unfinished { finish body ≡ None }
+        ensures made { OnOk result (self.new ≡ with_record self.old body) }
+        ensures unchanged { OnErr result (self.new ≡ self.old) }
+        ensures returned { IfErr result (λ back. back ≡ body) }
+    {
+        let Ok(()) = self.log.reserve() else {
+            return Err(body);
+        };
+        let seen = self.log.known();
+        self.log.push(seen, body);
+        Ok(())
+    }
+
+    /// Looks at the ledger, and adds a record that names its length.
+    pub(crate) fn observe<R: Wait>(
+        &mut self,
+        ledger: &SharedLedger,
+        wait: &R,
+        body: Body,
+    ) -> Result<u32, CallFault>
+        requires ledger { self.old.ledger ≡ ledger_id ledger.now }
+        requires few { length self.old.records < max_records }
+        requires allowed { allowed self.old body ≡ true }
+        requires sound { IsSoundIn 2 body }
+        requires unfinished { finish body ≡ None }
+        ensures made { IfOk result (λ seen. IsObserved self.old seen body self.new) }
+        ensures unchanged { OnErr result (self.new ≡ self.old) }
+        ensures memory { IsOkUnless result Memory }
+    {
+        self.log.reserve()?;
+        let seen = ledger.look(wait, &mut self.seat);
+        self.log.push(seen, body);
+        Ok(seen)
+    }
+
+    /// Puts an entry into the ledger, and adds the record that makes it.
+    pub(crate) fn conclude<R: Wait>(
+        &mut self,
+        ledger: &SharedLedger,
+        wait: &R,
+        entry: Entry,
+        body: Body,
+    ) -> Result<u32, CallFault>
+        requires ledger { self.old.ledger ≡ ledger_id ledger.now }
+        requires few { length self.old.records < max_records }
+        requires allowed { allowed self.old body ≡ true }
+        requires sound { IsSoundIn 2 body }
+        requires makes { entry_by self.old.thread body ≡ Some entry }
+        requires short { length entry.path ≤ 1024 }
+        ensures made { IfOk result (λ index. IsConcluded self.old entry index body self.new) }
+        ensures refused { IfErr result (λ fault.
+            ((fault ≡ Memory) × (self.new ≡ self.old)) ⊎ IsRefusedByLedger self.old entry self.new fault) }
+    {
+        self.log.reserve()?;
+        match ledger.enter(wait, &mut self.seat, entry) {
+            Ok(receipt) => {
+                self.log.push(receipt.index, body);
+                Ok(receipt.index)
+            }
+            Err((_, fault)) => Err(of_ledger(fault)),
+        }
+    }
+}

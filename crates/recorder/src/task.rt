@@ -1,0 +1,321 @@
+//! The tool's own value of one task.
+ghost use Rattle.std.specs.Prelude.{◌≡◌, ◌≤◌, ◌<◌, ◌^◌, ◌+◌, [], Some, None, length, IfOk, OnOk, OnErr};
+ghost use Rattle.ompt_events.specs.declared.records.Part.{Part};
+ghost use Rattle.ompt_events.specs.States as states;
+ghost use Rattle.task_states.specs.Progress.{the_nature, the_move};
+ghost use Rattle.recorder.specs.Tasks.{parent_of, place_of, is_initial_task, nature, state_moved, turn_of, next_turn, innermost_region, is_innermost_region, is_barred, is_deep, is_crowded, root_of, child_of, with_child, in_state, running_in, with_region, without_region, entry_of_part};
+
+use bitflags::Flags;
+use credit_ledger::Entry;
+use ompt_events::{Claim, Part, Path, State, Status, SyncKind, TaskFlags};
+use std::alloc::{AllocError, Global};
+use std::marker::Model;
+use task_states::{Move, Nature, after_move};
+
+/// The most numbers that the path of a task has.
+const MAX_DEPTH: usize = 1024;
+
+/// Where a root stands: the thread on which it begins, the size of its team, and its number there.
+#[derive(Clone, Copy, Debug)]
+pub struct TeamPlace {
+    pub home: u8,
+    pub actual: u32,
+    pub index: u32,
+}
+
+/// Where a task comes from.
+#[derive(Clone, Copy, Debug)]
+pub enum Origin {
+    /// An initial or implicit task, which begins on a thread.
+    Root(TeamPlace),
+    /// An explicit task, which this one created.
+    Explicit(u64),
+}
+
+/// The tool's own value of one task: it is made where the task begins or is created, is handed to each call that
+/// speaks of the task, and is spent where the task ends. It isn't copied, so no two threads record one task at once.
+#[derive(Debug, Drop)]
+pub struct TaskData {
+    id: u64,
+    origin: Origin,
+    flags: TaskFlags,
+    /// The turn that it began last.
+    turn: Option<u32>,
+    state: State,
+    claim: Claim,
+    /// The kinds of its open regions, the innermost last.
+    regions: Vec<SyncKind>,
+}
+
+impl Model for TaskData {
+    ghost use Rattle.std.specs.Prelude.{◌≤◌, length};
+    ghost use Rattle.recorder.specs.Tasks.{TaskView};
+
+    ghost Value = { TaskView };
+
+    ghost view = { λ task. record {
+      id = task.id;
+      origin = task.origin;
+      flags = task.flags.0;
+      turn = task.turn;
+      state = task.state;
+      claim = task.claim;
+      regions = task.regions.items;
+    } };
+
+    ghost invariant = { λ task. length task.claim.path ≤ 1024 };
+}
+
+impl TaskData {
+    /// The task's number.
+    pub fn id(&self) -> u64
+        ensures { result ≡ self.now.id }
+    {
+        self.id
+    }
+
+    /// The state that the task is in.
+    pub fn state(&self) -> State
+        ensures { result ≡ self.now.state }
+    {
+        self.state
+    }
+
+    /// The task that created it; an initial or implicit task has none.
+    pub fn parent(&self) -> Option<u64>
+        ensures { result ≡ parent_of self.now.origin }
+    {
+        match self.origin {
+            Origin::Explicit(parent) => Some(parent),
+            Origin::Root(_) => None,
+        }
+    }
+
+    /// The kinds of its open regions, the innermost last.
+    pub fn regions(&self) -> &[SyncKind]
+        ensures { result.now ≡ self.now.regions }
+    {
+        self.regions.as_slice()
+    }
+}
+
+// What the recorder makes of a task.
+impl TaskData {
+    /// A root that begins. Takes no memory.
+    pub(crate) fn root(alloc: Global, id: u64, place: TeamPlace, flags: TaskFlags) -> TaskData
+        ensures { result ≡ root_of id place flags.0 }
+    {
+        TaskData {
+            id,
+            origin: Origin::Root(place),
+            flags,
+            turn: Some(0),
+            state: State::Running,
+            claim: Claim {
+                kept: 0,
+                root: id,
+                path: Path::from_vec(Vec::new(alloc)),
+            },
+            regions: Vec::new(alloc),
+        }
+    }
+
+    /// The child that the task creates next.
+    pub(crate) fn child(&self, alloc: Global, id: u64, flags: TaskFlags) -> Result<TaskData, AllocError>
+        requires { length self.now.claim.path < 1024 }
+        ensures { IfOk result (λ child. child ≡ child_of self.now id flags.0) }
+    {
+        Ok(TaskData {
+            id,
+            origin: Origin::Explicit(self.id),
+            flags,
+            turn: None,
+            state: State::Created,
+            claim: Claim {
+                kept: 0,
+                root: self.claim.root,
+                path: self.claim.path.child(alloc, self.claim.kept)?,
+            },
+            regions: Vec::new(alloc),
+        })
+    }
+
+    /// The task has created one more child.
+    pub(crate) fn count_child(&mut self)
+        requires { self.old.claim.kept + 1 < 2 ^ 32 }
+        ensures { self.new ≡ with_child self.old }
+    {
+        self.claim.kept += 1;
+    }
+
+    /// The task is in another state.
+    pub(crate) fn set_state(&mut self, state: State)
+        ensures { self.new ≡ in_state self.old state }
+    {
+        self.state = state;
+    }
+
+    /// The task runs in its next turn.
+    pub(crate) fn run(&mut self, state: State, turn: u32)
+        ensures { self.new ≡ running_in self.old state turn }
+    {
+        self.state = state;
+        self.turn = Some(turn);
+    }
+
+    /// A region of the task begins.
+    pub(crate) fn begin_region(&mut self, kind: SyncKind) -> Result<(), AllocError>
+        ensures begun { OnOk result (self.new ≡ with_region self.old kind) }
+        ensures unchanged { OnErr result (self.new ≡ self.old) }
+    {
+        self.regions.push(kind)?;
+        Ok(())
+    }
+
+    /// The innermost region of the task ends.
+    pub(crate) fn end_region(&mut self)
+        ensures { self.new ≡ without_region self.old }
+    {
+        self.regions.pop();
+    }
+
+    /// What the task claims of its place, once more.
+    pub(crate) fn claim(&self, alloc: Global) -> Result<Claim, AllocError>
+        ensures { IfOk result (λ claim. claim ≡ self.now.claim) }
+    {
+        Ok(Claim {
+            kept: self.claim.kept,
+            root: self.claim.root,
+            path: self.claim.path.copied(alloc)?,
+        })
+    }
+
+    /// What the ledger gets where the part of the task is finished on the thread.
+    pub(crate) fn entry(&self, alloc: Global, thread: u8, part: Part) -> Result<Entry, AllocError>
+        ensures entry { IfOk result (λ entry. entry ≡ entry_of_part thread part self.now) }
+        ensures short { IfOk result (λ entry. length entry.path ≤ 1024) }
+    {
+        Ok(Entry {
+            thread,
+            part,
+            kept: self.claim.kept,
+            task: self.id,
+            root: self.claim.root,
+            path: self.claim.path.copied(alloc)?,
+        })
+    }
+}
+
+// What a call asks of a task.
+impl TaskData {
+    /// Where the task stands as a root, if it is one.
+    pub(crate) fn place(&self) -> Option<TeamPlace>
+        ensures { result ≡ place_of self.now.origin }
+    {
+        match self.origin {
+            Origin::Root(place) => Some(place),
+            Origin::Explicit(_) => None,
+        }
+    }
+
+    /// The flags with which it began or was created.
+    pub(crate) fn flags(&self) -> TaskFlags
+        ensures { result.0 ≡ self.now.flags }
+    {
+        self.flags
+    }
+
+    /// Whether it is an initial task.
+    pub(crate) fn is_initial(&self) -> bool
+        ensures { result ≡ is_initial_task self.now }
+    {
+        self.place().is_some() && self.flags.contains(TaskFlags::INITIAL)
+    }
+
+    /// The state after the task stops or is fulfilled with this status, where it may.
+    pub(crate) fn state_stopped(&self, status: Status) -> Option<State>
+        ensures { result ≡ state_moved self.now (states.Stopped status) }
+    {
+        self.state_moved(Move::Stopped(status))
+    }
+
+    /// The state after the task runs next, where it may.
+    pub(crate) fn state_started(&self) -> Option<State>
+        ensures { result ≡ state_moved self.now states.Started }
+    {
+        self.state_moved(Move::Started)
+    }
+
+    /// The state after the task is discarded, where it may be.
+    pub(crate) fn state_discarded(&self) -> Option<State>
+        ensures { result ≡ state_moved self.now states.Discarded }
+    {
+        self.state_moved(Move::Discarded)
+    }
+
+    /// The state after the move, where there is one.
+    fn state_moved(&self, step: Move) -> Option<State>
+        ensures { result ≡ state_moved self.now (the_move step) }
+    {
+        after_move(self.nature(), self.state(), step)
+    }
+
+    /// What may happen to the task.
+    fn nature(&self) -> Nature
+        ensures { the_nature result ≡ nature self.now }
+    {
+        match self.origin {
+            Origin::Root(_) => Nature::Root,
+            Origin::Explicit(_) if self.flags.contains(TaskFlags::TASKWAIT) => Nature::Wait,
+            Origin::Explicit(_) => Nature::Plain,
+        }
+    }
+
+    /// The turn in which the task is; 0 where it has begun none.
+    pub(crate) fn turn(&self) -> u32
+        ensures { result ≡ turn_of self.now }
+    {
+        self.turn.unwrap_or(0)
+    }
+
+    /// The turn that the task begins next, where there is one more number for it.
+    pub(crate) fn next_turn(&self) -> Option<u32>
+        ensures { result ≡ next_turn self.now }
+    {
+        match self.turn {
+            Some(turn) => turn.checked_add(1),
+            None => Some(0),
+        }
+    }
+
+    /// Whether its children would be too deep.
+    pub(crate) fn is_deep(&self) -> bool
+        ensures { result ≡ is_deep self.now }
+    {
+        self.claim.path.as_slice().len() >= MAX_DEPTH
+    }
+
+    /// Whether it has as many children as a task may.
+    pub(crate) fn is_crowded(&self) -> bool
+        ensures { result ≡ is_crowded self.now }
+    {
+        self.claim.kept == u32::MAX
+    }
+
+    /// Whether the innermost region that is open is of this kind.
+    pub(crate) fn is_innermost_region(&self, kind: SyncKind) -> bool
+        ensures { result ≡ is_innermost_region self.now kind }
+    {
+        match self.regions.last() {
+            Some(found) => *found == kind,
+            None => false,
+        }
+    }
+
+    /// Whether the region is a barrier, and the task explicit, which may have none (OpenMP 5.2, 15.3).
+    pub(crate) fn is_barred(&self, kind: SyncKind) -> bool
+        ensures { result ≡ is_barred self.now kind }
+    {
+        kind.is_called_barrier() && self.parent().is_some()
+    }
+}
