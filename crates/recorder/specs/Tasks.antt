@@ -1,13 +1,18 @@
 -- A tool's own value of one task, and what the events of OMPT do to it and to its credit (F. Mattern, Information
 -- Processing Letters 30, 1989).
-use Rattle.std.specs.Prelude.{ℕ, ◌^◌, ◌+◌, ◌-◌, ◌&&◌, Bool, true, false, List, [], ◌∷◌, ◌++◌, Option, Some, None, is_some, nat_eq, nat_le, nat_lt, length, slice_get, take, if◌then◌else◌}
+use Rattle.std.specs.Prelude.{ℕ, ◌^◌, ◌+◌, ◌-◌, ◌==◌, ◌≡◌, ◌&&◌, Bool, true, false, List, [], ◌∷◌, ◌++◌, Option, Some, None, is_some, nat_eq, nat_le, nat_lt, length, slice_get, take, if◌then◌else◌}
 use Rattle.std.specs.Option.{option_map_or}
 use Rattle.ompt_events.specs.declared.records.Claim.{Claim}
 use Rattle.ompt_events.specs.declared.records.Part.{Part}
+use Rattle.ompt_events.specs.declared.records.Part.TheVariants.{Whole, Body as BodyPart, Event}
+use Rattle.ompt_events.specs.declared.records.Body.{Body}
+use Rattle.ompt_events.specs.declared.records.Body.TheVariants.{ImplicitTask}
+use Rattle.ompt_events.specs.declared.names.Endpoint.TheVariants.{End}
 use Rattle.ompt_events.specs.declared.names.Status.{Status}
 use Rattle.ompt_events.specs.declared.names.SyncKind.{SyncKind}
 use Rattle.ompt_events.specs.declared.state.State.{State}
 use Rattle.ompt_events.specs.declared.state.State.TheVariants.{Created, Running, Detached, Done}
+use Rattle.ompt_events.specs.declared.flags.TaskFlags.{TaskFlags}
 use Rattle.ompt_events.specs.Flags as flag
 use Rattle.ompt_events.specs.Flags.{has_flag}
 use Rattle.ompt_events.specs.contracts.names.SyncKindPartialEq.TheImpl as kinds
@@ -17,7 +22,7 @@ use Rattle.ompt_events.specs.States.{state_after}
 use Rattle.credit.specs.declared.share.Half.{Half}
 use Rattle.credit.specs.Shares.{finish_share, give_half}
 use Rattle.credit.specs.Credits as credits
-use Rattle.credit.specs.Credits.{Credit, Holder}
+use Rattle.credit.specs.Credits.{Credit, Holder, entered_credit, detached_halves}
 use Rattle.credit_ledger.specs.declared.entry.Entry.{Entry}
 use Rattle.credit_ledger.specs.Entries.{tree_share}
 use Rattle.trace_ledger.specs.Entries.{claimed_entry}
@@ -25,13 +30,13 @@ use Rattle.recorder.specs.declared.task.Origin.{Origin}
 use Rattle.recorder.specs.declared.task.Origin.TheVariants.{Root, Explicit}
 use Rattle.recorder.specs.declared.task.TeamPlace.{TeamPlace}
 
--- what clauses see of a task's value: the task, where it comes from, the bits of its flags, the turn that it began
+-- what clauses see of a task's value: the task, where it comes from, its flags, the turn that it began
 -- last, its state, where it stands in the tree and how many children it created, and its open regions, the
 -- innermost last
 pub record TaskView : Type 0 where
   pub id : ℕ
   pub origin : Origin
-  pub flags : ℕ
+  pub flags : TaskFlags
   pub turn : Option ℕ
   pub state : State
   pub claim : Claim
@@ -49,7 +54,11 @@ place_of (Explicit parent) = None
 
 -- an initial or implicit task begins or was begun with the flag `initial`, or without it
 abbrev pub is_initial_task : TaskView → Bool
-is_initial_task t = is_some (place_of t.origin) && has_flag t.flags flag.initial
+is_initial_task t = is_some (place_of t.origin) && has_flag t.flags.0 flag.initial
+
+-- a root that began on this thread
+abbrev pub is_root_on : ℕ → TaskView → Bool
+is_root_on thread t = option_map_or (λ (p : TeamPlace). p.home == thread) (place_of t.origin) false
 
 -- what may happen to the task: a taskwait with dependences was created with the flag `taskwait`
 abbrev pub nature_by : Origin → ℕ → states.Nature
@@ -57,7 +66,7 @@ nature_by (Root place) bits = states.Root
 nature_by (Explicit parent) bits = if has_flag bits flag.taskwait then states.Wait else states.Plain
 
 abbrev pub nature : TaskView → states.Nature
-nature t = nature_by t.origin t.flags
+nature t = nature_by t.origin t.flags.0
 
 -- ---- its state
 
@@ -109,11 +118,11 @@ is_crowded t = nat_le (2 ^ 32) (t.claim.kept + 1)
 -- ---- what events make of it
 
 -- a root that begins
-abbrev pub root_of : ℕ → TeamPlace → ℕ → TaskView
-root_of id place bits = record {
+abbrev pub root_of : ℕ → TeamPlace → TaskFlags → TaskView
+root_of id place given = record {
   id = id;
   origin = Root place;
-  flags = bits;
+  flags = given;
   turn = Some 0;
   state = Running;
   claim = record { kept = 0; root = id; path = [] };
@@ -121,11 +130,11 @@ root_of id place bits = record {
 }
 
 -- a child that the task creates: its number is how many the task created before
-abbrev pub child_of : TaskView → ℕ → ℕ → TaskView
-child_of t id bits = record {
+abbrev pub child_of : TaskView → ℕ → TaskFlags → TaskView
+child_of t id given = record {
   id = id;
   origin = Explicit t.id;
-  flags = bits;
+  flags = given;
   turn = None;
   state = Created;
   claim = record { kept = 0; root = t.claim.root; path = t.claim.path ++ t.claim.kept ∷ [] };
@@ -140,9 +149,26 @@ with_child t = record t { claim = record t.claim { kept = t.claim.kept + 1 } }
 abbrev pub in_state : TaskView → State → TaskView
 in_state t state = record t { state = state }
 
--- the task, running in its next turn
+-- the task after it stopped or was fulfilled with a status, as it may
+abbrev pub stopped : TaskView → Status → TaskView
+stopped t status = option_map_or (in_state t) (state_moved t (states.Stopped status)) t
+
+-- the task, running in its next turn, as it may
 abbrev pub running_in : TaskView → State → ℕ → TaskView
 running_in t state turn = record t { state = state; turn = Some turn }
+
+abbrev pub started_in : TaskView → Option State → Option ℕ → TaskView
+started_in t (Some state) (Some turn) = running_in t state turn
+started_in t None turn = t
+started_in t (Some state) None = t
+
+abbrev pub started : TaskView → TaskView
+started t = started_in t (state_moved t states.Started) (next_turn t)
+
+-- the record with which a root ends: its flags and its place in the team are those with which it began
+abbrev pub end_of_root : TaskView → ℕ → Body
+end_of_root t parallel = ImplicitTask End (option_map_or (λ p. p.actual) (place_of t.origin) 0)
+    (option_map_or (λ p. p.index) (place_of t.origin) 0) t.flags parallel t.id
 
 -- ---- its credit
 
@@ -174,3 +200,10 @@ entry_of_part thread part t = claimed_entry thread (t.id, part) t.claim
 abbrev pub entered_credit_of : Entry → Credit
 entered_credit_of entry =
     record { root = entry.root; task = entry.task; holder = credits.Entered; share = tree_share entry }
+
+-- what an event does to the task's credit where it finishes a part of the task: all of it is entered, or a half of it
+-- with the body and the rest with the event
+abbrev pub MovesCredit : Part → Credit → Credit → Credit → Type 0
+MovesCredit Whole before entered after = entered_credit before ≡ entered ∷ []
+MovesCredit BodyPart before entered after = detached_halves before ≡ entered ∷ after ∷ []
+MovesCredit Event before entered after = entered_credit before ≡ entered ∷ []

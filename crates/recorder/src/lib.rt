@@ -6,6 +6,7 @@
 //! stand in `specs/`, in the order that `specs/Lib.antt` gives.
 #![tactic(auto)]
 
+mod calls;
 mod fault;
 mod log;
 mod recording;

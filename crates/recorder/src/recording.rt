@@ -25,8 +25,9 @@ use thread_buffers::Buffer;
 /// share; no other call does.
 #[derive(Drop)]
 pub struct Recorder {
-    pub(crate) log: Log,
-    pub(crate) seat: Seat,
+    alloc: Global,
+    log: Log,
+    seat: Seat,
 }
 
 impl Model for Recorder {
@@ -73,6 +74,7 @@ impl Recorder {
         ensures seat { result.seat ≡ view_of seat }
     {
         Recorder {
+            alloc,
             log: Log::new(alloc, thread),
             seat,
         }
@@ -150,13 +152,18 @@ impl Recorder {
         ensures recorded { AreRecorded self.thread self.records self.known }
         ensures backed { IsBacked self.records self.known self.seat }
     {
-        let Recorder { log, seat } = self;
+        let Recorder { log, seat, .. } = self;
         (log.into_buffer(), seat)
     }
 }
 
 // How a record comes to be.
 impl Recorder {
+    /// What the recorder's memory comes from.
+    pub(crate) fn allocator(&self) -> Global {
+        self.alloc
+    }
+
     /// Why a call that would add a record with this body is refused before it needs memory, if it is. What its tasks
     /// allow, whether they are too deep and whether they have no room for more is given.
     #[tactic(auto, unfolding(crate::specs::Recorders::refusal_at))]

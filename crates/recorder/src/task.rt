@@ -1,13 +1,16 @@
 //! The tool's own value of one task.
-ghost use Rattle.std.specs.Prelude.{◌≡◌, ◌≤◌, ◌<◌, ◌^◌, ◌+◌, [], Some, None, length, IfOk, OnOk, OnErr};
+ghost use Rattle.std.specs.Prelude.{◌≡◌, ◌≤◌, ◌<◌, ◌^◌, ◌+◌, [], Some, None, true, length, IfOk, OnOk, OnErr};
 ghost use Rattle.ompt_events.specs.declared.records.Part.{Part};
+ghost use Rattle.ompt_events.specs.Flags.{task_flags};
 ghost use Rattle.ompt_events.specs.States as states;
+ghost use Rattle.ompt_events.specs.Traces.{IsSoundIn};
 ghost use Rattle.task_states.specs.Progress.{the_nature, the_move};
-ghost use Rattle.recorder.specs.Tasks.{parent_of, place_of, is_initial_task, nature, state_moved, turn_of, next_turn, innermost_region, is_innermost_region, is_barred, is_deep, is_crowded, root_of, child_of, with_child, in_state, running_in, with_region, without_region, entry_of_part};
+ghost use Rattle.recorder.specs.Calls.{are_named};
+ghost use Rattle.recorder.specs.Tasks.{parent_of, place_of, is_initial_task, is_root_on, end_of_root, started, stopped, nature, state_moved, turn_of, next_turn, innermost_region, is_innermost_region, is_barred, is_deep, is_crowded, root_of, child_of, with_child, in_state, running_in, with_region, without_region, entry_of_part};
 
 use bitflags::Flags;
 use credit_ledger::Entry;
-use ompt_events::{Claim, Part, Path, State, Status, SyncKind, TaskFlags};
+use ompt_events::{Body, Claim, Endpoint, Part, Path, State, Status, SyncKind, TaskFlags};
 use std::alloc::{AllocError, Global};
 use std::marker::Model;
 use task_states::{Move, Nature, after_move};
@@ -48,7 +51,9 @@ pub struct TaskData {
 }
 
 impl Model for TaskData {
-    ghost use Rattle.std.specs.Prelude.{◌≤◌, length};
+    ghost use Rattle.std.specs.Prelude.{◌≡◌, ◌≤◌, length, true};
+    ghost use Rattle.ompt_events.specs.Flags.{task_flags};
+    ghost use Rattle.recorder.specs.Calls.{are_named};
     ghost use Rattle.recorder.specs.Tasks.{TaskView};
 
     ghost Value = { TaskView };
@@ -56,14 +61,15 @@ impl Model for TaskData {
     ghost view = { λ task. record {
       id = task.id;
       origin = task.origin;
-      flags = task.flags.0;
+      flags = task.flags;
       turn = task.turn;
       state = task.state;
       claim = task.claim;
       regions = task.regions.items;
     } };
 
-    ghost invariant = { λ task. length task.claim.path ≤ 1024 };
+    ghost invariant = { λ task.
+        (length task.claim.path ≤ 1024) × (are_named task_flags task.flags.0 ≡ true) };
 }
 
 impl TaskData {
@@ -103,7 +109,8 @@ impl TaskData {
 impl TaskData {
     /// A root that begins. Takes no memory.
     pub(crate) fn root(alloc: Global, id: u64, place: TeamPlace, flags: TaskFlags) -> TaskData
-        ensures { result ≡ root_of id place flags.0 }
+        requires { are_named task_flags flags.0 ≡ true }
+        ensures { result ≡ root_of id place flags }
     {
         TaskData {
             id,
@@ -121,10 +128,12 @@ impl TaskData {
     }
 
     /// The child that the task creates next.
-    pub(crate) fn child(&self, alloc: Global, id: u64, flags: TaskFlags) -> Result<TaskData, AllocError>
-        requires { length self.now.claim.path < 1024 }
-        ensures { IfOk result (λ child. child ≡ child_of self.now id flags.0) }
+    pub(crate) fn child(&self, id: u64, flags: TaskFlags) -> Result<TaskData, AllocError>
+        requires shallow { length self.now.claim.path < 1024 }
+        requires named { are_named task_flags flags.0 ≡ true }
+        ensures { IfOk result (λ child. child ≡ child_of self.now id flags) }
     {
+        let alloc = *self.regions.allocator();
         Ok(TaskData {
             id,
             origin: Origin::Explicit(self.id),
@@ -148,19 +157,25 @@ impl TaskData {
         self.claim.kept += 1;
     }
 
-    /// The task is in another state.
-    pub(crate) fn set_state(&mut self, state: State)
-        ensures { self.new ≡ in_state self.old state }
+    /// The task stops or is fulfilled with this status, as it may.
+    pub(crate) fn stop(&mut self, status: Status)
+        ensures { self.new ≡ stopped self.old status }
     {
-        self.state = state;
+        if let Some(state) = self.state_stopped(status) {
+            self.state = state;
+        }
     }
 
-    /// The task runs in its next turn.
-    pub(crate) fn run(&mut self, state: State, turn: u32)
-        ensures { self.new ≡ running_in self.old state turn }
+    /// The task runs in its next turn, as it may.
+    pub(crate) fn start(&mut self)
+        ensures { self.new ≡ started self.old }
     {
-        self.state = state;
-        self.turn = Some(turn);
+        let state = self.state_started();
+        let turn = self.next_turn();
+        if let (Some(state), Some(turn)) = (state, turn) {
+            self.state = state;
+            self.turn = Some(turn);
+        }
     }
 
     /// A region of the task begins.
@@ -180,9 +195,11 @@ impl TaskData {
     }
 
     /// What the task claims of its place, once more.
-    pub(crate) fn claim(&self, alloc: Global) -> Result<Claim, AllocError>
-        ensures { IfOk result (λ claim. claim ≡ self.now.claim) }
+    pub(crate) fn claim(&self) -> Result<Claim, AllocError>
+        ensures claim { IfOk result (λ claim. claim ≡ self.now.claim) }
+        ensures short { IfOk result (λ claim. length claim.path ≤ 1024) }
     {
+        let alloc = *self.regions.allocator();
         Ok(Claim {
             kept: self.claim.kept,
             root: self.claim.root,
@@ -191,10 +208,11 @@ impl TaskData {
     }
 
     /// What the ledger gets where the part of the task is finished on the thread.
-    pub(crate) fn entry(&self, alloc: Global, thread: u8, part: Part) -> Result<Entry, AllocError>
+    pub(crate) fn entry(&self, thread: u8, part: Part) -> Result<Entry, AllocError>
         ensures entry { IfOk result (λ entry. entry ≡ entry_of_part thread part self.now) }
         ensures short { IfOk result (λ entry. length entry.path ≤ 1024) }
     {
+        let alloc = *self.regions.allocator();
         Ok(Entry {
             thread,
             part,
@@ -218,11 +236,33 @@ impl TaskData {
         }
     }
 
-    /// The flags with which it began or was created.
-    pub(crate) fn flags(&self) -> TaskFlags
-        ensures { result.0 ≡ self.now.flags }
+    /// Whether it is a root that began on the thread.
+    pub(crate) fn is_root_on(&self, thread: u8) -> bool
+        ensures { result ≡ is_root_on thread self.now }
     {
-        self.flags
+        match self.place() {
+            Some(place) => place.home == thread,
+            None => false,
+        }
+    }
+
+    /// The record with which it ends as a root, with the flags and the place in its team with which it began.
+    pub(crate) fn end_of_root(&self, parallel: u64) -> Body
+        ensures body { result ≡ end_of_root self.now parallel }
+        ensures sound { IsSoundIn 2 result }
+    {
+        let (actual, index) = match self.place() {
+            Some(place) => (place.actual, place.index),
+            None => (0, 0),
+        };
+        Body::ImplicitTask {
+            endpoint: Endpoint::End,
+            actual,
+            index,
+            flags: self.flags,
+            parallel,
+            task: self.id,
+        }
     }
 
     /// Whether it is an initial task.

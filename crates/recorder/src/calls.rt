@@ -1,0 +1,265 @@
+//! The calls that ask no ledger: none of them waits for another thread.
+ghost use Rattle.std.specs.Prelude.{◌≡◌, ◌∷◌, [], None, Some, true, false, length, nat_lt, IfOk, IfErr, OnOk, OnErr, IsErr, IsSome, IfSome};
+ghost use Rattle.ompt_events.specs.declared.records.Body.TheVariants.{ThreadBegin, ThreadEnd, ParallelBegin, ParallelEnd, ImplicitTask, TaskCreate, Dependences, Cancel};
+ghost use Rattle.ompt_events.specs.declared.names.Endpoint.TheVariants.{Begin};
+ghost use Rattle.ompt_events.specs.Flags.{task_flags};
+ghost use Rattle.ompt_events.specs.Records.{dependences, finish};
+ghost use Rattle.ompt_events.specs.Traces.{IsSoundIn};
+ghost use Rattle.credit.specs.Credits as credits;
+ghost use Rattle.credit.specs.Credits.{shared_halves, whole_of};
+ghost use Rattle.recorder.specs.Tasks.{is_initial_task, is_root_on, end_of_root, is_deep, is_crowded, root_of, child_of, with_child, credit_of, holder_in};
+ghost use Rattle.recorder.specs.Calls.{fault_of, are_named, may_cancel};
+ghost use Rattle.recorder.specs.Recorders.{with_record, refusal_at};
+
+use crate::fault::CallFault;
+use crate::recording::Recorder;
+use crate::task::{TaskData, TeamPlace};
+use bitflags::Flags;
+use ompt_events::{Body, CancelFlags, Dep, Deps, Endpoint, MAX_DEPENDENCES, TaskFlags, ThreadKind};
+
+impl Recorder {
+    /// A thread begins (OpenMP 5.2, 19.5.2.1).
+    pub fn ompt_callback_thread_begin(&mut self, kind: ThreadKind) -> Result<(), CallFault>
+        ensures made { OnOk result (self.new ≡ with_record self.old (ThreadBegin kind)) }
+        ensures unchanged { OnErr result (self.new ≡ self.old) }
+        ensures refused { IsSome (refusal_at self.old true false false (ThreadBegin kind)) → IsErr result }
+        ensures fault { IfErr result (λ fault. fault ≡ fault_of (refusal_at self.old true false false (ThreadBegin kind))) }
+    {
+        self.record(true, Body::ThreadBegin { kind })
+    }
+
+    /// A thread ends (19.5.2.2).
+    pub fn ompt_callback_thread_end(&mut self) -> Result<(), CallFault>
+        ensures made { OnOk result (self.new ≡ with_record self.old ThreadEnd) }
+        ensures unchanged { OnErr result (self.new ≡ self.old) }
+        ensures refused { IsSome (refusal_at self.old true false false ThreadEnd) → IsErr result }
+        ensures fault { IfErr result (λ fault. fault ≡ fault_of (refusal_at self.old true false false ThreadEnd)) }
+    {
+        self.record(true, Body::ThreadEnd)
+    }
+
+    /// The task begins a parallel region, for which it asks for so many threads (19.5.2.3). It is the thread's initial
+    /// task, and runs.
+    pub fn ompt_callback_parallel_begin(
+        &mut self,
+        task: &TaskData,
+        parallel: u64,
+        requested: u32,
+    ) -> Result<(), CallFault>
+        ensures made { OnOk result (self.new ≡ with_record self.old (ParallelBegin requested task.now.id parallel)) }
+        ensures unchanged { OnErr result (self.new ≡ self.old) }
+        ensures refused { IsSome (refusal_at self.old (is_initial_task task.now) false false
+            (ParallelBegin requested task.now.id parallel)) → IsErr result }
+        ensures fault { IfErr result (λ fault. fault ≡ fault_of (refusal_at self.old (is_initial_task task.now) false false
+            (ParallelBegin requested task.now.id parallel))) }
+    {
+        let body = Body::ParallelBegin {
+            requested,
+            task: task.id(),
+            parallel,
+        };
+        self.record(task.is_initial(), body)
+    }
+
+    /// The task, which runs, ends a parallel region (19.5.2.4).
+    pub fn ompt_callback_parallel_end(&mut self, task: &TaskData, parallel: u64) -> Result<(), CallFault>
+        ensures made { OnOk result (self.new ≡ with_record self.old (ParallelEnd task.now.id parallel)) }
+        ensures unchanged { OnErr result (self.new ≡ self.old) }
+        ensures refused { IsSome (refusal_at self.old true false false (ParallelEnd task.now.id parallel)) → IsErr result }
+        ensures fault { IfErr result (λ fault. fault ≡ fault_of (refusal_at self.old true false false
+            (ParallelEnd task.now.id parallel))) }
+    {
+        let body = Body::ParallelEnd {
+            task: task.id(),
+            parallel,
+        };
+        self.record(true, body)
+    }
+
+    /// An initial or implicit task begins, and runs (19.5.2.11). With the flag `initial` it is an initial task, a team of
+    /// one; without it it is the member `index` of the team of `parallel`, which has `actual` members.
+    pub fn ompt_callback_implicit_task_begin(
+        &mut self,
+        parallel: u64,
+        id: u64,
+        actual: u32,
+        index: u32,
+        flags: TaskFlags,
+    ) -> Result<TaskData, CallFault>
+        ensures made { OnOk result (self.new ≡ with_record self.old (ImplicitTask Begin actual index flags parallel id)) }
+        ensures task { IfOk result (λ task. task
+            ≡ root_of id (record { home = self.old.thread; actual = actual; index = index }) flags) }
+        ensures credit { IfOk result (λ task. credit_of task ≡ whole_of id) }
+        ensures unchanged { OnErr result (self.new ≡ self.old) }
+        ensures refused { IsSome (refusal_at self.old (are_named task_flags flags.0) false false
+            (ImplicitTask Begin actual index flags parallel id)) → IsErr result }
+        ensures fault { IfErr result (λ fault. fault ≡ fault_of (refusal_at self.old (are_named task_flags flags.0) false false
+            (ImplicitTask Begin actual index flags parallel id))) }
+    {
+        let body = Body::ImplicitTask {
+            endpoint: Endpoint::Begin,
+            actual,
+            index,
+            flags,
+            parallel,
+            task: id,
+        };
+        let place = TeamPlace {
+            home: self.thread(),
+            actual,
+            index,
+        };
+        self.record(are_named(flags), body)?;
+        Ok(TaskData::root(self.allocator(), id, place, flags))
+    }
+
+    /// An initial or implicit task ends (19.5.2.11): it runs, and is the innermost open one of its thread. The record has
+    /// the flags and the place in the team with which it began.
+    pub fn ompt_callback_implicit_task_end(
+        &mut self,
+        task: TaskData,
+        parallel: u64,
+    ) -> Result<(), (TaskData, CallFault)>
+        ensures made { OnOk result (self.new ≡ with_record self.old (end_of_root task parallel)) }
+        ensures unchanged { OnErr result (self.new ≡ self.old) }
+        ensures returned { IfErr result (λ refused. refused.0 ≡ task) }
+        ensures refused { IsSome (refusal_at self.old (is_root_on self.old.thread task) false false
+            (end_of_root task parallel)) → IsErr result }
+        ensures fault { IfErr result (λ refused. refused.1 ≡ fault_of (refusal_at self.old
+            (is_root_on self.old.thread task) false false (end_of_root task parallel))) }
+    {
+        let may = task.is_root_on(self.thread());
+        match self.record(may, task.end_of_root(parallel)) {
+            Ok(()) => Ok(()),
+            Err(fault) => Err((task, fault)),
+        }
+    }
+
+    /// The task, which runs, creates an explicit task (19.5.2.7). With `deps` the child's dependences must be the next
+    /// record. The creator keeps one half of its credit, and the child starts with the other.
+    pub fn ompt_callback_task_create(
+        &mut self,
+        task: &mut TaskData,
+        id: u64,
+        flags: TaskFlags,
+        deps: bool,
+    ) -> Result<TaskData, CallFault>
+        ensures made { OnOk result (self.new ≡ with_record self.old (TaskCreate deps flags task.old.id id)) }
+        ensures child { IfOk result (λ child. child ≡ child_of task.old id flags) }
+        ensures task { OnOk result (task.new ≡ with_child task.old) }
+        ensures credit { IfOk result (λ child. holder_in task.old.state ≡ credits.Running
+            → shared_halves id (credit_of task.old) ≡ credit_of task.new ∷ credit_of child ∷ []) }
+        ensures unchanged { OnErr result (self.new ≡ self.old) }
+        ensures same_task { OnErr result (task.new ≡ task.old) }
+        ensures refused { IsSome (refusal_at self.old (are_named task_flags flags.0) (is_deep task.old) (is_crowded task.old)
+            (TaskCreate deps flags task.old.id id)) → IsErr result }
+        ensures fault { IfErr result (λ fault. fault ≡ fault_of (refusal_at self.old (are_named task_flags flags.0)
+            (is_deep task.old) (is_crowded task.old) (TaskCreate deps flags task.old.id id))) }
+    {
+        let body = Body::TaskCreate {
+            deps,
+            flags,
+            task: task.id(),
+            child: id,
+        };
+        self.test(are_named(flags), task.is_deep(), task.is_crowded(), &body)?;
+        let Ok(child) = task.child(id, flags) else {
+            return Err(CallFault::Memory);
+        };
+        let Ok(()) = self.append(body) else {
+            return Err(CallFault::Memory);
+        };
+        task.count_child();
+        Ok(child)
+    }
+
+    /// What the task depends on that was created last (19.5.2.8), at most 64 items. After a refusal it is still awaited.
+    pub fn ompt_callback_dependences(
+        &mut self,
+        task: &TaskData,
+        list: Vec<Dep>,
+    ) -> Result<(), (Vec<Dep>, CallFault)>
+        ensures made { OnOk result (self.new ≡ with_record self.old (Dependences task.now.id list.items)) }
+        ensures unchanged { OnErr result (self.new ≡ self.old) }
+        ensures returned { IfErr result (λ refused. refused.0.items ≡ list.items) }
+        ensures refused { IsSome (refusal_at self.old true false (nat_lt 64 (length list.items))
+            (Dependences task.now.id list.items)) → IsErr result }
+        ensures fault { IfErr result (λ refused. refused.1 ≡ fault_of (refusal_at self.old true false
+            (nat_lt 64 (length list.items)) (Dependences task.now.id list.items))) }
+    {
+        let is_long = list.len() > MAX_DEPENDENCES;
+        let body = Body::Dependences {
+            task: task.id(),
+            list: Deps::from_vec(list),
+        };
+        if let Err(fault) = self.test(true, false, is_long, &body) {
+            return Err((list_of(body), fault));
+        }
+        match self.append(body) {
+            Ok(()) => Ok(()),
+            Err(body) => Err((list_of(body), CallFault::Memory)),
+        }
+    }
+
+    /// The task, which runs, cancels a region or sees it cancelled (19.5.2.18). A discarded task is recorded by
+    /// [`Recorder::ompt_callback_cancel_discarded`].
+    pub fn ompt_callback_cancel(&mut self, task: &TaskData, flags: CancelFlags) -> Result<(), CallFault>
+        ensures made { OnOk result (self.new ≡ with_record self.old (Cancel flags task.now.id None)) }
+        ensures unchanged { OnErr result (self.new ≡ self.old) }
+        ensures refused { IsSome (refusal_at self.old (may_cancel flags.0) false false (Cancel flags task.now.id None))
+            → IsErr result }
+        ensures fault { IfErr result (λ fault. fault ≡ fault_of (refusal_at self.old (may_cancel flags.0) false false
+            (Cancel flags task.now.id None))) }
+    {
+        let body = Body::Cancel {
+            flags,
+            task: task.id(),
+            share: None,
+        };
+        self.record(may_cancel(flags), body)
+    }
+}
+
+impl Recorder {
+    /// Adds a record of a call that asks no ledger, if the call may come here.
+    fn record(&mut self, may: bool, body: Body) -> Result<(), CallFault>
+        requires sound { may ≡ true → IsSoundIn 2 body }
+        requires unfinished { may ≡ true → finish body ≡ None }
+        ensures may { OnOk result (may ≡ true) }
+        ensures made { OnOk result (self.new ≡ with_record self.old body) }
+        ensures unchanged { OnErr result (self.new ≡ self.old) }
+        ensures refused { IsSome (refusal_at self.old may false false body) → IsErr result }
+        ensures fault { IfErr result (λ fault. fault ≡ fault_of (refusal_at self.old may false false body)) }
+    {
+        self.test(may, false, false, &body)?;
+        match self.append(body) {
+            Ok(()) => Ok(()),
+            Err(_) => Err(CallFault::Memory),
+        }
+    }
+}
+
+/// Whether each bit of a task's flags has a name.
+fn are_named(flags: TaskFlags) -> bool
+    ensures { result ≡ are_named task_flags flags.0 }
+{
+    TaskFlags::from_bits(flags.bits()).is_some()
+}
+
+/// Whether each bit of a cancellation's flags has a name, and none says that a task is discarded.
+fn may_cancel(flags: CancelFlags) -> bool
+    ensures { result ≡ may_cancel flags.0 }
+{
+    CancelFlags::from_bits(flags.bits()).is_some() && !flags.contains(CancelFlags::DISCARDED_TASK)
+}
+
+/// The dependences that the record lists.
+fn list_of(body: Body) -> Vec<Dep>
+    requires { IsSome (dependences body) }
+    ensures { IfSome (dependences body) (λ d. result.items ≡ d.1) }
+{
+    match body {
+        Body::Dependences { list, .. } => list.into_vec(),
+        _ => unreachable!(),
+    }
+}
