@@ -5,3 +5,4 @@ pub mod Standing
 pub mod Logs
 pub mod Calls
 pub mod Recorders
+pub mod Schedules

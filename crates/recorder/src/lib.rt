@@ -10,6 +10,8 @@ mod calls;
 mod fault;
 mod log;
 mod recording;
+mod regions;
+mod schedule;
 mod standing;
 mod task;
 

@@ -1,0 +1,129 @@
+-- How tasks start, stop, are fulfilled and discarded, by calls of a recorder.
+use Rattle.std.specs.Prelude.{ℕ, ◌≡◌, ◌&&◌, ◌||◌, Bool, true, false, Option, Some, None, is_some, is_none, option_map, if◌then◌else◌}
+use Rattle.std.specs.Option.{option_map_or}
+use Rattle.std.specs.Int.RustNames.{bit_or}
+use Rattle.ompt_events.specs.declared.records.Body.{Body}
+use Rattle.ompt_events.specs.declared.records.Body.TheVariants.{TaskSchedule, Cancel}
+use Rattle.ompt_events.specs.declared.records.Claim.{Claim}
+use Rattle.ompt_events.specs.declared.records.Part.{Part}
+use Rattle.ompt_events.specs.declared.records.Turns.{Turns}
+use Rattle.ompt_events.specs.declared.flags.CancelFlags.{CancelFlags}
+use Rattle.ompt_events.specs.declared.names.Status.{Status}
+use Rattle.ompt_events.specs.declared.names.Status.TheVariants.{Yield, Switch, EarlyFulfill, Detach, TaskwaitComplete}
+use Rattle.ompt_events.specs.Flags as flag
+use Rattle.ompt_events.specs.Flags.{cancel_flags}
+use Rattle.ompt_events.specs.Names.{demands_next, status_part}
+use Rattle.ompt_events.specs.States as states
+use Rattle.ompt_events.specs.States.{is_task}
+use Rattle.credit_ledger.specs.declared.entry.Entry.{Entry}
+use Rattle.recorder.specs.declared.fault.CallFault.{CallFault}
+use Rattle.recorder.specs.Standing.{innermost}
+use Rattle.recorder.specs.Logs.{standing_of}
+use Rattle.recorder.specs.Tasks.{TaskView, parent_of, place_of, is_root_on, state_moved, turn_of, next_turn, stopped, entry_of_part}
+use Rattle.recorder.specs.Calls.{are_named, fault_of}
+use Rattle.recorder.specs.Recorders.{RecorderView, IsObserved, IsConcluded, IsRefusedByLedger, refusal_at}
+
+-- a task stops or is fulfilled with a status, and another one runs next, if there is one
+pub record ScheduleView : Type 0 where
+  pub prior : TaskView
+  pub status : Status
+  pub next : Option TaskView
+
+-- the turn of the prior task, which ends, and that of the next one, which begins
+abbrev pub turns_of : TaskView → TaskView → Turns
+turns_of prior next = record { prior = turn_of prior; next = option_map_or (λ turn. turn) (next_turn next) 0 }
+
+-- its record, with what is claimed of a task that it finishes
+abbrev pub schedule_body : ScheduleView → Option Claim → Body
+schedule_body s share =
+    TaskSchedule s.status (option_map (turns_of s.prior) s.next) s.prior.id (option_map (λ (n : TaskView). n.id) s.next)
+    share
+
+-- ---- when it may come
+
+-- a root runs next only as the innermost open one of the thread on which it began (cause NotCurrent); any task as its
+-- state allows it (StatusOrder)
+abbrev pub may_start : RecorderView → TaskView → Bool
+may_start r next =
+    is_some (state_moved next states.Started)
+    && (is_none (place_of next.origin)
+    || (is_root_on r.thread next && is_task next.id (innermost (standing_of r.records))))
+
+-- a taskwait with dependences is complete while its parent runs (NotCurrent)
+abbrev pub is_by_parent : RecorderView → TaskView → Status → Bool
+is_by_parent r prior TaskwaitComplete =
+    option_map_or (λ parent. is_task parent (standing_of r.records).current) (parent_of prior.origin) false
+is_by_parent r prior _ = true
+
+-- there is a next task exactly where the status demands one
+abbrev pub has_its_next : ScheduleView → Bool
+has_its_next s = if demands_next s.status then is_some s.next else is_none s.next
+
+-- the tasks allow the schedule
+abbrev pub may_schedule : RecorderView → ScheduleView → Bool
+may_schedule r s =
+    is_some (state_moved s.prior (states.Stopped s.status))
+    && has_its_next s && is_by_parent r s.prior s.status && option_map_or (may_start r) s.next true
+
+-- the next task has no further turn
+abbrev pub is_last_turn : ScheduleView → Bool
+is_last_turn s = option_map_or (λ n. is_none (next_turn n)) s.next false
+
+-- why it is refused before it needs memory
+abbrev pub schedule_refusal : RecorderView → ScheduleView → Option CallFault
+schedule_refusal r s = refusal_at r (may_schedule r s) false (is_last_turn s) (schedule_body s None)
+
+-- ---- what it does
+
+-- the record names the ledger's length, or the index of the entry that it makes
+abbrev pub IsStoppedBy : Option Part → RecorderView → ScheduleView → RecorderView → Type 0
+IsStoppedBy None old s new = (seen : ℕ) × IsObserved old seen (schedule_body s None) new
+IsStoppedBy (Some part) old s new =
+    (index : ℕ) × IsConcluded old (entry_of_part old.thread part s.prior) index (schedule_body s (Some s.prior.claim)) new
+
+abbrev pub IsStopped : RecorderView → ScheduleView → RecorderView → Type 0
+IsStopped old s new = IsStoppedBy (status_part s.status) old s new
+
+-- the entry that it would make
+abbrev pub stopped_entry : RecorderView → ScheduleView → Option Entry
+stopped_entry r s = option_map (λ part. entry_of_part r.thread part s.prior) (status_part s.status)
+
+-- a call that finishes a task is refused: before the ledger is asked, so that nothing is changed, or by the ledger
+pub data IsRefused (old : RecorderView) (found : Option CallFault) (entry : Option Entry) (new : RecorderView) (fault : CallFault) : Type 0 where
+  before : new ≡ old → fault ≡ fault_of found → IsRefused old found entry new fault
+  by_ledger : (e : Entry) → found ≡ None → entry ≡ Some e → IsRefusedByLedger old e new fault
+      → IsRefused old found entry new fault
+
+-- the task's value is used again: the task is suspended, waits for its event, or goes on
+abbrev pub comes_back : Status → Bool
+comes_back Yield = true
+comes_back Switch = true
+comes_back EarlyFulfill = true
+comes_back Detach = true
+comes_back _ = false
+
+-- what comes back of the prior task
+abbrev pub left_of : ScheduleView → Option TaskView
+left_of s = if comes_back s.status then Some (stopped s.prior s.status) else None
+
+abbrev pub is_pause : Status → Bool
+is_pause Yield = true
+is_pause Switch = true
+is_pause _ = false
+
+-- ---- discards
+
+-- the flags of a discard
+abbrev pub with_discarded : CancelFlags → CancelFlags
+with_discarded given = record { 0 = bit_or given.0 flag.discarded_task }
+
+abbrev pub discard_body : TaskView → CancelFlags → Option Claim → Body
+discard_body t given share = Cancel (with_discarded given) t.id share
+
+-- the task has not begun, and each flag has a name
+abbrev pub may_discard : TaskView → CancelFlags → Bool
+may_discard t given =
+    is_some (state_moved t states.Discarded) && are_named cancel_flags (with_discarded given).0
+
+abbrev pub discard_refusal : RecorderView → TaskView → CancelFlags → Option CallFault
+discard_refusal r t given = refusal_at r (may_discard t given) false false (discard_body t given None)
