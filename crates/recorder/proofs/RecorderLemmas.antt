@@ -15,7 +15,11 @@ use Rattle.credit_ledger.specs.Seats.{Extends, told_of}
 use Rattle.credit_ledger.proofs.ExtendsLemmas.{GoOn, go_on-refl, extends-go_on, looked-length, entered-there, reply-known, joined-go_on}
 use Rattle.trace_ledger.specs.Entries.{claimed_entry, entry_of}
 use Rattle.recorder.specs.Logs.{LogView, IsSameLog, known_from}
-use Rattle.recorder.specs.Recorders.{entries_of, AreEntered, IsBacked, entry_by}
+use Rattle.atomic_table.specs.Seated.{TableId}
+use Rattle.credit_ledger.specs.Entries as ledger
+use Rattle.recorder.specs.declared.fault.CallFault.{CallFault}
+use Rattle.recorder.specs.Calls.{ledger_refusal}
+use Rattle.recorder.specs.Recorders.{RecorderView, entries_of, AreEntered, IsBacked, entry_by, IsRefused, by_ledger}
 
 entered-pushed : (own : List Record) (r : Record) (first later : List Entry) → AreEntered own first → GoOn first later
     → ((e : Entry) → entry_of r ≡ Some e → slice_get later r.seen ≡ Some e) → AreEntered (own ++ r ∷ []) later
@@ -111,3 +115,17 @@ small-known v w e index body extends = by (is_some (finish body))
     by : (b : Bool) → (if b then index + 1 else index) < 2 ^ 32
     by true = omega (arith, (entered-there v w e index extends).small)
     by false = omega (arith, (entered-there v w e index extends).small)
+
+-- a call that the ledger refuses, after room was made in the log
+pub refused-late : (old : RecorderView) (log kept : LogView) (first id : TableId) (v w : View) (entry : Entry) (seen : ℕ) (fault : CallFault)
+    → record { thread = log.thread; records = log.records; known = log.known; ledger = first; seat = v } ≡ old → IsSameLog log kept → id ≡ first
+    → Extends v Look seen w → fault ≡ ledger_refusal (ledger.fault_of (entries_of w) entry)
+    → IsRefused old None (Some entry) (record { thread = kept.thread; records = kept.records; known = kept.known; ledger = id; seat = w }) fault
+refused-late old log kept first id v w entry seen fault is same same_id looked fault_is =
+    subst (λ (o : RecorderView). IsRefused o None (Some entry) (record { thread = kept.thread; records = kept.records; known = kept.known; ledger = id; seat = w }) fault) is
+    (by_ledger entry refl refl (record {
+      seen = seen;
+      looked = looked;
+      unchanged = rw (same.thread, same.records, same.known, same_id) refl;
+      fault_is = fault_is;
+    }))

@@ -1,5 +1,5 @@
 -- What a recorder is: the records of one thread, and a seat of the ledger that threads share.
-use Rattle.std.specs.Prelude.{ℕ, ◌≡◌, ◌≤◌, ◌⊎◌, ◌||◌, ◌&&◌, Bool, List, [], ◌∷◌, ◌++◌, length, Option, Some, nat_le, slice_get, option_map, option_and_then}
+use Rattle.std.specs.Prelude.{ℕ, ◌≡◌, ◌≤◌, ◌||◌, ◌&&◌, Bool, List, [], ◌∷◌, ◌++◌, length, Option, None, Some, nat_le, slice_get, option_map, option_and_then}
 use Rattle.atomic_table.specs.Seated.{TableId}
 use Rattle.ompt_events.specs.declared.records.Record.{Record}
 use Rattle.ompt_events.specs.declared.records.Body.{Body}
@@ -13,10 +13,9 @@ use Rattle.credit_ledger.specs.Histories.{entries_after}
 use Rattle.credit_ledger.specs.Seats.{Extends}
 use Rattle.trace_ledger.specs.Entries.{claimed_entry, entry_of}
 use Rattle.recorder.specs.declared.fault.CallFault.{CallFault}
-use Rattle.recorder.specs.declared.fault.CallFault.TheVariants.{Memory}
 use Rattle.recorder.specs.Standing.{allows}
 use Rattle.recorder.specs.Logs.{standing_of, known_from}
-use Rattle.recorder.specs.Calls.{refusal, ledger_refusal}
+use Rattle.recorder.specs.Calls.{fault_of, refusal, ledger_refusal}
 
 -- what clauses see of a recorder: the thread's number, its records, the ledger length that it knew last, which ledger
 -- it is of, and what its seat has seen of that
@@ -82,6 +81,12 @@ pub record IsRefusedByLedger (old : RecorderView) (entry : Entry) (new : Recorde
   pub looked : Extends old.seat Look seen new.seat
   pub unchanged : new ≡ record old { seat = new.seat }
   pub fault_is : fault ≡ ledger_refusal (ledger.fault_of (entries_of new.seat) entry)
+
+-- a call that finishes a task is refused: before the ledger is asked, so that nothing is changed, or by the ledger
+pub data IsRefused (old : RecorderView) (found : Option CallFault) (entry : Option Entry) (new : RecorderView) (fault : CallFault) : Type 0 where
+  before : new ≡ old → fault ≡ fault_of found → IsRefused old found entry new fault
+  by_ledger : (e : Entry) → found ≡ None → entry ≡ Some e → IsRefusedByLedger old e new fault
+      → IsRefused old found entry new fault
 
 -- ---- when a call is refused
 

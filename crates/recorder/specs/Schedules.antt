@@ -20,8 +20,8 @@ use Rattle.recorder.specs.declared.fault.CallFault.{CallFault}
 use Rattle.recorder.specs.Standing.{innermost}
 use Rattle.recorder.specs.Logs.{standing_of}
 use Rattle.recorder.specs.Tasks.{TaskView, parent_of, place_of, is_root_on, state_moved, turn_of, next_turn, stopped, entry_of_part}
-use Rattle.recorder.specs.Calls.{are_named, fault_of}
-use Rattle.recorder.specs.Recorders.{RecorderView, IsObserved, IsConcluded, IsRefusedByLedger, refusal_at}
+use Rattle.recorder.specs.Calls.{are_named}
+use Rattle.recorder.specs.Recorders.{RecorderView, IsObserved, IsConcluded, refusal_at}
 
 -- a task stops or is fulfilled with a status, and another one runs next, if there is one
 pub record ScheduleView : Type 0 where
@@ -87,12 +87,6 @@ IsStopped old s new = IsStoppedBy (status_part s.status) old s new
 -- the entry that it would make
 abbrev pub stopped_entry : RecorderView → ScheduleView → Option Entry
 stopped_entry r s = option_map (λ part. entry_of_part r.thread part s.prior) (status_part s.status)
-
--- a call that finishes a task is refused: before the ledger is asked, so that nothing is changed, or by the ledger
-pub data IsRefused (old : RecorderView) (found : Option CallFault) (entry : Option Entry) (new : RecorderView) (fault : CallFault) : Type 0 where
-  before : new ≡ old → fault ≡ fault_of found → IsRefused old found entry new fault
-  by_ledger : (e : Entry) → found ≡ None → entry ≡ Some e → IsRefusedByLedger old e new fault
-      → IsRefused old found entry new fault
 
 -- the task's value is used again: the task is suspended, waits for its event, or goes on
 abbrev pub comes_back : Status → Bool

@@ -1,15 +1,17 @@
 //! The recorder of one thread.
-ghost use Rattle.std.specs.Prelude.{◌≡◌, ◌≤◌, ◌<◌, ◌+◌, ◌⊎◌, [], None, Some, true, false, length, ℕ, IfOk, IfErr, OnOk, OnErr, IsErr, IsOkUnless};
+ghost use Rattle.std.specs.Prelude.{◌≡◌, ◌≤◌, ◌<◌, ◌+◌, [], None, Some, true, false, length, ℕ, IfOk, IfErr, OnOk, OnErr, IsErr, IsOkUnless};
 ghost use Rattle.ompt_events.specs.Limits.{max_records};
 ghost use Rattle.ompt_events.specs.Records.{finish};
 ghost use Rattle.ompt_events.specs.Traces.{IsSoundIn};
-ghost use Rattle.credit_ledger.specs.declared.view.Call.TheVariants.{Look};
+ghost use Rattle.credit_ledger.specs.declared.view.Call.TheVariants.{Enter, Look};
+ghost use Rattle.credit_ledger.specs.Entries.{fault_of};
 ghost use Rattle.credit_ledger.specs.Seats.{Extends, IsCopy, told_of, with_given};
 ghost use Rattle.credit_ledger.specs.Places.{ledger_id, seat_id, view_of};
 ghost use Rattle.recorder.specs.declared.fault.CallFault.TheVariants.{Memory};
+ghost use Rattle.recorder.specs.Calls.{ledger_refusal};
 ghost use Rattle.recorder.specs.Standing.{innermost};
 ghost use Rattle.recorder.specs.Logs.{AreRecorded, standing_of};
-ghost use Rattle.recorder.specs.Recorders.{IsBacked, entries_of, with_record, IsObserved, IsConcluded, IsRefusedByLedger, entry_by, allowed, refusal_at};
+ghost use Rattle.recorder.specs.Recorders.{IsBacked, entries_of, with_record, IsObserved, IsConcluded, IsRefused, entry_by, allowed, refusal_at};
 
 use crate::fault::{CallFault, of_ledger};
 use crate::log::Log;
@@ -243,16 +245,32 @@ impl Recorder {
         requires makes { entry_by self.old.thread body ≡ Some entry }
         requires short { length entry.path ≤ 1024 }
         ensures made { IfOk result (λ index. IsConcluded self.old entry index body self.new) }
-        ensures refused { IfErr result (λ fault.
-            ((fault ≡ Memory) × (self.new ≡ self.old)) ⊎ IsRefusedByLedger self.old entry self.new fault) }
+        ensures fault { IfErr result (IsRefused self.old None (Some entry) self.new) }
     {
         self.log.reserve()?;
-        match ledger.enter(wait, &mut self.seat, entry) {
-            Ok(receipt) => {
-                self.log.push(receipt.index, body);
-                Ok(receipt.index)
-            }
-            Err((_, fault)) => Err(of_ledger(fault)),
-        }
+        let index = enter(ledger, wait, &mut self.seat, entry)?;
+        self.log.push(index, body);
+        Ok(index)
+    }
+}
+
+/// Puts an entry into the ledger, and tells its index.
+fn enter<R: Wait>(
+    ledger: &SharedLedger,
+    wait: &R,
+    seat: &mut Seat,
+    entry: Entry,
+) -> Result<u32, CallFault>
+    requires ledger { seat_id seat.old ≡ ledger_id ledger.now }
+    requires short { length entry.path ≤ 1024 }
+    ensures seat { seat_id seat.new ≡ seat_id seat.old }
+    ensures entered { IfOk result (λ index. Extends (view_of seat.old) (Enter entry) index (view_of seat.new)) }
+    ensures looked { IfErr result (λ fault. (seen : ℕ) × Extends (view_of seat.old) Look seen (view_of seat.new)) }
+    ensures fault { IfErr result (λ fault.
+        fault ≡ ledger_refusal (fault_of (entries_of (view_of seat.new)) entry)) }
+{
+    match ledger.enter(wait, seat, entry) {
+        Ok(receipt) => Ok(receipt.index),
+        Err((_, fault)) => Err(of_ledger(fault)),
     }
 }

@@ -1,12 +1,16 @@
 //! The calls by which tasks start, stop, are fulfilled and discarded (OpenMP 5.2, 19.5.2.10 and 19.5.2.18).
-ghost use Rattle.std.specs.Prelude.{◌≡◌, ◌≤◌, None, Some, true, false, option_map, length, IfOk, IfErr, OnOk, OnErr, IsErr, IsSome, IsTrue, ℕ};
+ghost use Rattle.std.specs.Prelude.{◌≡◌, ◌<◌, None, Some, true, false, option_map, length, IfOk, IfErr, OnOk, OnErr, IsErr, IsSome, IsTrue, ℕ};
 ghost use Rattle.ompt_events.specs.declared.records.Part.{Part};
 ghost use Rattle.ompt_events.specs.declared.records.Part.TheVariants.{Whole};
+ghost use Rattle.ompt_events.specs.declared.records.Body.TheVariants.{Cancel};
+ghost use Rattle.ompt_events.specs.Flags.{cancel_flags};
+ghost use Rattle.ompt_events.specs.Limits.{max_records};
 ghost use Rattle.ompt_events.specs.Names.{status_part};
 ghost use Rattle.credit_ledger.specs.Places.{ledger_id};
 ghost use Rattle.recorder.specs.Tasks.{TaskView, started, stopped, entry_of_part, credit_of, entered_credit_of, MovesCredit};
-ghost use Rattle.recorder.specs.Recorders.{IsConcluded};
-ghost use Rattle.recorder.specs.Schedules.{turns_of, schedule_body, may_start, may_schedule, is_by_parent, has_its_next, is_last_turn, schedule_refusal, IsStopped, stopped_entry, IsRefused, left_of, comes_back, is_pause, with_discarded, discard_body, may_discard, discard_refusal};
+ghost use Rattle.recorder.specs.Calls.{are_named};
+ghost use Rattle.recorder.specs.Recorders.{IsConcluded, IsRefused, allowed};
+ghost use Rattle.recorder.specs.Schedules.{turns_of, schedule_body, may_start, may_schedule, is_by_parent, has_its_next, is_last_turn, schedule_refusal, IsStopped, IsStoppedBy, stopped_entry, left_of, comes_back, is_pause, with_discarded, discard_body, may_discard, discard_refusal};
 
 use crate::fault::CallFault;
 use crate::recording::Recorder;
@@ -133,4 +137,126 @@ impl Recorder {
             && self.is_by_parent(schedule.prior, schedule.status)
             && may_start
     }
+}
+
+impl Recorder {
+    /// The prior task stops as the schedule says: the record names the ledger's length, or where a part of the task is
+    /// finished the index of the entry that it makes.
+    fn stop<R: Wait>(
+        &mut self,
+        ledger: &SharedLedger,
+        wait: &R,
+        schedule: &Schedule,
+    ) -> Result<(), CallFault>
+        requires { self.old.ledger ≡ ledger_id ledger.now }
+        ensures stopped { OnOk result (IsStopped self.old schedule.now self.new) }
+        ensures may { OnOk result (may_schedule self.old schedule.now ≡ true) }
+        ensures refused { IsSome (schedule_refusal self.old schedule.now) → IsErr result }
+        ensures fault { IfErr result (IsRefused self.old (schedule_refusal self.old schedule.now)
+            (stopped_entry self.old schedule.now) self.new) }
+    {
+        let body = schedule.body(None);
+        let may = self.may_schedule(schedule);
+        self.test(may, false, schedule.is_last_turn(), &body)?;
+        match schedule.status.part() {
+            None => {
+                self.observe(ledger, wait, body)?;
+                Ok(())
+            }
+            Some(part) => self.finish(ledger, wait, schedule, part),
+        }
+    }
+
+    /// The prior task stops, and a part of it is finished.
+    fn finish<R: Wait>(
+        &mut self,
+        ledger: &SharedLedger,
+        wait: &R,
+        schedule: &Schedule,
+        part: Part,
+    ) -> Result<(), CallFault>
+        requires ledger { self.old.ledger ≡ ledger_id ledger.now }
+        requires few { length self.old.records < max_records }
+        requires allowed { allowed self.old (schedule_body schedule.now None) ≡ true }
+        requires may { may_schedule self.old schedule.now ≡ true }
+        requires part { status_part schedule.now.status ≡ Some part }
+        ensures stopped { OnOk result (IsStoppedBy (Some part) self.old schedule.now self.new) }
+        ensures fault { IfErr result (IsRefused self.old None
+            (Some (entry_of_part self.old.thread part schedule.now.prior)) self.new) }
+    {
+        let Ok((entry, claim)) = schedule.prior.finish(self.thread(), part) else {
+            return Err(CallFault::Memory);
+        };
+        self.conclude(ledger, wait, entry, schedule.body(Some(claim)))?;
+        Ok(())
+    }
+
+    /// A task that has not begun is discarded, since its taskgroup was cancelled (11.5 and 19.5.2.18): the flag
+    /// `discarded_task` is added to these. It puts the task's credit into the ledger, and may wait for its turn there; what
+    /// it answers is the index of the entry. Refused, the task comes back.
+    pub fn ompt_callback_cancel_discarded<R: Wait>(
+        &mut self,
+        ledger: &SharedLedger,
+        wait: &R,
+        task: TaskData,
+        flags: CancelFlags,
+    ) -> Result<u32, (TaskData, CallFault)>
+        requires { self.old.ledger ≡ ledger_id ledger.now }
+        ensures made { IfOk result (λ index. IsConcluded self.old (entry_of_part self.old.thread Whole task) index
+            (discard_body task flags (Some task.claim)) self.new) }
+        ensures credit { OnOk result (MovesCredit Whole (credit_of task)
+            (entered_credit_of (entry_of_part self.old.thread Whole task)) (credit_of task)) }
+        ensures returned { IfErr result (λ refused. refused.0 ≡ task) }
+        ensures refused { IsSome (discard_refusal self.old task flags) → IsErr result }
+        ensures fault { IfErr result (λ refused. IsRefused self.old (discard_refusal self.old task flags)
+            (Some (entry_of_part self.old.thread Whole task)) self.new refused.1) }
+    {
+        match self.discard(ledger, wait, &task, flags) {
+            Ok(index) => Ok(index),
+            Err(fault) => Err((task, fault)),
+        }
+    }
+
+    /// The task is discarded.
+    fn discard<R: Wait>(
+        &mut self,
+        ledger: &SharedLedger,
+        wait: &R,
+        task: &TaskData,
+        flags: CancelFlags,
+    ) -> Result<u32, CallFault>
+        requires { self.old.ledger ≡ ledger_id ledger.now }
+        ensures made { IfOk result (λ index. IsConcluded self.old (entry_of_part self.old.thread Whole task.now) index
+            (discard_body task.now flags (Some task.now.claim)) self.new) }
+        ensures may { OnOk result (may_discard task.now flags ≡ true) }
+        ensures refused { IsSome (discard_refusal self.old task.now flags) → IsErr result }
+        ensures fault { IfErr result (IsRefused self.old (discard_refusal self.old task.now flags)
+            (Some (entry_of_part self.old.thread Whole task.now)) self.new) }
+    {
+        let flags = flags.union(CancelFlags::DISCARDED_TASK);
+        let may = task.state_discarded().is_some() && are_named(flags);
+        self.test(may, false, false, &discard_body(task, flags, None))?;
+        let Ok((entry, claim)) = task.finish(self.thread(), Part::Whole) else {
+            return Err(CallFault::Memory);
+        };
+        self.conclude(ledger, wait, entry, discard_body(task, flags, Some(claim)))
+    }
+}
+
+/// What the record of a discard says.
+fn discard_body(task: &TaskData, flags: CancelFlags, share: Option<Claim>) -> Body
+    ensures { result ≡ Cancel flags task.now.id share }
+{
+    Body::Cancel {
+        flags,
+        task: task.id(),
+        share,
+    }
+}
+
+/// Whether each bit of a cancellation's flags has a name.
+fn are_named(flags: CancelFlags) -> bool
+    ensures { result ≡ are_named cancel_flags flags.0 }
+{
+    CancelFlags::from_bits(flags.bits()).is_some()
 }

@@ -194,33 +194,27 @@ impl TaskData {
         self.regions.pop();
     }
 
-    /// What the task claims of its place, once more.
-    pub(crate) fn claim(&self) -> Result<Claim, AllocError>
-        ensures claim { IfOk result (λ claim. claim ≡ self.now.claim) }
-        ensures short { IfOk result (λ claim. length claim.path ≤ 1024) }
+    /// What the ledger gets where the part of the task is finished on the thread, and what its record claims.
+    pub(crate) fn finish(&self, thread: u8, part: Part) -> Result<(Entry, Claim), AllocError>
+        ensures entry { IfOk result (λ made. made.0 ≡ entry_of_part thread part self.now) }
+        ensures claim { IfOk result (λ made. made.1 ≡ self.now.claim) }
+        ensures short { IfOk result (λ made. (length made.0.path ≤ 1024) × (length made.1.path ≤ 1024)) }
     {
         let alloc = *self.regions.allocator();
-        Ok(Claim {
-            kept: self.claim.kept,
-            root: self.claim.root,
-            path: self.claim.path.copied(alloc)?,
-        })
-    }
-
-    /// What the ledger gets where the part of the task is finished on the thread.
-    pub(crate) fn entry(&self, thread: u8, part: Part) -> Result<Entry, AllocError>
-        ensures entry { IfOk result (λ entry. entry ≡ entry_of_part thread part self.now) }
-        ensures short { IfOk result (λ entry. length entry.path ≤ 1024) }
-    {
-        let alloc = *self.regions.allocator();
-        Ok(Entry {
+        let entry = Entry {
             thread,
             part,
             kept: self.claim.kept,
             task: self.id,
             root: self.claim.root,
             path: self.claim.path.copied(alloc)?,
-        })
+        };
+        let claim = Claim {
+            kept: self.claim.kept,
+            root: self.claim.root,
+            path: self.claim.path.copied(alloc)?,
+        };
+        Ok((entry, claim))
     }
 }
 
