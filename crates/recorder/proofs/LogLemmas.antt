@@ -24,8 +24,8 @@ pub orderly-pushed : (thread : ℕ) (own : List Record) (r : Record) → AreOrde
 orderly-pushed thread own r orderly follows i x is = elim (pushed_cases own r x i is) [
   | inl old ↦ subst (λ l. Follows thread l x) (sym (take-pushed own r i (omega (arith, slice_get_within own i x old)))) (orderly i x old)
   | inr last ↦
-    let all : take i (own ++ r ∷ []) ≡ own = take-pushed own r i (omega (arith, last.0)) ∙ ap (λ n. take n own) last.0 ∙ take-all own in
-    subst (λ l. Follows thread l x) (sym all) (subst (Follows thread own) last.1 follows)
+      let all : take i (own ++ r ∷ []) ≡ own = take-pushed own r i (omega (arith, last.0)) ∙ ap (λ n. take n own) last.0 ∙ take-all own in
+      subst (λ l. Follows thread l x) (sym all) (subst (Follows thread own) last.1 follows)
 ]
 
 pub standing-pushed : (own : List Record) (r : Record) → standing_of (own ++ r ∷ []) ≡ next_standing (standing_of own) r.body
@@ -60,7 +60,8 @@ pub log-pushed : (v : LogView) (standing next : Standing) (later : LogView) (r :
     → next ≡ next_standing standing r.body
     → AreRecorded later.thread later.records later.known × (next ≡ standing_of later.records)
 log-pushed v standing next later r kept few rises allowed sound is_thread is_seq same is_later is_known is_next =
-    let all = recorded-pushed v.thread v.known v.records r kept.0 few rises allowed sound is_thread is_seq in
-    (subst (λ t. AreRecorded t later.records later.known) (sym same)
-    (subst (λ l. AreRecorded v.thread l later.known) (sym is_later) (subst (AreRecorded v.thread (v.records ++ r ∷ [])) (sym is_known) all)),
-    is_next ∙ ap (λ s. next_standing s r.body) kept.1 ∙ sym (standing-pushed v.records r) ∙ ap standing_of (sym is_later))
+    let all = recorded-pushed v.thread v.known v.records r kept.0 few rises allowed sound is_thread is_seq in (
+      subst (λ t. AreRecorded t later.records later.known) (sym same)
+          (subst (λ l. AreRecorded v.thread l later.known) (sym is_later) (subst (AreRecorded v.thread (v.records ++ r ∷ [])) (sym is_known) all)),
+      is_next ∙ ap (λ s. next_standing s r.body) kept.1 ∙ sym (standing-pushed v.records r) ∙ ap standing_of (sym is_later),
+    )

@@ -62,7 +62,7 @@ backed-entered own r known v w e backed extends makes =
     record {
       seen = subst (λ b. (if b then r.seen + 1 else r.seen) ≤ length (entries_of w)) (sym (finishes r e makes)) (omega (arith, there.last));
       entered = entered-pushed own r (entries_of v) (entries_of w) backed.entered (extends-go_on v w (Enter e) r.seen extends)
-      (λ f is. there.stands ∙ (sym makes ∙ is));
+          (λ f is. there.stands ∙ (sym makes ∙ is));
     }
 
 -- what a seat knew, it learns no less of from a look or an entry

@@ -97,8 +97,12 @@ comes_back Detach = true
 comes_back _ = false
 
 -- what comes back of the prior task
-abbrev pub left_of : ScheduleView → Option TaskView
-left_of s = if comes_back s.status then Some (stopped s.prior s.status) else None
+abbrev pub left_of : TaskView → Status → Option TaskView
+left_of prior status = if comes_back status then Some (stopped prior status) else None
+
+-- the schedule of these tasks
+abbrev pub schedule_of : TaskView → Status → Option TaskView → ScheduleView
+schedule_of prior status next = record { prior = prior; status = status; next = next }
 
 abbrev pub is_pause : Status → Bool
 is_pause Yield = true

@@ -62,7 +62,11 @@ impl Recorder {
     }
 
     /// The task, which runs, ends a parallel region (19.5.2.4).
-    pub fn ompt_callback_parallel_end(&mut self, task: &TaskData, parallel: u64) -> Result<(), CallFault>
+    pub fn ompt_callback_parallel_end(
+        &mut self,
+        task: &TaskData,
+        parallel: u64,
+    ) -> Result<(), CallFault>
         ensures made { OnOk result (self.new ≡ with_record self.old (ParallelEnd task.now.id parallel)) }
         ensures unchanged { OnErr result (self.new ≡ self.old) }
         ensures refused { IsSome (refusal_at self.old true false false (ParallelEnd task.now.id parallel)) → IsErr result }
@@ -203,7 +207,11 @@ impl Recorder {
 
     /// The task, which runs, cancels a region or sees it cancelled (19.5.2.18). A discarded task is recorded by
     /// [`Recorder::ompt_callback_cancel_discarded`].
-    pub fn ompt_callback_cancel(&mut self, task: &TaskData, flags: CancelFlags) -> Result<(), CallFault>
+    pub fn ompt_callback_cancel(
+        &mut self,
+        task: &TaskData,
+        flags: CancelFlags,
+    ) -> Result<(), CallFault>
         ensures made { OnOk result (self.new ≡ with_record self.old (Cancel flags task.now.id None)) }
         ensures unchanged { OnErr result (self.new ≡ self.old) }
         ensures refused { IsSome (refusal_at self.old (may_cancel flags.0) false false (Cancel flags task.now.id None))

@@ -169,7 +169,13 @@ impl Recorder {
     /// Why a call that would add a record with this body is refused before it needs memory, if it is. What its tasks
     /// allow, whether they are too deep and whether they have no room for more is given.
     #[tactic(auto, unfolding(crate::specs::Recorders::refusal_at))]
-    pub(crate) fn test(&self, may: bool, deep: bool, full: bool, body: &Body) -> Result<(), CallFault>
+    pub(crate) fn test(
+        &self,
+        may: bool,
+        deep: bool,
+        full: bool,
+        body: &Body,
+    ) -> Result<(), CallFault>
         ensures passed { OnOk result (refusal_at self.now may deep full body.now ≡ None) }
         ensures fault { IfErr result (λ fault. refusal_at self.now may deep full body.now ≡ Some fault) }
         ensures may { OnOk result (may ≡ true) }

@@ -1,5 +1,5 @@
 //! The calls by which tasks start, stop, are fulfilled and discarded (OpenMP 5.2, 19.5.2.10 and 19.5.2.18).
-ghost use Rattle.std.specs.Prelude.{◌≡◌, ◌<◌, None, Some, true, false, option_map, length, IfOk, IfErr, OnOk, OnErr, IsErr, IsSome, IsTrue, ℕ};
+ghost use Rattle.std.specs.Prelude.{◌≡◌, ◌<◌, Option, None, Some, true, false, option_map, length, IfOk, IfErr, OnOk, OnErr, IsErr, IsSome, IsTrue, ℕ};
 ghost use Rattle.ompt_events.specs.declared.records.Part.{Part};
 ghost use Rattle.ompt_events.specs.declared.records.Part.TheVariants.{Whole};
 ghost use Rattle.ompt_events.specs.declared.records.Body.TheVariants.{Cancel};
@@ -10,7 +10,7 @@ ghost use Rattle.credit_ledger.specs.Places.{ledger_id};
 ghost use Rattle.recorder.specs.Tasks.{TaskView, started, stopped, entry_of_part, credit_of, entered_credit_of, MovesCredit};
 ghost use Rattle.recorder.specs.Calls.{are_named};
 ghost use Rattle.recorder.specs.Recorders.{IsConcluded, IsRefused, allowed};
-ghost use Rattle.recorder.specs.Schedules.{turns_of, schedule_body, may_start, may_schedule, is_by_parent, has_its_next, is_last_turn, schedule_refusal, IsStopped, IsStoppedBy, stopped_entry, left_of, comes_back, is_pause, with_discarded, discard_body, may_discard, discard_refusal};
+ghost use Rattle.recorder.specs.Schedules.{turns_of, schedule_body, may_start, may_schedule, is_by_parent, has_its_next, is_last_turn, schedule_refusal, IsStopped, IsStoppedBy, stopped_entry, left_of, schedule_of, with_discarded, discard_body, may_discard, discard_refusal};
 
 use crate::fault::CallFault;
 use crate::recording::Recorder;
@@ -23,6 +23,7 @@ use std::marker::Model;
 use std::sync::Wait;
 
 /// A task stops or is fulfilled with a status, and another one runs next, if there is one.
+#[derive(Drop)]
 struct Schedule<'a> {
     prior: &'a TaskData,
     status: Status,
@@ -191,6 +192,94 @@ impl Recorder {
         Ok(())
     }
 
+    /// The prior task stops for the next one.
+    fn stop_for<R: Wait>(
+        &mut self,
+        ledger: &SharedLedger,
+        wait: &R,
+        prior: &TaskData,
+        status: Status,
+        next: &TaskData,
+    ) -> Result<(), CallFault>
+        requires { self.old.ledger ≡ ledger_id ledger.now }
+        ensures stopped { OnOk result (IsStopped self.old (schedule_of prior.now status (Some next.now)) self.new) }
+        ensures may { OnOk result (may_schedule self.old (schedule_of prior.now status (Some next.now)) ≡ true) }
+        ensures refused { IsSome (schedule_refusal self.old (schedule_of prior.now status (Some next.now))) → IsErr result }
+        ensures fault { IfErr result (IsRefused self.old
+            (schedule_refusal self.old (schedule_of prior.now status (Some next.now)))
+            (stopped_entry self.old (schedule_of prior.now status (Some next.now))) self.new) }
+    {
+        let schedule = Schedule {
+            prior,
+            status,
+            next: Some(next),
+        };
+        self.stop(ledger, wait, &schedule)
+    }
+
+    /// The prior task stops, and the next one runs.
+    fn switch<R: Wait>(
+        &mut self,
+        ledger: &SharedLedger,
+        wait: &R,
+        prior: TaskData,
+        status: Status,
+        next: &mut TaskData,
+    ) -> Result<Option<TaskData>, (TaskData, CallFault)>
+        requires { self.old.ledger ≡ ledger_id ledger.now }
+        ensures stopped { OnOk result (IsStopped self.old
+            (schedule_of prior status (Some next.old)) self.new) }
+        ensures may { OnOk result (may_schedule self.old
+            (schedule_of prior status (Some next.old)) ≡ true) }
+        ensures started { OnOk result (next.new ≡ started next.old) }
+        ensures unchanged { OnErr result (next.new ≡ next.old) }
+        ensures back { IfOk result (λ back. back ≡ left_of prior status) }
+        ensures returned { IfErr result (λ refused. refused.0 ≡ prior) }
+        ensures refused { IsSome (schedule_refusal self.old
+            (schedule_of prior status (Some next.old))) → IsErr result }
+        ensures fault { IfErr result (λ refused. IsRefused self.old
+            (schedule_refusal self.old (schedule_of prior status (Some next.old)))
+            (stopped_entry self.old (schedule_of prior status (Some next.old))) self.new refused.1) }
+    {
+        match self.stop_for(ledger, wait, &prior, status, next) {
+            Ok(()) => {
+                next.start();
+                Ok(left_of(prior, status))
+            }
+            Err(fault) => Err((prior, fault)),
+        }
+    }
+
+    /// The task is fulfilled, or is complete as a taskwait.
+    fn fulfil<R: Wait>(
+        &mut self,
+        ledger: &SharedLedger,
+        wait: &R,
+        prior: TaskData,
+        status: Status,
+    ) -> Result<Option<TaskData>, (TaskData, CallFault)>
+        requires { self.old.ledger ≡ ledger_id ledger.now }
+        ensures stopped { OnOk result (IsStopped self.old (schedule_of prior status None) self.new) }
+        ensures may { OnOk result (may_schedule self.old (schedule_of prior status None) ≡ true) }
+        ensures back { IfOk result (λ back. back ≡ left_of prior status) }
+        ensures returned { IfErr result (λ refused. refused.0 ≡ prior) }
+        ensures refused { IsSome (schedule_refusal self.old (schedule_of prior status None))
+            → IsErr result }
+        ensures fault { IfErr result (λ refused. IsRefused self.old
+            (schedule_refusal self.old (schedule_of prior status None))
+            (stopped_entry self.old (schedule_of prior status None)) self.new refused.1) }
+    {
+        let schedule = Schedule {
+            prior: &prior,
+            status,
+            next: None,
+        };
+        match self.stop(ledger, wait, &schedule) {
+            Ok(()) => Ok(left_of(prior, status)),
+            Err(fault) => Err((prior, fault)),
+        }
+    }
+
     /// A task that has not begun is discarded, since its taskgroup was cancelled (11.5 and 19.5.2.18): the flag
     /// `discarded_task` is added to these. It puts the task's credit into the ledger, and may wait for its turn there; what
     /// it answers is the index of the entry. Refused, the task comes back.
@@ -259,4 +348,17 @@ fn are_named(flags: CancelFlags) -> bool
     ensures { result ≡ are_named cancel_flags flags.0 }
 {
     CancelFlags::from_bits(flags.bits()).is_some()
+}
+
+/// What comes back of a task that stopped or was fulfilled with this status.
+fn left_of(mut prior: TaskData, status: Status) -> Option<TaskData>
+    ensures { result ≡ left_of prior status }
+{
+    match status {
+        Status::Yield | Status::Switch | Status::EarlyFulfill | Status::Detach => {
+            prior.stop(status);
+            Some(prior)
+        }
+        _ => None,
+    }
 }

@@ -59,7 +59,11 @@ impl Standing {
                 ..
             } => self.without_root(),
             Body::TaskSchedule { status, next, .. } => Standing {
-                current: if status.demands_next() { *next } else { self.current },
+                current: if status.demands_next() {
+                    *next
+                } else {
+                    self.current
+                },
                 awaited: None,
                 ..self
             },
