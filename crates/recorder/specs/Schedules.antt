@@ -1,5 +1,7 @@
 -- How tasks start, stop, are fulfilled and discarded, by calls of a recorder.
-use Rattle.std.specs.Prelude.{ℕ, ◌≡◌, ◌&&◌, ◌||◌, Bool, true, false, Option, Some, None, is_some, is_none, option_map, if◌then◌else◌}
+use Rattle.std.specs.Prelude.{ℕ, ◌≡◌, ◌&&◌, ◌||◌, ◌⊎◌, ⊤, Bool, true, false, Option, Some, None, is_some, is_none, option_map, if◌then◌else◌}
+use Rattle.std.proofs.Common.{inl, inr}
+use Rattle.std.specs.Borrow.{MutBor}
 use Rattle.std.specs.Option.{option_map_or}
 use Rattle.std.specs.Int.RustNames.{bit_or}
 use Rattle.ompt_events.specs.declared.records.Body.{Body}
@@ -108,6 +110,12 @@ abbrev pub is_pause : Status → Bool
 is_pause Yield = true
 is_pause Switch = true
 is_pause _ = false
+
+-- what a call leaves behind a reference to the next task, where it is given one
+abbrev pub LeavesNext : Unit {0} ⊎ ((MutBor TaskView × Unit {0}) ⊎ ⊥) → (TaskView → Type 0) → Type 0
+LeavesNext (inl absent) P = ⊤
+LeavesNext (inr (inl given)) P = P given.0.now
+LeavesNext (inr (inr never)) P = ⊤
 
 -- ---- discards
 

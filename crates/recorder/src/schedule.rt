@@ -1,5 +1,6 @@
 //! The calls by which tasks start, stop, are fulfilled and discarded (OpenMP 5.2, 19.5.2.10 and 19.5.2.18).
 ghost use Rattle.std.specs.Prelude.{◌≡◌, ◌<◌, Option, None, Some, true, false, option_map, length, IfOk, IfErr, OnOk, OnErr, IsErr, IsSome, IsTrue, ℕ};
+ghost use Rattle.std.specs.Borrow.{MutBor};
 ghost use Rattle.ompt_events.specs.declared.records.Part.{Part};
 ghost use Rattle.ompt_events.specs.declared.records.Part.TheVariants.{Whole};
 ghost use Rattle.ompt_events.specs.declared.records.Body.TheVariants.{Cancel};
@@ -10,7 +11,7 @@ ghost use Rattle.credit_ledger.specs.Places.{ledger_id};
 ghost use Rattle.recorder.specs.Tasks.{TaskView, started, stopped, entry_of_part, credit_of, entered_credit_of, MovesCredit};
 ghost use Rattle.recorder.specs.Calls.{are_named};
 ghost use Rattle.recorder.specs.Recorders.{IsConcluded, IsRefused, allowed};
-ghost use Rattle.recorder.specs.Schedules.{turns_of, schedule_body, may_start, may_schedule, is_by_parent, has_its_next, is_last_turn, schedule_refusal, IsStopped, IsStoppedBy, stopped_entry, left_of, schedule_of, with_discarded, discard_body, may_discard, discard_refusal};
+ghost use Rattle.recorder.specs.Schedules.{turns_of, schedule_body, may_start, may_schedule, is_by_parent, has_its_next, is_last_turn, schedule_refusal, IsStopped, IsStoppedBy, stopped_entry, left_of, schedule_of, LeavesNext, with_discarded, discard_body, may_discard, discard_refusal};
 
 use crate::fault::CallFault;
 use crate::recording::Recorder;
@@ -277,6 +278,39 @@ impl Recorder {
         match self.stop(ledger, wait, &schedule) {
             Ok(()) => Ok(left_of(prior, status)),
             Err(fault) => Err((prior, fault)),
+        }
+    }
+
+    /// The task `prior` stops running or is fulfilled with this status, and `next`, if it is given, runs from here on
+    /// (19.5.2.10). `next` is given for `complete`, `yield`, `cancel`, `detach` and `switch`, and for no other status. A
+    /// status that finishes a part of the task puts its credit into the ledger; any other looks at the ledger; both may wait
+    /// for their turn there. The prior task comes back where its value is used again: suspended, as the event that a detached
+    /// task waits for, or after an early fulfilment. Refused, it comes back as it was.
+    pub fn ompt_callback_task_schedule<R: Wait>(
+        &mut self,
+        ledger: &SharedLedger,
+        wait: &R,
+        prior: TaskData,
+        status: Status,
+        next: Option<&mut TaskData>,
+    ) -> Result<Option<TaskData>, (TaskData, CallFault)>
+        requires { self.old.ledger ≡ ledger_id ledger.now }
+        ensures stopped { OnOk result (IsStopped self.old (schedule_of prior status (option_map (λ n. n.now) next.entry)) self.new) }
+        ensures back { IfOk result (λ back. back ≡ left_of prior status) }
+        ensures returned { IfErr result (λ refused. refused.0 ≡ prior) }
+        ensures refused { IsSome (schedule_refusal self.old (schedule_of prior status (option_map (λ n. n.now) next.entry))) → IsErr result }
+        ensures fault { IfErr result (λ refused. IsRefused self.old (schedule_refusal self.old (schedule_of prior status (option_map (λ n. n.now) next.entry)))
+            (stopped_entry self.old (schedule_of prior status (option_map (λ n. n.now) next.entry))) self.new refused.1) }
+        ensures started { (n : MutBor TaskView) → next.entry ≡ Some n
+            → OnOk result (LeavesNext next.exit (λ left. left ≡ started n.now)) }
+        ensures unchanged { (n : MutBor TaskView) → next.entry ≡ Some n
+            → OnErr result (LeavesNext next.exit (λ left. left ≡ n.now)) }
+        ensures credit { OnOk result ((part : Part) → status_part status ≡ Some part → MovesCredit part (credit_of prior)
+            (entered_credit_of (entry_of_part self.old.thread part prior)) (credit_of (stopped prior status))) }
+    {
+        match next {
+            Some(next) => self.switch(ledger, wait, prior, status, next),
+            None => self.fulfil(ledger, wait, prior, status),
         }
     }
 
