@@ -1,11 +1,9 @@
 -- A record more in the records of one thread.
-use Rattle.std.proofs.Common.{◌≡◌, ◌∙◌, ℕ, ◌≤◌, ◌<◌, ◌+◌, Bool, true, List, [], ◌∷◌, ◌++◌, length, fold, take, Some, refl, sym, ap, subst, arith, inl, inr}
-use Rattle.std.specs.Prelude.{slice_get}
+use Rattle.std.proofs.Common.{◌≡◌, ◌∙◌, ℕ, ◌≤◌, ◌<◌, true, List, [], ◌∷◌, ◌++◌, length, take, refl, sym, ap, subst, arith, inl, inr}
 use Rattle.std.proofs.lemmas.List.{length_push, take-append-le}
 use Rattle.std.proofs.lemmas.List.Sums.{fold_push}
 use Rattle.std.proofs.lemmas.Option.{slice_get_within}
 use Rattle.ompt_events.specs.declared.records.Record.{Record}
-use Rattle.ompt_events.specs.declared.records.Body.{Body}
 use Rattle.ompt_events.specs.Limits.{max_records}
 use Rattle.ompt_events.specs.Traces.{IsSoundIn}
 use Rattle.ompt_events.proofs.ListLemmas.{pushed_cases}

@@ -1,7 +1,7 @@
 -- What a recorder's records say of the ledger, after one more.
 use Rattle.std.proofs.Common.{◌≡◌, ◌∙◌, ℕ, ◌≤◌, ◌<◌, ◌+◌, List, [], ◌∷◌, ◌++◌, length, Some, None, refl, sym, ap, subst, arith, inl, inr, Bool, true, false, Option, ◌^◌}
 use Rattle.std.specs.Prelude.{slice_get, option_map, option_and_then, is_some, if◌then◌else◌}
-use Rattle.std.proofs.lemmas.Option.{none-some, same_Some}
+use Rattle.std.proofs.lemmas.Option.{none-some}
 use Rattle.ompt_events.specs.declared.records.Record.{Record}
 use Rattle.ompt_events.specs.declared.records.Body.{Body}
 use Rattle.ompt_events.specs.Records.{finish, claim}
@@ -12,7 +12,7 @@ use Rattle.credit_ledger.specs.declared.view.Call.{Call}
 use Rattle.credit_ledger.specs.declared.view.Call.TheVariants.{Enter, Look}
 use Rattle.credit_ledger.specs.declared.view.View.{View}
 use Rattle.credit_ledger.specs.Seats.{Extends, told_of}
-use Rattle.credit_ledger.proofs.ExtendsLemmas.{GoOn, go_on-refl, extends-go_on, looked-length, entered-there, reply-known, joined-go_on}
+use Rattle.credit_ledger.proofs.ExtendsLemmas.{GoOn, extends-go_on, looked-length, entered-there, reply-known, joined-go_on}
 use Rattle.trace_ledger.specs.Entries.{claimed_entry, entry_of}
 use Rattle.recorder.specs.Logs.{LogView, IsSameLog, known_from}
 use Rattle.atomic_table.specs.Seated.{TableId}

@@ -1,5 +1,5 @@
 -- How tasks start, stop, are fulfilled and discarded, by calls of a recorder.
-use Rattle.std.specs.Prelude.{ℕ, ◌≡◌, ◌&&◌, ◌||◌, ◌⊎◌, ⊤, Bool, true, false, Option, Some, None, is_some, is_none, option_map, if◌then◌else◌}
+use Rattle.std.specs.Prelude.{ℕ, ◌&&◌, ◌||◌, ◌⊎◌, ⊤, Bool, true, false, Option, Some, None, is_some, is_none, option_map, if◌then◌else◌}
 use Rattle.std.proofs.Common.{inl, inr}
 use Rattle.std.specs.Borrow.{MutBor}
 use Rattle.std.specs.Option.{option_map_or}
@@ -19,6 +19,7 @@ use Rattle.ompt_events.specs.States as states
 use Rattle.ompt_events.specs.States.{is_task}
 use Rattle.credit_ledger.specs.declared.entry.Entry.{Entry}
 use Rattle.recorder.specs.declared.fault.CallFault.{CallFault}
+use Rattle.recorder.specs.declared.fault.CallFault.TheVariants.{WrongState}
 use Rattle.recorder.specs.Standing.{innermost}
 use Rattle.recorder.specs.Logs.{standing_of}
 use Rattle.recorder.specs.Tasks.{TaskView, parent_of, place_of, is_root_on, state_moved, turn_of, next_turn, stopped, entry_of_part}
@@ -110,6 +111,10 @@ abbrev pub is_pause : Status → Bool
 is_pause Yield = true
 is_pause Switch = true
 is_pause _ = false
+
+-- why a call that only suspends a task is refused before it needs memory
+abbrev pub switch_refusal : RecorderView → ScheduleView → Option CallFault
+switch_refusal r s = if is_pause s.status then schedule_refusal r s else Some WrongState
 
 -- what a call leaves behind a reference to the next task, where it is given one
 abbrev pub LeavesNext : Unit {0} ⊎ ((MutBor TaskView × Unit {0}) ⊎ ⊥) → (TaskView → Type 0) → Type 0

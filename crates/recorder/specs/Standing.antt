@@ -10,7 +10,7 @@ use Rattle.std.specs.Prelude.{List}
 use Rattle.ompt_events.specs.Names.{demands_next}
 use Rattle.ompt_events.specs.Flags as flag
 use Rattle.ompt_events.specs.Flags.{has_flag}
-use Rattle.ompt_events.specs.Records.{begun_initial, begun_root, created_with_deps, dependences, ended_root, flags, forked, joined, made, running}
+use Rattle.ompt_events.specs.Records.{begun_initial, created_with_deps, dependences, ended_root, flags, forked, joined, made, running}
 use Rattle.ompt_events.specs.States.{is_task}
 use Rattle.recorder.specs.declared.standing.Standing.{Standing}
 

@@ -9,9 +9,9 @@ ghost use Rattle.ompt_events.specs.Limits.{max_records};
 ghost use Rattle.ompt_events.specs.Names.{status_part};
 ghost use Rattle.credit_ledger.specs.Places.{ledger_id};
 ghost use Rattle.recorder.specs.Tasks.{TaskView, started, stopped, entry_of_part, credit_of, entered_credit_of, MovesCredit};
-ghost use Rattle.recorder.specs.Calls.{are_named};
+ghost use Rattle.recorder.specs.Calls.{fault_of, are_named};
 ghost use Rattle.recorder.specs.Recorders.{IsConcluded, IsRefused, allowed};
-ghost use Rattle.recorder.specs.Schedules.{turns_of, schedule_body, may_start, may_schedule, is_by_parent, has_its_next, is_last_turn, schedule_refusal, IsStopped, IsStoppedBy, stopped_entry, left_of, schedule_of, LeavesNext, with_discarded, discard_body, may_discard, discard_refusal};
+ghost use Rattle.recorder.specs.Schedules.{turns_of, schedule_body, may_start, may_schedule, is_by_parent, has_its_next, is_last_turn, schedule_refusal, IsStopped, IsStoppedBy, stopped_entry, left_of, schedule_of, switch_refusal, is_pause, LeavesNext, with_discarded, discard_body, may_discard, discard_refusal};
 
 use crate::fault::CallFault;
 use crate::recording::Recorder;
@@ -314,6 +314,37 @@ impl Recorder {
         }
     }
 
+    /// One task is suspended and another one runs, by `yield` or `switch` (19.5.2.10): the same as
+    /// [`Recorder::ompt_callback_task_schedule`] with such a status, but that it takes no value by value. Any other status is
+    /// refused as `WrongState`.
+    pub fn switch_to<R: Wait>(
+        &mut self,
+        ledger: &SharedLedger,
+        wait: &R,
+        prior: &mut TaskData,
+        next: &mut TaskData,
+        status: Status,
+    ) -> Result<(), CallFault>
+        requires { self.old.ledger ≡ ledger_id ledger.now }
+        ensures stopped { OnOk result (IsStopped self.old (schedule_of prior.old status (Some next.old)) self.new) }
+        ensures prior { OnOk result (prior.new ≡ stopped prior.old status) }
+        ensures next { OnOk result (next.new ≡ started next.old) }
+        ensures unchanged { OnErr result (self.new ≡ self.old) }
+        ensures same_prior { OnErr result (prior.new ≡ prior.old) }
+        ensures same_next { OnErr result (next.new ≡ next.old) }
+        ensures refused { IsSome (switch_refusal self.old (schedule_of prior.old status (Some next.old))) → IsErr result }
+        ensures fault { IfErr result (λ fault. fault
+            ≡ fault_of (switch_refusal self.old (schedule_of prior.old status (Some next.old)))) }
+    {
+        if !is_pause(status) {
+            return Err(CallFault::WrongState);
+        }
+        self.stop_for(ledger, wait, prior, status, next)?;
+        prior.stop(status);
+        next.start();
+        Ok(())
+    }
+
     /// A task that has not begun is discarded, since its taskgroup was cancelled (11.5 and 19.5.2.18): the flag
     /// `discarded_task` is added to these. It puts the task's credit into the ledger, and may wait for its turn there; what
     /// it answers is the index of the entry. Refused, the task comes back.
@@ -394,5 +425,15 @@ fn left_of(mut prior: TaskData, status: Status) -> Option<TaskData>
             Some(prior)
         }
         _ => None,
+    }
+}
+
+/// Whether a status only suspends its task.
+fn is_pause(status: Status) -> bool
+    ensures { result ≡ is_pause status }
+{
+    match status {
+        Status::Yield | Status::Switch => true,
+        _ => false,
     }
 }

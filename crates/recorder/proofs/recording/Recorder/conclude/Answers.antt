@@ -1,8 +1,7 @@
 use Rattle.std.proofs.Common.{◌≡◌, ◌≤◌, subst, sym, length, Some}
 use Rattle.ompt_events.specs.declared.records.Record.{Record}
-use Rattle.credit_ledger.specs.declared.view.Call.TheVariants.{Enter, Look}
+use Rattle.credit_ledger.specs.declared.view.Call.TheVariants.{Enter}
 use Rattle.credit_ledger.specs.Places.{seat_id, view_of}
-use Rattle.recorder.specs.Logs.{LogView}
 use Rattle.recorder.specs.Recorders.{RecorderView, entry_by}
 use Rattle.recorder.proofs.RecorderLemmas.{known-below, concluded, looked-again, refused-late, small-known}
 use Rattle.std.proofs.lemmas.Result.{err_from_is_err_and}

@@ -1,9 +1,5 @@
-use Rattle.std.proofs.Common.{◌≡◌, ◌≤◌, subst, sym, length}
-use Rattle.ompt_events.specs.declared.records.Record.{Record}
-use Rattle.credit_ledger.specs.declared.view.Call.TheVariants.{Enter, Look}
+use Rattle.std.proofs.Common.{◌≤◌, subst, sym, length}
 use Rattle.credit_ledger.specs.Places.{view_of}
-use Rattle.recorder.specs.Logs.{LogView}
-use Rattle.credit_ledger.specs.Seats.{told_of}
 use Rattle.recorder.specs.Recorders.{NoteView, entries_of}
 use Rattle.recorder.proofs.RecorderLemmas.{known-joined, met, met-known}
 use Rattle.recorder.proofs.recording.Recorder.meet.Goals as goal

@@ -1,8 +1,7 @@
-use Rattle.std.proofs.Common.{◌≡◌, ◌≤◌, subst, sym, length}
+use Rattle.std.proofs.Common.{◌≤◌, subst, sym, length}
 use Rattle.ompt_events.specs.declared.records.Record.{Record}
-use Rattle.credit_ledger.specs.declared.view.Call.TheVariants.{Enter, Look}
+use Rattle.credit_ledger.specs.declared.view.Call.TheVariants.{Look}
 use Rattle.credit_ledger.specs.Places.{view_of}
-use Rattle.recorder.specs.Logs.{LogView}
 use Rattle.recorder.proofs.RecorderLemmas.{known-below, observed}
 use Rattle.recorder.proofs.recording.Recorder.observe.Goals as goal
 

@@ -1,4 +1,4 @@
-use Rattle.std.proofs.Common.{◌≡◌, subst, None, Some, MutBor}
+use Rattle.std.proofs.Common.{◌≡◌, subst, Some, MutBor}
 use Rattle.std.specs.Prelude.{OnOk, OnErr}
 use Rattle.std.proofs.lemmas.Option.{same_Some}
 use Rattle.std.proofs.lemmas.Result.{on_ok_weaker}
