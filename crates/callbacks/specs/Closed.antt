@@ -1,0 +1,34 @@
+-- What closed recorders leave: the entries of their ledger, and the records of each thread.
+use Rattle.std.specs.Prelude.{ℕ, ◌≡◌, ◌≤◌, ◌<◌, List, length, All, Some, slice_get, map}
+use Rattle.std.specs.List.Sorted.{IsPermutation, IsNonDecreasingBy}
+use Rattle.ompt_events.specs.declared.records.Record.{Record}
+use Rattle.ompt_events.specs.Limits.{max_records}
+use Rattle.credit_ledger.specs.declared.entry.Entry.{Entry}
+use Rattle.thread_buffers.specs.Buffers.{BufferView}
+use Rattle.recorder.specs.Logs.{AreOrderly, known_of}
+use Rattle.recorder.specs.Recorders.{RecorderView, AreEntered}
+
+-- what clauses see of closed recorders
+pub record ClosedView : Type 0 where
+  pub entries : List Entry
+  pub buffers : List BufferView
+
+-- a thread's number and its records
+abbrev pub thread_of : BufferView → ℕ × List Record
+thread_of b = (b.thread, b.records)
+
+abbrev pub recorded_by : RecorderView → ℕ × List Record
+recorded_by r = (r.thread, r.records)
+
+-- the buffer was recorded by one thread, which knew no more of the ledger than these entries, and each of its
+-- finishing records made the entry that stands where it says
+pub record IsBuffer (entries : List Entry) (b : BufferView) : Type 0 where
+  pub few : length b.records ≤ max_records
+  pub orderly : AreOrderly b.thread b.records
+  pub known : known_of b.records ≤ length entries
+  pub entered : AreEntered b.records entries
+
+-- each buffer is such a one, and they go by the numbers of their threads
+pub record AreClosed (closed : ClosedView) : Type 0 where
+  pub buffers : All (IsBuffer closed.entries) closed.buffers
+  pub sorted : IsNonDecreasingBy (λ (b : BufferView). b.thread) closed.buffers

@@ -1,0 +1,47 @@
+-- The trace that is gathered from the records of all threads, and when there is one.
+use Rattle.std.specs.Prelude.{ℕ, ◌≡◌, ◌≢◌, ◌<◌, ◌≤◌, List, length, Some, slice_get}
+use Rattle.std.specs.List.{flat_map}
+use Rattle.ompt_events.specs.declared.records.Record.{Record}
+use Rattle.ompt_events.specs.declared.cause.Cause.TheVariants.{EntryTwice}
+use Rattle.ompt_events.specs.Limits.{max_records, max_tasks}
+use Rattle.ompt_events.specs.Places.{at, seen_at}
+use Rattle.ompt_events.specs.Records.{created, discarded, fulfilled}
+use Rattle.ompt_events.specs.HappensBefore.{IsStart, IsResumption}
+use Rattle.ompt_events.specs.Causes.{IsFreeOf}
+use Rattle.ompt_events.specs.Traces.{tasks_in}
+use Rattle.credit_ledger.specs.declared.entry.Entry.{Entry}
+use Rattle.thread_buffers.specs.Buffers.{BufferView}
+use Rattle.trace_ledger.specs.Entries.{IsLedgerOf}
+use Rattle.callbacks.specs.Closed.{ClosedView}
+
+-- all records, one thread after another
+abbrev pub gathered : List BufferView → List Record
+gathered buffers = flat_map (λ (b : BufferView). b.records) buffers
+
+-- no two buffers have one thread number
+abbrev pub AreApart : List BufferView → Type 0
+AreApart buffers =
+    (i j : ℕ) (a b : BufferView) → i < j → slice_get buffers i ≡ Some a → slice_get buffers j ≡ Some b
+    → a.thread ≢ b.thread
+
+-- the finishing records and the entries pair off one to one: each entry is made by a record that names its index,
+-- with its thread, task, part and claim, each finishing record makes an entry, and no two make the same one
+pub record ArePaired (closed : ClosedView) : Type 0 where
+  pub ledger : IsLedgerOf (gathered closed.buffers) closed.entries
+  pub once : IsFreeOf (gathered closed.buffers) EntryTwice
+
+-- there are no more records and tasks than a trace may have
+abbrev pub IsWithin : List Record → Type 0
+IsWithin rs = (length rs ≤ max_records) × (tasks_in rs ≤ max_tasks)
+
+-- what happens on one thread, and its cause on another one: a task is created or suspended at a, and starts, is
+-- discarded, is fulfilled or runs on at b
+pub data IsHandOver (rs : List Record) (a b : ℕ) : Type 0 where
+  started : (task : ℕ) → at created rs a ≡ Some task → IsStart rs b task → IsHandOver rs a b
+  was_discarded : (task : ℕ) → at created rs a ≡ Some task → at discarded rs b ≡ Some task → IsHandOver rs a b
+  was_fulfilled : (task : ℕ) → at created rs a ≡ Some task → at fulfilled rs b ≡ Some task → IsHandOver rs a b
+  runs_on : IsResumption rs a b → IsHandOver rs a b
+
+-- at each such record the thread had seen at least the ledger length that the first one names, as a note tells it
+abbrev pub AreHandedOver : List Record → Type 0
+AreHandedOver rs = (a b : ℕ) → IsHandOver rs a b → seen_at rs a ≤ seen_at rs b

@@ -1,0 +1,65 @@
+//! The end of recording: all recorders of a ledger are closed with it.
+ghost use Rattle.std.specs.Prelude.{◌≡◌, ◌≤◌, [], ℕ, List, All, length, map, IfOk, IfErr};
+ghost use Rattle.std.specs.List.Sorted.{IsPermutation};
+ghost use Rattle.credit_ledger.specs.declared.view.Step.{Step};
+ghost use Rattle.credit_ledger.specs.Histories.{IsLegal, entries_after};
+ghost use Rattle.credit_ledger.specs.Places.{ledger_id, seat_id, view_of};
+ghost use Rattle.credit_ledger.specs.Seats.{AreClaims, AreApart, claim_of};
+ghost use Rattle.recorder.specs.declared.fault.CallFault.TheVariants.{Memory};
+ghost use Rattle.callbacks.specs.Closed.{thread_of, recorded_by, AreClosed};
+
+use credit_ledger::{Ledger, Seat, SharedLedger};
+use recorder::{CallFault, Recorder};
+use std::alloc::Global;
+use std::marker::Model;
+use std::sync::Wait;
+use thread_buffers::Buffer;
+
+/// What closed recorders leave: the ledger, and the records of each thread, by the numbers of the threads.
+#[derive(Drop)]
+pub struct Closed {
+    ledger: Ledger,
+    buffers: Vec<Buffer>,
+}
+
+impl Model for Closed {
+    ghost use Rattle.callbacks.specs.Closed.{ClosedView, AreClosed};
+
+    ghost Value = { ClosedView };
+
+    ghost view = { λ closed. record { entries = closed.ledger; buffers = closed.buffers.items } };
+
+    ghost invariant = { λ closed. AreClosed (record { entries = closed.ledger; buffers = closed.buffers.items }) };
+}
+
+/// Ends the recording: all recorders are closed, and with them the ledger, which takes its turn a last time. They must be
+/// all recorders of the ledger, each with its seat. Refused for memory alone, before a seat is touched: the ledger and the
+/// recorders come back as they were.
+pub fn close_all<R: Wait>(
+    alloc: Global,
+    ledger: SharedLedger,
+    wait: &R,
+    recorders: Vec<Recorder>,
+) -> Result<Closed, (SharedLedger, Vec<Recorder>, CallFault)>
+    requires { All (λ r. r.ledger ≡ ledger_id ledger) recorders.items }
+    ensures closed { IfOk result (λ closed. (history : List Step) × IsLegal history × (closed.entries ≡ entries_after history)
+        × AreClaims history (map (λ r. claim_of r.seat) recorders.items)
+        × AreApart (map (λ r. claim_of r.seat) recorders.items)) }
+    ensures buffers { IfOk result (λ closed.
+        IsPermutation (map recorded_by recorders.items) (map thread_of closed.buffers)) }
+    ensures are_closed { IfOk result AreClosed }
+    ensures ledger_back { IfErr result (λ refused. refused.0 ≡ ledger) }
+    ensures recorders_back { IfErr result (λ refused. refused.1.items ≡ recorders.items) }
+    ensures memory { IfErr result (λ refused. refused.2 ≡ Memory) }
+{
+    let Ok(seats) = Vec::with_capacity(alloc, recorders.len()) else {
+        return Err((ledger, recorders, CallFault::Memory));
+    };
+    let Ok(buffers) = Vec::with_capacity(alloc, recorders.len()) else {
+        return Err((ledger, recorders, CallFault::Memory));
+    };
+    let (seats, mut buffers) = take_apart(recorders, seats, buffers);
+    let ledger = ledger.close(wait, seats);
+    buffers.sort_unstable_by_key(|buffer| buffer.thread());
+    Ok(Closed { ledger, buffers })
+}
