@@ -1,12 +1,14 @@
 -- What closed recorders leave: the entries of their ledger, and the records of each thread.
-use Rattle.std.specs.Prelude.{ℕ, ◌≡◌, ◌≤◌, ◌<◌, List, length, All, Some, slice_get, map}
-use Rattle.std.specs.List.Sorted.{IsPermutation, IsNonDecreasingBy}
+use Rattle.std.specs.Prelude.{ℕ, ◌≡◌, ◌≤◌, ⊤, List, [], ◌∷◌, length, All}
+use Rattle.std.specs.List.Sorted.{IsNonDecreasingBy}
 use Rattle.ompt_events.specs.declared.records.Record.{Record}
 use Rattle.ompt_events.specs.Limits.{max_records}
 use Rattle.credit_ledger.specs.declared.entry.Entry.{Entry}
+use Rattle.credit_ledger.specs.declared.shared.Seat.{Seat}
+use Rattle.credit_ledger.specs.Places.{seat_id, view_of}
 use Rattle.thread_buffers.specs.Buffers.{BufferView}
-use Rattle.recorder.specs.Logs.{AreOrderly, known_of}
-use Rattle.recorder.specs.Recorders.{RecorderView, AreEntered}
+use Rattle.recorder.specs.Logs.{AreOrderly, AreRecorded, known_of}
+use Rattle.recorder.specs.Recorders.{RecorderView, AreEntered, IsBacked}
 
 -- what clauses see of closed recorders
 pub record ClosedView : Type 0 where
@@ -32,3 +34,21 @@ pub record IsBuffer (entries : List Entry) (b : BufferView) : Type 0 where
 pub record AreClosed (closed : ClosedView) : Type 0 where
   pub buffers : All (IsBuffer closed.entries) closed.buffers
   pub sorted : IsNonDecreasingBy (λ (b : BufferView). b.thread) closed.buffers
+
+-- a recorder taken apart: its seat, and its records
+pub record IsPart (r : RecorderView) (seat : Seat) (b : BufferView) : Type 0 where
+  pub ledger : seat_id seat ≡ r.ledger
+  pub seat_is : view_of seat ≡ r.seat
+  pub thread_is : b.thread ≡ r.thread
+  pub records_are : b.records ≡ r.records
+  pub recorded : AreRecorded r.thread r.records r.known
+  pub backed : IsBacked r.records r.known r.seat
+
+-- all of them, in their order
+abbrev pub AreParts : List RecorderView → List Seat → List BufferView → Type 0
+AreParts [] [] [] = ⊤
+AreParts (r ∷ recorders) (seat ∷ seats) (b ∷ buffers) = IsPart r seat b × AreParts recorders seats buffers
+AreParts [] [] (b ∷ buffers) = ⊥
+AreParts [] (seat ∷ seats) buffers = ⊥
+AreParts (r ∷ recorders) [] buffers = ⊥
+AreParts (r ∷ recorders) (seat ∷ seats) [] = ⊥

@@ -1,12 +1,13 @@
 //! The end of recording: all recorders of a ledger are closed with it.
 ghost use Rattle.std.specs.Prelude.{◌≡◌, ◌≤◌, [], ℕ, List, All, length, map, IfOk, IfErr};
-ghost use Rattle.std.specs.List.Sorted.{IsPermutation};
+ghost use Rattle.std.specs.List.Sorted.{IsPermutation, IsNonDecreasingBy};
+ghost use Rattle.std.specs.Vec.{vec_capacity};
 ghost use Rattle.credit_ledger.specs.declared.view.Step.{Step};
 ghost use Rattle.credit_ledger.specs.Histories.{IsLegal, entries_after};
 ghost use Rattle.credit_ledger.specs.Places.{ledger_id, seat_id, view_of};
 ghost use Rattle.credit_ledger.specs.Seats.{AreClaims, AreApart, claim_of};
 ghost use Rattle.recorder.specs.declared.fault.CallFault.TheVariants.{Memory};
-ghost use Rattle.callbacks.specs.Closed.{thread_of, recorded_by, AreClosed};
+ghost use Rattle.callbacks.specs.Closed.{thread_of, recorded_by, AreClosed, AreParts};
 
 use credit_ledger::{Ledger, Seat, SharedLedger};
 use recorder::{CallFault, Recorder};
@@ -58,8 +59,41 @@ pub fn close_all<R: Wait>(
     let Ok(buffers) = Vec::with_capacity(alloc, recorders.len()) else {
         return Err((ledger, recorders, CallFault::Memory));
     };
-    let (seats, mut buffers) = take_apart(recorders, seats, buffers);
+    let (seats, buffers) = take_apart(recorders, seats, buffers);
     let ledger = ledger.close(wait, seats);
-    buffers.sort_unstable_by_key(|buffer| buffer.thread());
+    let buffers = by_thread(buffers);
     Ok(Closed { ledger, buffers })
+}
+
+/// The seats and the records of the recorders, in their order. There is room for them.
+fn take_apart(
+    recorders: Vec<Recorder>,
+    seats: Vec<Seat>,
+    buffers: Vec<Buffer>,
+) -> (Vec<Seat>, Vec<Buffer>)
+    requires no_seats { seats.items ≡ [] }
+    requires no_buffers { buffers.items ≡ [] }
+    requires seats_fit { length recorders.items ≤ vec_capacity seats }
+    requires buffers_fit { length recorders.items ≤ vec_capacity buffers }
+    ensures { AreParts recorders.items result.0.items result.1.items }
+{
+    let (mut recorders, mut seats, mut buffers) = (recorders, seats, buffers);
+    'recorders: while let Some(recorder) = recorders.pop() {
+        let (buffer, seat) = recorder.into_parts();
+        seats.push_reserved(seat);
+        buffers.push_reserved(buffer);
+    }
+    seats.reverse();
+    buffers.reverse();
+    (seats, buffers)
+}
+
+/// The buffers by the numbers of their threads.
+fn by_thread(buffers: Vec<Buffer>) -> Vec<Buffer>
+    ensures permutation { IsPermutation buffers.items result.items }
+    ensures sorted { IsNonDecreasingBy (λ b. b.thread) result.items }
+{
+    let mut buffers = buffers;
+    buffers.sort_unstable_by_key(|buffer| buffer.thread());
+    buffers
 }

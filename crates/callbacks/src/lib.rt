@@ -6,8 +6,6 @@
 #![tactic(auto)]
 
 mod closed;
-mod gather;
 
 pub use closed::{Closed, close_all};
-pub use gather::gather;
 pub use recorder::{CallFault, Note, Origin, Recorder, Standing, TaskData, TeamPlace};

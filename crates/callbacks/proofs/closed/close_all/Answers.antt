@@ -1,0 +1,38 @@
+use Rattle.std.proofs.Common.{◌≡◌, subst, sym}
+use Rattle.std.specs.Prelude.{map}
+use Rattle.std.specs.List.Sorted.{IsPermutation}
+use Rattle.std.proofs.lemmas.List.Sorted.{IsPermutation-map}
+use Rattle.credit_ledger.specs.Places.{ledger_id}
+use Rattle.credit_ledger.specs.Seats.{AreClaims, AreApart}
+use Rattle.callbacks.specs.Closed.{thread_of}
+use Rattle.callbacks.proofs.ClosedLemmas.{parts-claims, parts-threads, parts-seats, parts-closed}
+use Rattle.callbacks.proofs.closed.close_all.Goals as goal
+
+pub close-ledger-requires : goal.close-ledger-requires
+close-ledger-requires g c = record {
+  seats = parts-seats (ledger_id c.args.ledger) c.args.recorders.items c.take_apart-seats.result.0.items c.take_apart-seats.result.1.items c.take_apart-seats.ensures c.requires;
+}
+
+pub invariant_of-result : goal.invariant_of-result
+invariant_of-result g c =
+    let h = c.close-ledger.ensures in
+    let parts = c.take_apart-seats.result in
+    let same = parts-claims c.args.recorders.items parts.0.items parts.1.items c.take_apart-seats.ensures in
+    parts-closed h.0 c.args.recorders.items parts.0.items parts.1.items c.by_thread-buffers.result.items c.close-ledger.result c.take_apart-seats.ensures
+    (subst (AreClaims h.0) same h.3) h.2 c.by_thread-buffers.ensures.permutation c.by_thread-buffers.ensures.sorted
+
+pub returns-clause-closed : goal.returns-clause-closed
+returns-clause-closed g c =
+    let h = c.close-ledger.ensures in
+    let parts = c.take_apart-seats.result in
+    let same = parts-claims c.args.recorders.items parts.0.items parts.1.items c.take_apart-seats.ensures in
+    (h.0, h.1, h.2, subst (AreClaims h.0) same h.3, subst AreApart same h.4)
+
+pub returns-clause-buffers : goal.returns-clause-buffers
+returns-clause-buffers g c =
+    let parts = c.take_apart-seats.result in
+    subst (λ l. IsPermutation l (map thread_of c.by_thread-buffers.result.items)) (sym (parts-threads c.args.recorders.items parts.0.items parts.1.items c.take_apart-seats.ensures))
+    (IsPermutation-map thread_of parts.1.items c.by_thread-buffers.result.items c.by_thread-buffers.ensures.permutation)
+
+pub returns-clause-are_closed : goal.returns-clause-are_closed
+returns-clause-are_closed g c = invariant_of-result g c
