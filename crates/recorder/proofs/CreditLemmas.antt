@@ -35,11 +35,13 @@ is_body Whole = false
 is_body Event = false
 
 -- a task that is finished whole was not detached
-found-whole : (st : State) (s : Status) (after : State) → status_part s ≡ Some Whole → next_state_of st s ≡ Some after → is_detached st ≡ false
+found-whole : (st : State) (s : Status) (after : State) → status_part s ≡ Some Whole
+    → next_state_of st s ≡ Some after → is_detached st ≡ false
 found-whole Detached status.Complete after part is = absurd (none-some after is)
 found-whole Detached status.Cancel after part is = absurd (none-some after is)
 found-whole Detached status.TaskwaitComplete after part is = absurd (none-some after is)
-found-whole Detached status.LateFulfill after part is = absurd (false≢true (sym (ap is_event (same_Some Event Whole part))))
+found-whole Detached status.LateFulfill after part is =
+    absurd (false≢true (sym (ap is_event (same_Some Event Whole part))))
 found-whole Detached status.Yield after part is = absurd (none-some Whole part)
 found-whole Detached status.Switch after part is = absurd (none-some Whole part)
 found-whole Detached status.EarlyFulfill after part is = absurd (none-some Whole part)
@@ -52,7 +54,8 @@ found-whole EarlyWaiting s after part is = refl
 found-whole Done s after part is = refl
 
 -- a task whose event is finished was detached
-found-event : (st : State) (after : State) → next_state_of st status.LateFulfill ≡ Some after → is_detached st ≡ true
+found-event : (st : State) (after : State) → next_state_of st status.LateFulfill ≡ Some after
+    → is_detached st ≡ true
 found-event Detached after is = refl
 found-event Created after is = absurd (none-some after is)
 found-event Running after is = absurd (none-some after is)
@@ -62,7 +65,8 @@ found-event EarlyWaiting after is = absurd (none-some after is)
 found-event Done after is = absurd (none-some after is)
 
 -- a task that is detached ran, and is detached then
-found-body : (st : State) (after : State) → next_state_of st status.Detach ≡ Some after → (is_detached st ≡ false) × (after ≡ Detached)
+found-body : (st : State) (after : State) → next_state_of st status.Detach ≡ Some after
+    → (is_detached st ≡ false) × (after ≡ Detached)
 found-body Running after is = (refl, sym (same_Some Detached after is))
 found-body Detached after is = absurd (none-some after is)
 found-body Created after is = absurd (none-some after is)
@@ -82,19 +86,27 @@ share-alive t alive = ap (λ b. if b then give_half (left t) else left t) alive
 abbrev entered : TaskView → List Half → Credit
 entered t share = record { root = t.claim.root; task = t.id; holder = credits.Entered; share = share }
 
-moves-whole : (thread : ℕ) (t : TaskView) → is_detached t.state ≡ false → MovesCredit Whole (credit_of t) (entered_credit_of (entry_of_part thread Whole t)) (credit_of t)
-moves-whole thread t alive = ap (λ share. entered t share ∷ []) (share-alive t alive ∙ sym (append-nil (left t)))
+moves-whole : (thread : ℕ) (t : TaskView) → is_detached t.state ≡ false
+    → MovesCredit Whole (credit_of t) (entered_credit_of (entry_of_part thread Whole t)) (credit_of t)
+moves-whole thread t alive =
+    ap (λ share. entered t share ∷ []) (share-alive t alive ∙ sym (append-nil (left t)))
 
-moves-event : (thread : ℕ) (t : TaskView) → is_detached t.state ≡ true → MovesCredit Event (credit_of t) (entered_credit_of (entry_of_part thread Event t)) (credit_of t)
+moves-event : (thread : ℕ) (t : TaskView) → is_detached t.state ≡ true
+    → MovesCredit Event (credit_of t) (entered_credit_of (entry_of_part thread Event t)) (credit_of t)
 moves-event thread t detached = ap (λ b. entered t (if b then give_half (left t) else left t) ∷ []) detached
 
-moves-body : (thread : ℕ) (t : TaskView) → is_detached t.state ≡ false → MovesCredit Body (credit_of t) (entered_credit_of (entry_of_part thread Body t)) (credit_of (in_state t Detached))
+moves-body : (thread : ℕ) (t : TaskView) → is_detached t.state ≡ false
+    → MovesCredit Body (credit_of t) (entered_credit_of (entry_of_part thread Body t))
+    (credit_of (in_state t Detached))
 moves-body thread t alive =
-    ap (λ share. entered t (keep_half share) ∷ record { root = t.claim.root; task = t.id; holder = credits.Awaited; share = give_half share } ∷ []) (share-alive t alive)
+    ap (λ share. entered t (keep_half share) ∷ record
+    { root = t.claim.root; task = t.id; holder = credits.Awaited; share = give_half share } ∷ [])
+    (share-alive t alive)
 
 -- the state that a status leads to
 reached : (t : TaskView) (s : Status) → is_some (state_moved t (states.Stopped s)) ≡ true
-    → (after : State) × (next_state_of t.state s ≡ Some after) × (state_moved t (states.Stopped s) ≡ Some after)
+    → (after : State) × (next_state_of t.state s ≡ Some after)
+    × (state_moved t (states.Stopped s) ≡ Some after)
 reached t s moved = by (may (nature t) (states.Stopped s)) (next_state_of t.state s) moved
   where
     by : (b : Bool) (next : Option State) → is_some (if b then next else None) ≡ true
@@ -103,24 +115,36 @@ reached t s moved = by (may (nature t) (states.Stopped s)) (next_state_of t.stat
     by true None is = absurd (false≢true is)
     by false next is = absurd (false≢true is)
 
-parts : (thread : ℕ) (t : TaskView) (s : Status) (part : Part) (after : State) → status_part s ≡ Some part → next_state_of t.state s ≡ Some after
-    → MovesCredit part (credit_of t) (entered_credit_of (entry_of_part thread part t)) (credit_of (in_state t after))
+parts : (thread : ℕ) (t : TaskView) (s : Status) (part : Part) (after : State) → status_part s ≡ Some part
+    → next_state_of t.state s ≡ Some after
+    → MovesCredit part (credit_of t) (entered_credit_of (entry_of_part thread part t))
+    (credit_of (in_state t after))
 parts thread t s Whole after is_part is = moves-whole thread t (found-whole t.state s after is_part is)
 parts thread t status.Detach Body after is_part is =
     let found = found-body t.state after is in
-    subst (λ st. MovesCredit Body (credit_of t) (entered_credit_of (entry_of_part thread Body t)) (credit_of (in_state t st))) (sym found.1) (moves-body thread t found.0)
-parts thread t status.LateFulfill Event after is_part is = moves-event thread t (found-event t.state after is)
-parts thread t status.LateFulfill Body after is_part is = absurd (false≢true (ap is_body (same_Some Event Body is_part)))
-parts thread t status.Complete Body after is_part is = absurd (false≢true (ap is_body (same_Some Whole Body is_part)))
-parts thread t status.Cancel Body after is_part is = absurd (false≢true (ap is_body (same_Some Whole Body is_part)))
-parts thread t status.TaskwaitComplete Body after is_part is = absurd (false≢true (ap is_body (same_Some Whole Body is_part)))
+    subst (λ st. MovesCredit Body (credit_of t) (entered_credit_of (entry_of_part thread Body t))
+    (credit_of (in_state t st))) (sym found.1) (moves-body thread t found.0)
+parts thread t status.LateFulfill Event after is_part is =
+    moves-event thread t (found-event t.state after is)
+parts thread t status.LateFulfill Body after is_part is =
+    absurd (false≢true (ap is_body (same_Some Event Body is_part)))
+parts thread t status.Complete Body after is_part is =
+    absurd (false≢true (ap is_body (same_Some Whole Body is_part)))
+parts thread t status.Cancel Body after is_part is =
+    absurd (false≢true (ap is_body (same_Some Whole Body is_part)))
+parts thread t status.TaskwaitComplete Body after is_part is =
+    absurd (false≢true (ap is_body (same_Some Whole Body is_part)))
 parts thread t status.Yield Body after is_part is = absurd (none-some Body is_part)
 parts thread t status.Switch Body after is_part is = absurd (none-some Body is_part)
 parts thread t status.EarlyFulfill Body after is_part is = absurd (none-some Body is_part)
-parts thread t status.Detach Event after is_part is = absurd (false≢true (ap is_event (same_Some Body Event is_part)))
-parts thread t status.Complete Event after is_part is = absurd (false≢true (ap is_event (same_Some Whole Event is_part)))
-parts thread t status.Cancel Event after is_part is = absurd (false≢true (ap is_event (same_Some Whole Event is_part)))
-parts thread t status.TaskwaitComplete Event after is_part is = absurd (false≢true (ap is_event (same_Some Whole Event is_part)))
+parts thread t status.Detach Event after is_part is =
+    absurd (false≢true (ap is_event (same_Some Body Event is_part)))
+parts thread t status.Complete Event after is_part is =
+    absurd (false≢true (ap is_event (same_Some Whole Event is_part)))
+parts thread t status.Cancel Event after is_part is =
+    absurd (false≢true (ap is_event (same_Some Whole Event is_part)))
+parts thread t status.TaskwaitComplete Event after is_part is =
+    absurd (false≢true (ap is_event (same_Some Whole Event is_part)))
 parts thread t status.Yield Event after is_part is = absurd (none-some Event is_part)
 parts thread t status.Switch Event after is_part is = absurd (none-some Event is_part)
 parts thread t status.EarlyFulfill Event after is_part is = absurd (none-some Event is_part)
@@ -130,10 +154,13 @@ first true b is = refl
 first false b is = is
 
 -- a schedule that the tasks allow
-pub moves_credit : (r : RecorderView) (s : ScheduleView) (part : Part) → may_schedule r s ≡ true → status_part s.status ≡ Some part
-    → MovesCredit part (credit_of s.prior) (entered_credit_of (entry_of_part r.thread part s.prior)) (credit_of (stopped s.prior s.status))
+pub moves_credit : (r : RecorderView) (s : ScheduleView) (part : Part) → may_schedule r s ≡ true
+    → status_part s.status ≡ Some part
+    → MovesCredit part (credit_of s.prior) (entered_credit_of (entry_of_part r.thread part s.prior))
+    (credit_of (stopped s.prior s.status))
 moves_credit r s part allowed is_part =
     let found = reached s.prior s.status (first _ _ (first _ _ (first _ _ allowed))) in
-    subst (λ t. MovesCredit part (credit_of s.prior) (entered_credit_of (entry_of_part r.thread part s.prior)) (credit_of t))
+    subst (λ t. MovesCredit part (credit_of s.prior)
+    (entered_credit_of (entry_of_part r.thread part s.prior)) (credit_of t))
     (sym (ap (λ st. option_map_or (in_state s.prior) st s.prior) found.2))
     (parts r.thread s.prior s.status part found.0 is_part found.1)

@@ -16,8 +16,8 @@ ledger_refusal ledger.Memory = Memory
 ledger_refusal (ledger.Overlap index) = Overlap
 ledger_refusal ledger.Full = Full
 
--- why a call is refused before it needs memory, if it is: it may not come here, the path of its task is too long, or
--- there is no room for a record, a dependence, a child or a turn
+-- why a call is refused before it needs memory, if it is: it may not come here, the path of its task is too
+-- long, or there is no room for a record, a dependence, a child or a turn
 abbrev pub refusal : Bool → Bool → Bool → Option CallFault
 refusal may deep full =
     if not may then Some WrongState

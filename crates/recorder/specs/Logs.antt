@@ -8,8 +8,8 @@ use Rattle.ompt_events.specs.Traces.{IsSoundIn}
 use Rattle.recorder.specs.declared.standing.Standing.{Standing}
 use Rattle.recorder.specs.Standing.{at_start, next_standing, allows}
 
--- what clauses see of a thread's records: the thread's number, the records, the ledger length that the thread knew
--- last, and for how many more records there is room
+-- what clauses see of a thread's records: the thread's number, the records, the ledger length that the
+-- thread knew last, and for how many more records there is room
 pub record LogView : Type 0 where
   pub thread : ℕ
   pub records : List Record
@@ -20,7 +20,8 @@ pub record LogView : Type 0 where
 abbrev pub standing_of : List Record → Standing
 standing_of own = fold (λ s (r : Record). next_standing s r.body) at_start own
 
--- the ledger length that is known after a record that names `seen`: one more where it makes the entry with that index
+-- the ledger length that is known after a record that names `seen`: one more where it makes the entry with
+-- that index
 abbrev pub known_from : ℕ → Body → ℕ
 known_from seen body = if is_some (finish body) then seen + 1 else seen
 

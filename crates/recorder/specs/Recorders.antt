@@ -17,8 +17,8 @@ use Rattle.recorder.specs.Standing.{allows}
 use Rattle.recorder.specs.Logs.{standing_of, known_from}
 use Rattle.recorder.specs.Calls.{fault_of, refusal, ledger_refusal}
 
--- what clauses see of a recorder: the thread's number, its records, the ledger length that it knew last, which ledger
--- it is of, and what its seat has seen of that
+-- what clauses see of a recorder: the thread's number, its records, the ledger length that it knew last,
+-- which ledger it is of, and what its seat has seen of that
 pub record RecorderView : Type 0 where
   pub thread : ℕ
   pub records : List Record
@@ -76,14 +76,17 @@ abbrev pub entry_by : ℕ → Body → Option Entry
 entry_by thread body = option_and_then (λ f. option_map (claimed_entry thread f) (claim body)) (finish body)
 
 -- the ledger refused the entry: it was looked at, and the recorder learns nothing from that
-pub record IsRefusedByLedger (old : RecorderView) (entry : Entry) (new : RecorderView) (fault : CallFault) : Type 0 where
+pub record IsRefusedByLedger (old : RecorderView) (entry : Entry) (new : RecorderView)
+    (fault : CallFault) : Type 0 where
   pub seen : ℕ
   pub looked : Extends old.seat Look seen new.seat
   pub unchanged : new ≡ record old { seat = new.seat }
   pub fault_is : fault ≡ ledger_refusal (ledger.fault_of (entries_of new.seat) entry)
 
--- a call that finishes a task is refused: before the ledger is asked, so that nothing is changed, or by the ledger
-pub data IsRefused (old : RecorderView) (found : Option CallFault) (entry : Option Entry) (new : RecorderView) (fault : CallFault) : Type 0 where
+-- a call that finishes a task is refused: before the ledger is asked, so that nothing is changed, or by the
+-- ledger
+pub data IsRefused (old : RecorderView) (found : Option CallFault) (entry : Option Entry)
+    (new : RecorderView) (fault : CallFault) : Type 0 where
   before : new ≡ old → fault ≡ fault_of found → IsRefused old found entry new fault
   by_ledger : (e : Entry) → found ≡ None → entry ≡ Some e → IsRefusedByLedger old e new fault
       → IsRefused old found entry new fault
@@ -97,7 +100,7 @@ is_full r = nat_le max_records (length r.records)
 abbrev pub allowed : RecorderView → Body → Bool
 allowed r body = allows (standing_of r.records) body
 
--- why a call that would add a record with this body is refused before it needs memory; what its tasks allow, how deep
--- they are and whether they have room for more is given
+-- why a call that would add a record with this body is refused before it needs memory; what its tasks allow,
+-- how deep they are and whether they have room for more is given
 unfoldable pub refusal_at : RecorderView → Bool → Bool → Bool → Body → Option CallFault
 refusal_at r may deep full body = refusal (may && allowed r body) deep (full || is_full r)

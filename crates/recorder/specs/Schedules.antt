@@ -34,18 +34,22 @@ pub record ScheduleView : Type 0 where
 
 -- the turn of the prior task, which ends, and that of the next one, which begins
 abbrev pub turns_of : TaskView → TaskView → Turns
-turns_of prior next = record { prior = turn_of prior; next = option_map_or (λ turn. turn) (next_turn next) 0 }
+turns_of prior next = record {
+  prior = turn_of prior;
+  next = option_map_or (λ turn. turn) (next_turn next) 0;
+}
 
 -- its record, with what is claimed of a task that it finishes
 abbrev pub schedule_body : ScheduleView → Option Claim → Body
 schedule_body s share =
-    TaskSchedule s.status (option_map (turns_of s.prior) s.next) s.prior.id (option_map (λ (n : TaskView). n.id) s.next)
+    TaskSchedule s.status (option_map (turns_of s.prior) s.next) s.prior.id
+    (option_map (λ (n : TaskView). n.id) s.next)
     share
 
 -- ---- when it may come
 
--- a root runs next only as the innermost open one of the thread on which it began (cause NotCurrent); any task as its
--- state allows it (StatusOrder)
+-- a root runs next only as the innermost open one of the thread on which it began (cause NotCurrent); any
+-- task as its state allows it (StatusOrder)
 abbrev pub may_start : RecorderView → TaskView → Bool
 may_start r next =
     is_some (state_moved next states.Started)
@@ -82,7 +86,8 @@ schedule_refusal r s = refusal_at r (may_schedule r s) false (is_last_turn s) (s
 abbrev pub IsStoppedBy : Option Part → RecorderView → ScheduleView → RecorderView → Type 0
 IsStoppedBy None old s new = (seen : ℕ) × IsObserved old seen (schedule_body s None) new
 IsStoppedBy (Some part) old s new =
-    (index : ℕ) × IsConcluded old (entry_of_part old.thread part s.prior) index (schedule_body s (Some s.prior.claim)) new
+    (index : ℕ) × IsConcluded old (entry_of_part old.thread part s.prior) index
+    (schedule_body s (Some s.prior.claim)) new
 
 abbrev pub IsStopped : RecorderView → ScheduleView → RecorderView → Type 0
 IsStopped old s new = IsStoppedBy (status_part s.status) old s new

@@ -1,5 +1,5 @@
--- Where a thread stands while it records, and which records may come next there. A parallel region is not begun
--- inside another one, so at most two roots of a thread are open.
+-- Where a thread stands while it records, and which records may come next there. A parallel region is not
+-- begun inside another one, so at most two roots of a thread are open.
 use Rattle.std.specs.Prelude.{ℕ, ◌==◌, ◌&&◌, Bool, true, false, not, Option, Some, None, option_map, is_some, if◌then◌else◌}
 use Rattle.std.specs.Option.{option_map_or}
 use Rattle.ompt_events.specs.declared.records.Body.{Body}
@@ -25,7 +25,8 @@ innermost s = if is_some s.member then s.member else s.initial
 -- a root begins and runs
 abbrev pub with_root : Standing → ℕ → ℕ → Standing
 with_root s bits task =
-    if has_flag bits flag.initial then record { initial = Some task; member = s.member; current = Some task; awaited = None }
+    if has_flag bits flag.initial
+    then record { initial = Some task; member = s.member; current = Some task; awaited = None }
     else record { initial = s.initial; member = Some task; current = Some task; awaited = None }
 
 -- the innermost root ends, and the one below it runs
@@ -34,8 +35,8 @@ without_root s =
     let below : Option ℕ = if is_some s.member then s.initial else None in
     record { initial = below; member = None; current = below; awaited = None }
 
--- where the thread stands after a record: its roots and its task go by the rules of a thread's walk (OpenMP 5.2,
--- 12.9), and a creation with dependences awaits them
+-- where the thread stands after a record: its roots and its task go by the rules of a thread's walk (OpenMP
+-- 5.2, 12.9), and a creation with dependences awaits them
 abbrev pub next_standing : Standing → Body → Standing
 next_standing s (ImplicitTask Begin actual index given parallel task) = with_root s given.0 task
 next_standing s (ImplicitTask End actual index given parallel task) = without_root s
@@ -63,8 +64,8 @@ runs_its_task s body = option_map_or (λ task. is_task task s.current) (running 
 abbrev pub ends_innermost : Standing → Body → Bool
 ends_innermost s body = option_map_or (λ task. is_task task (innermost s)) (ended_root body) true
 
--- a parallel region begins by the thread's initial task, a member of a team begins where none is open, and an
--- initial task where no root is (cause NestedParallel)
+-- a parallel region begins by the thread's initial task, a member of a team begins where none is open, and
+-- an initial task where no root is (cause NestedParallel)
 abbrev pub is_outside : Standing → Body → Bool
 is_outside s body =
     option_map_or (λ (f : ℕ × ℕ). is_task f.0 s.initial) (forked body) true
@@ -79,4 +80,5 @@ is_on_host body =
 -- the thread's records show no reason against a record with this body
 abbrev pub allows : Standing → Body → Bool
 allows s body =
-    is_in_place s body && runs_its_task s body && ends_innermost s body && is_outside s body && is_on_host body
+    is_in_place s body && runs_its_task s body && ends_innermost s body && is_outside s body
+    && is_on_host body

@@ -1,5 +1,5 @@
--- A tool's own value of one task, and what the events of OMPT do to it and to its credit (F. Mattern, Information
--- Processing Letters 30, 1989).
+-- A tool's own value of one task, and what the events of OMPT do to it and to its credit (F. Mattern,
+-- Information Processing Letters 30, 1989).
 use Rattle.std.specs.Prelude.{ℕ, ◌^◌, ◌+◌, ◌-◌, ◌==◌, ◌≡◌, ◌&&◌, Bool, true, false, List, [], ◌∷◌, ◌++◌, Option, Some, None, is_some, nat_le, nat_lt, length, slice_get, take, if◌then◌else◌}
 use Rattle.std.specs.Option.{option_map_or}
 use Rattle.ompt_events.specs.declared.records.Claim.{Claim}
@@ -70,7 +70,8 @@ nature t = nature_by t.origin t.flags.0
 
 -- ---- its state
 
--- the state after the task stops with a status, runs next, or is discarded, where its state and its nature allow it
+-- the state after the task stops with a status, runs next, or is discarded, where its state and its nature
+-- allow it
 abbrev pub state_moved : TaskView → states.Move → Option State
 state_moved t move = state_after (nature t) (Some t.state) (0, move)
 
@@ -82,7 +83,8 @@ turn_of t = option_map_or (λ turn. turn) t.turn 0
 
 -- the turn that it begins next, where it is a number of 32 bits
 abbrev pub next_turn : TaskView → Option ℕ
-next_turn t = option_map_or (λ turn. if nat_lt (turn + 1) (2 ^ 32) then Some (turn + 1) else None) t.turn (Some 0)
+next_turn t =
+    option_map_or (λ turn. if nat_lt (turn + 1) (2 ^ 32) then Some (turn + 1) else None) t.turn (Some 0)
 
 -- ---- its regions
 
@@ -101,7 +103,8 @@ with_region t kind = record t { regions = t.regions ++ kind ∷ [] }
 abbrev pub without_region : TaskView → TaskView
 without_region t = record t { regions = take (length t.regions - 1) t.regions }
 
--- a region of this kind is called a barrier, and the task is explicit, which may have none (OpenMP 5.2, 15.3)
+-- a region of this kind is called a barrier, and the task is explicit, which may have none (OpenMP 5.2,
+-- 15.3)
 abbrev pub is_barred : TaskView → SyncKind → Bool
 is_barred t kind = is_called_barrier kind && is_some (parent_of t.origin)
 
@@ -182,8 +185,8 @@ holder_in Detached = credits.Awaited
 holder_in Done = credits.Entered
 holder_in _ = credits.Running
 
--- the share that the task has left: of its start share it gave a half to each child, and a detached task gave back
--- the half of its body
+-- the share that the task has left: of its start share it gave a half to each child, and a detached task
+-- gave back the half of its body
 abbrev pub share_of : TaskView → List Half
 share_of t =
     let left : List Half = finish_share t.claim.path t.claim.kept in
@@ -201,8 +204,8 @@ abbrev pub entered_credit_of : Entry → Credit
 entered_credit_of entry =
     record { root = entry.root; task = entry.task; holder = credits.Entered; share = tree_share entry }
 
--- what an event does to the task's credit where it finishes a part of the task: all of it is entered, or a half of it
--- with the body and the rest with the event
+-- what an event does to the task's credit where it finishes a part of the task: all of it is entered, or a
+-- half of it with the body and the rest with the event
 abbrev pub MovesCredit : Part → Credit → Credit → Credit → Type 0
 MovesCredit Whole before entered after = entered_credit before ≡ entered ∷ []
 MovesCredit BodyPart before entered after = detached_halves before ≡ entered ∷ after ∷ []

@@ -23,7 +23,8 @@ impl Recorder {
         ensures made { OnOk result (self.new ≡ with_record self.old (ThreadBegin kind)) }
         ensures unchanged { OnErr result (self.new ≡ self.old) }
         ensures refused { IsSome (refusal_at self.old true false false (ThreadBegin kind)) → IsErr result }
-        ensures fault { IfErr result (λ fault. fault ≡ fault_of (refusal_at self.old true false false (ThreadBegin kind))) }
+        ensures fault { IfErr result (λ fault. fault
+            ≡ fault_of (refusal_at self.old true false false (ThreadBegin kind))) }
     {
         self.record(true, Body::ThreadBegin { kind })
     }
@@ -33,24 +34,27 @@ impl Recorder {
         ensures made { OnOk result (self.new ≡ with_record self.old ThreadEnd) }
         ensures unchanged { OnErr result (self.new ≡ self.old) }
         ensures refused { IsSome (refusal_at self.old true false false ThreadEnd) → IsErr result }
-        ensures fault { IfErr result (λ fault. fault ≡ fault_of (refusal_at self.old true false false ThreadEnd)) }
+        ensures fault { IfErr result (λ fault. fault
+            ≡ fault_of (refusal_at self.old true false false ThreadEnd)) }
     {
         self.record(true, Body::ThreadEnd)
     }
 
-    /// The task begins a parallel region, for which it asks for so many threads (19.5.2.3). It is the thread's initial
-    /// task, and runs.
+    /// The task begins a parallel region, for which it asks for so many threads (19.5.2.3). It is the
+    /// thread's initial task, and runs.
     pub fn ompt_callback_parallel_begin(
         &mut self,
         task: &TaskData,
         parallel: u64,
         requested: u32,
     ) -> Result<(), CallFault>
-        ensures made { OnOk result (self.new ≡ with_record self.old (ParallelBegin requested task.now.id parallel)) }
+        ensures made { OnOk result (self.new ≡ with_record self.old
+            (ParallelBegin requested task.now.id parallel)) }
         ensures unchanged { OnErr result (self.new ≡ self.old) }
         ensures refused { IsSome (refusal_at self.old (is_initial_task task.now) false false
             (ParallelBegin requested task.now.id parallel)) → IsErr result }
-        ensures fault { IfErr result (λ fault. fault ≡ fault_of (refusal_at self.old (is_initial_task task.now) false false
+        ensures fault { IfErr result (λ fault. fault
+            ≡ fault_of (refusal_at self.old (is_initial_task task.now) false false
             (ParallelBegin requested task.now.id parallel))) }
     {
         let body = Body::ParallelBegin {
@@ -69,7 +73,8 @@ impl Recorder {
     ) -> Result<(), CallFault>
         ensures made { OnOk result (self.new ≡ with_record self.old (ParallelEnd task.now.id parallel)) }
         ensures unchanged { OnErr result (self.new ≡ self.old) }
-        ensures refused { IsSome (refusal_at self.old true false false (ParallelEnd task.now.id parallel)) → IsErr result }
+        ensures refused { IsSome (refusal_at self.old true false false (ParallelEnd task.now.id parallel))
+            → IsErr result }
         ensures fault { IfErr result (λ fault. fault ≡ fault_of (refusal_at self.old true false false
             (ParallelEnd task.now.id parallel))) }
     {
@@ -80,8 +85,9 @@ impl Recorder {
         self.record(true, body)
     }
 
-    /// An initial or implicit task begins, and runs (19.5.2.11). With the flag `initial` it is an initial task, a team of
-    /// one; without it it is the member `index` of the team of `parallel`, which has `actual` members.
+    /// An initial or implicit task begins, and runs (19.5.2.11). With the flag `initial` it is an initial
+    /// task, a team of one. Without that flag it is the member `index` of the team of `parallel`, which has
+    /// `actual` members.
     pub fn ompt_callback_implicit_task_begin(
         &mut self,
         parallel: u64,
@@ -90,14 +96,16 @@ impl Recorder {
         index: u32,
         flags: TaskFlags,
     ) -> Result<TaskData, CallFault>
-        ensures made { OnOk result (self.new ≡ with_record self.old (ImplicitTask Begin actual index flags parallel id)) }
+        ensures made { OnOk result (self.new ≡ with_record self.old
+            (ImplicitTask Begin actual index flags parallel id)) }
         ensures task { IfOk result (λ task. task
             ≡ root_of id (record { home = self.old.thread; actual = actual; index = index }) flags) }
         ensures credit { IfOk result (λ task. credit_of task ≡ whole_of id) }
         ensures unchanged { OnErr result (self.new ≡ self.old) }
         ensures refused { IsSome (refusal_at self.old (are_named task_flags flags.0) false false
             (ImplicitTask Begin actual index flags parallel id)) → IsErr result }
-        ensures fault { IfErr result (λ fault. fault ≡ fault_of (refusal_at self.old (are_named task_flags flags.0) false false
+        ensures fault { IfErr result (λ fault. fault
+            ≡ fault_of (refusal_at self.old (are_named task_flags flags.0) false false
             (ImplicitTask Begin actual index flags parallel id))) }
     {
         let body = Body::ImplicitTask {
@@ -117,8 +125,8 @@ impl Recorder {
         Ok(TaskData::root(self.allocator(), id, place, flags))
     }
 
-    /// An initial or implicit task ends (19.5.2.11): it runs, and is the innermost open one of its thread. The record has
-    /// the flags and the place in the team with which it began.
+    /// An initial or implicit task ends (19.5.2.11): it runs, and is the innermost open one of its thread.
+    /// The record has the flags and the place in the team with which it began.
     pub fn ompt_callback_implicit_task_end(
         &mut self,
         task: TaskData,
@@ -139,8 +147,8 @@ impl Recorder {
         }
     }
 
-    /// The task, which runs, creates an explicit task (19.5.2.7). With `deps` the child's dependences must be the next
-    /// record. The creator keeps one half of its credit, and the child starts with the other.
+    /// The task, which runs, creates an explicit task (19.5.2.7). With `deps` the child's dependences must
+    /// be the next record. The creator keeps one half of its credit, and the child starts with the other.
     pub fn ompt_callback_task_create(
         &mut self,
         task: &mut TaskData,
@@ -155,9 +163,10 @@ impl Recorder {
             → shared_halves id (credit_of task.old) ≡ credit_of task.new ∷ credit_of child ∷ []) }
         ensures unchanged { OnErr result (self.new ≡ self.old) }
         ensures same_task { OnErr result (task.new ≡ task.old) }
-        ensures refused { IsSome (refusal_at self.old (are_named task_flags flags.0) (is_deep task.old) (is_crowded task.old)
-            (TaskCreate deps flags task.old.id id)) → IsErr result }
-        ensures fault { IfErr result (λ fault. fault ≡ fault_of (refusal_at self.old (are_named task_flags flags.0)
+        ensures refused { IsSome (refusal_at self.old (are_named task_flags flags.0) (is_deep task.old)
+            (is_crowded task.old) (TaskCreate deps flags task.old.id id)) → IsErr result }
+        ensures fault { IfErr result (λ fault. fault
+            ≡ fault_of (refusal_at self.old (are_named task_flags flags.0)
             (is_deep task.old) (is_crowded task.old) (TaskCreate deps flags task.old.id id))) }
     {
         let body = Body::TaskCreate {
@@ -177,7 +186,8 @@ impl Recorder {
         Ok(child)
     }
 
-    /// What the task depends on that was created last (19.5.2.8), at most 64 items. After a refusal it is still awaited.
+    /// The dependences of the task that was created last (19.5.2.8), at most 64. After a refusal they are
+    /// still awaited.
     pub fn ompt_callback_dependences(
         &mut self,
         task: &TaskData,
@@ -205,8 +215,8 @@ impl Recorder {
         }
     }
 
-    /// The task, which runs, cancels a region or sees it cancelled (19.5.2.18). A discarded task is recorded by
-    /// [`Recorder::ompt_callback_cancel_discarded`].
+    /// The task, which runs, cancels a region or sees it cancelled (19.5.2.18). A discarded task is recorded
+    /// by [`Recorder::ompt_callback_cancel_discarded`].
     pub fn ompt_callback_cancel(
         &mut self,
         task: &TaskData,
@@ -214,9 +224,11 @@ impl Recorder {
     ) -> Result<(), CallFault>
         ensures made { OnOk result (self.new ≡ with_record self.old (Cancel flags task.now.id None)) }
         ensures unchanged { OnErr result (self.new ≡ self.old) }
-        ensures refused { IsSome (refusal_at self.old (may_cancel flags.0) false false (Cancel flags task.now.id None))
+        ensures refused { IsSome (refusal_at self.old (may_cancel flags.0) false false
+            (Cancel flags task.now.id None))
             → IsErr result }
-        ensures fault { IfErr result (λ fault. fault ≡ fault_of (refusal_at self.old (may_cancel flags.0) false false
+        ensures fault { IfErr result (λ fault. fault
+            ≡ fault_of (refusal_at self.old (may_cancel flags.0) false false
             (Cancel flags task.now.id None))) }
     {
         let body = Body::Cancel {

@@ -13,8 +13,8 @@ use std::alloc::Global;
 use std::marker::Model;
 use thread_buffers::Buffer;
 
-/// The records of one thread, where they leave it, and the ledger length that it knew last. Room for a record is
-/// taken before anything else happens, so that the record itself cannot fail.
+/// The records of one thread, where they leave it, and the ledger length that it knew last. Room for a
+/// record is taken before anything else happens, so that the record itself cannot fail.
 #[derive(Drop)]
 pub(crate) struct Log {
     buffer: Buffer,
@@ -132,7 +132,7 @@ impl Log {
         self.known = known;
     }
 
-    /// The records, for good.
+    /// Takes the records out; nothing more is recorded.
     pub(crate) fn into_buffer(self) -> Buffer
         ensures thread { result.thread ≡ self.thread }
         ensures records { result.records ≡ self.records }

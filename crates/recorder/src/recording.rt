@@ -22,9 +22,9 @@ use std::marker::Model;
 use std::sync::Wait;
 use thread_buffers::Buffer;
 
-/// What one thread records into. Its calls are those of a tool that a runtime calls back (OpenMP 5.2, 19.5.2): each
-/// that is accepted appends one record. Calls that a running or finishing task makes ask the ledger that all threads
-/// share; no other call does.
+/// What one thread records into. Its calls are those of a tool that a runtime calls back (OpenMP 5.2,
+/// 19.5.2): each that is accepted appends one record. Calls that a running or finishing task makes ask the
+/// ledger that all threads share; no other call does.
 #[derive(Drop)]
 pub struct Recorder {
     alloc: Global,
@@ -46,11 +46,13 @@ impl Model for Recorder {
       seat = view_of recorder.seat;
     } };
 
-    ghost invariant = { λ recorder. IsBacked recorder.log.records recorder.log.known (view_of recorder.seat) };
+    ghost invariant = { λ recorder.
+        IsBacked recorder.log.records recorder.log.known (view_of recorder.seat) };
 }
 
-/// What one recorder has seen of the ledger, for another one. Whoever hands a task to another thread hands a note with
-/// it, and that thread meets the note first: what the task did here then comes before what it does there.
+/// What one recorder has seen of the ledger, for another one. Whoever hands a task to another thread hands a
+/// note with it, and that thread meets the note first: what the task did here then comes before what it does
+/// there.
 #[derive(Drop)]
 pub struct Note {
     seat: Seat,
@@ -66,8 +68,8 @@ impl Model for Note {
 }
 
 impl Recorder {
-    /// A recorder of the thread with this number that has recorded nothing. Each recorder of a ledger wants a seat and
-    /// a number of its own. Takes no memory.
+    /// A recorder of the thread with this number that has recorded nothing. Each recorder of a ledger wants
+    /// a seat and a number of its own. Takes no memory.
     pub fn new(alloc: Global, thread: u8, seat: Seat) -> Recorder
         ensures thread { result.thread ≡ thread }
         ensures records { result.records ≡ [] }
@@ -120,7 +122,8 @@ impl Recorder {
     /// What this recorder has seen, to be met by another one. Takes no memory.
     pub fn note(&mut self, ledger: &SharedLedger) -> Note
         requires { self.old.ledger ≡ ledger_id ledger.now }
-        ensures recorder { self.new ≡ record self.old { seat = with_given self.old.seat (result.seat.number + 1) } }
+        ensures recorder { self.new
+            ≡ record self.old { seat = with_given self.old.seat (result.seat.number + 1) } }
         ensures ledger { result.ledger ≡ self.old.ledger }
         ensures copy { IsCopy self.old.seat result.seat }
         ensures knows { self.old.known ≤ length (entries_of result.seat) }
@@ -130,8 +133,8 @@ impl Recorder {
         }
     }
 
-    /// Learns what another recorder had seen when it gave the note. It looks at the ledger, and may wait for its turn
-    /// there.
+    /// Learns what another recorder had seen when it gave the note. It looks at the ledger, and may wait for
+    /// its turn there.
     pub fn meet<R: Wait>(&mut self, ledger: &SharedLedger, wait: &R, note: Note)
         requires ledger { self.old.ledger ≡ ledger_id ledger.now }
         requires note { note.ledger ≡ ledger_id ledger.now }
@@ -145,7 +148,7 @@ impl Recorder {
         self.log.learn(known);
     }
 
-    /// The records and the seat, for good.
+    /// Takes the records and the seat out; nothing more is recorded.
     pub fn into_parts(self) -> (Buffer, Seat)
         ensures thread { result.0.thread ≡ self.thread }
         ensures records { result.0.records ≡ self.records }
@@ -166,8 +169,8 @@ impl Recorder {
         self.alloc
     }
 
-    /// Why a call that would add a record with this body is refused before it needs memory, if it is. What its tasks
-    /// allow, whether they are too deep and whether they have no room for more is given.
+    /// Why a call that would add a record with this body is refused before it needs memory, if it is. The
+    /// caller says what its tasks allow, and whether they are too deep or have no room for more.
     #[tactic(auto, unfolding(crate::specs::Recorders::refusal_at))]
     pub(crate) fn test(
         &self,
@@ -270,8 +273,10 @@ fn enter<R: Wait>(
     requires ledger { seat_id seat.old ≡ ledger_id ledger.now }
     requires short { length entry.path ≤ 1024 }
     ensures seat { seat_id seat.new ≡ seat_id seat.old }
-    ensures entered { IfOk result (λ index. Extends (view_of seat.old) (Enter entry) index (view_of seat.new)) }
-    ensures looked { IfErr result (λ fault. (seen : ℕ) × Extends (view_of seat.old) Look seen (view_of seat.new)) }
+    ensures entered { IfOk result (λ index.
+        Extends (view_of seat.old) (Enter entry) index (view_of seat.new)) }
+    ensures looked { IfErr result (λ fault.
+        (seen : ℕ) × Extends (view_of seat.old) Look seen (view_of seat.new)) }
     ensures fault { IfErr result (λ fault.
         fault ≡ ledger_refusal (fault_of (entries_of (view_of seat.new)) entry)) }
 {

@@ -22,13 +22,15 @@ impl Recorder {
         kind: SyncKind,
         parallel: Option<u64>,
     ) -> Result<(), CallFault>
-        ensures made { OnOk result (self.new ≡ with_record self.old (SyncRegion kind Begin parallel task.old.id)) }
+        ensures made { OnOk result (self.new ≡ with_record self.old
+            (SyncRegion kind Begin parallel task.old.id)) }
         ensures task { OnOk result (task.new ≡ with_region task.old kind) }
         ensures unchanged { OnErr result (self.new ≡ self.old) }
         ensures same_task { OnErr result (task.new ≡ task.old) }
         ensures refused { IsSome (refusal_at self.old (not (is_barred task.old kind)) false false
             (SyncRegion kind Begin parallel task.old.id)) → IsErr result }
-        ensures fault { IfErr result (λ fault. fault ≡ fault_of (refusal_at self.old (not (is_barred task.old kind)) false false
+        ensures fault { IfErr result (λ fault. fault
+            ≡ fault_of (refusal_at self.old (not (is_barred task.old kind)) false false
             (SyncRegion kind Begin parallel task.old.id))) }
     {
         let body = region_body(task, kind, Endpoint::Begin, parallel);
@@ -43,9 +45,9 @@ impl Recorder {
         Ok(())
     }
 
-    /// The task, which runs, ends its innermost open region, which is of this kind. It looks at the ledger, and may wait
-    /// for its turn there; what it answers is the length that the record names. Where it ends a wait, the tasks that the
-    /// region waits for must be among the entries below that length.
+    /// The task, which runs, ends its innermost open region, which is of this kind. It looks at the ledger,
+    /// and may wait for its turn there; what it answers is the length that the record names. Where it ends a
+    /// wait, the tasks that the region waits for must be among the entries below that length.
     pub fn ompt_callback_sync_region_end<R: Wait>(
         &mut self,
         ledger: &SharedLedger,
@@ -55,12 +57,14 @@ impl Recorder {
         parallel: Option<u64>,
     ) -> Result<u32, CallFault>
         requires { self.old.ledger ≡ ledger_id ledger.now }
-        ensures made { IfOk result (λ seen. IsObserved self.old seen (SyncRegion kind End parallel task.old.id) self.new) }
+        ensures made { IfOk result (λ seen. IsObserved self.old seen
+            (SyncRegion kind End parallel task.old.id) self.new) }
         ensures task { OnOk result (task.new ≡ without_region task.old) }
         ensures unchanged { OnErr result (self.new ≡ self.old) }
         ensures same_task { OnErr result (task.new ≡ task.old) }
-        ensures refused { IsSome (refusal_at self.old (is_innermost_region task.old kind && not (is_barred task.old kind))
-            false false (SyncRegion kind End parallel task.old.id)) → IsErr result }
+        ensures refused { IsSome (refusal_at self.old
+            (is_innermost_region task.old kind && not (is_barred task.old kind)) false false
+            (SyncRegion kind End parallel task.old.id)) → IsErr result }
         ensures fault { IfErr result (λ fault. fault ≡ fault_of (refusal_at self.old
             (is_innermost_region task.old kind && not (is_barred task.old kind)) false false
             (SyncRegion kind End parallel task.old.id))) }
@@ -73,8 +77,8 @@ impl Recorder {
         Ok(seen)
     }
 
-    /// The task, which runs, begins and ends a region in one. Its other regions stay as they are. It looks at the ledger,
-    /// and may wait for its turn there; what it answers is the length that the record names.
+    /// The task, which runs, begins and ends a region in one. Its other regions stay as they are. It looks
+    /// at the ledger, and may wait for its turn there; what it answers is the length that the record names.
     pub fn ompt_callback_sync_region_both<R: Wait>(
         &mut self,
         ledger: &SharedLedger,
@@ -90,7 +94,8 @@ impl Recorder {
         ensures unchanged { OnErr result (self.new ≡ self.old) }
         ensures refused { IsSome (refusal_at self.old (not (is_barred task.old kind)) false false
             (SyncRegion kind BeginEnd parallel task.old.id)) → IsErr result }
-        ensures fault { IfErr result (λ fault. fault ≡ fault_of (refusal_at self.old (not (is_barred task.old kind)) false false
+        ensures fault { IfErr result (λ fault. fault
+            ≡ fault_of (refusal_at self.old (not (is_barred task.old kind)) false false
             (SyncRegion kind BeginEnd parallel task.old.id))) }
     {
         let body = region_body(task, kind, Endpoint::BeginEnd, parallel);

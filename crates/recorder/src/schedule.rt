@@ -113,7 +113,7 @@ impl Recorder {
         next.state_started().is_some() && is_here
     }
 
-    /// Whether it is no taskwait that is complete, or one whose parent runs.
+    /// Whether the status is not that of a complete taskwait, or the taskwait's parent runs.
     fn is_by_parent(&self, prior: &TaskData, status: Status) -> bool
         ensures { result ≡ is_by_parent self.now prior.now status }
     {
@@ -142,8 +142,8 @@ impl Recorder {
 }
 
 impl Recorder {
-    /// The prior task stops as the schedule says: the record names the ledger's length, or where a part of the task is
-    /// finished the index of the entry that it makes.
+    /// The prior task stops as the schedule says: the record names the ledger's length, or where a part of
+    /// the task is finished the index of the entry that it makes.
     fn stop<R: Wait>(
         &mut self,
         ledger: &SharedLedger,
@@ -203,9 +203,12 @@ impl Recorder {
         next: &TaskData,
     ) -> Result<(), CallFault>
         requires { self.old.ledger ≡ ledger_id ledger.now }
-        ensures stopped { OnOk result (IsStopped self.old (schedule_of prior.now status (Some next.now)) self.new) }
-        ensures may { OnOk result (may_schedule self.old (schedule_of prior.now status (Some next.now)) ≡ true) }
-        ensures refused { IsSome (schedule_refusal self.old (schedule_of prior.now status (Some next.now))) → IsErr result }
+        ensures stopped { OnOk result (IsStopped self.old
+            (schedule_of prior.now status (Some next.now)) self.new) }
+        ensures may { OnOk result (may_schedule self.old
+            (schedule_of prior.now status (Some next.now)) ≡ true) }
+        ensures refused { IsSome (schedule_refusal self.old (schedule_of prior.now status (Some next.now)))
+            → IsErr result }
         ensures fault { IfErr result (IsRefused self.old
             (schedule_refusal self.old (schedule_of prior.now status (Some next.now)))
             (stopped_entry self.old (schedule_of prior.now status (Some next.now))) self.new) }
@@ -281,11 +284,12 @@ impl Recorder {
         }
     }
 
-    /// The task `prior` stops running or is fulfilled with this status, and `next`, if it is given, runs from here on
-    /// (19.5.2.10). `next` is given for `complete`, `yield`, `cancel`, `detach` and `switch`, and for no other status. A
-    /// status that finishes a part of the task puts its credit into the ledger; any other looks at the ledger; both may wait
-    /// for their turn there. The prior task comes back where its value is used again: suspended, as the event that a detached
-    /// task waits for, or after an early fulfilment. Refused, it comes back as it was.
+    /// The task `prior` stops running or is fulfilled with this status, and `next`, if it is given, runs
+    /// from here on (19.5.2.10). `next` is given for `complete`, `yield`, `cancel`, `detach` and `switch`,
+    /// and for no other status. A status that finishes a part of the task puts its credit into the ledger;
+    /// any other looks at the ledger; both may wait for their turn there. The prior task comes back where
+    /// its value is used again: suspended, as the event that a detached task waits for, or after an early
+    /// fulfilment. Refused, it comes back as it was.
     pub fn ompt_callback_task_schedule<R: Wait>(
         &mut self,
         ledger: &SharedLedger,
@@ -295,18 +299,24 @@ impl Recorder {
         next: Option<&mut TaskData>,
     ) -> Result<Option<TaskData>, (TaskData, CallFault)>
         requires { self.old.ledger ≡ ledger_id ledger.now }
-        ensures stopped { OnOk result (IsStopped self.old (schedule_of prior status (option_map (λ n. n.now) next.entry)) self.new) }
+        ensures stopped { OnOk result (IsStopped self.old
+            (schedule_of prior status (option_map (λ n. n.now) next.entry)) self.new) }
         ensures back { IfOk result (λ back. back ≡ left_of prior status) }
         ensures returned { IfErr result (λ refused. refused.0 ≡ prior) }
-        ensures refused { IsSome (schedule_refusal self.old (schedule_of prior status (option_map (λ n. n.now) next.entry))) → IsErr result }
-        ensures fault { IfErr result (λ refused. IsRefused self.old (schedule_refusal self.old (schedule_of prior status (option_map (λ n. n.now) next.entry)))
-            (stopped_entry self.old (schedule_of prior status (option_map (λ n. n.now) next.entry))) self.new refused.1) }
+        ensures refused { IsSome (schedule_refusal self.old
+            (schedule_of prior status (option_map (λ n. n.now) next.entry))) → IsErr result }
+        ensures fault { IfErr result (λ refused. IsRefused self.old
+            (schedule_refusal self.old (schedule_of prior status (option_map (λ n. n.now) next.entry)))
+            (stopped_entry self.old (schedule_of prior status (option_map (λ n. n.now) next.entry)))
+            self.new refused.1) }
         ensures started { (n : MutBor TaskView) → next.entry ≡ Some n
             → OnOk result (LeavesNext next.exit (λ left. left ≡ started n.now)) }
         ensures unchanged { (n : MutBor TaskView) → next.entry ≡ Some n
             → OnErr result (LeavesNext next.exit (λ left. left ≡ n.now)) }
-        ensures credit { OnOk result ((part : Part) → status_part status ≡ Some part → MovesCredit part (credit_of prior)
-            (entered_credit_of (entry_of_part self.old.thread part prior)) (credit_of (stopped prior status))) }
+        ensures credit { OnOk result ((part : Part) → status_part status ≡ Some part
+            → MovesCredit part (credit_of prior)
+            (entered_credit_of (entry_of_part self.old.thread part prior))
+            (credit_of (stopped prior status))) }
     {
         match next {
             Some(next) => self.switch(ledger, wait, prior, status, next),
@@ -315,8 +325,8 @@ impl Recorder {
     }
 
     /// One task is suspended and another one runs, by `yield` or `switch` (19.5.2.10): the same as
-    /// [`Recorder::ompt_callback_task_schedule`] with such a status, but that it takes no value by value. Any other status is
-    /// refused as `WrongState`.
+    /// [`Recorder::ompt_callback_task_schedule`] with such a status, but both tasks are only borrowed. Any
+    /// other status is refused as `WrongState`.
     pub fn switch_to<R: Wait>(
         &mut self,
         ledger: &SharedLedger,
@@ -326,13 +336,15 @@ impl Recorder {
         status: Status,
     ) -> Result<(), CallFault>
         requires { self.old.ledger ≡ ledger_id ledger.now }
-        ensures stopped { OnOk result (IsStopped self.old (schedule_of prior.old status (Some next.old)) self.new) }
+        ensures stopped { OnOk result (IsStopped self.old
+            (schedule_of prior.old status (Some next.old)) self.new) }
         ensures prior { OnOk result (prior.new ≡ stopped prior.old status) }
         ensures next { OnOk result (next.new ≡ started next.old) }
         ensures unchanged { OnErr result (self.new ≡ self.old) }
         ensures same_prior { OnErr result (prior.new ≡ prior.old) }
         ensures same_next { OnErr result (next.new ≡ next.old) }
-        ensures refused { IsSome (switch_refusal self.old (schedule_of prior.old status (Some next.old))) → IsErr result }
+        ensures refused { IsSome (switch_refusal self.old (schedule_of prior.old status (Some next.old)))
+            → IsErr result }
         ensures fault { IfErr result (λ fault. fault
             ≡ fault_of (switch_refusal self.old (schedule_of prior.old status (Some next.old)))) }
     {
@@ -345,9 +357,9 @@ impl Recorder {
         Ok(())
     }
 
-    /// A task that has not begun is discarded, since its taskgroup was cancelled (11.5 and 19.5.2.18): the flag
-    /// `discarded_task` is added to these. It puts the task's credit into the ledger, and may wait for its turn there; what
-    /// it answers is the index of the entry. Refused, the task comes back.
+    /// A task that has not begun is discarded, since its taskgroup was cancelled (11.5 and 19.5.2.18): the
+    /// flag `discarded_task` is added to these. It puts the task's credit into the ledger, and may wait for
+    /// its turn there; what it answers is the index of the entry. Refused, the task comes back.
     pub fn ompt_callback_cancel_discarded<R: Wait>(
         &mut self,
         ledger: &SharedLedger,
@@ -356,8 +368,9 @@ impl Recorder {
         flags: CancelFlags,
     ) -> Result<u32, (TaskData, CallFault)>
         requires { self.old.ledger ≡ ledger_id ledger.now }
-        ensures made { IfOk result (λ index. IsConcluded self.old (entry_of_part self.old.thread Whole task) index
-            (discard_body task flags (Some task.claim)) self.new) }
+        ensures made { IfOk result (λ index. IsConcluded self.old
+            (entry_of_part self.old.thread Whole task) index (discard_body task flags (Some task.claim))
+            self.new) }
         ensures credit { OnOk result (MovesCredit Whole (credit_of task)
             (entered_credit_of (entry_of_part self.old.thread Whole task)) (credit_of task)) }
         ensures returned { IfErr result (λ refused. refused.0 ≡ task) }
@@ -380,7 +393,8 @@ impl Recorder {
         flags: CancelFlags,
     ) -> Result<u32, CallFault>
         requires { self.old.ledger ≡ ledger_id ledger.now }
-        ensures made { IfOk result (λ index. IsConcluded self.old (entry_of_part self.old.thread Whole task.now) index
+        ensures made { IfOk result (λ index. IsConcluded self.old
+            (entry_of_part self.old.thread Whole task.now) index
             (discard_body task.now flags (Some task.now.claim)) self.new) }
         ensures may { OnOk result (may_discard task.now flags ≡ true) }
         ensures refused { IsSome (discard_refusal self.old task.now flags) → IsErr result }

@@ -35,8 +35,9 @@ pub enum Origin {
     Explicit(u64),
 }
 
-/// The tool's own value of one task: it is made where the task begins or is created, is handed to each call that
-/// speaks of the task, and is spent where the task ends. It isn't copied, so no two threads record one task at once.
+/// The tool's own value of one task: it is made where the task begins or is created, is handed to each call
+/// that speaks of the task, and is spent where the task ends. It isn't copied, so no two threads record one
+/// task at once.
 #[derive(Debug, Drop)]
 pub struct TaskData {
     id: u64,
@@ -194,7 +195,8 @@ impl TaskData {
         self.regions.pop();
     }
 
-    /// What the ledger gets where the part of the task is finished on the thread, and what its record claims.
+    /// What the ledger gets where the part of the task is finished on the thread, and what its record
+    /// claims.
     pub(crate) fn finish(&self, thread: u8, part: Part) -> Result<(Entry, Claim), AllocError>
         ensures entry { IfOk result (λ made. made.0 ≡ entry_of_part thread part self.now) }
         ensures claim { IfOk result (λ made. made.1 ≡ self.now.claim) }
@@ -240,7 +242,8 @@ impl TaskData {
         }
     }
 
-    /// The record with which it ends as a root, with the flags and the place in its team with which it began.
+    /// The record with which it ends as a root, with the flags and the place in its team with which it
+    /// began.
     pub(crate) fn end_of_root(&self, parallel: u64) -> Body
         ensures body { result ≡ end_of_root self.now parallel }
         ensures sound { IsSoundIn 2 result }
