@@ -1,1 +1,2 @@
 pub mod ClosedLemmas
+pub mod GatheredLemmas

@@ -7,11 +7,15 @@ use Rattle.ompt_events.specs.Limits.{max_records, max_tasks}
 use Rattle.ompt_events.specs.Places.{at, seen_at}
 use Rattle.ompt_events.specs.Records.{created, discarded, fulfilled}
 use Rattle.ompt_events.specs.HappensBefore.{IsStart, IsResumption}
-use Rattle.ompt_events.specs.Causes.{IsFreeOf}
+use Rattle.ompt_events.specs.Causes.{IsFreeOf, entries_in}
 use Rattle.ompt_events.specs.Traces.{tasks_in}
 use Rattle.credit_ledger.specs.declared.entry.Entry.{Entry}
 use Rattle.thread_buffers.specs.Buffers.{BufferView}
 use Rattle.trace_ledger.specs.Entries.{IsLedgerOf}
+use Rattle.recorder.specs.declared.fault.CallFault.{CallFault}
+use Rattle.recorder.specs.declared.fault.CallFault.TheVariants.{Memory, Full, WrongState}
+use Rattle.callbacks.specs.declared.gather.Counted.{Counted}
+use Rattle.callbacks.specs.declared.gather.Counted.TheVariants.{Entries, Records, Tasks}
 use Rattle.callbacks.specs.Closed.{ClosedView}
 
 -- all records, one thread after another
@@ -33,6 +37,20 @@ pub record ArePaired (closed : ClosedView) : Type 0 where
 -- there are no more records and tasks than a trace may have
 abbrev pub IsWithin : List Record → Type 0
 IsWithin rs = (length rs ≤ max_records) × (tasks_in rs ≤ max_tasks)
+
+abbrev pub count_of : Counted → List Record → ℕ
+count_of Entries rs = entries_in rs
+count_of Records rs = length rs
+count_of Tasks rs = tasks_in rs
+
+-- why there is no trace: two buffers have one number, or records and entries do not pair off; there are too many; or
+-- memory is short
+pub data IsGatherFault (closed : ClosedView) : CallFault → Type 0 where
+  unpaired : (AreApart closed.buffers → ArePaired closed → ⊥) → IsGatherFault closed WrongState
+  too_many : AreApart closed.buffers → ArePaired closed → (IsWithin (gathered closed.buffers) → ⊥)
+      → IsGatherFault closed Full
+  out_of_memory : AreApart closed.buffers → ArePaired closed → IsWithin (gathered closed.buffers)
+      → IsGatherFault closed Memory
 
 -- what happens on one thread, and its cause on another one: a task is created or suspended at a, and starts, is
 -- discarded, is fulfilled or runs on at b

@@ -33,6 +33,31 @@ impl Model for Closed {
     ghost invariant = { λ closed. AreClosed (record { entries = closed.ledger; buffers = closed.buffers.items }) };
 }
 
+impl Closed {
+    /// The ledger, after its last call.
+    pub fn ledger(&self) -> &Ledger
+        ensures { result.now ≡ self.now.entries }
+    {
+        &self.ledger
+    }
+
+    /// The records of each thread, by the numbers of the threads.
+    pub fn buffers(&self) -> &[Buffer]
+        ensures buffers { result.now ≡ self.now.buffers }
+        ensures are_closed { AreClosed self.now }
+    {
+        self.buffers.as_slice()
+    }
+
+    /// The records of each thread, for good.
+    pub(crate) fn into_buffers(self) -> Vec<Buffer>
+        ensures buffers { result.items ≡ self.buffers }
+        ensures are_closed { AreClosed self }
+    {
+        self.buffers
+    }
+}
+
 /// Ends the recording: all recorders are closed, and with them the ledger, which takes its turn a last time. They must be
 /// all recorders of the ledger, each with its seat. Refused for memory alone, before a seat is touched: the ledger and the
 /// recorders come back as they were.

@@ -6,6 +6,7 @@
 #![tactic(auto)]
 
 mod closed;
+mod gather;
 
 pub use closed::{Closed, close_all};
 pub use recorder::{CallFault, Note, Origin, Recorder, Standing, TaskData, TeamPlace};

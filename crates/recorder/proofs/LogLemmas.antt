@@ -5,7 +5,7 @@ use Rattle.std.proofs.lemmas.List.Sums.{fold_push}
 use Rattle.std.proofs.lemmas.Option.{slice_get_within}
 use Rattle.ompt_events.specs.declared.records.Record.{Record}
 use Rattle.ompt_events.specs.Limits.{max_records}
-use Rattle.ompt_events.specs.Traces.{IsSoundIn}
+use Rattle.ompt_events.specs.Traces.{IsSoundIn, IsInRange}
 use Rattle.ompt_events.proofs.ListLemmas.{pushed_cases}
 use Rattle.recorder.specs.declared.standing.Standing.{Standing}
 use Rattle.recorder.specs.Standing.{at_start, next_standing, allows}
@@ -40,15 +40,17 @@ known-pushed own r = fold_push (λ k (q : Record). known_from q.seen q.body) 0 o
 -- the records of a thread with one more
 pub recorded-pushed : (thread known : ℕ) (own : List Record) (r : Record) → AreRecorded thread own known
     → length own < max_records
-    → known ≤ r.seen → allows (standing_of own) r.body ≡ true → IsSoundIn 2 r.body → r.thread ≡ thread
+    → known ≤ r.seen → allows (standing_of own) r.body ≡ true → IsSoundIn 2 r.body → IsInRange r
+    → r.thread ≡ thread
     → r.seq ≡ length own → AreRecorded thread (own ++ r ∷ []) (known_from r.seen r.body)
-recorded-pushed thread known own r recorded few rises allowed sound is_thread is_seq =
+recorded-pushed thread known own r recorded few rises allowed sound in_range is_thread is_seq =
     let follows : Follows thread own r = record {
       thread_is = is_thread;
       seq_is = is_seq;
       seen_rises = omega (arith, recorded.known_rises, rises);
       allowed = allowed;
       sound = sound;
+      in_range = in_range;
     } in
     record {
       few = omega (arith, length_push own r, few);
@@ -60,14 +62,15 @@ recorded-pushed thread known own r recorded few rises allowed sound is_thread is
 pub log-pushed : (v : LogView) (standing next : Standing) (later : LogView) (r : Record)
     → AreRecorded v.thread v.records v.known × (standing ≡ standing_of v.records)
     → length v.records < max_records → v.known ≤ r.seen
-    → allows (standing_of v.records) r.body ≡ true → IsSoundIn 2 r.body → r.thread ≡ v.thread
+    → allows (standing_of v.records) r.body ≡ true → IsSoundIn 2 r.body → IsInRange r
+    → r.thread ≡ v.thread
     → r.seq ≡ length v.records
     → later.thread ≡ v.thread → later.records ≡ v.records ++ r ∷ [] → later.known ≡ known_from r.seen r.body
     → next ≡ next_standing standing r.body
     → AreRecorded later.thread later.records later.known × (next ≡ standing_of later.records)
-log-pushed v standing next later r kept few rises allowed sound is_thread is_seq same is_later is_known
+log-pushed v standing next later r kept few rises allowed sound in_range is_thread is_seq same is_later is_known
     is_next =
-    let all = recorded-pushed v.thread v.known v.records r kept.0 few rises allowed sound is_thread
+    let all = recorded-pushed v.thread v.known v.records r kept.0 few rises allowed sound in_range is_thread
     is_seq in (
       subst (λ t. AreRecorded t later.records later.known) (sym same)
           (subst (λ l. AreRecorded v.thread l later.known) (sym is_later)

@@ -4,7 +4,7 @@ use Rattle.ompt_events.specs.declared.records.Record.{Record}
 use Rattle.ompt_events.specs.declared.records.Body.{Body}
 use Rattle.ompt_events.specs.Limits.{max_records}
 use Rattle.ompt_events.specs.Records.{finish}
-use Rattle.ompt_events.specs.Traces.{IsSoundIn}
+use Rattle.ompt_events.specs.Traces.{IsSoundIn, IsInRange}
 use Rattle.recorder.specs.declared.standing.Standing.{Standing}
 use Rattle.recorder.specs.Standing.{at_start, next_standing, allows}
 
@@ -36,6 +36,7 @@ pub record Follows (thread : ℕ) (before : List Record) (r : Record) : Type 0 w
   pub seen_rises : known_of before ≤ r.seen
   pub allowed : allows (standing_of before) r.body ≡ true
   pub sound : IsSoundIn 2 r.body
+  pub in_range : IsInRange r
 
 -- each record may come after those before it
 abbrev pub AreOrderly : ℕ → List Record → Type 0

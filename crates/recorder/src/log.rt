@@ -117,6 +117,7 @@ impl Log {
             seen,
             body,
         };
+        event.read_numbers();
         self.standing = self.standing.after(&event.body);
         self.known = known_from(&event);
         self.buffer.push_reserved(event);
