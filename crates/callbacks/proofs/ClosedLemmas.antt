@@ -1,16 +1,14 @@
 -- Recorders that are taken apart, and their buffers after the ledger was closed.
-use Rattle.std.proofs.Common.{◌≡◌, ◌∙◌, ℕ, ◌≤◌, List, [], ◌∷◌, length, All, Some, refl, sym, ap, subst, arith}
-use Rattle.std.specs.Prelude.{map, slice_get}
+use Rattle.std.proofs.Common.{◌≡◌, ◌∙◌, ◌≤◌, List, [], ◌∷◌, length, All, refl, sym, ap, subst, arith}
+use Rattle.std.specs.Prelude.{map}
 use Rattle.std.specs.List.{AllByRecursion}
 use Rattle.std.specs.List.Sorted.{IsPermutation, IsNonDecreasingBy}
 use Rattle.std.proofs.lemmas.List.Elements.{All-from_recursion, recursion_from_All}
-use Rattle.std.proofs.lemmas.List.Sorted.{All-permutation, IsPermutation-map}
+use Rattle.std.proofs.lemmas.List.Sorted.{All-permutation}
 use Rattle.atomic_table.specs.Seated.{TableId}
-use Rattle.ompt_events.specs.declared.records.Record.{Record}
 use Rattle.ompt_events.specs.Limits.{max_records}
 use Rattle.credit_ledger.specs.declared.entry.Entry.{Entry}
 use Rattle.credit_ledger.specs.declared.shared.Seat.{Seat}
-use Rattle.credit_ledger.specs.declared.view.Claim.{Claim}
 use Rattle.credit_ledger.specs.declared.view.Step.{Step}
 use Rattle.credit_ledger.specs.Histories.{entries_after}
 use Rattle.credit_ledger.specs.Places.{seat_id, view_of}
@@ -19,7 +17,7 @@ use Rattle.credit_ledger.proofs.ExtendsLemmas.{GoOn, starts-go_on}
 use Rattle.thread_buffers.specs.Buffers.{BufferView}
 use Rattle.recorder.specs.Logs.{AreOrderly, known_of}
 use Rattle.recorder.specs.Recorders.{RecorderView, AreEntered}
-use Rattle.callbacks.specs.Closed.{ClosedView, thread_of, recorded_by, IsBuffer, AreClosed, IsPart, AreParts}
+use Rattle.callbacks.specs.Closed.{thread_of, recorded_by, IsBuffer, AreClosed, IsPart, AreParts}
 
 pub parts-claims : (recorders : List RecorderView) (seats : List Seat) (buffers : List BufferView) → AreParts recorders seats buffers
     → map (λ (s : Seat). claim_of (view_of s)) seats ≡ map (λ (r : RecorderView). claim_of r.seat) recorders
@@ -90,6 +88,6 @@ pub parts-closed : (history : List Step) (recorders : List RecorderView) (seats 
 parts-closed history recorders seats buffers sorted entries are claims is permuted rising = record {
   buffers = All-permutation (IsBuffer entries) buffers sorted permuted
       (subst (λ es. All (IsBuffer es) buffers) (sym is)
-          (All-from_recursion (IsBuffer (entries_after history)) buffers (buffers-of history recorders seats buffers are claims)));
+      (All-from_recursion (IsBuffer (entries_after history)) buffers (buffers-of history recorders seats buffers are claims)));
   sorted = rising;
 }

@@ -1,5 +1,5 @@
 -- What is counted over all buffers, and buffers next to one another.
-use Rattle.std.proofs.Common.{◌≡◌, ◌∙◌, ℕ, suc, zero, ◌≤◌, ◌<◌, ◌+◌, List, [], ◌∷◌, ◌++◌, length, take, get_or, Some, refl, sym, ap, subst, arith}
+use Rattle.std.proofs.Common.{◌≡◌, ℕ, suc, zero, ◌≤◌, ◌<◌, ◌+◌, List, [], ◌∷◌, ◌++◌, length, take, get_or, Some, refl, ap, subst, arith}
 use Rattle.std.specs.Prelude.{◌≢◌, slice_get, is_some, if◌then◌else◌}
 use Rattle.std.specs.List.Sorted.{IsNonDecreasingBy}
 use Rattle.std.proofs.lemmas.List.{length-append}
@@ -8,8 +8,8 @@ use Rattle.std.proofs.lemmas.Option.{none-some, same_Some, slice_get_within, sli
 use Rattle.ompt_events.specs.declared.records.Record.{Record}
 use Rattle.ompt_events.specs.Records.{finish, made}
 use Rattle.thread_buffers.specs.Buffers.{BufferView}
-use Rattle.callbacks.specs.declared.gather.Counted.{Counted}
-use Rattle.callbacks.specs.declared.gather.Counted.TheVariants.{Entries, Records, Tasks}
+use Rattle.callbacks.specs.declared.gathering.Counted.{Counted}
+use Rattle.callbacks.specs.declared.gathering.Counted.TheVariants.{Entries, Records, Tasks}
 use Rattle.callbacks.specs.Gathered.{gathered, AreApart, count_of}
 
 pub count-append : (what : Counted) (xs ys : List Record) → count_of what (xs ++ ys) ≡ count_of what xs + count_of what ys
@@ -30,8 +30,12 @@ count-below what (x ∷ buffers) zero b is =
     count-none Records = refl
     count-none Tasks = refl
 count-below what (x ∷ buffers) (suc i) b is =
-    omega (arith, count-below what buffers i b is, count-append what x.records (gathered buffers),
-    count-append what x.records (gathered (take i buffers)))
+    omega (
+      arith,
+      count-below what buffers i b is,
+      count-append what x.records (gathered buffers),
+      count-append what x.records (gathered (take i buffers)),
+    )
 
 -- where each differs from the next one, no two are the same
 pub apart-from_next : (buffers : List BufferView) → IsNonDecreasingBy (λ (b : BufferView). b.thread) buffers

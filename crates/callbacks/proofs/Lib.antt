@@ -1,2 +1,9 @@
 pub mod ClosedLemmas
 pub mod GatheredLemmas
+pub mod GatherLemmas
+pub mod ThreadLaws
+pub mod KnownLaw
+pub mod NestedLaw
+pub mod SeenLemmas
+pub mod PairLaw
+pub mod TraceLemmas

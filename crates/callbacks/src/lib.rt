@@ -6,7 +6,9 @@
 #![tactic(auto)]
 
 mod closed;
-mod gather;
+mod gathering;
+pub mod laws;
 
 pub use closed::{Closed, close_all};
+pub use gathering::gather;
 pub use recorder::{CallFault, Note, Origin, Recorder, Standing, TaskData, TeamPlace};

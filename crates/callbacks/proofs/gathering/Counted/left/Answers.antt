@@ -1,8 +1,8 @@
-use Rattle.std.proofs.Common.{◌≡◌, ◌∙◌, arith, ap, refl}
+use Rattle.std.proofs.Common.{◌∙◌, arith, ap, refl}
 use Rattle.std.proofs.lemmas.Option.{slice_get_read}
 use Rattle.callbacks.specs.Gathered.{count_of}
 use Rattle.callbacks.proofs.GatheredLemmas.{count-below}
-use Rattle.callbacks.proofs.gather.Counted.left.Goals as goal
+use Rattle.callbacks.proofs.gathering.Counted.left.Goals as goal
 
 pub returns-then-count-left : goal.returns-then-count-left
 returns-then-count-left c =

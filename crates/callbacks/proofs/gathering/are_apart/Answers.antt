@@ -1,6 +1,6 @@
 use Rattle.std.proofs.Common.{arith, refl}
 use Rattle.callbacks.proofs.GatheredLemmas.{apart-from_next}
-use Rattle.callbacks.proofs.gather.are_apart.Goals as goal
+use Rattle.callbacks.proofs.gathering.are_apart.Goals as goal
 
 pub returns : goal.returns
 returns c = (

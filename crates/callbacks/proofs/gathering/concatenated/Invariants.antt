@@ -2,7 +2,7 @@ use Rattle.std.proofs.Common.{◌≡◌, ◌++◌, ◌+◌, ◌≤◌, length}
 use Rattle.std.specs.Prelude.{reverse}
 use Rattle.std.specs.Vec.{vec_capacity}
 use Rattle.callbacks.specs.Gathered.{gathered}
-use Rattle.callbacks.proofs.gather.concatenated.Given as goal
+use Rattle.callbacks.proofs.gathering.concatenated.Given as goal
 
 abbrev pub decreases-buffers : goal.decreases-buffers
 decreases-buffers l = length l.buffers.items

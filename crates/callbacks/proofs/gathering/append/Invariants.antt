@@ -1,7 +1,7 @@
 use Rattle.std.proofs.Common.{◌≡◌, ◌++◌, ◌+◌, ◌≤◌, length}
 use Rattle.std.specs.Prelude.{reverse}
 use Rattle.std.specs.Vec.{vec_capacity}
-use Rattle.callbacks.proofs.gather.append.Given as goal
+use Rattle.callbacks.proofs.gathering.append.Given as goal
 
 abbrev pub decreases-records : goal.decreases-records
 decreases-records l = length l.more.items

@@ -1,0 +1,215 @@
+//! The trace of closed recorders.
+ghost use Rattle.std.specs.Prelude.{◌≡◌, ◌≢◌, ◌≤◌, ◌<◌, ◌+◌, ◌++◌, [], ℕ, Some, length, slice_get, IsTrue, ◌↔◌, MatchOption, IfOk, IfErr, OnOk};
+ghost use Rattle.std.specs.List.Sorted.{IsNonDecreasingBy};
+ghost use Rattle.std.specs.Vec.{vec_capacity};
+ghost use Rattle.ompt_events.specs.Limits.{max_records, max_tasks};
+ghost use Rattle.ompt_events.specs.declared.cause.Cause.TheVariants.{SeqGap, CreatedTwice, NestedParallel, EntryTwice, LengthAhead, LengthBack, TargetTask};
+ghost use Rattle.ompt_events.specs.Causes.{IsFreeOf, entries_in};
+ghost use Rattle.ompt_events.specs.Traces.{IsTraceOf};
+ghost use Rattle.recorder.specs.declared.fault.CallFault.TheVariants.{Memory};
+ghost use Rattle.callbacks.specs.Closed.{AreClosed};
+ghost use Rattle.callbacks.specs.Gathered.{gathered, AreApart, ArePaired, IsWithin, IsGatherFault, AreHandedOver, count_of};
+
+use crate::closed::Closed;
+use ompt_events::{MAX_RECORDS, MAX_TASKS, Record, Trace, finish};
+use recorder::CallFault;
+use std::alloc::Global;
+use thread_buffers::Buffer;
+
+/// What is counted in the records of all threads.
+#[derive(Clone, Copy)]
+pub(crate) enum Counted {
+    /// Records that make an entry of the ledger.
+    Entries,
+    Records,
+    /// Tasks that are made.
+    Tasks,
+}
+
+impl Counted {
+    /// How many of them there are.
+    fn count(self, records: &[Record]) -> usize
+        ensures { result ≡ count_of self records.now }
+    {
+        match self {
+            Counted::Entries => records
+                .iter()
+                .filter(|event| finish(event).is_some())
+                .count(),
+            Counted::Records => records.len(),
+            Counted::Tasks => records
+                .iter()
+                .filter(|event| event.body.made().is_some())
+                .count(),
+        }
+    }
+
+    /// How many more there may be, up to a limit, beside those in the buffers; none where these are too many.
+    fn left(self, buffers: &[Buffer], limit: usize) -> Option<usize>
+        ensures { MatchOption result (limit < count_of self (gathered buffers.now))
+            (λ left. left + count_of self (gathered buffers.now) ≡ limit) }
+    {
+        let mut left = limit;
+        'buffers: for index in 0..buffers.len() {
+            let count = self.count(buffers[index].records());
+            if count > left {
+                return None;
+            }
+            left -= count;
+        }
+        Some(left)
+    }
+}
+
+/// Whether no two buffers have one thread number.
+fn are_apart(buffers: &[Buffer]) -> bool
+    requires { IsNonDecreasingBy (λ b. b.thread) buffers.now }
+    ensures { IsTrue result ↔ AreApart buffers.now }
+{
+    'buffers: for index in 1..buffers.len() {
+        if buffers[index - 1].thread() == buffers[index].thread() {
+            return false;
+        }
+    }
+    true
+}
+
+impl Closed {
+    /// Whether no two buffers have one thread number, and each entry of the ledger was made by one of the records.
+    fn is_paired(&self) -> bool
+        ensures { IsTrue result ↔ (AreApart self.now.buffers × ArePaired self.now) }
+    {
+        if !are_apart(self.buffers()) {
+            return false;
+        }
+        self.are_as_many()
+    }
+
+    /// Whether the records make as many entries as the ledger has.
+    fn are_as_many(&self) -> bool
+        ensures { IsTrue result ↔ (entries_in (gathered self.now.buffers) ≡ length self.now.entries) }
+    {
+        let entries = self.ledger().len() as usize;
+        match Counted::Entries.left(self.buffers(), entries) {
+            Some(left) => left == 0,
+            None => false,
+        }
+    }
+
+    /// Whether there are no more records and tasks than a trace may have.
+    fn is_within(&self) -> bool
+        ensures { IsTrue result ↔ IsWithin (gathered self.now.buffers) }
+    {
+        let buffers = self.buffers();
+        Counted::Records.left(buffers, MAX_RECORDS).is_some()
+            && Counted::Tasks.left(buffers, MAX_TASKS).is_some()
+    }
+}
+
+/// The trace of closed recorders, of version 2: the records of each thread are those of its recorder, one thread after
+/// another by their numbers. It is refused as `WrongState` where two recorders have one thread number, or where an entry
+/// of the ledger was made by none of these records, as where a recorder of the ledger is missing; as `Full` where there
+/// are more than 2^22 records or 2^20 tasks; and else for memory. Refused, the closed recorders come back as they were.
+///
+/// A trace that is gathered has none of the causes `SeqGap`, `EntryTwice`, `LengthAhead` and `TargetTask`, and no
+/// `NestedParallel` where no task is made twice. It has no `LengthBack` where each task that was created or suspended on
+/// another thread was handed over with a note that was met.
+pub fn gather(alloc: Global, closed: Closed) -> Result<Trace, (Closed, CallFault)>
+    ensures trace { IfOk result (λ trace. trace ≡ record { version = 2; records = gathered closed.buffers }) }
+    ensures apart { OnOk result (AreApart closed.buffers) }
+    ensures paired { OnOk result (ArePaired closed) }
+    ensures numbered { IfOk result (λ trace. IsFreeOf trace.records SeqGap) }
+    ensures outside { IfOk result (λ trace. IsFreeOf trace.records CreatedTwice → IsFreeOf trace.records NestedParallel) }
+    ensures once { IfOk result (λ trace. IsFreeOf trace.records EntryTwice) }
+    ensures not_ahead { IfOk result (λ trace. IsFreeOf trace.records LengthAhead) }
+    ensures on_host { IfOk result (λ trace. IsFreeOf trace.records TargetTask) }
+    ensures rising { IfOk result (λ trace. AreHandedOver trace.records → IsFreeOf trace.records LengthBack) }
+    ensures returned { IfErr result (λ refused. refused.0 ≡ closed) }
+    ensures fault { IfErr result (λ refused. IsGatherFault closed refused.1) }
+{
+    match closed.test() {
+        Ok(()) => joined(alloc, closed),
+        Err(fault) => Err((closed, fault)),
+    }
+}
+
+/// The trace of closed recorders that have one.
+fn joined(alloc: Global, closed: Closed) -> Result<Trace, (Closed, CallFault)>
+    requires { IsWithin (gathered closed.buffers) }
+    ensures trace { IfOk result (λ trace. trace ≡ record { version = 2; records = gathered closed.buffers }) }
+    ensures are_closed { OnOk result (AreClosed closed) }
+    ensures returned { IfErr result (λ refused. refused.0 ≡ closed) }
+    ensures memory { IfErr result (λ refused. refused.1 ≡ Memory) }
+{
+    let Ok(records) = Vec::with_capacity(alloc, closed.record_count()) else {
+        return Err((closed, CallFault::Memory));
+    };
+    Ok(trace_of(concatenated(closed.into_buffers(), records)))
+}
+
+impl Closed {
+    /// Why there is no trace of these, before it needs memory.
+    fn test(&self) -> Result<(), CallFault>
+        ensures apart { OnOk result (AreApart self.now.buffers) }
+        ensures paired { OnOk result (ArePaired self.now) }
+        ensures within { OnOk result (IsWithin (gathered self.now.buffers)) }
+        ensures fault { IfErr result (IsGatherFault self.now) }
+    {
+        if !self.is_paired() {
+            return Err(CallFault::WrongState);
+        }
+        if !self.is_within() {
+            return Err(CallFault::Full);
+        }
+        Ok(())
+    }
+
+    /// How many records there are.
+    fn record_count(&self) -> usize
+        requires { IsWithin (gathered self.now.buffers) }
+        ensures { result ≡ length (gathered self.now.buffers) }
+    {
+        match Counted::Records.left(self.buffers(), MAX_RECORDS) {
+            Some(left) => MAX_RECORDS - left,
+            None => unreachable!(),
+        }
+    }
+}
+
+/// The trace of records that are one.
+fn trace_of(records: Vec<Record>) -> Trace
+    requires { IsTraceOf 2 records.items }
+    ensures { result ≡ record { version = 2; records = records.items } }
+{
+    match Trace::from_turns(records) {
+        Ok(trace) => trace,
+        Err(_) => unreachable!(),
+    }
+}
+
+/// The records of all buffers, one thread after another. There is room for them.
+fn concatenated(buffers: Vec<Buffer>, records: Vec<Record>) -> Vec<Record>
+    requires empty { records.items ≡ [] }
+    requires fits { length (gathered buffers.items) ≤ vec_capacity records }
+    ensures { result.items ≡ gathered buffers.items }
+{
+    let (mut buffers, mut records) = (buffers, records);
+    buffers.reverse();
+    'buffers: while let Some(buffer) = buffers.pop() {
+        append(&mut records, buffer.into_records());
+    }
+    records
+}
+
+/// Puts more records behind these. There is room for them.
+fn append(records: &mut Vec<Record>, more: Vec<Record>)
+    requires { length records.old.items + length more.items ≤ vec_capacity records.old }
+    ensures items { records.new.items ≡ records.old.items ++ more.items }
+    ensures capacity { vec_capacity records.new ≡ vec_capacity records.old }
+{
+    let mut more = more;
+    more.reverse();
+    'records: while let Some(event) = more.pop() {
+        records.push_reserved(event);
+    }
+}
