@@ -359,7 +359,8 @@ impl Recorder {
 
     /// A task that has not begun is discarded, since its taskgroup was cancelled (11.5 and 19.5.2.18): the
     /// flag `discarded_task` is added to these. The call puts the task's credit into the ledger, and may
-    /// wait for its turn there; it answers the index of the entry. If the call is refused, the task comes back.
+    /// wait for its turn there; it answers the index of the entry. If the call is refused, the task comes
+    /// back.
     pub fn ompt_callback_cancel_discarded<R: Wait>(
         &mut self,
         ledger: &SharedLedger,
