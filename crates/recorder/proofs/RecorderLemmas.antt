@@ -153,7 +153,8 @@ small-known v w e index body extends = by (is_some (finish body))
 -- a call that the ledger refuses, after room was made in the log
 pub refused-late : (old : RecorderView) (log kept : LogView) (first id : TableId) (v w : View)
     (entry : Entry) (seen : ℕ) (fault : CallFault)
-    → record { thread = log.thread; records = log.records; known = log.known; ledger = first; seat = v } ≡ old
+    → record { thread = log.thread; records = log.records; known = log.known; ledger = first; seat = v }
+    ≡ old
     → IsSameLog log kept → id ≡ first
     → Extends v Look seen w → fault ≡ ledger_refusal (ledger.fault_of (entries_of w) entry)
     → IsRefused old None (Some entry) (record {

@@ -10,7 +10,7 @@ use Rattle.credit_ledger.specs.declared.fault.LedgerFault.TheVariants as ledger
 use Rattle.recorder.specs.declared.fault.CallFault.{CallFault}
 use Rattle.recorder.specs.declared.fault.CallFault.TheVariants.{Memory, Full, WrongState, TooDeep, Overlap}
 
--- what a refusal of the ledger is for the caller
+-- the fault that the caller is told where the ledger refuses
 abbrev pub ledger_refusal : LedgerFault → CallFault
 ledger_refusal ledger.Memory = Memory
 ledger_refusal (ledger.Overlap index) = Overlap

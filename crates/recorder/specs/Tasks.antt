@@ -152,11 +152,11 @@ with_child t = record t { claim = record t.claim { kept = t.claim.kept + 1 } }
 abbrev pub in_state : TaskView → State → TaskView
 in_state t state = record t { state = state }
 
--- the task after it stopped or was fulfilled with a status, as it may
+-- the task after it stopped or was fulfilled with a status, if it may
 abbrev pub stopped : TaskView → Status → TaskView
 stopped t status = option_map_or (in_state t) (state_moved t (states.Stopped status)) t
 
--- the task, running in its next turn, as it may
+-- the task, running in its next turn, if it may
 abbrev pub running_in : TaskView → State → ℕ → TaskView
 running_in t state turn = record t { state = state; turn = Some turn }
 

@@ -26,7 +26,7 @@ pub enum CallFault {
     Overlap = 5,
 }
 
-/// What a refusal of the ledger is for the caller.
+/// The fault that the caller is told where the ledger refuses.
 pub(crate) fn of_ledger(fault: LedgerFault) -> CallFault
     ensures { result ≡ ledger_refusal fault }
 {

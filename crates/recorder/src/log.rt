@@ -13,8 +13,8 @@ use std::alloc::Global;
 use std::marker::Model;
 use thread_buffers::Buffer;
 
-/// The records of one thread, where they leave it, and the ledger length that it knew last. Room for a
-/// record is taken before anything else happens, so that the record itself cannot fail.
+/// The records of one thread, where it stands after them, and the ledger length that it knew last. Room for
+/// a record is made before anything else happens, so that adding the record cannot fail.
 #[derive(Drop)]
 pub(crate) struct Log {
     buffer: Buffer,

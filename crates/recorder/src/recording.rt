@@ -119,7 +119,7 @@ impl Recorder {
         self.log.known()
     }
 
-    /// What this recorder has seen, to be met by another one. Takes no memory.
+    /// A note of what this recorder has seen, for another one to meet. Takes no memory.
     pub fn note(&mut self, ledger: &SharedLedger) -> Note
         requires { self.old.ledger ≡ ledger_id ledger.now }
         ensures recorder { self.new
@@ -199,7 +199,7 @@ impl Recorder {
         Ok(())
     }
 
-    /// Adds a record of a call that asks no ledger. Out of memory, the body comes back.
+    /// Adds a record of a call that asks no ledger. Where memory runs out, the body comes back.
     pub(crate) fn append(&mut self, body: Body) -> Result<(), Body>
         requires few { length self.old.records < max_records }
         requires allowed { allowed self.old body ≡ true }
@@ -263,7 +263,7 @@ impl Recorder {
     }
 }
 
-/// Puts an entry into the ledger, and tells its index.
+/// Puts an entry into the ledger, and answers its index.
 fn enter<R: Wait>(
     ledger: &SharedLedger,
     wait: &R,

@@ -45,9 +45,9 @@ impl Recorder {
         Ok(())
     }
 
-    /// The task, which runs, ends its innermost open region, which is of this kind. It looks at the ledger,
-    /// and may wait for its turn there; what it answers is the length that the record names. Where it ends a
-    /// wait, the tasks that the region waits for must be among the entries below that length.
+    /// The task, which runs, ends its innermost open region, which is of this kind. The call looks at the
+    /// ledger, and may wait for its turn there; it answers the length that the record names. Where the
+    /// region is a wait, the tasks that it waits for must be among the entries below that length.
     pub fn ompt_callback_sync_region_end<R: Wait>(
         &mut self,
         ledger: &SharedLedger,
@@ -77,8 +77,9 @@ impl Recorder {
         Ok(seen)
     }
 
-    /// The task, which runs, begins and ends a region in one. Its other regions stay as they are. It looks
-    /// at the ledger, and may wait for its turn there; what it answers is the length that the record names.
+    /// The task, which runs, begins and ends a region in one call. Its other regions stay as they are. The
+    /// call looks at the ledger, and may wait for its turn there; it answers the length that the record
+    /// names.
     pub fn ompt_callback_sync_region_both<R: Wait>(
         &mut self,
         ledger: &SharedLedger,

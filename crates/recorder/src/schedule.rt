@@ -289,7 +289,7 @@ impl Recorder {
     /// and for no other status. A status that finishes a part of the task puts its credit into the ledger;
     /// any other looks at the ledger; both may wait for their turn there. The prior task comes back where
     /// its value is used again: suspended, as the event that a detached task waits for, or after an early
-    /// fulfilment. Refused, it comes back as it was.
+    /// fulfilment. If the call is refused, it comes back as it was.
     pub fn ompt_callback_task_schedule<R: Wait>(
         &mut self,
         ledger: &SharedLedger,
@@ -358,8 +358,9 @@ impl Recorder {
     }
 
     /// A task that has not begun is discarded, since its taskgroup was cancelled (11.5 and 19.5.2.18): the
-    /// flag `discarded_task` is added to these. It puts the task's credit into the ledger, and may wait for
-    /// its turn there; what it answers is the index of the entry. Refused, the task comes back.
+    /// flag `discarded_task` is added to these. The call puts the task's credit into the ledger, and may
+    /// wait for its turn there; it answers the index of the entry. If the call is refused, the task comes
+    /// back.
     pub fn ompt_callback_cancel_discarded<R: Wait>(
         &mut self,
         ledger: &SharedLedger,

@@ -74,7 +74,7 @@ impl Standing {
         }
     }
 
-    /// A record with this body may come next, as far as the thread shows.
+    /// Whether a record with this body may come next, as far as the thread's records show.
     pub(crate) fn allows(self, body: &Body) -> bool
         ensures { result ≡ allows self body.now }
     {

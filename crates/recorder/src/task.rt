@@ -106,7 +106,7 @@ impl TaskData {
     }
 }
 
-// What the recorder makes of a task.
+// How a task is made, and how the calls change it.
 impl TaskData {
     /// A root that begins. Takes no memory.
     pub(crate) fn root(alloc: Global, id: u64, place: TeamPlace, flags: TaskFlags) -> TaskData
@@ -158,7 +158,7 @@ impl TaskData {
         self.claim.kept += 1;
     }
 
-    /// The task stops or is fulfilled with this status, as it may.
+    /// The task stops or is fulfilled with this status, if it may.
     pub(crate) fn stop(&mut self, status: Status)
         ensures { self.new ≡ stopped self.old status }
     {
@@ -167,7 +167,7 @@ impl TaskData {
         }
     }
 
-    /// The task runs in its next turn, as it may.
+    /// The task runs in its next turn, if it may.
     pub(crate) fn start(&mut self)
         ensures { self.new ≡ started self.old }
     {
@@ -332,7 +332,7 @@ impl TaskData {
         self.claim.path.as_slice().len() >= MAX_DEPTH
     }
 
-    /// Whether it has as many children as a task may.
+    /// Whether it has as many children as a task may have.
     pub(crate) fn is_crowded(&self) -> bool
         ensures { result ≡ is_crowded self.now }
     {
