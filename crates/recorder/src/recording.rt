@@ -229,6 +229,7 @@ impl Recorder {
         requires allowed { allowed self.old body ≡ true }
         requires sound { IsSoundIn 2 body }
         requires unfinished { finish body ≡ None }
+        ensures ledger { self.new.ledger ≡ self.old.ledger }
         ensures made { IfOk result (λ seen. IsObserved self.old seen body self.new) }
         ensures unchanged { OnErr result (self.new ≡ self.old) }
         ensures memory { IsOkUnless result Memory }
@@ -253,6 +254,7 @@ impl Recorder {
         requires sound { IsSoundIn 2 body }
         requires makes { entry_by self.old.thread body ≡ Some entry }
         requires short { length entry.path ≤ 1024 }
+        ensures ledger { self.new.ledger ≡ self.old.ledger }
         ensures made { IfOk result (λ index. IsConcluded self.old entry index body self.new) }
         ensures fault { IfErr result (IsRefused self.old None (Some entry) self.new) }
     {

@@ -57,6 +57,7 @@ impl Recorder {
         parallel: Option<u64>,
     ) -> Result<u32, CallFault>
         requires { self.old.ledger ≡ ledger_id ledger.now }
+        ensures ledger { self.new.ledger ≡ self.old.ledger }
         ensures made { IfOk result (λ seen. IsObserved self.old seen
             (SyncRegion kind End parallel task.old.id) self.new) }
         ensures task { OnOk result (task.new ≡ without_region task.old) }
@@ -89,6 +90,7 @@ impl Recorder {
         parallel: Option<u64>,
     ) -> Result<u32, CallFault>
         requires { self.old.ledger ≡ ledger_id ledger.now }
+        ensures ledger { self.new.ledger ≡ self.old.ledger }
         ensures made { IfOk result (λ seen.
             IsObserved self.old seen (SyncRegion kind BeginEnd parallel task.old.id) self.new) }
         ensures task { task.new ≡ task.old }

@@ -151,6 +151,7 @@ impl Recorder {
         schedule: &Schedule,
     ) -> Result<(), CallFault>
         requires { self.old.ledger ≡ ledger_id ledger.now }
+        ensures ledger { self.new.ledger ≡ self.old.ledger }
         ensures stopped { OnOk result (IsStopped self.old schedule.now self.new) }
         ensures may { OnOk result (may_schedule self.old schedule.now ≡ true) }
         ensures refused { IsSome (schedule_refusal self.old schedule.now) → IsErr result }
@@ -182,6 +183,7 @@ impl Recorder {
         requires allowed { allowed self.old (schedule_body schedule.now None) ≡ true }
         requires may { may_schedule self.old schedule.now ≡ true }
         requires part { status_part schedule.now.status ≡ Some part }
+        ensures ledger { self.new.ledger ≡ self.old.ledger }
         ensures stopped { OnOk result (IsStoppedBy (Some part) self.old schedule.now self.new) }
         ensures fault { IfErr result (IsRefused self.old None
             (Some (entry_of_part self.old.thread part schedule.now.prior)) self.new) }
@@ -203,6 +205,7 @@ impl Recorder {
         next: &TaskData,
     ) -> Result<(), CallFault>
         requires { self.old.ledger ≡ ledger_id ledger.now }
+        ensures ledger { self.new.ledger ≡ self.old.ledger }
         ensures stopped { OnOk result (IsStopped self.old
             (schedule_of prior.now status (Some next.now)) self.new) }
         ensures may { OnOk result (may_schedule self.old
@@ -231,6 +234,7 @@ impl Recorder {
         next: &mut TaskData,
     ) -> Result<Option<TaskData>, (TaskData, CallFault)>
         requires { self.old.ledger ≡ ledger_id ledger.now }
+        ensures ledger { self.new.ledger ≡ self.old.ledger }
         ensures stopped { OnOk result (IsStopped self.old
             (schedule_of prior status (Some next.old)) self.new) }
         ensures may { OnOk result (may_schedule self.old
@@ -263,6 +267,7 @@ impl Recorder {
         status: Status,
     ) -> Result<Option<TaskData>, (TaskData, CallFault)>
         requires { self.old.ledger ≡ ledger_id ledger.now }
+        ensures ledger { self.new.ledger ≡ self.old.ledger }
         ensures stopped { OnOk result (IsStopped self.old (schedule_of prior status None) self.new) }
         ensures may { OnOk result (may_schedule self.old (schedule_of prior status None) ≡ true) }
         ensures back { IfOk result (λ back. back ≡ left_of prior status) }
@@ -299,6 +304,7 @@ impl Recorder {
         next: Option<&mut TaskData>,
     ) -> Result<Option<TaskData>, (TaskData, CallFault)>
         requires { self.old.ledger ≡ ledger_id ledger.now }
+        ensures ledger { self.new.ledger ≡ self.old.ledger }
         ensures stopped { OnOk result (IsStopped self.old
             (schedule_of prior status (option_map (λ n. n.now) next.entry)) self.new) }
         ensures back { IfOk result (λ back. back ≡ left_of prior status) }
@@ -336,6 +342,7 @@ impl Recorder {
         status: Status,
     ) -> Result<(), CallFault>
         requires { self.old.ledger ≡ ledger_id ledger.now }
+        ensures ledger { self.new.ledger ≡ self.old.ledger }
         ensures stopped { OnOk result (IsStopped self.old
             (schedule_of prior.old status (Some next.old)) self.new) }
         ensures prior { OnOk result (prior.new ≡ stopped prior.old status) }
@@ -369,6 +376,7 @@ impl Recorder {
         flags: CancelFlags,
     ) -> Result<u32, (TaskData, CallFault)>
         requires { self.old.ledger ≡ ledger_id ledger.now }
+        ensures ledger { self.new.ledger ≡ self.old.ledger }
         ensures made { IfOk result (λ index. IsConcluded self.old
             (entry_of_part self.old.thread Whole task) index (discard_body task flags (Some task.claim))
             self.new) }
@@ -394,6 +402,7 @@ impl Recorder {
         flags: CancelFlags,
     ) -> Result<u32, CallFault>
         requires { self.old.ledger ≡ ledger_id ledger.now }
+        ensures ledger { self.new.ledger ≡ self.old.ledger }
         ensures made { IfOk result (λ index. IsConcluded self.old
             (entry_of_part self.old.thread Whole task.now) index
             (discard_body task.now flags (Some task.now.claim)) self.new) }
