@@ -23,7 +23,7 @@ macro_rules! header {
 }
 
 // The callbacks: the function that is named like it, its name, and its variant of `Body`.
-macro_rules! callbacks {
+macro_rules! each_callback {
     ($shape:ident $given:tt) => {
         $shape! {
             $given "cb":
@@ -296,7 +296,7 @@ macro_rules! lines {
     };
 }
 
-pub(crate) use callbacks;
+pub(crate) use each_callback;
 pub(crate) use header;
 pub(crate) use lines;
 pub(crate) use members;

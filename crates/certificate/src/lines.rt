@@ -6,7 +6,7 @@ ghost use Rattle.certificate.specs.Meanings.{meant_at};
 ghost use Rattle.certificate.specs.RecordLines as spec;
 ghost use Rattle.certificate.specs.RecordLines.{IsSaid, bounded};
 
-use crate::callbacks::{callbacks, header, members};
+use crate::callbacks::{each_callback, header, members};
 use crate::canonical::canonical;
 use crate::faults::ReadCause;
 use crate::lists::{deps, path};
@@ -230,7 +230,7 @@ fn body(alloc: Global, version: u32, value: &Element<'_, '_>) -> Result<Body, Re
     requires { HasValue value.now }
     ensures { IsSaid result (bounded spec.body_fits (spec.body version (meant_at value.now))) }
 {
-    callbacks!(read_callback (value alloc version))
+    each_callback!(read_callback (value alloc version))
 }
 
 /// A thread begins.
