@@ -36,7 +36,7 @@ pub record AreClosed (closed : ClosedView) : Type 0 where
   pub buffers : All (IsBuffer closed.entries) closed.buffers
   pub sorted : IsNonDecreasingBy (λ (b : BufferView). b.thread) closed.buffers
 
--- the seat and the buffer are those of the recorder, with what was known of it
+-- the seat and the buffer are those of the recorder, and what always holds of a recorder holds of them
 pub record IsPart (r : RecorderView) (seat : Seat) (b : BufferView) : Type 0 where
   pub ledger : seat_id seat ≡ r.ledger
   pub seat_is : view_of seat ≡ r.seat
