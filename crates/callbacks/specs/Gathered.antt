@@ -62,7 +62,7 @@ pub data IsHandOver (rs : List Record) (a b : ℕ) : Type 0 where
   was_fulfilled : (task : ℕ) → at created rs a ≡ Some task → at fulfilled rs b ≡ Some task → IsHandOver rs a b
   runs_on : IsResumption rs a b → IsHandOver rs a b
 
--- wherever a task goes from a to b, record b names at least the ledger length that a names. Between two threads
--- a note sees to that, which is given after a and met before b
+-- wherever a task goes from a to b, record b names at least the ledger length that a names. Between two
+-- threads a note sees to that, which is given after a and met before b
 abbrev pub AreHandedOver : List Record → Type 0
 AreHandedOver rs = (a b : ℕ) → IsHandOver rs a b → seen_at rs a ≤ seen_at rs b
