@@ -19,7 +19,8 @@ use Rattle.recorder.specs.Logs.{AreOrderly, known_of}
 use Rattle.recorder.specs.Recorders.{RecorderView, AreEntered}
 use Rattle.callbacks.specs.Closed.{thread_of, recorded_by, IsBuffer, AreClosed, IsPart, AreParts}
 
-pub parts-claims : (recorders : List RecorderView) (seats : List Seat) (buffers : List BufferView) → AreParts recorders seats buffers
+pub parts-claims : (recorders : List RecorderView) (seats : List Seat) (buffers : List BufferView)
+    → AreParts recorders seats buffers
     → map (λ (s : Seat). claim_of (view_of s)) seats ≡ map (λ (r : RecorderView). claim_of r.seat) recorders
 parts-claims [] [] [] are = refl
 parts-claims (r ∷ recorders) (s ∷ seats) (b ∷ buffers) are =
@@ -30,7 +31,8 @@ parts-claims [] (s ∷ seats) buffers are = absurd are
 parts-claims (r ∷ recorders) [] buffers are = absurd are
 parts-claims (r ∷ recorders) (s ∷ seats) [] are = absurd are
 
-pub parts-threads : (recorders : List RecorderView) (seats : List Seat) (buffers : List BufferView) → AreParts recorders seats buffers
+pub parts-threads : (recorders : List RecorderView) (seats : List Seat) (buffers : List BufferView)
+    → AreParts recorders seats buffers
     → map recorded_by recorders ≡ map thread_of buffers
 parts-threads [] [] [] are = refl
 parts-threads (r ∷ recorders) (s ∷ seats) (b ∷ buffers) are =
@@ -42,34 +44,43 @@ parts-threads [] (s ∷ seats) buffers are = absurd are
 parts-threads (r ∷ recorders) [] buffers are = absurd are
 parts-threads (r ∷ recorders) (s ∷ seats) [] are = absurd are
 
-seats-of : (id : TableId) (recorders : List RecorderView) (seats : List Seat) (buffers : List BufferView) → AreParts recorders seats buffers
-    → AllByRecursion (λ (r : RecorderView). r.ledger ≡ id) recorders → AllByRecursion (λ (s : Seat). seat_id s ≡ id) seats
+seats-of : (id : TableId) (recorders : List RecorderView) (seats : List Seat) (buffers : List BufferView)
+    → AreParts recorders seats buffers → AllByRecursion (λ (r : RecorderView). r.ledger ≡ id) recorders
+    → AllByRecursion (λ (s : Seat). seat_id s ≡ id) seats
 seats-of id [] [] [] are all = all
-seats-of id (r ∷ recorders) (s ∷ seats) (b ∷ buffers) are all = (are.0.ledger ∙ all.0, seats-of id recorders seats buffers are.1 all.1)
+seats-of id (r ∷ recorders) (s ∷ seats) (b ∷ buffers) are all =
+    (are.0.ledger ∙ all.0, seats-of id recorders seats buffers are.1 all.1)
 seats-of id [] [] (b ∷ buffers) are all = absurd are
 seats-of id [] (s ∷ seats) buffers are all = absurd are
 seats-of id (r ∷ recorders) [] buffers are all = absurd are
 seats-of id (r ∷ recorders) (s ∷ seats) [] are all = absurd are
 
-pub parts-seats : (id : TableId) (recorders : List RecorderView) (seats : List Seat) (buffers : List BufferView) → AreParts recorders seats buffers
+pub parts-seats : (id : TableId) (recorders : List RecorderView) (seats : List Seat)
+    (buffers : List BufferView) → AreParts recorders seats buffers
     → All (λ (r : RecorderView). r.ledger ≡ id) recorders → All (λ (s : Seat). seat_id s ≡ id) seats
 parts-seats id recorders seats buffers are all =
     All-from_recursion (λ (s : Seat). seat_id s ≡ id) seats
-    (seats-of id recorders seats buffers are (recursion_from_All (λ (r : RecorderView). r.ledger ≡ id) recorders all))
+    (seats-of id recorders seats buffers are
+    (recursion_from_All (λ (r : RecorderView). r.ledger ≡ id) recorders all))
 
 -- a buffer whose seat's history is part of the ledger's
-part-buffer : (r : RecorderView) (s : Seat) (b : BufferView) (entries : List Entry) → IsPart r s b → GoOn (entries_after r.seat.seen) entries → IsBuffer entries b
+part-buffer : (r : RecorderView) (s : Seat) (b : BufferView) (entries : List Entry) → IsPart r s b
+    → GoOn (entries_after r.seat.seen) entries → IsBuffer entries b
 part-buffer r s b entries part on = record {
   few = subst (λ l. length l ≤ max_records) (sym part.records_are) part.recorded.few;
-  orderly = subst (λ t. AreOrderly t b.records) (sym part.thread_is) (subst (AreOrderly r.thread) (sym part.records_are) part.recorded.orderly);
+  orderly =
+      subst (λ t. AreOrderly t b.records) (sym part.thread_is)
+      (subst (AreOrderly r.thread) (sym part.records_are) part.recorded.orderly);
   known = subst (λ l. known_of l ≤ length entries) (sym part.records_are)
       (omega (arith, part.recorded.known_rises, part.backed.seen, on.length_kept));
   entered = subst (λ l. AreEntered l entries) (sym part.records_are)
       (λ i q e is makes. on.kept q.seen e (part.backed.entered i q e is makes));
 }
 
-buffers-of : (history : List Step) (recorders : List RecorderView) (seats : List Seat) (buffers : List BufferView) → AreParts recorders seats buffers
-    → AreClaims history (map (λ (r : RecorderView). claim_of r.seat) recorders) → AllByRecursion (IsBuffer (entries_after history)) buffers
+buffers-of : (history : List Step) (recorders : List RecorderView) (seats : List Seat)
+    (buffers : List BufferView) → AreParts recorders seats buffers
+    → AreClaims history (map (λ (r : RecorderView). claim_of r.seat) recorders)
+    → AllByRecursion (IsBuffer (entries_after history)) buffers
 buffers-of history [] [] [] are claims = claims
 buffers-of history (r ∷ recorders) (s ∷ seats) (b ∷ buffers) are claims = (
   part-buffer r s b (entries_after history) are.0 (starts-go_on history r.seat.seen claims.0.0),
@@ -81,13 +92,16 @@ buffers-of history (r ∷ recorders) [] buffers are claims = absurd are
 buffers-of history (r ∷ recorders) (s ∷ seats) [] are claims = absurd are
 
 -- the buffers in the order of their threads
-pub parts-closed : (history : List Step) (recorders : List RecorderView) (seats : List Seat) (buffers sorted : List BufferView) (entries : List Entry)
-    → AreParts recorders seats buffers → AreClaims history (map (λ (r : RecorderView). claim_of r.seat) recorders)
-    → entries ≡ entries_after history → IsPermutation buffers sorted → IsNonDecreasingBy (λ (b : BufferView). b.thread) sorted
+pub parts-closed : (history : List Step) (recorders : List RecorderView) (seats : List Seat)
+    (buffers sorted : List BufferView) (entries : List Entry) → AreParts recorders seats buffers
+    → AreClaims history (map (λ (r : RecorderView). claim_of r.seat) recorders)
+    → entries ≡ entries_after history → IsPermutation buffers sorted
+    → IsNonDecreasingBy (λ (b : BufferView). b.thread) sorted
     → AreClosed (record { entries = entries; buffers = sorted })
 parts-closed history recorders seats buffers sorted entries are claims is permuted rising = record {
   buffers = All-permutation (IsBuffer entries) buffers sorted permuted
       (subst (λ es. All (IsBuffer es) buffers) (sym is)
-      (All-from_recursion (IsBuffer (entries_after history)) buffers (buffers-of history recorders seats buffers are claims)));
+      (All-from_recursion (IsBuffer (entries_after history)) buffers
+      (buffers-of history recorders seats buffers are claims)));
   sorted = rising;
 }

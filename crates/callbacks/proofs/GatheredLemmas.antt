@@ -1,10 +1,12 @@
 -- What is counted over all buffers, and buffers next to one another.
-use Rattle.std.proofs.Common.{◌≡◌, ℕ, suc, zero, ◌≤◌, ◌<◌, ◌+◌, List, [], ◌∷◌, ◌++◌, length, take, get_or, Some, refl, ap, subst, arith}
+use Rattle.std.proofs.Common.{◌≡◌, ℕ, suc, zero, ◌≤◌, ◌<◌, ◌+◌, List, [], ◌∷◌, ◌++◌, length, take, get_or}
+use Rattle.std.proofs.Common.{Some, refl, ap, subst, arith}
 use Rattle.std.specs.Prelude.{◌≢◌, slice_get, is_some, if◌then◌else◌}
 use Rattle.std.specs.List.Sorted.{IsNonDecreasingBy}
 use Rattle.std.proofs.lemmas.List.{length-append}
 use Rattle.std.proofs.lemmas.List.Sums.{sum_by-append}
-use Rattle.std.proofs.lemmas.Option.{none-some, same_Some, slice_get_within, slice_get-get_or, get_or_from_slice_get}
+use Rattle.std.proofs.lemmas.Option.{none-some, same_Some, slice_get_within, slice_get-get_or}
+use Rattle.std.proofs.lemmas.Option.{get_or_from_slice_get}
 use Rattle.ompt_events.specs.declared.records.Record.{Record}
 use Rattle.ompt_events.specs.Records.{finish, made}
 use Rattle.thread_buffers.specs.Buffers.{BufferView}
@@ -12,17 +14,20 @@ use Rattle.callbacks.specs.declared.gathering.Counted.{Counted}
 use Rattle.callbacks.specs.declared.gathering.Counted.TheVariants.{Entries, Records, Tasks}
 use Rattle.callbacks.specs.Gathered.{gathered, AreApart, count_of}
 
-pub count-append : (what : Counted) (xs ys : List Record) → count_of what (xs ++ ys) ≡ count_of what xs + count_of what ys
+pub count-append : (what : Counted) (xs ys : List Record)
+    → count_of what (xs ++ ys) ≡ count_of what xs + count_of what ys
 count-append Entries xs ys = sum_by-append (λ r. if is_some (finish r.body) then 1 else 0) xs ys
 count-append Records xs ys = length-append xs ys
 count-append Tasks xs ys = sum_by-append (λ r. if is_some (made r.body) then 1 else 0) xs ys
 
 -- a buffer and those before it have no more than all
-pub count-below : (what : Counted) (buffers : List BufferView) (i : ℕ) (b : BufferView) → slice_get buffers i ≡ Some b
+pub count-below : (what : Counted) (buffers : List BufferView) (i : ℕ) (b : BufferView)
+    → slice_get buffers i ≡ Some b
     → count_of what (gathered (take i buffers)) + count_of what b.records ≤ count_of what (gathered buffers)
 count-below what [] i b is = absurd (none-some b is)
 count-below what (x ∷ buffers) zero b is =
-    let same : count_of what x.records ≡ count_of what b.records = ap (λ (y : BufferView). count_of what y.records) (same_Some x b is) in
+    let same : count_of what x.records ≡ count_of what b.records =
+    ap (λ (y : BufferView). count_of what y.records) (same_Some x b is) in
     omega (arith, same, count-append what x.records (gathered buffers), count-none what)
   where
     count-none : (w : Counted) → count_of w [] ≡ 0
@@ -39,7 +44,8 @@ count-below what (x ∷ buffers) (suc i) b is =
 
 -- where each differs from the next one, no two are the same
 pub apart-from_next : (buffers : List BufferView) → IsNonDecreasingBy (λ (b : BufferView). b.thread) buffers
-    → ((i : ℕ) (a b : BufferView) → i + 1 < length buffers → slice_get buffers i ≡ Some a → slice_get buffers (i + 1) ≡ Some b → a.thread ≢ b.thread)
+    → ((i : ℕ) (a b : BufferView) → i + 1 < length buffers → slice_get buffers i ≡ Some a
+    → slice_get buffers (i + 1) ≡ Some b → a.thread ≢ b.thread)
     → AreApart buffers
 apart-from_next buffers sorted next i j a b less is_a is_b same =
     let far = slice_get_within buffers j b is_b in

@@ -1,5 +1,6 @@
 -- The lengths of the ledger that records name rise along a thread, and where tasks are handed over.
-use Rattle.std.proofs.Common.{◌≡◌, ◌∙◌, ℕ, zero, suc, ◌+◌, ◌<◌, ◌≤◌, Bool, true, false, List, [], ◌∷◌, ◌++◌, length, take, Option, Some, None, refl, sym, ap, arith, inl, inr}
+use Rattle.std.proofs.Common.{◌≡◌, ◌∙◌, ℕ, zero, suc, ◌+◌, ◌<◌, ◌≤◌, Bool, true, false, List, [], ◌∷◌, ◌++◌}
+use Rattle.std.proofs.Common.{length, take, Option, Some, None, refl, sym, ap, arith, inl, inr}
 use Rattle.std.specs.Prelude.{slice_get, is_some, option_and_then, if◌then◌else◌}
 use Rattle.std.specs.Option.{option_map_or}
 use Rattle.std.proofs.lemmas.Bool.{cases_lt}
@@ -12,13 +13,15 @@ use Rattle.ompt_events.specs.declared.names.Status.TheVariants.{Yield, Switch}
 use Rattle.ompt_events.specs.declared.cause.Cause.TheVariants.{LengthBack}
 use Rattle.ompt_events.specs.Records.{created, suspended_turn, finish}
 use Rattle.ompt_events.specs.Places.{at, thread_at, seen_at}
-use Rattle.ompt_events.specs.HappensBefore.{IsProgramStep, thread_order, creation, resumption, discard, fulfilment}
+use Rattle.ompt_events.specs.HappensBefore.{IsProgramStep, thread_order, creation, resumption, discard}
+use Rattle.ompt_events.specs.HappensBefore.{fulfilment}
 use Rattle.ompt_events.specs.Causes.{IsFreeOf, known_after, length_back}
 use Rattle.recorder.specs.Logs.{known_from, known_of, AreOrderly}
 use Rattle.recorder.proofs.LogLemmas.{known-pushed}
 use Rattle.trace_ledger.proofs.MakerLemmas.{record_at}
 use Rattle.callbacks.specs.Closed.{ClosedView, IsBuffer, AreClosed}
-use Rattle.callbacks.specs.Gathered.{gathered, AreApart, AreHandedOver, started, was_discarded, was_fulfilled, runs_on}
+use Rattle.callbacks.specs.Gathered.{gathered, AreApart, AreHandedOver, started, was_discarded, was_fulfilled}
+use Rattle.callbacks.specs.Gathered.{runs_on}
 use Rattle.callbacks.proofs.GatherLemmas.{all_get, of_one, get_at, thread_get, seen_get}
 
 -- ---- along one thread

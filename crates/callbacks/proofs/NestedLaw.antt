@@ -1,5 +1,6 @@
 -- No parallel region is inside another: a thread's open roots are those that its standing names.
-use Rattle.std.proofs.Common.{◌≡◌, ◌∙◌, ℕ, zero, suc, ◌+◌, ◌≤◌, ◌⊎◌, Bool, true, false, List, [], ◌∷◌, ◌++◌, length, take, drop, Option, Some, None, refl, sym, ap, arith, inl, inr}
+use Rattle.std.proofs.Common.{◌≡◌, ◌∙◌, ℕ, zero, suc, ◌+◌, ◌≤◌, ◌⊎◌, Bool, true, false, List, [], ◌∷◌, ◌++◌}
+use Rattle.std.proofs.Common.{length, take, drop, Option, Some, None, refl, sym, ap, arith, inl, inr}
 use Rattle.std.specs.Prelude.{◌&&◌, not, slice_get, fold, is_some, option_map, option_to_list, if◌then◌else◌}
 use Rattle.std.specs.Option.{option_map_or}
 use Rattle.std.proofs.lemmas.Bool.{and_parts, not-true, false≢true, eqb-true, cases_order}
@@ -20,7 +21,8 @@ use Rattle.ompt_events.specs.States.{is_task}
 use Rattle.ompt_events.specs.Teams.{IsInitial, IsMember}
 use Rattle.ompt_events.specs.Threads as threads
 use Rattle.ompt_events.specs.Threads.{Walk, after_body, after_record, walk_of}
-use Rattle.ompt_events.specs.Causes.{IsNested, IsFreeOf, created_twice, nested_parallel, forked_inside, joined_inside, initial_inside}
+use Rattle.ompt_events.specs.Causes.{IsNested, IsFreeOf, created_twice, nested_parallel, forked_inside}
+use Rattle.ompt_events.specs.Causes.{joined_inside, initial_inside}
 use Rattle.ompt_events.proofs.PlaceLemmas.{none_from_test}
 use Rattle.recorder.specs.declared.standing.Standing.{Standing}
 use Rattle.recorder.specs.Standing.{innermost, next_standing, is_outside}
@@ -29,7 +31,8 @@ use Rattle.recorder.proofs.LogLemmas.{standing-pushed}
 use Rattle.trace_ledger.proofs.MakerLemmas.{record_at}
 use Rattle.callbacks.specs.Closed.{ClosedView, AreClosed}
 use Rattle.callbacks.specs.Gathered.{gathered, AreApart}
-use Rattle.callbacks.proofs.GatherLemmas.{IsGathered, from_buffer, in_gathered, buffer_of, follows_of, own_before, at_get, get_at}
+use Rattle.callbacks.proofs.GatherLemmas.{IsGathered, from_buffer, in_gathered, buffer_of, follows_of}
+use Rattle.callbacks.proofs.GatherLemmas.{own_before, at_get, get_at}
 use Rattle.callbacks.proofs.KnownLaw.{take_next}
 use Rattle.callbacks.proofs.ThreadLaws.{allowed_outside}
 

@@ -1,5 +1,6 @@
 -- The finishing records and the entries pair off exactly where there are as many of these as of those.
-use Rattle.std.proofs.Common.{◌≡◌, ◌∙◌, ℕ, zero, suc, ◌+◌, ◌<◌, ◌≤◌, true, eqb, List, [], ◌∷◌, length, Option, Some, None, refl, sym, ap, arith}
+use Rattle.std.proofs.Common.{◌≡◌, ◌∙◌, ℕ, zero, suc, ◌+◌, ◌<◌, ◌≤◌, true, eqb, List, [], ◌∷◌, length, Option}
+use Rattle.std.proofs.Common.{Some, None, refl, sym, ap, arith}
 use Rattle.std.specs.Prelude.{◌↔◌, slice_get, is_some, option_map, option_and_then, if◌then◌else◌}
 use Rattle.std.specs.List.{list_any}
 use Rattle.std.proofs.lemmas.Bool.{false≢true}
@@ -11,7 +12,8 @@ use Rattle.ompt_events.specs.declared.records.Part.{Part}
 use Rattle.ompt_events.specs.declared.cause.Cause.TheVariants.{EntryTwice, LengthAhead}
 use Rattle.ompt_events.specs.Records.{finish, claim}
 use Rattle.ompt_events.specs.HappensBefore.{IsFinishing}
-use Rattle.ompt_events.specs.Causes.{IsAhead, IsFreeOf, RepeatsEntry, entries_in, entry_twice, length_ahead, entry, ledger_length}
+use Rattle.ompt_events.specs.Causes.{IsAhead, IsFreeOf, RepeatsEntry, entries_in, entry_twice, length_ahead}
+use Rattle.ompt_events.specs.Causes.{entry, ledger_length}
 use Rattle.ompt_events.proofs.PlaceLemmas.{seen_within}
 use Rattle.credit_ledger.specs.declared.entry.Entry.{Entry}
 use Rattle.trace_ledger.specs.Entries.{claimed_entry, entry_of, IsEntryAt}
@@ -21,7 +23,8 @@ use Rattle.callbacks.specs.Closed.{ClosedView, AreClosed}
 use Rattle.callbacks.specs.Gathered.{gathered, AreApart, ArePaired}
 use Rattle.callbacks.proofs.GatherLemmas.{from_buffer, buffer_of, follows_of, seen_get}
 use Rattle.callbacks.proofs.KnownLaw.{seen_known, known_within, known_later}
-use Rattle.callbacks.proofs.SeenLemmas.{finishes, seens, seens_length, in_seens, seen_among, all_taken, AreOnce, seens_distinct}
+use Rattle.callbacks.proofs.SeenLemmas.{finishes, seens, seens_length, in_seens, seen_among, all_taken}
+use Rattle.callbacks.proofs.SeenLemmas.{AreOnce, seens_distinct}
 
 -- ---- the entry of a finishing record
 

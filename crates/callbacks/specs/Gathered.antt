@@ -27,8 +27,9 @@ AreApart buffers =
     (i j : ℕ) (a b : BufferView) → i < j → slice_get buffers i ≡ Some a → slice_get buffers j ≡ Some b
     → a.thread ≢ b.thread
 
--- the finishing records and the entries pair off one to one: each entry is made by a record that names its index,
--- with its thread, task, part and claim, each finishing record makes an entry, and no two make the same one
+-- the finishing records and the ledger's entries pair off one to one: an entry stands at an index exactly if
+-- a finishing record names that index and has the entry's thread, task, part and claim; and no two finishing
+-- records name the same index
 pub record ArePaired (closed : ClosedView) : Type 0 where
   pub ledger : IsLedgerOf (gathered closed.buffers) closed.entries
   pub once : IsFreeOf (gathered closed.buffers) EntryTwice
@@ -37,13 +38,14 @@ pub record ArePaired (closed : ClosedView) : Type 0 where
 abbrev pub IsWithin : List Record → Type 0
 IsWithin rs = (length rs ≤ max_records) × (tasks_in rs ≤ max_tasks)
 
+-- how many of what is counted there are in the records
 abbrev pub count_of : Counted → List Record → ℕ
 count_of Entries rs = entries_in rs
 count_of Records rs = length rs
 count_of Tasks rs = tasks_in rs
 
--- why there is no trace: two buffers have one number, or records and entries do not pair off; there are too many; or
--- memory is short
+-- why there is no trace: two buffers have one thread number, or the finishing records and the entries do not
+-- pair off; else there are too many records or tasks; else memory is short
 pub data IsGatherFault (closed : ClosedView) : CallFault → Type 0 where
   unpaired : (AreApart closed.buffers → ArePaired closed → ⊥) → IsGatherFault closed WrongState
   too_many : AreApart closed.buffers → ArePaired closed → (IsWithin (gathered closed.buffers) → ⊥)
@@ -51,14 +53,16 @@ pub data IsGatherFault (closed : ClosedView) : CallFault → Type 0 where
   out_of_memory : AreApart closed.buffers → ArePaired closed → IsWithin (gathered closed.buffers)
       → IsGatherFault closed Memory
 
--- what happens on one thread, and its cause on another one: a task is created or suspended at a, and starts, is
--- discarded, is fulfilled or runs on at b
+-- a task goes from record a to record b: it is created at a, and starts, is discarded or has its event
+-- fulfilled at b; or it is suspended at a, and runs on at b. All the program's steps are such ones, but for
+-- those from record to record of one thread
 pub data IsHandOver (rs : List Record) (a b : ℕ) : Type 0 where
   started : (task : ℕ) → at created rs a ≡ Some task → IsStart rs b task → IsHandOver rs a b
   was_discarded : (task : ℕ) → at created rs a ≡ Some task → at discarded rs b ≡ Some task → IsHandOver rs a b
   was_fulfilled : (task : ℕ) → at created rs a ≡ Some task → at fulfilled rs b ≡ Some task → IsHandOver rs a b
   runs_on : IsResumption rs a b → IsHandOver rs a b
 
--- at each such record the thread had seen at least the ledger length that the first one names, as a note tells it
+-- wherever a task goes from a to b, record b names at least the ledger length that a names. Between two
+-- threads a note sees to that, which is given after a and met before b
 abbrev pub AreHandedOver : List Record → Type 0
 AreHandedOver rs = (a b : ℕ) → IsHandOver rs a b → seen_at rs a ≤ seen_at rs b

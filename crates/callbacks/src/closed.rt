@@ -30,7 +30,8 @@ impl Model for Closed {
 
     ghost view = { λ closed. record { entries = closed.ledger; buffers = closed.buffers.items } };
 
-    ghost invariant = { λ closed. AreClosed (record { entries = closed.ledger; buffers = closed.buffers.items }) };
+    ghost invariant = { λ closed.
+        AreClosed (record { entries = closed.ledger; buffers = closed.buffers.items }) };
 }
 
 impl Closed {
@@ -58,9 +59,9 @@ impl Closed {
     }
 }
 
-/// Ends the recording: all recorders are closed, and with them the ledger, which takes its turn a last time. They must be
-/// all recorders of the ledger, each with its seat. Refused for memory alone, before a seat is touched: the ledger and the
-/// recorders come back as they were.
+/// Ends the recording: all recorders are closed, and with them the ledger, which takes its turn a last time.
+/// They must be all recorders of the ledger, each with its seat. Refused for memory alone, before a seat is
+/// touched: the ledger and the recorders come back as they were.
 pub fn close_all<R: Wait>(
     alloc: Global,
     ledger: SharedLedger,
@@ -68,7 +69,8 @@ pub fn close_all<R: Wait>(
     recorders: Vec<Recorder>,
 ) -> Result<Closed, (SharedLedger, Vec<Recorder>, CallFault)>
     requires { All (λ r. r.ledger ≡ ledger_id ledger) recorders.items }
-    ensures closed { IfOk result (λ closed. (history : List Step) × IsLegal history × (closed.entries ≡ entries_after history)
+    ensures closed { IfOk result (λ closed. (history : List Step) × IsLegal history
+        × (closed.entries ≡ entries_after history)
         × AreClaims history (map (λ r. claim_of r.seat) recorders.items)
         × AreApart (map (λ r. claim_of r.seat) recorders.items)) }
     ensures buffers { IfOk result (λ closed.

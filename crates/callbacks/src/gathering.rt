@@ -1,14 +1,18 @@
 //! The trace of closed recorders.
-ghost use Rattle.std.specs.Prelude.{◌≡◌, ◌≢◌, ◌≤◌, ◌<◌, ◌+◌, ◌++◌, [], ℕ, Some, length, slice_get, IsTrue, ◌↔◌, MatchOption, IfOk, IfErr, OnOk};
+ghost use Rattle.std.specs.Prelude.{◌≡◌, ◌≢◌, ◌≤◌, ◌<◌, ◌+◌, ◌++◌, [], ℕ, Some, length, slice_get, IsTrue};
+ghost use Rattle.std.specs.Prelude.{◌↔◌, MatchOption, IfOk, IfErr, OnOk};
 ghost use Rattle.std.specs.List.Sorted.{IsNonDecreasingBy};
 ghost use Rattle.std.specs.Vec.{vec_capacity};
 ghost use Rattle.ompt_events.specs.Limits.{max_records, max_tasks};
-ghost use Rattle.ompt_events.specs.declared.cause.Cause.TheVariants.{SeqGap, CreatedTwice, NestedParallel, EntryTwice, LengthAhead, LengthBack, TargetTask};
+ghost use Rattle.ompt_events.specs.declared.cause.Cause.TheVariants.{SeqGap, CreatedTwice, NestedParallel};
+ghost use Rattle.ompt_events.specs.declared.cause.Cause.TheVariants.{EntryTwice, LengthAhead, LengthBack};
+ghost use Rattle.ompt_events.specs.declared.cause.Cause.TheVariants.{TargetTask};
 ghost use Rattle.ompt_events.specs.Causes.{IsFreeOf, entries_in};
 ghost use Rattle.ompt_events.specs.Traces.{IsTraceOf};
 ghost use Rattle.recorder.specs.declared.fault.CallFault.TheVariants.{Memory};
 ghost use Rattle.callbacks.specs.Closed.{AreClosed};
-ghost use Rattle.callbacks.specs.Gathered.{gathered, AreApart, ArePaired, IsWithin, IsGatherFault, AreHandedOver, count_of};
+ghost use Rattle.callbacks.specs.Gathered.{gathered, AreApart, ArePaired, IsWithin, IsGatherFault};
+ghost use Rattle.callbacks.specs.Gathered.{AreHandedOver, count_of};
 
 use crate::closed::Closed;
 use ompt_events::{MAX_RECORDS, MAX_TASKS, Record, Trace, finish};
@@ -44,7 +48,8 @@ impl Counted {
         }
     }
 
-    /// How many more there may be, up to a limit, beside those in the buffers; none where these are too many.
+    /// How many more there may be, up to a limit, beside those in the buffers; none where these are too
+    /// many.
     fn left(self, buffers: &[Buffer], limit: usize) -> Option<usize>
         ensures { MatchOption result (limit < count_of self (gathered buffers.now))
             (λ left. left + count_of self (gathered buffers.now) ≡ limit) }
@@ -75,7 +80,8 @@ fn are_apart(buffers: &[Buffer]) -> bool
 }
 
 impl Closed {
-    /// Whether no two buffers have one thread number, and each entry of the ledger was made by one of the records.
+    /// Whether no two buffers have one thread number, and the finishing records and the ledger's entries
+    /// pair off one to one.
     fn is_paired(&self) -> bool
         ensures { IsTrue result ↔ (AreApart self.now.buffers × ArePaired self.now) }
     {
@@ -106,20 +112,22 @@ impl Closed {
     }
 }
 
-/// The trace of closed recorders, of version 2: the records of each thread are those of its recorder, one thread after
-/// another by their numbers. It is refused as `WrongState` where two recorders have one thread number, or where an entry
-/// of the ledger was made by none of these records, as where a recorder of the ledger is missing; as `Full` where there
-/// are more than 2^22 records or 2^20 tasks; and else for memory. Refused, the closed recorders come back as they were.
+/// The trace of closed recorders, of version 2: the records of each thread are those of its recorder, one
+/// thread after another by their numbers. It is refused as `WrongState` where two recorders have one thread
+/// number, or where an entry of the ledger was made by none of these records, as where a recorder of the
+/// ledger is missing; as `Full` where there are more than 2^22 records or 2^20 tasks; and else for memory.
+/// Refused, the closed recorders come back as they were.
 ///
-/// A trace that is gathered has none of the causes `SeqGap`, `EntryTwice`, `LengthAhead` and `TargetTask`, and no
-/// `NestedParallel` where no task is made twice. It has no `LengthBack` where each task that was created or suspended on
-/// another thread was handed over with a note that was met.
+/// A trace that is gathered has none of the causes `SeqGap`, `EntryTwice`, `LengthAhead` and `TargetTask`,
+/// and no `NestedParallel` where no task is made twice. It has no `LengthBack` where each task that was
+/// created or suspended on another thread was handed over with a note that was met.
 pub fn gather(alloc: Global, closed: Closed) -> Result<Trace, (Closed, CallFault)>
     ensures trace { IfOk result (λ trace. trace ≡ record { version = 2; records = gathered closed.buffers }) }
     ensures apart { OnOk result (AreApart closed.buffers) }
     ensures paired { OnOk result (ArePaired closed) }
     ensures numbered { IfOk result (λ trace. IsFreeOf trace.records SeqGap) }
-    ensures outside { IfOk result (λ trace. IsFreeOf trace.records CreatedTwice → IsFreeOf trace.records NestedParallel) }
+    ensures outside { IfOk result (λ trace.
+        IsFreeOf trace.records CreatedTwice → IsFreeOf trace.records NestedParallel) }
     ensures once { IfOk result (λ trace. IsFreeOf trace.records EntryTwice) }
     ensures not_ahead { IfOk result (λ trace. IsFreeOf trace.records LengthAhead) }
     ensures on_host { IfOk result (λ trace. IsFreeOf trace.records TargetTask) }

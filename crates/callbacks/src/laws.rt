@@ -2,7 +2,8 @@
 //! over the definitions alone, proved for whatever closed recorders leave. The functions do nothing.
 ghost use Rattle.std.specs.Prelude.{◌≡◌, ◌↔◌, length};
 ghost use Rattle.ompt_events.specs.declared.cause.Cause.TheVariants.{SeqGap, CreatedTwice, NestedParallel};
-ghost use Rattle.ompt_events.specs.declared.cause.Cause.TheVariants.{EntryTwice, LengthAhead, LengthBack, TargetTask};
+ghost use Rattle.ompt_events.specs.declared.cause.Cause.TheVariants.{EntryTwice, LengthAhead, LengthBack};
+ghost use Rattle.ompt_events.specs.declared.cause.Cause.TheVariants.{TargetTask};
 ghost use Rattle.ompt_events.specs.Causes.{IsFreeOf, entries_in};
 ghost use Rattle.callbacks.specs.Closed.{ClosedView, AreClosed};
 ghost use Rattle.callbacks.specs.Gathered.{gathered, AreApart, ArePaired, AreHandedOver};

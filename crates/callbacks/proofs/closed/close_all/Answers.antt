@@ -10,7 +10,10 @@ use Rattle.callbacks.proofs.closed.close_all.Goals as goal
 
 pub close-ledger-requires : goal.close-ledger-requires
 close-ledger-requires g c = record {
-  seats = parts-seats (ledger_id c.args.ledger) c.args.recorders.items c.take_apart-seats.result.0.items c.take_apart-seats.result.1.items c.take_apart-seats.ensures c.requires;
+  seats =
+      let parts = c.take_apart-seats.result in
+      parts-seats (ledger_id c.args.ledger) c.args.recorders.items parts.0.items parts.1.items
+      c.take_apart-seats.ensures c.requires;
 }
 
 pub invariant_of-result : goal.invariant_of-result
@@ -18,8 +21,10 @@ invariant_of-result g c =
     let h = c.close-ledger.ensures in
     let parts = c.take_apart-seats.result in
     let same = parts-claims c.args.recorders.items parts.0.items parts.1.items c.take_apart-seats.ensures in
-    parts-closed h.0 c.args.recorders.items parts.0.items parts.1.items c.by_thread-buffers.result.items c.close-ledger.result c.take_apart-seats.ensures
-    (subst (AreClaims h.0) same h.3) h.2 c.by_thread-buffers.ensures.permutation c.by_thread-buffers.ensures.sorted
+    let sorted = c.by_thread-buffers in
+    parts-closed h.0 c.args.recorders.items parts.0.items parts.1.items sorted.result.items
+    c.close-ledger.result c.take_apart-seats.ensures
+    (subst (AreClaims h.0) same h.3) h.2 sorted.ensures.permutation sorted.ensures.sorted
 
 pub returns-clause-closed : goal.returns-clause-closed
 returns-clause-closed g c =
@@ -31,8 +36,10 @@ returns-clause-closed g c =
 pub returns-clause-buffers : goal.returns-clause-buffers
 returns-clause-buffers g c =
     let parts = c.take_apart-seats.result in
-    subst (λ l. IsPermutation l (map thread_of c.by_thread-buffers.result.items)) (sym (parts-threads c.args.recorders.items parts.0.items parts.1.items c.take_apart-seats.ensures))
-    (IsPermutation-map thread_of parts.1.items c.by_thread-buffers.result.items c.by_thread-buffers.ensures.permutation)
+    let sorted = c.by_thread-buffers in
+    subst (λ l. IsPermutation l (map thread_of sorted.result.items))
+    (sym (parts-threads c.args.recorders.items parts.0.items parts.1.items c.take_apart-seats.ensures))
+    (IsPermutation-map thread_of parts.1.items sorted.result.items sorted.ensures.permutation)
 
 pub returns-clause-are_closed : goal.returns-clause-are_closed
 returns-clause-are_closed g c = invariant_of-result g c

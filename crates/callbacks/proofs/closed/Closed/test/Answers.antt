@@ -5,7 +5,8 @@ use Rattle.callbacks.proofs.closed.Closed.test.Goals as goal
 
 pub returns-then-not-is_paired-clause-fault : goal.returns-then-not-is_paired-clause-fault
 returns-then-not-is_paired-clause-fault c =
-    unpaired (λ apart paired. false≢true (sym c.if-not-is_paired.true ∙ c.is_paired.ensures.1 (apart, paired)))
+    unpaired (λ apart paired.
+    false≢true (sym c.if-not-is_paired.true ∙ c.is_paired.ensures.1 (apart, paired)))
 
 pub returns-then-not-is_within-clause-fault : goal.returns-then-not-is_within-clause-fault
 returns-then-not-is_within-clause-fault c =
