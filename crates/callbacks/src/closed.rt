@@ -59,9 +59,9 @@ impl Closed {
     }
 }
 
-/// Ends the recording: all recorders are closed, and with them the ledger, which takes its turn a last time.
-/// They must be all recorders of the ledger, each with its seat. Refused for memory alone, before a seat is
-/// touched: the ledger and the recorders come back as they were.
+/// Ends the recording: these recorders of the ledger are closed, and with them the ledger, which takes its turn
+/// a last time. Give it all of them: [`gather`](crate::gather) refuses where an entry was made by none of them.
+/// Refused for memory alone, before a seat is touched: the ledger and the recorders come back as they were.
 pub fn close_all<R: Wait>(
     alloc: Global,
     ledger: SharedLedger,

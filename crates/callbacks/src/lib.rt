@@ -12,4 +12,4 @@ pub mod laws;
 
 pub use closed::{Closed, close_all};
 pub use gathering::gather;
-pub use recorder::{CallFault, Note, Origin, Recorder, Standing, TaskData, TeamPlace};
+pub use recorder::{CallFault, Note, Recorder, TaskData};

@@ -1,5 +1,5 @@
 //! The calls of one recorder.
-ghost use Rattle.std.specs.Prelude.{◌≡◌, OnOk};
+ghost use Rattle.std.specs.Prelude.{◌≡◌};
 ghost use Rattle.credit_ledger.specs.Places.{ledger_id};
 
 use crate::tasks::Tasks;
@@ -43,7 +43,7 @@ pub fn perform<R: Wait + Print + AllocGlobal>(
     words: [&str; 8],
 ) -> Result<()>
     requires { recorder.old.ledger ≡ ledger_id ledger.now }
-    ensures { OnOk result (recorder.new.ledger ≡ recorder.old.ledger) }
+    ensures { recorder.new.ledger ≡ recorder.old.ledger }
 {
     match words[1] {
         "thread_begin" => {
@@ -69,7 +69,13 @@ pub fn perform<R: Wait + Print + AllocGlobal>(
 /// Prints where the recorder stands: its current task, its innermost root, the task whose dependences it awaits, and the
 /// length that it knew last.
 fn stands<P: Print + AllocGlobal>(rt: &P, recorder: &Recorder) -> Result<()> {
-    println!(rt; "{:?} {:?} {:?} {}", recorder.current(), recorder.innermost_root(), recorder.awaits(), recorder.known())?;
+    println!(rt;
+        "{:?} {:?} {:?} {}",
+        recorder.current(),
+        recorder.innermost_root(),
+        recorder.awaits(),
+        recorder.known()
+    )?;
     Ok(())
 }
 
@@ -80,13 +86,16 @@ fn parallel<P: Print + AllocGlobal>(
     tasks: &mut Tasks,
     words: [&str; 8],
 ) -> Result<()>
-    ensures { OnOk result (recorder.new.ledger ≡ recorder.old.ledger) }
+    ensures { recorder.new.ledger ≡ recorder.old.ledger }
 {
     let task = tasks.take(words[2])?;
     let region = words[3].parse()?;
     if words[1] == "parallel_begin" {
         let requested = words[4].parse()?;
-        tell(rt, recorder.ompt_callback_parallel_begin(&task, region, requested))?;
+        tell(
+            rt,
+            recorder.ompt_callback_parallel_begin(&task, region, requested),
+        )?;
     } else {
         tell(rt, recorder.ompt_callback_parallel_end(&task, region))?;
     }
@@ -100,7 +109,7 @@ fn implicit_begin<P: Print + AllocGlobal>(
     tasks: &mut Tasks,
     words: [&str; 8],
 ) -> Result<()>
-    ensures { OnOk result (recorder.new.ledger ≡ recorder.old.ledger) }
+    ensures { recorder.new.ledger ≡ recorder.old.ledger }
 {
     let [_, _, name, id, region, actual, index, flags] = words;
     let flags = task_flags(flags)?;
@@ -137,7 +146,7 @@ fn implicit_end<P: Print + AllocGlobal>(
     tasks: &mut Tasks,
     words: [&str; 8],
 ) -> Result<()>
-    ensures { OnOk result (recorder.new.ledger ≡ recorder.old.ledger) }
+    ensures { recorder.new.ledger ≡ recorder.old.ledger }
 {
     let task = tasks.take(words[2])?;
     let region = words[3].parse()?;
@@ -158,7 +167,7 @@ fn create<P: Print + AllocGlobal>(
     tasks: &mut Tasks,
     words: [&str; 8],
 ) -> Result<()>
-    ensures { OnOk result (recorder.new.ledger ≡ recorder.old.ledger) }
+    ensures { recorder.new.ledger ≡ recorder.old.ledger }
 {
     let [_, _, name, child, id, flags, deps, _] = words;
     let flags = task_flags(flags)?;
@@ -175,13 +184,17 @@ fn list<P: Print + AllocGlobal>(
     tasks: &mut Tasks,
     words: [&str; 8],
 ) -> Result<()>
-    ensures { OnOk result (recorder.new.ledger ≡ recorder.old.ledger) }
+    ensures { recorder.new.ledger ≡ recorder.old.ledger }
 {
     let items = dependences(rt.alloc(), words[3])?;
     let task = tasks.take(words[2])?;
     match recorder.ompt_callback_dependences(&task, items) {
         Ok(()) => println!(rt; "ok")?,
-        Err((items, fault)) => println!(rt; "refused: {} {fault:?}, {} items back", fault as u8, items.len())?,
+        Err((items, fault)) => println!(rt;
+            "refused: {} {fault:?}, {} items back",
+            fault as u8,
+            items.len()
+        )?,
     }
     tasks.put(words[2], task)
 }
@@ -195,7 +208,7 @@ fn schedule<R: Wait + Print + AllocGlobal>(
     words: [&str; 8],
 ) -> Result<()>
     requires { recorder.old.ledger ≡ ledger_id ledger.now }
-    ensures { OnOk result (recorder.new.ledger ≡ recorder.old.ledger) }
+    ensures { recorder.new.ledger ≡ recorder.old.ledger }
 {
     let [_, _, name, told, next, ..] = words;
     let told = status(told)?;
@@ -230,7 +243,7 @@ fn switch<R: Wait + Print + AllocGlobal>(
     words: [&str; 8],
 ) -> Result<()>
     requires { recorder.old.ledger ≡ ledger_id ledger.now }
-    ensures { OnOk result (recorder.new.ledger ≡ recorder.old.ledger) }
+    ensures { recorder.new.ledger ≡ recorder.old.ledger }
 {
     let told = status(words[3])?;
     let mut prior = tasks.take(words[2])?;
@@ -250,14 +263,23 @@ fn region<R: Wait + Print + AllocGlobal>(
     words: [&str; 8],
 ) -> Result<()>
     requires { recorder.old.ledger ≡ ledger_id ledger.now }
-    ensures { OnOk result (recorder.new.ledger ≡ recorder.old.ledger) }
+    ensures { recorder.new.ledger ≡ recorder.old.ledger }
 {
     let kind = sync_kind(words[3])?;
     let mut task = tasks.take(words[2])?;
     match words[1] {
-        "begin" => tell(rt, recorder.ompt_callback_sync_region_begin(&mut task, kind, None))?,
-        "end" => tell_number(rt, recorder.ompt_callback_sync_region_end(ledger, rt, &mut task, kind, None))?,
-        _ => tell_number(rt, recorder.ompt_callback_sync_region_both(ledger, rt, &mut task, kind, None))?,
+        "begin" => tell(
+            rt,
+            recorder.ompt_callback_sync_region_begin(&mut task, kind, None),
+        )?,
+        "end" => tell_number(
+            rt,
+            recorder.ompt_callback_sync_region_end(ledger, rt, &mut task, kind, None),
+        )?,
+        _ => tell_number(
+            rt,
+            recorder.ompt_callback_sync_region_both(ledger, rt, &mut task, kind, None),
+        )?,
     }
     tasks.put(words[2], task)
 }
@@ -269,7 +291,7 @@ fn cancel<P: Print + AllocGlobal>(
     tasks: &mut Tasks,
     words: [&str; 8],
 ) -> Result<()>
-    ensures { OnOk result (recorder.new.ledger ≡ recorder.old.ledger) }
+    ensures { recorder.new.ledger ≡ recorder.old.ledger }
 {
     let flags = cancel_flags(words[3])?;
     let task = tasks.take(words[2])?;
@@ -286,7 +308,7 @@ fn discard<R: Wait + Print + AllocGlobal>(
     words: [&str; 8],
 ) -> Result<()>
     requires { recorder.old.ledger ≡ ledger_id ledger.now }
-    ensures { OnOk result (recorder.new.ledger ≡ recorder.old.ledger) }
+    ensures { recorder.new.ledger ≡ recorder.old.ledger }
 {
     let flags = cancel_flags(words[3])?;
     let task = tasks.take(words[2])?;

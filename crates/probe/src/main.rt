@@ -1,6 +1,6 @@
-//! Makes the calls of recorders by commands, for tests. Nothing is promised but safety. Begin at `session`: what the
-//! commands are stands at `answered`; `calls` makes the calls of one recorder, `tasks` keeps the values of tasks, and
-//! `words` reads words.
+//! Makes the calls of recorders by commands, for tests. Nothing is promised but safety. Begin at `session`, which says
+//! what the commands are; `calls` makes the calls of one recorder, `tasks` keeps the values of tasks, and `words`
+//! reads words.
 #![tactic(auto)]
 
 mod calls;
@@ -9,7 +9,10 @@ mod tasks;
 mod words;
 
 use anyhow::Result;
+use std::io::Read;
 
 fn main(rt: HostRuntime) -> Result<()> {
-    session::each(&rt)
+    let mut text = String::new(rt.alloc());
+    rt.reader().read_to_string(&mut text)?;
+    session::each(&rt, text.as_str())
 }

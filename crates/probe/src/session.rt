@@ -1,5 +1,5 @@
 //! Recorders of one ledger, by commands.
-ghost use Rattle.std.specs.Prelude.{◌≡◌, All, OnOk, IfOk};
+ghost use Rattle.std.specs.Prelude.{◌≡◌, All};
 ghost use Rattle.credit_ledger.specs.Places.{ledger_id, seat_id};
 
 use crate::calls::perform;
@@ -10,7 +10,7 @@ use callbacks::{Closed, Note, Recorder, close_all, gather};
 use certificate::{ToWrite, write};
 use credit_ledger::{Seat, SharedLedger};
 use std::alloc::Global;
-use std::io::{Read, writer};
+use std::io::writer;
 use std::sync::Wait;
 
 /// A ledger, its recorders, and what was noted and made with them.
@@ -27,14 +27,12 @@ struct Session {
     ghost noted: { All (λ n. n.ledger ≡ ledger_id ledger) notes.items },
 }
 
-/// Does what each line of standard input says, and prints what comes of it behind the line. The first word is the number
+/// Does what each line of the text says, and prints what comes of it behind the line. The first word is the number
 /// of a recorder, counted from 0 in the order in which they were made, and the second a call of it (`calls`); or:
 /// `new THREAD` makes a recorder; `N note` keeps a note of a recorder, and `N meet M` lets it meet the note with the number
 /// M; `gather` closes all recorders and prints the trace that is gathered from them, and `gather N` leaves those from the
 /// number N on out. After either the next line begins anew.
-pub fn each(rt: &HostRuntime) -> Result<()> {
-    let mut text = String::new(rt.alloc());
-    rt.reader().read_to_string(&mut text)?;
+pub fn each<R: Wait + Print + AllocGlobal>(rt: &R, text: &str) -> Result<()> {
     let mut session = Session::new(rt.alloc())?;
     for line in text.lines() {
         let words = words_of(line);
@@ -63,7 +61,7 @@ impl Session {
     }
 
     /// Does what the words say.
-    fn answer(&mut self, rt: &HostRuntime, words: [&str; 8]) -> Result<()> {
+    fn answer<R: Wait + Print + AllocGlobal>(&mut self, rt: &R, words: [&str; 8]) -> Result<()> {
         match (words[0], words[1]) {
             ("new", thread) => self.add(rt, thread.parse()?),
             (number, "note") => self.note(rt, number.parse()?),
@@ -73,15 +71,16 @@ impl Session {
     }
 
     /// One more recorder.
-    fn add(&mut self, rt: &HostRuntime, thread: u8) -> Result<()> {
+    fn add<R: Print + AllocGlobal>(&mut self, rt: &R, thread: u8) -> Result<()> {
         let seat = self.ledger.split(&mut self.seat);
-        self.recorders.push(Recorder::new(rt.alloc(), thread, seat))?;
+        self.recorders
+            .push(Recorder::new(rt.alloc(), thread, seat))?;
         println!(rt; "ok")?;
         Ok(())
     }
 
     /// One more note.
-    fn note(&mut self, rt: &HostRuntime, number: usize) -> Result<()> {
+    fn note<R: Print + AllocGlobal>(&mut self, rt: &R, number: usize) -> Result<()> {
         let Some(recorder) = self.recorders.get_mut(number) else {
             bail!("no such recorder");
         };
@@ -92,7 +91,12 @@ impl Session {
     }
 
     /// A recorder meets a note.
-    fn meet(&mut self, rt: &HostRuntime, number: usize, place: usize) -> Result<()> {
+    fn meet<R: Wait + Print + AllocGlobal>(
+        &mut self,
+        rt: &R,
+        number: usize,
+        place: usize,
+    ) -> Result<()> {
         if place >= self.notes.len() {
             bail!("no such note");
         }
@@ -106,7 +110,12 @@ impl Session {
     }
 
     /// A recorder makes a call.
-    fn call(&mut self, rt: &HostRuntime, number: usize, words: [&str; 8]) -> Result<()> {
+    fn call<R: Wait + Print + AllocGlobal>(
+        &mut self,
+        rt: &R,
+        number: usize,
+        words: [&str; 8],
+    ) -> Result<()> {
         let Some(recorder) = self.recorders.get_mut(number) else {
             bail!("no such recorder");
         };
@@ -114,7 +123,7 @@ impl Session {
     }
 
     /// Closes the recorders below a number, or all of them, and prints the trace.
-    fn end(self, rt: &HostRuntime, upto: &str) -> Result<()> {
+    fn end<R: Wait + Print + AllocGlobal>(self, rt: &R, upto: &str) -> Result<()> {
         let Session {
             ledger,
             mut recorders,
@@ -125,19 +134,19 @@ impl Session {
         }
         match close_all(rt.alloc(), ledger, rt, recorders) {
             Ok(closed) => print_trace(rt, closed),
-            Err((_, _, fault)) => bail!("{fault:?}"),
+            Err((_ledger, _recorders, fault)) => bail!("{fault:?}"),
         }
     }
 }
 
 /// Prints the trace of closed recorders, or why there is none.
-fn print_trace(rt: &HostRuntime, closed: Closed) -> Result<()> {
+fn print_trace<R: Print + AllocGlobal>(rt: &R, closed: Closed) -> Result<()> {
     match gather(rt.alloc(), closed) {
         Ok(trace) => {
             println!(rt; "ok")?;
             write(rt.alloc(), &trace, &mut ToWrite::new(writer(rt)))?;
         }
-        Err((_, fault)) => println!(rt; "refused: {} {fault:?}", fault as u8)?,
+        Err((_closed, fault)) => println!(rt; "refused: {} {fault:?}", fault as u8)?,
     }
     Ok(())
 }

@@ -19,7 +19,11 @@ impl Tasks {
 
     /// The value of this name, which is no longer kept.
     pub fn take(&mut self, name: &str) -> Result<TaskData> {
-        let Some(place) = self.values.iter().position(|value| value.0.as_str() == name) else {
+        let Some(place) = self
+            .values
+            .iter()
+            .position(|value| value.0.as_str() == name)
+        else {
             bail!("no value has this name");
         };
         let (_, task) = self.values.swap_remove(place);
