@@ -52,7 +52,7 @@ abbrev pub place_of : Origin → Option TeamPlace
 place_of (Root place) = Some place
 place_of (Explicit parent) = None
 
--- an initial or implicit task begins or was begun with the flag `initial`, or without it
+-- an initial task: a root that began with the flag `initial`; any other root is a member of a team
 abbrev pub is_initial_task : TaskView → Bool
 is_initial_task t = is_some (place_of t.origin) && has_flag t.flags.0 flag.initial
 
@@ -156,7 +156,7 @@ in_state t state = record t { state = state }
 abbrev pub stopped : TaskView → Status → TaskView
 stopped t status = option_map_or (in_state t) (state_moved t (states.Stopped status)) t
 
--- the task, running in its next turn, if it may
+-- the task, running in this state and turn
 abbrev pub running_in : TaskView → State → ℕ → TaskView
 running_in t state turn = record t { state = state; turn = Some turn }
 
@@ -165,6 +165,7 @@ started_in t (Some state) (Some turn) = running_in t state turn
 started_in t None turn = t
 started_in t (Some state) None = t
 
+-- the task after it ran next, if it may, which begins its next turn
 abbrev pub started : TaskView → TaskView
 started t = started_in t (state_moved t states.Started) (next_turn t)
 

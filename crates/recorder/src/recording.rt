@@ -23,8 +23,8 @@ use std::sync::Wait;
 use thread_buffers::Buffer;
 
 /// What one thread records into. Its calls are those of a tool that a runtime calls back (OpenMP 5.2,
-/// 19.5.2): each that is accepted appends one record. Calls that a running or finishing task makes ask the
-/// ledger that all threads share; no other call does.
+/// 19.5.2): each that is accepted appends one record. Schedules, discards and the ends of regions ask the
+/// ledger that all threads share, and so does a note that is met; no other call does.
 #[derive(Drop)]
 pub struct Recorder {
     alloc: Global,

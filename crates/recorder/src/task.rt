@@ -10,13 +10,12 @@ ghost use Rattle.recorder.specs.Tasks.{parent_of, place_of, is_initial_task, is_
 
 use bitflags::Flags;
 use credit_ledger::Entry;
-use ompt_events::{Body, Claim, Endpoint, Part, Path, State, Status, SyncKind, TaskFlags};
+use ompt_events::{
+    Body, Claim, Endpoint, MAX_DEPTH, Part, Path, State, Status, SyncKind, TaskFlags,
+};
 use std::alloc::{AllocError, Global};
 use std::marker::Model;
 use task_states::{Move, Nature, after_move};
-
-/// The most numbers that the path of a task has.
-const MAX_DEPTH: usize = 1024;
 
 /// Where a root stands: the thread on which it begins, the size of its team, and its number there.
 #[derive(Clone, Copy, Debug)]
