@@ -1,6 +1,7 @@
 -- The named bits of a set of flags.
-use Rattle.std.specs.Prelude.{ℕ, ◌==◌, Bool, List, [], ◌∷◌, codes}
+use Rattle.std.specs.Prelude.{ℕ, ◌==◌, Bool, List, [], ◌∷◌, codes, nat_eq}
 use Rattle.std.specs.Int.RustNames.{bit_and}
+use Rattle.bitflags.specs.Sets.{known_bits}
 
 -- ---- the bits of which the rules speak
 
@@ -38,3 +39,7 @@ cancel_flags =
 -- whether the flag is among the bits
 abbrev pub has_flag : ℕ → ℕ → Bool
 has_flag bits flag = bit_and bits flag == flag
+
+-- each bit has a name in the table
+abbrev pub are_named : List (List ℕ × ℕ) → ℕ → Bool
+are_named table bits = nat_eq (bit_and bits (known_bits table)) bits

@@ -1,6 +1,6 @@
 //! The flags of a task and of a cancellation, as sets of named bits.
-ghost use Rattle.std.specs.Prelude.{⊤};
-ghost use Rattle.ompt_events.specs.Flags.{task_flags, cancel_flags};
+ghost use Rattle.std.specs.Prelude.{◌≡◌, ⊤};
+ghost use Rattle.ompt_events.specs.Flags.{task_flags, cancel_flags, are_named};
 
 use bitflags::{Flag, Flags, bitflag_items};
 
@@ -25,6 +25,9 @@ bitflag_items! {
 }
 
 impl TaskFlags {
+    /// All bits that have a name.
+    const NAMED_BITS: u32 = 0xf800_001f;
+
     /// The flags under the names that they have in a file, in the order in which a file lists them.
     const NAMED: &'static [Flag<TaskFlags>] = &[
         Flag {
@@ -68,6 +71,13 @@ impl TaskFlags {
             value: TaskFlags::MERGED,
         },
     ];
+
+    /// Whether each bit has a name.
+    pub fn are_named(self) -> bool
+        ensures { result ≡ are_named task_flags self.0 }
+    {
+        self.0 & TaskFlags::NAMED_BITS == self.0
+    }
 }
 
 impl Flags for TaskFlags {
@@ -110,6 +120,9 @@ bitflag_items! {
 }
 
 impl CancelFlags {
+    /// All bits that have a name.
+    const NAMED_BITS: u32 = 0x7f;
+
     /// The flags under the names that they have in a file, in the order in which a file lists them.
     const NAMED: &'static [Flag<CancelFlags>] = &[
         Flag {
@@ -141,6 +154,13 @@ impl CancelFlags {
             value: CancelFlags::DISCARDED_TASK,
         },
     ];
+
+    /// Whether each bit has a name.
+    pub fn are_named(self) -> bool
+        ensures { result ≡ are_named cancel_flags self.0 }
+    {
+        self.0 & CancelFlags::NAMED_BITS == self.0
+    }
 }
 
 impl Flags for CancelFlags {

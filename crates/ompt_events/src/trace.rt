@@ -1,12 +1,9 @@
 //! A list of records that keeps within the limits of a file.
 ghost use Rattle.std.specs.Prelude.{◌≡◌, ◌↔◌, IsTrue, IfOk, IfErr, MatchOption, is_some, IfSome, length, ◌≤◌, ◌<◌, ◌^◌, ◌⊎◌};
-ghost use Rattle.ompt_events.specs.Flags.{task_flags, cancel_flags};
-ghost use Rattle.ompt_events.specs.Traces.{AreNamed, IsSound, IsTrace, IsTraceOf, IsSoundIn, HasItsTurns, IsFirstRefused, IsInRange, BodyInRange, ClaimInRange, TurnsInRange};
+ghost use Rattle.ompt_events.specs.Traces.{IsSound, IsTrace, IsTraceOf, IsSoundIn, HasItsTurns, IsFirstRefused, IsInRange, BodyInRange, ClaimInRange, TurnsInRange};
 
-use crate::flags::{CancelFlags, TaskFlags};
 use crate::names::Endpoint;
 use crate::records::{Body, Claim, Record, Turns};
-use bitflags::Flags;
 use std::marker::Model;
 
 /// The most records that a trace has.
@@ -128,8 +125,8 @@ impl Body {
                 endpoint,
                 flags,
                 ..
-            } => *endpoint != Endpoint::BeginEnd && are_named(*flags),
-            Body::TaskCreate { flags, .. } => are_named(*flags),
+            } => *endpoint != Endpoint::BeginEnd && flags.are_named(),
+            Body::TaskCreate { flags, .. } => flags.are_named(),
             Body::Dependences { list, .. } => list.as_slice().len() <= MAX_DEPENDENCES,
             Body::TaskSchedule {
                 status,
@@ -142,7 +139,7 @@ impl Body {
                     && is_short(share)
             }
             Body::Cancel { flags, share, .. } => {
-                are_cancel_named(*flags)
+                flags.are_named()
                     && share.is_some() == self.discarded().is_some()
                     && is_short(share)
             }
@@ -167,20 +164,6 @@ impl Body {
         let demanded = version == 2 && self.started().is_some();
         self.told_turns().is_some() == demanded
     }
-}
-
-/// Whether each bit of a task's flags has a name.
-fn are_named(flags: TaskFlags) -> bool
-    ensures { IsTrue result ↔ AreNamed task_flags flags.0 }
-{
-    TaskFlags::from_bits(flags.bits()).is_some()
-}
-
-/// Whether each bit of a cancellation's flags has a name.
-fn are_cancel_named(flags: CancelFlags) -> bool
-    ensures { IsTrue result ↔ AreNamed cancel_flags flags.0 }
-{
-    CancelFlags::from_bits(flags.bits()).is_some()
 }
 
 /// Whether the claimed path, if there is one, is within the limit.

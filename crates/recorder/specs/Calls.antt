@@ -1,10 +1,8 @@
 -- When a call is refused, and why.
-use Rattle.std.specs.Prelude.{ℕ, ◌&&◌, Bool, not, List, Option, Some, None, nat_eq, if◌then◌else◌}
+use Rattle.std.specs.Prelude.{ℕ, ◌&&◌, Bool, not, Option, Some, None, if◌then◌else◌}
 use Rattle.std.specs.Option.{option_map_or}
-use Rattle.std.specs.Int.RustNames.{bit_and}
-use Rattle.bitflags.specs.Sets.{known_bits}
 use Rattle.ompt_events.specs.Flags as flag
-use Rattle.ompt_events.specs.Flags.{cancel_flags, has_flag}
+use Rattle.ompt_events.specs.Flags.{cancel_flags, has_flag, are_named}
 use Rattle.credit_ledger.specs.declared.fault.LedgerFault.{LedgerFault}
 use Rattle.credit_ledger.specs.declared.fault.LedgerFault.TheVariants as ledger
 use Rattle.recorder.specs.declared.fault.CallFault.{CallFault}
@@ -28,10 +26,6 @@ refusal may deep full =
 -- the fault of a call that is refused: where there is no such reason, it is memory
 abbrev pub fault_of : Option CallFault → CallFault
 fault_of found = option_map_or (λ fault. fault) found Memory
-
--- each bit has a name in the table
-abbrev pub are_named : List (List ℕ × ℕ) → ℕ → Bool
-are_named table bits = nat_eq (bit_and bits (known_bits table)) bits
 
 -- the flags are those of a cancellation that discards no task
 abbrev pub may_cancel : ℕ → Bool

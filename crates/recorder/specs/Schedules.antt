@@ -13,7 +13,7 @@ use Rattle.ompt_events.specs.declared.flags.CancelFlags.{CancelFlags}
 use Rattle.ompt_events.specs.declared.names.Status.{Status}
 use Rattle.ompt_events.specs.declared.names.Status.TheVariants.{Yield, Switch, EarlyFulfill, Detach, TaskwaitComplete}
 use Rattle.ompt_events.specs.Flags as flag
-use Rattle.ompt_events.specs.Flags.{cancel_flags}
+use Rattle.ompt_events.specs.Flags.{cancel_flags, are_named}
 use Rattle.ompt_events.specs.Names.{demands_next, status_part}
 use Rattle.ompt_events.specs.States as states
 use Rattle.ompt_events.specs.States.{is_task}
@@ -23,7 +23,6 @@ use Rattle.recorder.specs.declared.fault.CallFault.TheVariants.{WrongState}
 use Rattle.recorder.specs.Standing.{innermost}
 use Rattle.recorder.specs.Logs.{standing_of}
 use Rattle.recorder.specs.Tasks.{TaskView, parent_of, place_of, is_root_on, state_moved, turn_of, next_turn, stopped, entry_of_part}
-use Rattle.recorder.specs.Calls.{are_named}
 use Rattle.recorder.specs.Recorders.{RecorderView, IsObserved, IsConcluded, refusal_at}
 
 -- a task stops or is fulfilled with a status, and another one runs next, if there is one

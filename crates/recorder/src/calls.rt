@@ -2,13 +2,13 @@
 ghost use Rattle.std.specs.Prelude.{◌≡◌, ◌∷◌, [], None, Some, true, false, length, nat_lt, IfOk, IfErr, OnOk, OnErr, IsErr, IsSome, IfSome};
 ghost use Rattle.ompt_events.specs.declared.records.Body.TheVariants.{ThreadBegin, ThreadEnd, ParallelBegin, ParallelEnd, ImplicitTask, TaskCreate, Dependences, Cancel};
 ghost use Rattle.ompt_events.specs.declared.names.Endpoint.TheVariants.{Begin};
-ghost use Rattle.ompt_events.specs.Flags.{task_flags};
+ghost use Rattle.ompt_events.specs.Flags.{task_flags, are_named};
 ghost use Rattle.ompt_events.specs.Records.{dependences, finish};
 ghost use Rattle.ompt_events.specs.Traces.{IsSoundIn};
 ghost use Rattle.credit.specs.Credits as credits;
 ghost use Rattle.credit.specs.Credits.{shared_halves, whole_of};
 ghost use Rattle.recorder.specs.Tasks.{is_initial_task, is_root_on, end_of_root, is_deep, is_crowded, root_of, child_of, with_child, credit_of, holder_in};
-ghost use Rattle.recorder.specs.Calls.{fault_of, are_named, may_cancel};
+ghost use Rattle.recorder.specs.Calls.{fault_of, may_cancel};
 ghost use Rattle.recorder.specs.Recorders.{with_record, refusal_at};
 
 use crate::fault::CallFault;
@@ -121,7 +121,7 @@ impl Recorder {
             actual,
             index,
         };
-        self.record(are_named(flags), body)?;
+        self.record(flags.are_named(), body)?;
         Ok(TaskData::root(self.allocator(), id, place, flags))
     }
 
@@ -175,7 +175,7 @@ impl Recorder {
             task: task.id(),
             child: id,
         };
-        self.test(are_named(flags), task.is_deep(), task.is_crowded(), &body)?;
+        self.test(flags.are_named(), task.is_deep(), task.is_crowded(), &body)?;
         let Ok(child) = task.child(id, flags) else {
             return Err(CallFault::Memory);
         };
@@ -259,18 +259,11 @@ impl Recorder {
     }
 }
 
-/// Whether each bit of a task's flags has a name.
-fn are_named(flags: TaskFlags) -> bool
-    ensures { result ≡ are_named task_flags flags.0 }
-{
-    TaskFlags::from_bits(flags.bits()).is_some()
-}
-
 /// Whether each bit of a cancellation's flags has a name, and none says that a task is discarded.
 fn may_cancel(flags: CancelFlags) -> bool
     ensures { result ≡ may_cancel flags.0 }
 {
-    CancelFlags::from_bits(flags.bits()).is_some() && !flags.contains(CancelFlags::DISCARDED_TASK)
+    flags.are_named() && !flags.contains(CancelFlags::DISCARDED_TASK)
 }
 
 /// The dependences that the record lists.

@@ -4,12 +4,12 @@ ghost use Rattle.std.specs.Borrow.{MutBor};
 ghost use Rattle.ompt_events.specs.declared.records.Part.{Part};
 ghost use Rattle.ompt_events.specs.declared.records.Part.TheVariants.{Whole};
 ghost use Rattle.ompt_events.specs.declared.records.Body.TheVariants.{Cancel};
-ghost use Rattle.ompt_events.specs.Flags.{cancel_flags};
+ghost use Rattle.ompt_events.specs.Flags.{cancel_flags, are_named};
 ghost use Rattle.ompt_events.specs.Limits.{max_records};
 ghost use Rattle.ompt_events.specs.Names.{status_part};
 ghost use Rattle.credit_ledger.specs.Places.{ledger_id};
 ghost use Rattle.recorder.specs.Tasks.{TaskView, started, stopped, entry_of_part, credit_of, entered_credit_of, MovesCredit};
-ghost use Rattle.recorder.specs.Calls.{fault_of, are_named};
+ghost use Rattle.recorder.specs.Calls.{fault_of};
 ghost use Rattle.recorder.specs.Recorders.{IsConcluded, IsRefused, allowed};
 ghost use Rattle.recorder.specs.Schedules.{turns_of, schedule_body, may_start, may_schedule, is_by_parent, has_its_next, is_last_turn, schedule_refusal, IsStopped, IsStoppedBy, stopped_entry, left_of, schedule_of, switch_refusal, is_pause, LeavesNext, with_discarded, discard_body, may_discard, discard_refusal};
 
@@ -412,7 +412,7 @@ impl Recorder {
             (Some (entry_of_part self.old.thread Whole task.now)) self.new) }
     {
         let flags = flags.union(CancelFlags::DISCARDED_TASK);
-        let may = task.state_discarded().is_some() && are_named(flags);
+        let may = task.state_discarded().is_some() && flags.are_named();
         self.test(may, false, false, &discard_body(task, flags, None))?;
         let Ok((entry, claim)) = task.finish(self.thread(), Part::Whole) else {
             return Err(CallFault::Memory);
@@ -430,13 +430,6 @@ fn discard_body(task: &TaskData, flags: CancelFlags, share: Option<Claim>) -> Bo
         task: task.id(),
         share,
     }
-}
-
-/// Whether each bit of a cancellation's flags has a name.
-fn are_named(flags: CancelFlags) -> bool
-    ensures { result ≡ are_named cancel_flags flags.0 }
-{
-    CancelFlags::from_bits(flags.bits()).is_some()
 }
 
 /// What comes back of a task that stopped or was fulfilled with this status.

@@ -1,11 +1,10 @@
 //! The tool's own value of one task.
 ghost use Rattle.std.specs.Prelude.{◌≡◌, ◌≤◌, ◌<◌, ◌^◌, ◌+◌, [], Some, None, true, length, IfOk, OnOk, OnErr};
 ghost use Rattle.ompt_events.specs.declared.records.Part.{Part};
-ghost use Rattle.ompt_events.specs.Flags.{task_flags};
+ghost use Rattle.ompt_events.specs.Flags.{task_flags, are_named};
 ghost use Rattle.ompt_events.specs.States as states;
 ghost use Rattle.ompt_events.specs.Traces.{IsSoundIn};
 ghost use Rattle.task_states.specs.Progress.{the_nature, the_move};
-ghost use Rattle.recorder.specs.Calls.{are_named};
 ghost use Rattle.recorder.specs.Tasks.{parent_of, place_of, is_initial_task, is_root_on, end_of_root, started, stopped, nature, state_moved, turn_of, next_turn, innermost_region, is_innermost_region, is_barred, is_deep, is_crowded, root_of, child_of, with_child, in_state, running_in, with_region, without_region, entry_of_part};
 
 use bitflags::Flags;
@@ -52,8 +51,7 @@ pub struct TaskData {
 
 impl Model for TaskData {
     ghost use Rattle.std.specs.Prelude.{◌≡◌, ◌≤◌, length, true};
-    ghost use Rattle.ompt_events.specs.Flags.{task_flags};
-    ghost use Rattle.recorder.specs.Calls.{are_named};
+    ghost use Rattle.ompt_events.specs.Flags.{task_flags, are_named};
     ghost use Rattle.recorder.specs.Tasks.{TaskView};
 
     ghost Value = { TaskView };
