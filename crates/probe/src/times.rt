@@ -26,6 +26,8 @@ struct Plan {
 enum Work {
     /// A root creates tasks: no call asks the ledger.
     Create,
+    /// It switches to another task and back.
+    Switch,
     /// It creates a task, switches to it, and the task is complete.
     Finish,
     /// It begins and ends a taskwait.
@@ -43,10 +45,11 @@ pub fn timed<R: Threads + Wait + Sync + Clock + Print + AllocGlobal>(
 ) -> Result<()> {
     let work = match work {
         "create" => Work::Create,
+        "switch" => Work::Switch,
         "finish" => Work::Finish,
         "region" => Work::Region,
         "list" => Work::List,
-        _ => bail!("the work must be create, finish, region or list"),
+        _ => bail!("the work must be create, switch, finish, region or list"),
     };
     let alloc = rt.alloc();
     let (ledger, seat) = SharedLedger::new(alloc)?;
@@ -135,6 +138,7 @@ fn own<R: Wait>(
     )?;
     match plan.work {
         Work::Create => creations(&mut recorder, &mut root, plan.count),
+        Work::Switch => switches(rt, shared.ledger, &mut recorder, &mut root, plan.count),
         Work::Finish => finishes(rt, shared.ledger, &mut recorder, &mut root, plan.count),
         Work::Region => regions(rt, shared.ledger, &mut recorder, &mut root, plan.count),
         Work::List => pushes(rt, shared.list, plan.count),
@@ -145,6 +149,24 @@ fn own<R: Wait>(
 fn creations(recorder: &mut Recorder, root: &mut TaskData, count: u32) -> Result<(), CallFault> {
     for number in 0..count {
         recorder.ompt_callback_task_create(root, u64::from(number), TaskFlags::EXPLICIT, false)?;
+    }
+    Ok(())
+}
+
+/// The root switches to a task, and that one back to it, so many times.
+fn switches<R: Wait>(
+    rt: &R,
+    ledger: &SharedLedger,
+    recorder: &mut Recorder,
+    root: &mut TaskData,
+    count: u32,
+) -> Result<(), CallFault>
+    requires { recorder.old.ledger ≡ ledger_id ledger.now }
+{
+    let mut task = recorder.ompt_callback_task_create(root, 0, TaskFlags::EXPLICIT, false)?;
+    'switches: for _ in 0..count {
+        recorder.switch_to(ledger, rt, root, &mut task, Status::Switch)?;
+        recorder.switch_to(ledger, rt, &mut task, root, Status::Switch)?;
     }
     Ok(())
 }
