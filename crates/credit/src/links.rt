@@ -121,17 +121,20 @@ pub(crate) fn search(links: &[Link], index: usize, number: u64) -> Spot
     ensures { result ≡ spot_of links.now index number }
 {
     let mut at = index;
+    let mut link = link_of(links, index);
     let mut side = Side::First;
     let mut digits = number;
     'links: for _ in 0..links.len() {
-        let next = link_of(links, at).behind(side);
+        let next = link.behind(side);
         if next == 0 {
             return Spot::Missing(at, side);
         }
-        if link_of(links, next).is_of(index, number) {
+        let sibling = link_of(links, next);
+        if sibling.is_of(index, number) {
             return Spot::Found(next);
         }
         at = next;
+        link = sibling;
         side = side_of(digits);
         digits /= 4;
     }
