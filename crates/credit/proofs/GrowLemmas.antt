@@ -23,9 +23,9 @@ pub record IsChildAdded (old new : Tree) (index number k : ℕ) : Type 0 where
   pub others : (i n : ℕ) → (child new i n ≡ child old i n) ⊎ ((i ≡ index) × (n ≡ number))
 
 -- a search that begins at no child
-search-none : (links : List Link) (steps i n : ℕ) → behind (link_at links i) First ≡ 0 → found (spot_within links steps i n n i First) ≡ None
+search-none : (links : List Link) (steps i n : ℕ) → behind (link_at links i) First ≡ 0 → spot_within links steps i n n i First ≡ Missing i First
 search-none links zero i n none = refl
-search-none links (suc steps) i n none = ap found (step-missing links steps i n n i First none)
+search-none links (suc steps) i n none = step-missing links steps i n n i First none
 
 pub IsChildAdded-from : (old new : Tree) (index number j : ℕ) (s : Side) → IsLinked old → index < length old.nodes.items → spot_of old.links.items index number ≡ Missing j s
     → IsLinkAdded old.links.items new.links.items index number j s → IsChildAdded old new index number (length old.nodes.items)
@@ -45,8 +45,9 @@ IsChildAdded-from old new index number j s linked inside missing added = record 
       ap (λ (steps : ℕ). found (spot_within new.links.items steps i n n i First)) longer
       ∙ added-elsewhere old.links.items new.links.items index number j s linked.rising added i n apart (length old.links.items) n i First less (omega arith))
       (λ (far : length old.links.items ≤ i).
-      search-none new.links.items (length new.links.items) i n (far-new i far)
-      ∙ sym (search-none old.links.items (length old.links.items) i n (ap (λ l. behind l First) (link_at-past old.links.items i far))))
+      ap found
+      (search-none new.links.items (length new.links.items) i n (far-new i far)
+      ∙ sym (search-none old.links.items (length old.links.items) i n (ap (λ l. behind l First) (link_at-past old.links.items i far)))))
       (cases_lt i (length old.links.items))))
       (cases_Bool (is_link_of i n (leaf_link index number)));
 }
@@ -369,10 +370,11 @@ IsGrown-root old new linked empty nodes links = record {
         (cases_eq i 0)
 
     none : (i n : ℕ) → child new i n ≡ None
-    none i n = search-none new.links.items (length new.links.items) i n (ap (λ l. behind l First) (leaf i))
+    none i n = ap found (search-none new.links.items (length new.links.items) i n (ap (λ l. behind l First) (leaf i)))
 
     none_old : (i n : ℕ) → child old i n ≡ None
-    none_old i n = search-none old.links.items (length old.links.items) i n (ap (λ l. behind l First) (link_at-past old.links.items i (omega (arith, linked.aligned, empty))))
+    none_old i n =
+        ap found (search-none old.links.items (length old.links.items) i n (ap (λ l. behind l First) (link_at-past old.links.items i (omega (arith, linked.aligned, empty)))))
 
 -- a node was added, made a child, and its parent reaches to it
 pub IsGrown-made : (old mid linked_mid new : Tree) (index number j : ℕ) (s : Side) → IsLinked old → index < length old.nodes.items → number ≤ 2 ^ 48 → spot_of old.links.items index number ≡ Missing j s
@@ -380,11 +382,14 @@ pub IsGrown-made : (old mid linked_mid new : Tree) (index number j : ℕ) (s : S
     → linked_mid.nodes ≡ mid.nodes → linked_mid.links.items ≡ set mid.links.items j (with_link (link_at mid.links.items j) s (length old.nodes.items))
     → new.nodes.items ≡ set linked_mid.nodes.items index (with_reach (node_at linked_mid index) number) → new.links ≡ linked_mid.links
     → (IsGrown old new) × (child new index number ≡ Some (length old.nodes.items))
+    × ((next : ℕ) → spot_of new.links.items (length old.nodes.items) next ≡ Missing (length old.nodes.items) First)
 IsGrown-made old mid linked_mid new index number j s linked inside small spot pushed pushed_link mid_same put written same_links = (
   IsGrown-child old new index number linked (IsRising-added old.links.items new.links.items index number j s linked.rising link_added) link_added.longer inside (ap found spot)
       (IsNodeAdded-set old new index (with_reach (node_at old index) number) linked inside items refl refl (omega arith) (omega (arith, linked.small index)))
       child_added reached,
   child_added.here,
+  (λ next. search-none new.links.items (length new.links.items) (length old.nodes.items) next
+      (ap (λ i. behind (link_at new.links.items i) First) (sym linked.aligned) ∙ ap (λ l. behind l First) link_added.last)),
 )
   where
     links : new.links.items ≡ set (old.links.items ++ leaf_link index number ∷ []) j (with_link (link_at (old.links.items ++ leaf_link index number ∷ []) j) s (length old.links.items))

@@ -1,5 +1,5 @@
 -- A purse as a tree: what each node says of the shares that were entered.
-use Rattle.std.specs.Prelude.{◌≡◌, ◌≤◌, ◌<◌, ◌↔◌, ◌^◌, ◌+◌, ℕ, zero, suc, Bool, true, false, List, [], ◌∷◌, length, reverse, take, if◌then◌else◌, Option, None, Some, is_some, unwrap_or, nat_le, slice_get, max}
+use Rattle.std.specs.Prelude.{◌≡◌, ◌≤◌, ◌<◌, ◌↔◌, ◌^◌, ◌+◌, ℕ, zero, suc, Bool, true, false, List, [], ◌∷◌, length, reverse, take, if◌then◌else◌, Option, None, Some, is_some, unwrap_or, nat_le, slice_get, slice_index, max}
 use Rattle.std.specs.Option.{option_and_then, option_map_or}
 use Rattle.credit.specs.declared.share.Half.{Half}
 use Rattle.credit.specs.declared.tree.Run.{Run}
@@ -9,6 +9,7 @@ use Rattle.credit.specs.declared.tree.Tree.{Tree}
 use Rattle.credit.specs.declared.tree.Start.{Start}
 use Rattle.credit.specs.declared.tree.Walk.{Walk}
 use Rattle.credit.specs.declared.tree.Walk.TheVariants.{Above, Missing, Found}
+use Rattle.credit.specs.declared.links.Spot.TheVariants as spots
 use Rattle.credit.specs.Shares.{begins_with, Hold}
 use Rattle.credit.specs.Paths.{keeps, prefix}
 use Rattle.credit.specs.Links.{spot_of, found, IsRising}
@@ -51,10 +52,13 @@ abbrev pub time_above : (List ℕ → Progress) → List ℕ → Option ℕ
 time_above at [] = None
 time_above at (number ∷ up) = first_of (time_above at up) (time_within (at up).run number)
 
--- the nodes of the first runs are there, and this one is the last of them
+-- the nodes of the first runs are there, and this one is the last of them; where the next one is missing, the
+-- search for it ended there
 abbrev pub IsStart : Tree → List ℕ → Start → Type 0
 IsStart tree runs start =
     (start.depth ≤ length runs) × (place (child tree) (reverse (take start.depth runs)) ≡ Some start.index)
+    × (start.depth < length runs
+    → spot_of tree.links.items start.index (slice_index runs start.depth) ≡ spots.Missing start.at start.side)
 
 -- where a walk down these runs ends
 abbrev pub IsWalked : Tree → List ℕ → Walk → Type 0

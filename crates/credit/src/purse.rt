@@ -3,9 +3,10 @@ ghost use Rattle.std.specs.Prelude.{◌≡◌, ◌≤◌, ◌++◌, ◌∷◌, [
 ghost use Rattle.std.specs.List.{list_any};
 ghost use Rattle.credit.specs.Shares.{overlaps, overlaps_either, Hold};
 ghost use Rattle.credit.specs.Paths.{path_of};
-ghost use Rattle.credit.specs.Trees.{is_by, child, place, progress_at, time_above, IsLinked, IsSettling, IsKnown, IsHeldFrom, IsStart};
+ghost use Rattle.credit.specs.Trees.{is_by, child, place, progress_at, time_above, IsLinked, IsSettling, IsKnown, IsHeldFrom, IsStart, IsGrown};
 
 use crate::fault::CreditFault;
+use crate::links::Side;
 use crate::share::Share;
 use crate::tree::{Run, Start, Tree, Walk};
 use std::alloc::Global;
@@ -59,13 +60,7 @@ impl Purse {
             then CreditFault.Overlap
             else CreditFault.Memory)) }
     {
-        let Some(start) = start_of(&self.tree, self.shares.as_slice(), &share) else {
-            return Err((share, CreditFault::Overlap));
-        };
-        prepare_and_add(&mut self.tree, &mut self.shares, share, start).map_err(|share| (
-            share,
-            CreditFault::Memory,
-        ))
+        add_one(&mut self.tree, &mut self.shares, share)
     }
 
     /// Enters two shares, or neither. Where one of them overlaps a share in the purse, or the other one,
@@ -83,13 +78,11 @@ impl Purse {
         ensures fault { IfErr result (λ refusal.
             refusal.2 ≡ (if overlaps_either first second self.old then CreditFault.Overlap else CreditFault.Memory)) }
     {
-        let Some(starts) = starts_of(&self.tree, self.shares.as_slice(), &first, &second) else {
-            return Err((first, second, CreditFault::Overlap));
+        let Err((first, second)) = add_both(&mut self.tree, &mut self.shares, first, second) else {
+            return Ok(());
         };
-        add_both(&mut self.tree, &mut self.shares, first, second, starts).map_err(|(
-            first,
-            second,
-        )| (first, second, CreditFault::Memory))
+        let fault = fault_of_both(&self.tree, self.shares.as_slice(), &first, &second);
+        Err((first, second, fault))
     }
 
     /// Whether the shares in the purse hold this one, so that all of it has come back: each list of halves
@@ -154,6 +147,8 @@ fn start_of(tree: &Tree, shares: &[Share], share: &Share) -> Option<Start>
             Some(Start {
                 depth: share.runs().len(),
                 index,
+                at: index,
+                side: Side::First,
             })
         }
     }
@@ -177,72 +172,77 @@ fn is_taken(tree: &Tree, shares: &[Share], share: &Share, index: usize) -> bool
     shares.iter().any(|entered| share.overlaps(entered))
 }
 
-/// The same for two shares, or `None` where one of them overlaps another one or they overlap one another.
-fn starts_of(tree: &Tree, shares: &[Share], first: &Share, second: &Share) -> Option<(Start, Start)>
-    requires linked { IsLinked tree.now }
-    requires known { IsKnown shares.now (progress_at tree.now) }
-    ensures overlaps { is_none result ≡ overlaps_either first.now second.now shares.now }
-    ensures first { IfSome result (λ starts. IsStart tree.now (reverse (path_of first.now).0) starts.0) }
-    ensures second { IfSome result (λ starts. IsStart tree.now (reverse (path_of second.now).0) starts.1) }
+/// The node of a share that overlaps none of the others, made where it is missing, and each one above it too.
+/// Where the share is refused, some may have been made.
+fn node_for(tree: &mut Tree, shares: &[Share], share: &Share) -> Result<usize, CreditFault>
+    requires linked { IsLinked tree.old }
+    requires known { IsKnown shares.now (progress_at tree.old) }
+    ensures grown { IsGrown tree.old tree.new }
+    ensures known { IsKnown shares.now (progress_at tree.new) }
+    ensures place { IfOk result (λ index. place (child tree.new) (path_of share.now).0 ≡ Some index) }
+    ensures within { IfOk result (λ index. index < length tree.new.nodes.items) }
+    ensures free { OnOk result (list_any (overlaps share.now) shares.now ≡ false) }
+    ensures fault { IfErr result (λ fault.
+        fault ≡ (if list_any (overlaps share.now) shares.now then CreditFault.Overlap else CreditFault.Memory)) }
 {
-    let one = start_of(tree, shares, first)?;
-    let other = start_of(tree, shares, second)?;
-    if first.overlaps(second) {
-        return None;
-    }
-    Some((one, other))
+    let Some(start) = start_of(tree, shares, share) else {
+        return Err(CreditFault::Overlap);
+    };
+    tree.make(share.runs(), start)
+        .map_err(|_| CreditFault::Memory)
 }
 
-/// Adds a share that overlaps none of the others, or gives it back where there is no memory.
-fn prepare_and_add(
+/// Adds a share, or gives it back, and says why.
+fn add_one(
     tree: &mut Tree,
     shares: &mut Vec<Share>,
     share: Share,
-    start: Start,
-) -> Result<(), Share>
+) -> Result<(), (Share, CreditFault)>
     requires linked { IsLinked tree.old }
-    requires start { IsStart tree.old (reverse (path_of share).0) start }
     requires known { IsKnown shares.old.items (progress_at tree.old) }
-    requires free { list_any (overlaps share) shares.old.items ≡ false }
     ensures linked { IsLinked tree.new }
     ensures known { IsKnown shares.new.items (progress_at tree.new) }
     ensures added { OnOk result (shares.new.items ≡ shares.old.items ++ share ∷ []) }
-    ensures refused { IfErr result (λ back. (shares.new.items ≡ shares.old.items) × (back ≡ share)) }
+    ensures unchanged { OnErr result (shares.new.items ≡ shares.old.items) }
+    ensures overlaps { IsTrue (list_any (overlaps share) shares.old.items) → IsErr result }
+    ensures returned { IfErr result (λ refusal. refusal.0 ≡ share) }
+    ensures fault { IfErr result (λ refusal.
+        refusal.1 ≡ (if list_any (overlaps share) shares.old.items then CreditFault.Overlap else CreditFault.Memory)) }
 {
-    let Ok(index) = tree.make(share.runs(), start) else {
-        return Err(share);
+    let index = match node_for(tree, shares.as_slice(), &share) {
+        Ok(index) => index,
+        Err(fault) => return Err((share, fault)),
     };
     let Ok(()) = shares.reserve(1) else {
-        return Err(share);
+        return Err((share, CreditFault::Memory));
     };
     add(tree, shares, share, index);
     Ok(())
 }
 
-/// Adds two shares that overlap neither another one nor one another, or gives them back where there is no
-/// memory.
+/// Adds two shares, or gives both back.
 fn add_both(
     tree: &mut Tree,
     shares: &mut Vec<Share>,
     first: Share,
     second: Share,
-    starts: (Start, Start),
 ) -> Result<(), (Share, Share)>
     requires linked { IsLinked tree.old }
-    requires first { IsStart tree.old (reverse (path_of first).0) starts.0 }
-    requires second { IsStart tree.old (reverse (path_of second).0) starts.1 }
     requires known { IsKnown shares.old.items (progress_at tree.old) }
-    requires free { overlaps_either first second shares.old.items ≡ false }
     ensures linked { IsLinked tree.new }
     ensures known { IsKnown shares.new.items (progress_at tree.new) }
     ensures added { OnOk result (shares.new.items ≡ shares.old.items ++ first ∷ second ∷ []) }
-    ensures refused { IfErr result (λ back.
-        (shares.new.items ≡ shares.old.items) × (back.0 ≡ first) × (back.1 ≡ second)) }
+    ensures unchanged { OnErr result (shares.new.items ≡ shares.old.items) }
+    ensures overlaps { IsTrue (overlaps_either first second shares.old.items) → IsErr result }
+    ensures returned { IfErr result (λ back. (back.0 ≡ first) × (back.1 ≡ second)) }
 {
-    let Ok(index) = tree.make(first.runs(), starts.0) else {
+    if first.overlaps(&second) {
+        return Err((first, second));
+    }
+    let Ok(index) = node_for(tree, shares.as_slice(), &first) else {
         return Err((first, second));
     };
-    let Ok(other) = tree.make(second.runs(), starts.1) else {
+    let Ok(other) = node_for(tree, shares.as_slice(), &second) else {
         return Err((first, second));
     };
     let Ok(()) = shares.reserve(2) else {
@@ -251,6 +251,33 @@ fn add_both(
     add(tree, shares, first, index);
     add(tree, shares, second, other);
     Ok(())
+}
+
+/// Why two shares were given back.
+fn fault_of_both(tree: &Tree, shares: &[Share], first: &Share, second: &Share) -> CreditFault
+    requires linked { IsLinked tree.now }
+    requires known { IsKnown shares.now (progress_at tree.now) }
+    ensures { result ≡ (if overlaps_either first.now second.now shares.now
+        then CreditFault.Overlap
+        else CreditFault.Memory) }
+{
+    if overlaps_one(tree, shares, first)
+        || overlaps_one(tree, shares, second)
+        || first.overlaps(second)
+    {
+        CreditFault::Overlap
+    } else {
+        CreditFault::Memory
+    }
+}
+
+/// Whether a share overlaps one of the others.
+fn overlaps_one(tree: &Tree, shares: &[Share], share: &Share) -> bool
+    requires linked { IsLinked tree.now }
+    requires known { IsKnown shares.now (progress_at tree.now) }
+    ensures { result ≡ list_any (overlaps share.now) shares.now }
+{
+    start_of(tree, shares, share).is_none()
 }
 
 /// Adds a share at its node, where there is room for it.

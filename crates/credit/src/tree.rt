@@ -1,6 +1,7 @@
 //! The nodes of a tree of shares.
 ghost use Rattle.std.specs.Prelude.{◌≡◌, ◌≤◌, ◌<◌, ◌+◌, ◌^◌, ◌-◌, ◌++◌, ◌∷◌, [], ℕ, IsTrue, ◌↔◌, List, length, reverse, slice_set, Some, IfOk, OnOk, vec_len, vec_capacity};
 ghost use Rattle.credit.specs.Shares.{start_share};
+ghost use Rattle.credit.specs.declared.links.Side.{Side};
 ghost use Rattle.credit.specs.declared.links.Spot.{Spot};
 ghost use Rattle.credit.specs.Links.{leaf_link, link_at, spot_of, with_link};
 ghost use Rattle.credit.specs.Trees.{no_progress, empty_node, node_at, child, place, progress_at, time_within, child_since, since_all, with_reach, with_run, with_since, with_child, IsLinked, IsGrown, IsFull, IsStart, IsWalked};
@@ -47,10 +48,13 @@ pub(crate) struct Tree {
 }
 
 /// Where the nodes of a share begin to be missing: so many of its runs have theirs, and this one is the last.
+/// Where one is missing, the search for it ended at this side of a node.
 #[derive(Clone, Copy)]
 pub(crate) struct Start {
     pub depth: usize,
     pub index: usize,
+    pub at: usize,
+    pub side: Side,
 }
 
 /// Where a walk down the nodes of a share ended.
@@ -140,10 +144,17 @@ impl Tree {
             if let Some(time) = ended_within(run, number) {
                 return Walk::Above(time);
             }
-            let Some(child) = self.child(index, number) else {
-                return Walk::Missing(Start { depth, index });
-            };
-            index = child;
+            match search(self.links.as_slice(), index, number) {
+                Spot::Found(child) => index = child,
+                Spot::Missing(at, side) => {
+                    return Walk::Missing(Start {
+                        depth,
+                        index,
+                        at,
+                        side,
+                    });
+                }
+            }
         }
         Walk::Found(index)
     }
@@ -183,8 +194,13 @@ impl Tree {
     {
         self.make_root()?;
         let mut index = start.index;
+        let mut at = start.at;
+        let mut side = start.side;
         'runs: for depth in start.depth..runs.len() {
-            index = self.make_child(index, runs[depth])?;
+            self.reserve()?;
+            index = self.add_child(index, runs[depth], at, side);
+            at = index;
+            side = Side::First;
         }
         Ok(index)
     }
@@ -194,32 +210,14 @@ impl Tree {
         requires { IsLinked self.old }
         ensures grown { IsGrown self.old self.new }
         ensures made { OnOk result (0 < length self.new.nodes.items) }
+        ensures spots { (index number : ℕ) → spot_of self.new.links.items index number
+            ≡ spot_of self.old.links.items index number }
     {
         if self.nodes.is_empty() {
             self.reserve()?;
             self.push(0, 0);
         }
         Ok(())
-    }
-
-    /// The child of a node by its number, made where it is missing.
-    fn make_child(&mut self, index: usize, number: u64) -> Result<usize, AllocError>
-        requires linked { IsLinked self.old }
-        requires within { index < length self.old.nodes.items }
-        requires small { number ≤ 2 ^ 48 }
-        ensures grown { IsGrown self.old self.new }
-        ensures made { IfOk result (λ made. child self.new index number ≡ Some made) }
-        ensures inside { IfOk result (λ made. made < length self.new.nodes.items) }
-    {
-        match search(self.links.as_slice(), index, number) {
-            Spot::Found(child) => Ok(child),
-            Spot::Missing(at, side) => {
-                self.reserve()?;
-                let made = self.nodes.len();
-                self.add_child(index, number, at, side);
-                Ok(made)
-            }
-        }
     }
 
     /// Takes the memory for one more node. A tree with 2^32 nodes counts as one for which there is no more.
@@ -250,8 +248,9 @@ impl Tree {
         let _ = self.links.push(Link::leaf(parent as u32, number));
     }
 
-    /// Adds the child of a node where a search for its number ended.
-    fn add_child(&mut self, index: usize, number: u64, at: usize, side: Side)
+    /// Adds the child of a node where a search for its number ended. It has no child yet, so a search for one
+    /// ends at its own first side.
+    fn add_child(&mut self, index: usize, number: u64, at: usize, side: Side) -> usize
         requires linked { IsLinked self.old }
         requires within { index < length self.old.nodes.items }
         requires small { number ≤ 2 ^ 48 }
@@ -260,12 +259,15 @@ impl Tree {
         requires room_for_link { vec_len self.old.links < vec_capacity self.old.links }
         requires few { length self.old.nodes.items < 2 ^ 32 }
         ensures grown { IsGrown self.old self.new }
-        ensures made { child self.new index number ≡ Some (length self.old.nodes.items) }
+        ensures made { child self.new index number ≡ Some result }
+        ensures inside { result < length self.new.nodes.items }
+        ensures fresh { (next : ℕ) → spot_of self.new.links.items result next ≡ Spot.Missing result Side.First }
     {
         let made = self.nodes.len();
         self.push(index, number);
         self.put_link(at, side, made);
         self.reach_to(index, number);
+        made
     }
 
     /// Lets a link lead to a node.

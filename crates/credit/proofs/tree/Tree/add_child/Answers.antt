@@ -1,6 +1,7 @@
-use Rattle.std.proofs.Common.{◌≡◌, length, ap, sym, ◌∙◌, arith, length-append, ◌∷◌, [], set}
-use Rattle.credit.specs.Links.{leaf_link, link_at, with_link}
+use Rattle.std.proofs.Common.{◌≡◌, ℕ, Some, length, ap, sym, subst, ◌∙◌, arith, length-append, ◌∷◌, [], set}
+use Rattle.credit.specs.Links.{leaf_link, link_at, with_link, spot_of}
 use Rattle.credit.specs.declared.links.Side.TheVariants.{First}
+use Rattle.credit.specs.declared.links.Spot.TheVariants.{Missing}
 use Rattle.credit.proofs.LinkLemmas.{missing-at}
 use Rattle.credit.proofs.GrowLemmas.{IsGrown-made}
 use Rattle.credit.proofs.tree.Tree.add_child.Goals as goal
@@ -12,18 +13,18 @@ put_link-requires-clause-within c =
     let long : length c.push.new.self.links.items ≡ _ = ap length c.push.ensures.links ∙ length-append c.args.self.now.links.items (leaf_link c.args.index c.args.number ∷ []) in
     omega (arith, ended.0, long)
 
-pub returns-clause-grown : goal.returns-clause-grown
-returns-clause-grown c =
+pub returns : goal.returns
+returns c =
     let made : c.len-made.result ≡ length c.args.self.now.nodes.items = omega arith in
-    (IsGrown-made c.args.self.now c.push.new.self c.put_link.new.self c.reach_to.new.self c.args.index c.args.number c.args.at c.args.side c.requires.linked c.requires.within c.requires.small c.requires.missing
+    let grown =
+    IsGrown-made c.args.self.now c.push.new.self c.put_link.new.self c.reach_to.new.self c.args.index c.args.number c.args.at c.args.side c.requires.linked c.requires.within c.requires.small c.requires.missing
     c.push.ensures.nodes c.push.ensures.links c.put_link.ensures.nodes
     (c.put_link.ensures.links ∙ ap (λ k. set c.push.new.self.links.items c.args.at (with_link (link_at c.push.new.self.links.items c.args.at) c.args.side k)) made)
-    c.reach_to.ensures.nodes c.reach_to.ensures.links).0
-
-pub returns-clause-made : goal.returns-clause-made
-returns-clause-made c =
-    let made : c.len-made.result ≡ length c.args.self.now.nodes.items = omega arith in
-    (IsGrown-made c.args.self.now c.push.new.self c.put_link.new.self c.reach_to.new.self c.args.index c.args.number c.args.at c.args.side c.requires.linked c.requires.within c.requires.small c.requires.missing
-    c.push.ensures.nodes c.push.ensures.links c.put_link.ensures.nodes
-    (c.put_link.ensures.links ∙ ap (λ k. set c.push.new.self.links.items c.args.at (with_link (link_at c.push.new.self.links.items c.args.at) c.args.side k)) made)
-    c.reach_to.ensures.nodes c.reach_to.ensures.links).1
+    c.reach_to.ensures.nodes c.reach_to.ensures.links in
+    let there = grown.1 ∙ ap (λ k. Some k) (sym made) in
+    record {
+      grown = grown.0;
+      made = there;
+      inside = (grown.0.linked.within c.args.index c.args.number c.len-made.result there).1;
+      fresh = subst (λ k. (next : ℕ) → spot_of c.reach_to.new.self.links.items k next ≡ Missing k First) (sym made) grown.2;
+    }

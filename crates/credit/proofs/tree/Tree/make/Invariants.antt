@@ -1,5 +1,7 @@
 use Rattle.std.proofs.Common.{◌≡◌, ◌<◌, ◌≤◌, take, Some, length}
-use Rattle.std.specs.Prelude.{reverse}
+use Rattle.std.specs.Prelude.{reverse, slice_index}
+use Rattle.credit.specs.declared.links.Spot.TheVariants.{Missing}
+use Rattle.credit.specs.Links.{spot_of}
 use Rattle.credit.specs.Trees.{place, child, IsGrown}
 use Rattle.credit.proofs.tree.Tree.make.Given as goal
 
@@ -9,4 +11,5 @@ invariant-runs l = record {
   place : place (child l.self) (reverse (take l.depth l.runs)) ≡ Some l.index;
   within : l.index < length l.self.nodes.items;
   depth : l.depth ≤ length l.runs;
+  spot : l.depth < length l.runs → spot_of l.self.links.items l.index (slice_index l.runs l.depth) ≡ Missing l.at l.side;
 }

@@ -1,5 +1,6 @@
 use Rattle.std.proofs.Common.{sym, ◌∙◌, ap, None, Some, get_or, arith}
 use Rattle.credit.specs.declared.tree.Node.{Node}
+use Rattle.credit.specs.Links.{spot_of, found}
 use Rattle.credit.specs.Trees.{child, time_within}
 use Rattle.credit.proofs.TreeLemmas.{place-missing, time_above-found, time_above-stopped}
 use Rattle.credit.proofs.tree.Tree.walk.Goals as goal
@@ -10,13 +11,15 @@ returns-in-Some c =
     c.runs.invariant.place c.runs.invariant.none
     (ap (λ (node : Node). time_within node.progress.run (get_or c.args.runs.now c.runs.depth 0)) (sym c.node.ensures) ∙ sym c.ended_within.ensures ∙ c.in-Some.is))
 
-pub returns-in_default-child : goal.returns-in_default-child
-returns-in_default-child c = (
-  time_above-stopped c.args.self.now c.args.runs.now c.runs.depth c.runs.index (omega arith)
-      c.runs.invariant.place c.runs.invariant.none
-      (ap (λ (node : Node). time_within node.progress.run (get_or c.args.runs.now c.runs.depth 0)) (sym c.node.ensures) ∙ sym c.ended_within.ensures ∙ c.in_default.is)
-      (sym c.child.ensures ∙ c.in_default-child.is),
-  place-missing (child c.args.self.now) c.args.runs.now c.runs.depth c.runs.index (omega arith)
-      c.runs.invariant.place (sym c.child.ensures ∙ c.in_default-child.is),
-  (c.runs.invariant.depth, c.runs.invariant.place),
-)
+pub returns-in-Missing : goal.returns-in-Missing
+returns-in-Missing c =
+    let spot =
+    ap (λ links. spot_of links c.runs.index (get_or c.args.runs.now c.runs.depth 0)) (sym c.as_slice.ensures.value) ∙ sym c.search.ensures ∙ c.in-Missing.is in (
+      time_above-stopped c.args.self.now c.args.runs.now c.runs.depth c.runs.index (omega arith)
+          c.runs.invariant.place c.runs.invariant.none
+          (ap (λ (node : Node). time_within node.progress.run (get_or c.args.runs.now c.runs.depth 0)) (sym c.node.ensures) ∙ sym c.ended_within.ensures ∙ c.in_default.is)
+          (ap found spot),
+      place-missing (child c.args.self.now) c.args.runs.now c.runs.depth c.runs.index (omega arith)
+          c.runs.invariant.place (ap found spot),
+      (c.runs.invariant.depth, c.runs.invariant.place, λ less. spot),
+    )
