@@ -60,7 +60,15 @@ impl Purse {
             then CreditFault.Overlap
             else CreditFault.Memory)) }
     {
-        add_one(&mut self.tree, &mut self.shares, share)
+        let index = match node_for(&mut self.tree, self.shares.as_slice(), &share) {
+            Ok(index) => index,
+            Err(fault) => return Err((share, fault)),
+        };
+        let Ok(()) = self.shares.reserve(1) else {
+            return Err((share, CreditFault::Memory));
+        };
+        add(&mut self.tree, &mut self.shares, share, index);
+        Ok(())
     }
 
     /// Enters two shares, or neither. Where one of them overlaps a share in the purse, or the other one,
@@ -190,34 +198,6 @@ fn node_for(tree: &mut Tree, shares: &[Share], share: &Share) -> Result<usize, C
     };
     tree.make(share.runs(), start)
         .map_err(|_| CreditFault::Memory)
-}
-
-/// Adds a share, or gives it back, and says why.
-fn add_one(
-    tree: &mut Tree,
-    shares: &mut Vec<Share>,
-    share: Share,
-) -> Result<(), (Share, CreditFault)>
-    requires linked { IsLinked tree.old }
-    requires known { IsKnown shares.old.items (progress_at tree.old) }
-    ensures linked { IsLinked tree.new }
-    ensures known { IsKnown shares.new.items (progress_at tree.new) }
-    ensures added { OnOk result (shares.new.items ≡ shares.old.items ++ share ∷ []) }
-    ensures unchanged { OnErr result (shares.new.items ≡ shares.old.items) }
-    ensures overlaps { IsTrue (list_any (overlaps share) shares.old.items) → IsErr result }
-    ensures returned { IfErr result (λ refusal. refusal.0 ≡ share) }
-    ensures fault { IfErr result (λ refusal.
-        refusal.1 ≡ (if list_any (overlaps share) shares.old.items then CreditFault.Overlap else CreditFault.Memory)) }
-{
-    let index = match node_for(tree, shares.as_slice(), &share) {
-        Ok(index) => index,
-        Err(fault) => return Err((share, fault)),
-    };
-    let Ok(()) = shares.reserve(1) else {
-        return Err((share, CreditFault::Memory));
-    };
-    add(tree, shares, share, index);
-    Ok(())
 }
 
 /// Adds two shares, or gives both back.
