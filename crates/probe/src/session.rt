@@ -139,8 +139,8 @@ impl Session {
     }
 }
 
-/// Prints the trace of closed recorders, or why there is none.
-fn print_trace<R: Print + AllocGlobal>(rt: &R, closed: Closed) -> Result<()> {
+/// Prints the trace of closed recorders behind a line `ok`, or why there is none.
+pub fn print_trace<R: Print + AllocGlobal>(rt: &R, closed: Closed) -> Result<()> {
     match gather(rt.alloc(), closed) {
         Ok(trace) => {
             println!(rt; "ok")?;
