@@ -71,7 +71,12 @@ fn recorded<L: Room + Send + Sync, R: Threads + Wait + Sync>(
         ledger,
         pool: &pool,
     };
-    all(rt, alloc, &shared, seat, plan)
+    let mut done = all(rt, alloc, &shared, seat, plan)?;
+    let mut recorders = Vec::new(alloc);
+    'done: while let Some(Done { recorder, .. }) = done.pop() {
+        recorders.push(recorder)?;
+    }
+    Ok(recorders)
 }
 
 /// What the threads share.
@@ -88,55 +93,50 @@ fn all<L: Room + Send + Sync, R: Threads + Wait + Sync>(
     shared: &Shared<L>,
     seat: Seat,
     plan: Plan,
-) -> Result<Vec<Recorder>>
+) -> Result<Vec<Done<L>>>
     requires seat { seat_id seat ≡ ledger_id shared.now.ledger.now }
     requires room { L.ledger ≡ ledger_id shared.now.ledger.now }
-    ensures { IfOk result (λ recorders. All (λ r. r.ledger ≡ L.ledger) recorders.items) }
 {
     let count = plan.end.saturating_sub(plan.first);
     if count <= 1 {
-        let recorder = Worker::new(alloc, shared, seat, plan)?.work(rt, plan.tasks)?;
-        return Ok(vec![in alloc; recorder]?);
+        let done = Worker::new(alloc, shared, seat, plan)?.work(rt, plan.tasks)?;
+        return Ok(vec![in alloc; done]?);
     }
-    let middle = plan.first + count / 2;
     let mut seat = seat;
     let other = shared.ledger.split(&mut seat);
+    let middle = plan.first + count / 2;
+    let first = Plan {
+        end: middle,
+        ..plan
+    };
+    let rest = Plan {
+        first: middle,
+        ..plan
+    };
     let (low, high) = join(
         rt,
-        || -> Result<Vec<Recorder>>
-            requires { IsSync R.row × (seat_id other ≡ ledger_id shared.now.ledger.now) }
-            ensures { IfOk result (λ rs. All (λ r. r.ledger ≡ L.ledger) rs.items) }
-        {
-            all(
-                rt,
-                alloc,
-                shared,
-                other,
-                Plan {
-                    end: middle,
-                    ..plan
-                },
-            )
-        },
-        || -> Result<Vec<Recorder>>
-            requires { IsSync R.row × (seat_id seat ≡ ledger_id shared.now.ledger.now) }
-            ensures { IfOk result (λ rs. All (λ r. r.ledger ≡ L.ledger) rs.items) }
-        {
-            all(
-                rt,
-                alloc,
-                shared,
-                seat,
-                Plan {
-                    first: middle,
-                    ..plan
-                },
-            )
-        },
+        || -> Result<Vec<Done<L>>>
+            requires sync { IsSync R.row }
+            requires seat { seat_id other ≡ ledger_id shared.now.ledger.now }
+            requires room { L.ledger ≡ ledger_id shared.now.ledger.now }
+        { all(rt, alloc, shared, other, first) },
+        || -> Result<Vec<Done<L>>>
+            requires sync { IsSync R.row }
+            requires seat { seat_id seat ≡ ledger_id shared.now.ledger.now }
+            requires room { L.ledger ≡ ledger_id shared.now.ledger.now }
+        { all(rt, alloc, shared, seat, rest) },
     );
     let mut recorders = low?;
     recorders.append(&mut high?)?;
     Ok(recorders)
+}
+
+/// A recorder of the room's ledger, whose thread is done.
+#[derive(Drop)]
+struct Done<L: Room> {
+    recorder: Recorder,
+    of: PhantomData<L>,
+    ghost of_the_room: { recorder.ledger ≡ L.ledger },
 }
 
 /// What a thread has to itself: its recorder, its initial task, which waits in a taskgroup for all that it creates, and
@@ -179,9 +179,7 @@ impl<'a, L: Room> Worker<'a, L> {
     }
 
     /// Creates tasks in a taskgroup, and takes up tasks until all are complete. The recorder is left.
-    fn work<R: Wait>(mut self, rt: &R, tasks: usize) -> Result<Recorder>
-        ensures { IfOk result (λ recorder. recorder.ledger ≡ L.ledger) }
-    {
+    fn work<R: Wait>(mut self, rt: &R, tasks: usize) -> Result<Done<L>> {
         self.begin(rt, tasks)?;
         self.take_up_all(rt, tasks)?;
         let Worker {
@@ -198,7 +196,10 @@ impl<'a, L: Room> Worker<'a, L> {
             None,
         )?;
         match recorder.ompt_callback_implicit_task_end(root, 0) {
-            Ok(()) => Ok(recorder),
+            Ok(()) => Ok(Done {
+                recorder,
+                of: PhantomData,
+            }),
             Err((_root, fault)) => bail!("{fault:?}"),
         }
     }
@@ -372,6 +373,7 @@ impl<'a, L: Room> Worker<'a, L> {
     /// One of the numbers below the bound.
     fn choice(&mut self, bound: u32) -> u32
         requires { 0 < bound }
+        ensures { result < bound }
     {
         let word: u32 = self.chance.next_word();
         word % bound
