@@ -1,7 +1,7 @@
 -- Where a search among the children of a node ends, and what a new link changes.
 use Rattle.std.proofs.Common.{◌≡◌, ◌≢◌, ℕ, zero, suc, ◌+◌, ◌-◌, ◌/◌, ◌<◌, ◌≤◌, true, false, List, [], ◌∷◌, ◌++◌, length, set, get_or, refl, sym, ◌∙◌, ap, subst, arith, length-append, ⊎_elim, inl, inr, ◌⊎◌}
-use Rattle.std.specs.Prelude.{Option, Some, None, Bool, ◌==◌, if◌then◌else◌}
-use Rattle.std.proofs.lemmas.Bool.{cases_Bool, cases_eq, cases_lt, and_parts, and_from, eqb-true, eq-eqb, cond-true, cond-false}
+use Rattle.std.specs.Prelude.{◌==◌}
+use Rattle.std.proofs.lemmas.Bool.{cases_Bool, cases_eq, cases_lt, and_from, eqb-true, eq-eqb, cond-true, cond-false}
 use Rattle.std.proofs.lemmas.Option.{unwrap_or-slice_get}
 use Rattle.std.proofs.lemmas.List.{length-set, get_or-set_same, get_or-set_other, get_or_append_left, get_or_push, get_or_past}
 use Rattle.credit.specs.declared.links.Link.{Link}
@@ -9,8 +9,8 @@ use Rattle.credit.specs.declared.links.Side.{Side}
 use Rattle.credit.specs.declared.links.Side.TheVariants.{First, Zero, One, Two, Three}
 use Rattle.credit.specs.declared.links.Spot.{Spot}
 use Rattle.credit.specs.declared.links.Spot.TheVariants.{Found, Missing}
-use Rattle.credit.specs.Links.{leaf_link, link_at, behind, with_link, is_link_of, side_of, spot_within, spot_of, found, IsRising}
-use Rattle.credit.proofs.KnownLemmas.{none_some, same_some}
+use Rattle.credit.specs.Links.{leaf_link, link_at, behind, with_link, is_link_of, side_of, spot_within, found, IsRising}
+use Rattle.credit.proofs.KnownLemmas.{none_some}
 
 -- a number for each side
 abbrev mark : Side → ℕ

@@ -9,7 +9,7 @@ use Rattle.credit.specs.declared.tree.Progress.{Progress}
 use Rattle.credit.specs.declared.tree.Node.{Node}
 use Rattle.credit.specs.declared.tree.Tree.{Tree}
 use Rattle.credit.specs.Links.{spot_of, found, IsRising}
-use Rattle.credit.specs.Trees.{no_progress, empty_node, node_at, child, place, progress_at, count_below, IsLinked, IsCounted}
+use Rattle.credit.specs.Trees.{empty_node, node_at, child, place, progress_at, IsLinked, IsCounted}
 use Rattle.credit.proofs.KnownLemmas.{none_some, same_some}
 use Rattle.credit.proofs.SettleLemmas.{same_path}
 use Rattle.credit.proofs.TreeLemmas.{place-child, progress_at-place, progress_at-none}

@@ -1,6 +1,6 @@
 -- The children of a node as a tree of links, in which a child is searched by the digits of its
 -- number, to the base 4.
-use Rattle.std.specs.Prelude.{◌≡◌, ◌<◌, ◌==◌, ◌&&◌, ◌/◌, ◌%◌, ℕ, zero, suc, Bool, List, length, if◌then◌else◌, Option, None, Some, unwrap_or, slice_get}
+use Rattle.std.specs.Prelude.{◌<◌, ◌==◌, ◌&&◌, ◌/◌, ◌%◌, ℕ, zero, suc, Bool, List, length, if◌then◌else◌, Option, None, Some, unwrap_or, slice_get}
 use Rattle.credit.specs.declared.links.Link.{Link}
 use Rattle.credit.specs.declared.links.Side.{Side}
 use Rattle.credit.specs.declared.links.Side.TheVariants.{First, Zero, One, Two, Three}

@@ -181,7 +181,7 @@ fn is_taken(tree: &Tree, shares: &[Share], share: &Share, index: usize) -> bool
 }
 
 /// The node of a share that overlaps none of the others, made where it is missing, and each one above it too.
-/// Where the share is refused, some may have been made.
+/// Where memory ran out, some of them may be there.
 fn node_for(tree: &mut Tree, shares: &[Share], share: &Share) -> Result<usize, CreditFault>
     requires linked { IsLinked tree.old }
     requires known { IsKnown shares.now (progress_at tree.old) }
@@ -200,7 +200,8 @@ fn node_for(tree: &mut Tree, shares: &[Share], share: &Share) -> Result<usize, C
         .map_err(|_| CreditFault::Memory)
 }
 
-/// Adds two shares, or gives both back.
+/// Adds two shares, or gives both back. The second one's place is looked for when the nodes of the first one
+/// are there, since they may be above it.
 fn add_both(
     tree: &mut Tree,
     shares: &mut Vec<Share>,

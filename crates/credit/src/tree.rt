@@ -48,7 +48,7 @@ pub(crate) struct Tree {
 }
 
 /// Where the nodes of a share begin to be missing: so many of its runs have theirs, and this one is the last.
-/// Where one is missing, the search for it ended at this side of a node.
+/// Where the next one is missing, the search for it ended at the node `at`, on this side of it.
 #[derive(Clone, Copy)]
 pub(crate) struct Start {
     pub depth: usize,
@@ -183,7 +183,8 @@ impl Tree {
         Some(latest)
     }
 
-    /// The node of these runs, made where it is missing, and each one above it too, from the start on.
+    /// The node of these runs, made where it is missing, and each one above it too, from the start on. It
+    /// searches nothing.
     pub fn make(&mut self, runs: &[u64], start: Start) -> Result<usize, AllocError>
         requires linked { IsLinked self.old }
         requires small { length (start_share runs.now) ≤ 2 ^ 48 }
@@ -248,8 +249,8 @@ impl Tree {
         let _ = self.links.push(Link::leaf(parent as u32, number));
     }
 
-    /// Adds the child of a node where a search for its number ended. It has no child yet, so a search for one
-    /// ends at its own first side.
+    /// Adds the child of a node where a search for its number ended, and gives its index. It has no child
+    /// itself, so a search for one ends at its first side.
     fn add_child(&mut self, index: usize, number: u64, at: usize, side: Side) -> usize
         requires linked { IsLinked self.old }
         requires within { index < length self.old.nodes.items }

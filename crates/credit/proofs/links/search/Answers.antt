@@ -1,4 +1,4 @@
-use Rattle.std.proofs.Common.{◌≡◌, ◌≢◌, ◌+◌, ◌-◌, ◌/◌, ℕ, true, false, length, sym, ◌∙◌, ap, arith}
+use Rattle.std.proofs.Common.{◌≡◌, ◌+◌, ◌-◌, ◌/◌, length, sym, ◌∙◌, ap, arith}
 use Rattle.credit.specs.declared.links.Link.{Link}
 use Rattle.credit.specs.Links.{behind, is_link_of, spot_within}
 use Rattle.credit.proofs.LinkLemmas.{search-missing, search-found, search-on}

@@ -1,4 +1,4 @@
-use Rattle.std.proofs.Common.{◌+◌, Some, arith, take, get_or, sym, ◌∙◌, ap}
+use Rattle.std.proofs.Common.{◌+◌, Some, arith, take, get_or, ◌∙◌, ap}
 use Rattle.std.specs.Prelude.{reverse}
 use Rattle.credit.specs.Links.{spot_of}
 use Rattle.credit.specs.Trees.{child}

@@ -1,4 +1,4 @@
-use Rattle.std.proofs.Common.{sym, ◌∙◌, ap, None, Some, get_or, arith}
+use Rattle.std.proofs.Common.{sym, ◌∙◌, ap, get_or, arith}
 use Rattle.credit.specs.declared.tree.Node.{Node}
 use Rattle.credit.specs.Links.{spot_of, found}
 use Rattle.credit.specs.Trees.{child, time_within}
