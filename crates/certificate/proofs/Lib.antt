@@ -4,6 +4,7 @@ mod MemberLemmas
 mod MeaningLemmas
 mod NumberLemmas
 mod RecordLemmas
+mod StepLemmas
 mod FileLemmas
 mod CountLemmas
 mod SoundLemmas

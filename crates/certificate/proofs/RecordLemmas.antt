@@ -137,7 +137,7 @@ schedule-ok version d st prior nx told short sh is read fits =
     rw (task_schedule-share version d st prior nx told is, found.0, found.1, same, within.1) refl
 
 -- no callback has the name
-bytes_eq-other : (a b : List ℕ) → a ≢ b → bytes_eq a b ≡ false
+pub bytes_eq-other : (a b : List ℕ) → a ≢ b → bytes_eq a b ≡ false
 bytes_eq-other a b other =
     elim (bytes_eq a b) as (λ t. (t ≡ true → a ≡ b) → t ≡ false) [
       | true ↦ λ is. absurd (other (is refl))

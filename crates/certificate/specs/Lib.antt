@@ -10,6 +10,7 @@ pub mod CallbackNames
 pub mod Members
 pub mod Meanings
 pub mod RecordLines
+pub mod StepLines
 pub mod Texts
 pub mod PlainData
 pub mod Unordered

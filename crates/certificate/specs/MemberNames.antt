@@ -81,3 +81,6 @@ root = codes "root"
 
 abbrev pub path : List ℕ
 path = codes "path"
+
+abbrev pub after : List ℕ
+after = codes "after"

@@ -18,6 +18,7 @@ mod members;
 mod memory;
 mod parts;
 mod reading;
+mod step_lines;
 mod streams;
 mod texts;
 mod unordered;

@@ -27,7 +27,7 @@ pub(crate) fn path(alloc: Global, value: &Element<'_, '_>, name: &str) -> Result
 }
 
 /// The whole numbers of a list.
-fn numbers(alloc: Global, item: &Element<'_, '_>) -> Result<Vec<u64>, ReadCause>
+pub(crate) fn numbers(alloc: Global, item: &Element<'_, '_>) -> Result<Vec<u64>, ReadCause>
     requires { HasValue item.now }
     ensures { IsSaid (result_map_both (λ v. v.items) (λ e. e) result) (ok_or
         (option_and_then (members.each members.whole_of) (as_array (meant_at item.now))) ReadCause.Field) }
@@ -66,8 +66,21 @@ pub(crate) fn deps(alloc: Global, value: &Element<'_, '_>, name: &str) -> Result
     requires { HasValue value.now }
     ensures { IsSaid result (bounded spec.deps_fit (members.deps name.now (meant_at value.now))) }
 {
+    few(dependences_of(alloc, value, name)?)
+}
+
+/// What a task depends on, however much it is.
+pub(crate) fn dependences_of(
+    alloc: Global,
+    value: &Element<'_, '_>,
+    name: &str,
+) -> Result<Vec<Dep>, ReadCause>
+    requires { HasValue value.now }
+    ensures { IsSaid (result_map_both (λ v. v.items) (λ e. e) result)
+        (ok_or (members.deps name.now (meant_at value.now)) ReadCause.Field) }
+{
     match member(value, name) {
-        Some(item) => few(dependences(alloc, &item)?),
+        Some(item) => dependences(alloc, &item),
         None => Err(ReadCause::Field),
     }
 }
