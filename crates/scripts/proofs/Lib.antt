@@ -1,0 +1,2 @@
+mod LifeLemmas
+mod ScriptLemmas

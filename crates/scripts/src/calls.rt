@@ -1,0 +1,61 @@
+//! What one call says of the tasks that it names.
+ghost use Rattle.std.specs.Prelude.{◌≡◌, length};
+ghost use Rattle.scripts.specs.Scripts.{is_call, finished, ended, fate, has_twice};
+
+use crate::lives::Life;
+use ompt_events::{Body, Part};
+
+/// Whether a recorder can be given the call: it makes no claim and tells no turns, which a recorder adds.
+pub(crate) fn is_call(body: &Body) -> bool
+    ensures { result ≡ is_call body.now }
+{
+    body.claim().is_none() && body.told_turns().is_none()
+}
+
+/// The task that the call finishes, but for one whose body alone it finishes.
+fn finished(body: &Body) -> Option<u64>
+    ensures { result ≡ finished body.now }
+{
+    match body {
+        Body::TaskSchedule { status, prior, .. } => match status.part() {
+            Some(Part::Whole | Part::Event) => Some(*prior),
+            Some(Part::Body) | None => None,
+        },
+        _ => body.discarded(),
+    }
+}
+
+/// The task that the call ends.
+fn ended(body: &Body) -> Option<u64>
+    ensures { result ≡ ended body.now }
+{
+    match body.ended_root() {
+        Some(task) => Some(task),
+        None => finished(body),
+    }
+}
+
+/// The task of which something becomes by the call, and what.
+pub(crate) fn fate(body: &Body) -> Option<(u64, Life)>
+    ensures { result ≡ fate body.now }
+{
+    match body.made() {
+        Some(task) => Some((task, Life::Live)),
+        None => match ended(body) {
+            Some(task) => Some((task, Life::Over)),
+            None => None,
+        },
+    }
+}
+
+/// Whether a task is named twice.
+pub(crate) fn has_twice(tasks: &[u64]) -> bool
+    ensures { result ≡ has_twice tasks.now }
+{
+    for at in 0..tasks.len() {
+        if tasks[at + 1..].contains(&tasks[at]) {
+            return true;
+        }
+    }
+    false
+}

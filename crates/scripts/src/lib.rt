@@ -1,0 +1,16 @@
+//! A script: calls of the OMPT interface that recorders are to be given, each on a thread of the script.
+//!
+//! This crate says which calls may stand where in a script, and keeps scripts that comply. Read `script`,
+//! then `specs/Scripts.antt`, which has the rules; `calls` says what becomes of a task by one call, `lives`
+//! keeps what has become of each task, and `tally` counts the steps of each thread and the tasks.
+#![tactic(auto)]
+
+mod calls;
+mod fault;
+mod lives;
+mod script;
+mod tally;
+
+pub use fault::ScriptFault;
+pub use lives::Life;
+pub use script::{Script, Step};

@@ -1,0 +1,126 @@
+//! A script and its steps.
+ghost use Rattle.std.specs.Prelude.{◌≡◌, ◌+◌, ◌++◌, ◌∷◌, [], length, false, true, IfErr, IsErr, OnOk, OnErr};
+ghost use Rattle.scripts.specs.Scripts.{may_follow, is_full, fault_of, step_of, IsScript};
+
+use crate::calls::{has_twice, is_call};
+use crate::fault::ScriptFault;
+use crate::lives::{Life, all_may_be_named, note};
+use crate::tally::Tally;
+use ompt_events::{Body, MAX_RECORDS, MAX_TASKS};
+use std::alloc::Global;
+use std::collections::BTreeMap;
+use std::marker::Model;
+
+/// One call of a script.
+#[derive(Debug, Drop)]
+pub struct Step {
+    /// The line on which the call stands; the header is line 1.
+    pub line: u32,
+    /// The thread that makes the call.
+    pub thread: u8,
+    /// A step that is taken before this one: its thread, and how many steps that thread has before it.
+    pub after: Option<(u8, u32)>,
+    /// The call, which makes no claim and tells no turns.
+    pub body: Body,
+}
+
+/// Calls in the order of their lines, each of which may follow those before it.
+#[derive(Drop)]
+pub struct Script {
+    steps: Vec<Step>,
+    lives: BTreeMap<u64, Life>,
+    tally: Tally,
+}
+
+impl Model for Script {
+    ghost use Rattle.std.specs.Prelude.{List};
+    ghost use Rattle.scripts.specs.declared.script.Step.{Step};
+    ghost use Rattle.scripts.specs.Keeping.{IsKept};
+
+    ghost Value = { List Step };
+
+    ghost view = { λ script. script.steps.items };
+
+    ghost invariant = { λ script. IsKept script.steps.items script.lives script.tally };
+}
+
+impl Script {
+    /// A script without a step. Takes no memory.
+    pub fn new(alloc: Global) -> Script
+        ensures { result ≡ [] }
+    {
+        Script {
+            steps: Vec::new(alloc),
+            lives: BTreeMap::new(alloc),
+            tally: Tally::new(),
+        }
+    }
+
+    /// The steps. Takes no memory.
+    pub fn steps(&self) -> &[Step]
+        ensures value { result.now ≡ self.now }
+        ensures is_script { IsScript result.now }
+    {
+        self.steps.as_slice()
+    }
+
+    /// Whether a call may follow the steps. Takes no memory.
+    pub fn may_follow(&self, after: Option<(u8, u32)>, body: &Body) -> bool
+        ensures { result ≡ may_follow self.now after body.now }
+    {
+        let named = body.named();
+        let tasks = named.as_slice();
+        is_call(body)
+            && self.tally.has(after)
+            && !has_twice(tasks)
+            && all_may_be_named(&self.lives, body.made(), tasks)
+    }
+
+    /// Adds a call of the thread, on the next line. A call that is refused comes back, and the script is as
+    /// it was.
+    pub fn add(
+        &mut self,
+        thread: u8,
+        after: Option<(u8, u32)>,
+        body: Body,
+    ) -> Result<(), (Body, ScriptFault)>
+        ensures added { OnOk result (self.new ≡ self.old ++ step_of self.old thread after body ∷ []) }
+        ensures unchanged { OnErr result (self.new ≡ self.old) }
+        ensures returned { IfErr result (λ refusal. refusal.0 ≡ body) }
+        ensures misplaced { may_follow self.old after body ≡ false → IsErr result }
+        ensures full { is_full self.old body ≡ true → IsErr result }
+        ensures fault { IfErr result (λ refusal. refusal.1 ≡ fault_of self.old after body) }
+    {
+        if !self.may_follow(after, &body) {
+            return Err((body, ScriptFault::Misplaced));
+        }
+        if self.is_full(&body) {
+            return Err((body, ScriptFault::Full));
+        }
+        if self.steps.reserve(1).is_err() {
+            return Err((body, ScriptFault::Memory));
+        }
+        if note(&mut self.lives, &body).is_err() {
+            return Err((body, ScriptFault::Memory));
+        }
+        let step = Step {
+            line: self.steps.len() as u32 + 2,
+            thread,
+            after,
+            body,
+        };
+        self.tally.count(&step);
+        self.steps.push_reserved(step);
+        Ok(())
+    }
+
+    /// Whether the script has as many steps as it may, or tasks where the call makes one.
+    fn is_full(&self, body: &Body) -> bool
+        ensures { result ≡ is_full self.now body.now }
+    {
+        if self.steps.len() >= MAX_RECORDS {
+            return true;
+        }
+        body.made().is_some() && self.tally.tasks() as usize >= MAX_TASKS
+    }
+}
