@@ -1,2 +1,3 @@
 mod LifeLemmas
 mod ScriptLemmas
+mod TallyLemmas

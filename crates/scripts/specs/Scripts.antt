@@ -76,11 +76,14 @@ may_be_named true None = true
 may_be_named false (Some Live) = true
 may_be_named _ _ = false
 
--- whether a call may follow the steps: its `after` names one of them, it names no task twice, and it may
--- name each
-abbrev pub may_follow : List Step → Option (ℕ × ℕ) → Body → Bool
-may_follow steps after body = is_call body && is_earlier steps after && not (has_twice (named body))
+-- whether a call that may follow the steps names no task twice, and may name each
+abbrev pub may_name : List Step → Body → Bool
+may_name steps body = is_call body && not (has_twice (named body))
     && list_all (λ task. may_be_named (is_made (made body) task) (life steps task)) (named body)
+
+-- whether a call may follow the steps: its `after` names one of them, and it may name its tasks
+abbrev pub may_follow : List Step → Option (ℕ × ℕ) → Body → Bool
+may_follow steps after body = may_name steps body && is_earlier steps after
 
 -- the steps are a script
 pub record IsScript (steps : List Step) : Type 0 where

@@ -1,6 +1,6 @@
 //! A script and its steps.
-ghost use Rattle.std.specs.Prelude.{◌≡◌, ◌+◌, ◌++◌, ◌∷◌, [], length, false, true, IfErr, IsErr, OnOk, OnErr};
-ghost use Rattle.scripts.specs.Scripts.{may_follow, is_full, fault_of, step_of, IsScript};
+ghost use Rattle.std.specs.Prelude.{◌≡◌, ◌+◌, ◌++◌, ◌∷◌, [], length, false, true, IfErr, IfSome, IsErr, OnOk, OnErr, is_some};
+ghost use Rattle.scripts.specs.Scripts.{may_follow, may_name, is_full, fault_of, step_of, IsScript};
 
 use crate::calls::{has_twice, is_call};
 use crate::fault::ScriptFault;
@@ -65,15 +65,10 @@ impl Script {
     }
 
     /// Whether a call may follow the steps. Takes no memory.
-    pub fn may_follow(&self, after: Option<(u8, u32)>, body: &Body) -> bool
+    pub fn may_follow(&self, after: Option<(u64, u64)>, body: &Body) -> bool
         ensures { result ≡ may_follow self.now after body.now }
     {
-        let named = body.named();
-        let tasks = named.as_slice();
-        is_call(body)
-            && self.tally.has(after)
-            && !has_twice(tasks)
-            && all_may_be_named(&self.lives, body.made(), tasks)
+        self.place_of(after, body).is_some()
     }
 
     /// Adds a call of the thread, on the next line. A call that is refused comes back, and the script is as
@@ -81,7 +76,7 @@ impl Script {
     pub fn add(
         &mut self,
         thread: u8,
-        after: Option<(u8, u32)>,
+        after: Option<(u64, u64)>,
         body: Body,
     ) -> Result<(), (Body, ScriptFault)>
         ensures added { OnOk result (self.new ≡ self.old ++ step_of self.old thread after body ∷ []) }
@@ -91,9 +86,9 @@ impl Script {
         ensures full { is_full self.old body ≡ true → IsErr result }
         ensures fault { IfErr result (λ refusal. refusal.1 ≡ fault_of self.old after body) }
     {
-        if !self.may_follow(after, &body) {
+        let Some(after) = self.place_of(after, &body) else {
             return Err((body, ScriptFault::Misplaced));
-        }
+        };
         if self.is_full(&body) {
             return Err((body, ScriptFault::Full));
         }
@@ -112,6 +107,27 @@ impl Script {
         self.tally.count(&step);
         self.steps.push_reserved(step);
         Ok(())
+    }
+
+    /// The step that is taken before a call, if one is named, where the call may follow the steps.
+    fn place_of(&self, after: Option<(u64, u64)>, body: &Body) -> Option<Option<(u8, u32)>>
+        ensures may { is_some result ≡ may_follow self.now after body.now }
+        ensures same { IfSome result (λ found. found ≡ after) }
+    {
+        if self.may_name(body) {
+            self.tally.find(after)
+        } else {
+            None
+        }
+    }
+
+    /// Whether a call names no task twice, and may name each after the steps.
+    fn may_name(&self, body: &Body) -> bool
+        ensures { result ≡ may_name self.now body.now }
+    {
+        let named = body.named();
+        let tasks = named.as_slice();
+        is_call(body) && !has_twice(tasks) && all_may_be_named(&self.lives, body.made(), tasks)
     }
 
     /// Whether the script has as many steps as it may, or tasks where the call makes one.

@@ -2,8 +2,7 @@
 ghost use Rattle.std.specs.Prelude.{◌≡◌, ◌<◌, List, ◌++◌, ◌∷◌, [], get_or};
 ghost use Rattle.ompt_events.specs.Limits.{max_records};
 ghost use Rattle.scripts.specs.declared.script.Step.{Step};
-ghost use Rattle.scripts.specs.Scripts.{is_earlier};
-ghost use Rattle.scripts.specs.Keeping.{IsTally};
+ghost use Rattle.scripts.specs.Keeping.{IsTally, IsFound};
 
 use crate::script::Step;
 
@@ -32,15 +31,24 @@ impl Tally {
         self.tasks
     }
 
-    /// Whether there is the step that is named by its thread and its number there.
-    pub(crate) fn has(&self, named: Option<(u8, u32)>) -> bool
-        ensures { (steps : List Step) → IsTally steps self.now → result ≡ is_earlier steps named }
+    /// The step that is named by its thread and its number there, if there is such a step; where none is named,
+    /// that none is.
+    pub(crate) fn find(&self, named: Option<(u64, u64)>) -> Option<Option<(u8, u32)>>
+        ensures { (steps : List Step) → IsTally steps self.now → IsFound steps named result }
     {
-        match named {
-            Some((thread, number)) => number < self.steps[usize::from(thread)],
-            None => true,
+        let Some((thread, number)) = named else {
+            return Some(None);
+        };
+        let Ok(thread) = u8::try_from(thread) else {
+            return None;
+        };
+        if number < u64::from(self.steps[usize::from(thread)]) {
+            Some(Some((thread, number as u32)))
+        } else {
+            None
         }
     }
+
     /// Counts one more step.
     pub(crate) fn count(&mut self, step: &Step)
         requires steps { get_or self.old.steps step.now.thread 0 < max_records }
@@ -49,6 +57,8 @@ impl Tally {
             → IsTally (steps ++ step.now ∷ []) self.new }
     {
         self.steps[usize::from(step.thread)] += 1;
-        self.tasks += u32::from(step.body.made().is_some());
+        if step.body.made().is_some() {
+            self.tasks += 1;
+        }
     }
 }

@@ -1,4 +1,5 @@
 use Rattle.std.proofs.Common.{◌≡◌, ◌∙◌, ◌++◌, ◌∷◌, [], List, sym, ap, true, false, rules, arith}
+use Rattle.std.specs.Prelude.{is_some}
 use Rattle.scripts.specs.declared.script.Step.{Step}
 use Rattle.scripts.specs.Scripts.{may_follow, is_full, step_of}
 use Rattle.scripts.proofs.ScriptLemmas.{IsScript-more, AreLives-more}
@@ -10,7 +11,7 @@ invariant_of-self-2 c =
     let body = c.args.body in
     let s : Step = step_of steps c.args.thread c.args.after body in
     let view : c.args.self.now ≡ steps = sym c.self.view_is in
-    let follows : may_follow steps c.args.after body ≡ true = ap (λ (xs : List Step). may_follow xs c.args.after body) (sym view) ∙ sym c.may_follow.ensures ∙ c.if-not-may_follow.false in
+    let follows : may_follow steps c.args.after body ≡ true = ap (λ (xs : List Step). may_follow xs c.args.after body) (sym view) ∙ sym c.place_of.ensures.may ∙ ap is_some c.in-Some.is in
     let room : is_full steps body ≡ false = ap (λ (xs : List Step). is_full xs body) (sym view) ∙ sym c.is_full.ensures ∙ c.if-is_full.false in
     let grown : c.push_reserved.new.self.items ≡ steps ++ s ∷ [] = search rules in
     rw grown (record {

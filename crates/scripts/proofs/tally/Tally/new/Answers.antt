@@ -6,5 +6,6 @@ pub returns : goal.returns
 returns c = record {
   threads = length-replicate {A = ℕ} 256 0;
   counted = λ thread below. get_or-replicate 256 thread 0 0 below;
+  beyond = λ _ _. refl;
   tasks = refl;
 }
