@@ -13,6 +13,16 @@ returns-in_default-clause-file g c =
     IsAnswerTo-from c.args.newest (g.S.Source.remaining c.args.source.now) (Err (fault_in 1 Memory)) (g.S.Source.remaining c.args.source.now)
     (IsAnswerIn-no_window (traces c.args.newest) (g.S.Source.remaining c.args.source.now))
 
+pub returns-in-Ok-false-clause-file : goal.returns-in-Ok-false-clause-file
+returns-in-Ok-false-clause-file g c =
+    rw c.into_trace.ensures (IsAnswerTo-from c.args.newest (g.S.Source.remaining c.args.source.now) (Ok c.read_line.new.kept) (g.S.Source.remaining c.read_line.new.source)
+    (rw c.in-Ok-false.field-0-test at (c.in-Ok-false.ensures.after (g.S.Source.remaining c.args.source.now) c.lines.invariant.between)))
+
+pub returns-in-Err-clause-file : goal.returns-in-Err-clause-file
+returns-in-Err-clause-file g c =
+    IsAnswerTo-from c.args.newest (g.S.Source.remaining c.args.source.now) (Err (fault_in c.lines.line c.in-Err.cause)) (g.S.Source.remaining c.read_line.new.source)
+    (c.in-Err.ensures.after (g.S.Source.remaining c.args.source.now) c.lines.invariant.between)
+
 pub returns-in_default-clause-turns : goal.returns-in_default-clause-turns
 returns-in_default-clause-turns g c = (0, TakesTurns-other (Some Memory) _ _ _ _ (λ same. cc) (TakesTurns-none 0 _ (omega arith)))
 
