@@ -13,10 +13,12 @@ use Rattle.certificate.specs.declared.faults.ReadCause.{ReadCause}
 use Rattle.certificate.specs.declared.faults.ReadCause.TheVariants.{LineTooLong, Unended, Header, Limit}
 use Rattle.certificate.specs.declared.faults.ReadFault.{ReadFault}
 use Rattle.certificate.specs.RecordLines.{line_says, header_says}
-use Rattle.certificate.specs.Formats.{cut, rest_says, is_long, line_adds, end_adds, from_line, go_on, fault_in, line_feeds}
+use Rattle.certificate.specs.Formats.{cut, is_long, line_adds, end_adds, from_line, go_on, fault_in}
 use Rattle.certificate.specs.Files.{has_room, no_trace, with_record, with_header, text_adds, traces, fault_of, file_says_to, trace_said, records_of, version_of, cause_in, trace_of, StandsFor, IsFaultlessBefore, IsFirstFault}
+use Rattle.certificate.specs.Reading.{IsReached}
 use Rattle.certificate.proofs.RecordLemmas.{ok_not_err}
-use Rattle.certificate.proofs.FileLemmas.{line_feeds-lines, said_later}
+use Rattle.certificate.proofs.FileLemmas.{line_feeds-lines}
+use Rattle.certificate.proofs.ReadingLemmas.{IsReached-within, IsReached-later}
 
 -- what is said from place k on
 abbrev Walked : ℕ → List (List ℕ) → List ℕ → ℕ → Result TraceView ReadFault → Type 0
@@ -207,9 +209,9 @@ said_of_first newest bytes f fault = first_said newest bytes f fault
 
 -- ---- lines that were read before have no fault
 
-pub faultless-before : (newest : ℕ) (bytes : List ℕ) (n : ℕ) (kept : TraceView) (more : List ℕ) → trace_said newest bytes ≡ rest_says (traces newest) n kept more → n ≤ line_feeds bytes + 1 → IsFaultlessBefore newest n bytes
-faultless-before newest bytes n kept more is within = by_said (trace_said newest bytes) refl
+pub faultless-before : (newest n : ℕ) (bytes : List ℕ) → IsReached (traces newest) n bytes → IsFaultlessBefore newest n bytes
+faultless-before newest n bytes reached = by_said (trace_said newest bytes) refl
   where
     by_said : (said : Result TraceView ReadFault) → trace_said newest bytes ≡ said → IsFaultlessBefore newest n bytes
-    by_said (Ok rs) e = λ k below. (said_stands newest bytes rs e).no_fault k (omega (arith, below, within, line_feeds-lines bytes))
-    by_said (Err f) e = λ k below. (said_first newest bytes f e).earlier k (omega (arith, below, said_later (traces newest) n kept (cut more).lines (cut more).rest f (sym is ∙ e)))
+    by_said (Ok rs) e = λ k below. (said_stands newest bytes rs e).no_fault k (omega (arith, below, IsReached-within (traces newest) n bytes reached, line_feeds-lines bytes))
+    by_said (Err f) e = λ k below. (said_first newest bytes f e).earlier k (omega (arith, below, IsReached-later (traces newest) n bytes f reached e))

@@ -1,17 +1,18 @@
 -- How the state of a reader goes from line to line, whatever the format of the lines.
-use Rattle.std.proofs.Common.{Bool, ◌≡◌, ◌≢◌, ℕ, ◌+◌, ◌*◌, ◌-◌, ◌<◌, ◌≤◌, ◌⊎◌, List, [], ◌∷◌, ◌++◌, length, take, drop, get_or, Option, Some, None, Result, Ok, Err, true, false, cond, arith, refl, sym, ap, ◌∙◌, subst, inl, inr, eq-eqb, append_assoc, append-nil, zero-add, length-append, length-take}
+use Rattle.std.proofs.Common.{◌≡◌, ◌≢◌, ℕ, ◌+◌, ◌*◌, ◌<◌, ◌≤◌, List, [], ◌∷◌, ◌++◌, length, take, drop, get_or, Option, Some, None, Result, Ok, Err, true, false, cond, arith, refl, sym, ap, ◌∙◌, subst, inl, inr, eq-eqb, append_assoc, append-nil, zero-add, length-take}
 use Rattle.std.specs.Prelude.{nat_lt, ◌==◌, IfSome}
 use Rattle.std.specs.Io.KnownBytes.{Keeps, IsAtEnd, prepend_known}
 use Rattle.certificate.specs.declared.faults.ReadCause.{ReadCause}
+use Rattle.certificate.specs.declared.faults.ReadFault.{ReadFault}
 use Rattle.certificate.specs.declared.faults.ReadCause.TheVariants.{Device, Memory, Header, LineTooLong, NotJson, Field, Limit, Unended, TurnsSpent}
 use Rattle.std.proofs.lemmas.List.{take-append-drop}
 use Rattle.std.proofs.lemmas.List.Sums.{sum_by-append, sum_by-cons}
 use Rattle.certificate.specs.Limits.{max_line}
 use Rattle.certificate.specs.Windows.{LineFeedAt, ShowsFault, ShowsLine}
-use Rattle.certificate.specs.Formats.{Format, said, rest_says, go_on, fault_in, is_long, line_feeds}
+use Rattle.certificate.specs.Formats.{Format, cut, said, rest_says, go_on, fault_in, is_long, line_feeds}
 use Rattle.certificate.specs.Counts.{breaks_told}
 use Rattle.certificate.specs.Reading.{IsLineAfterGiven, IsFromLine, IsLineBeingRead, IsReached, IsToldIn, IsAnswerIn, IsBetween, IsTextCause, IsOfText, HasTextCauses}
-use Rattle.certificate.proofs.FileLemmas.{IsUnbroken, unbroken-before, unbroken-all, unbroken-front, window-parts, rest_says-line, rest_says-end, rest_says-long}
+use Rattle.certificate.proofs.FileLemmas.{IsUnbroken, unbroken-before, unbroken-all, unbroken-front, window-parts, rest_says-line, rest_says-end, rest_says-long, said_later}
 
 -- ---- line feeds
 
@@ -49,8 +50,15 @@ from_next n bytes line rest all from =
     }
 
 -- so many line feeds are left
-pub from_feeds : (n : ℕ) (bytes rest : List ℕ) → IsFromLine n bytes rest → n + line_feeds rest ≡ line_feeds bytes + 1
+from_feeds : (n : ℕ) (bytes rest : List ℕ) → IsFromLine n bytes rest → n + line_feeds rest ≡ line_feeds bytes + 1
 from_feeds n bytes rest from = omega (arith, ap line_feeds from.parts, line_feeds-append from.before rest, from.lines.count)
+
+-- a line that is reached is one of the file, and no line before it has a fault
+pub IsReached-within : {X : Type 0} (format : Format X) (n : ℕ) (bytes : List ℕ) → IsReached format n bytes → n ≤ line_feeds bytes + 1
+IsReached-within format n bytes reached = omega (arith, from_feeds n bytes reached.rest reached.begins)
+
+pub IsReached-later : {X : Type 0} (format : Format X) (n : ℕ) (bytes : List ℕ) (f : ReadFault) → IsReached format n bytes → said format bytes ≡ Err f → n ≤ f.line
+IsReached-later format n bytes f reached e = said_later format n reached.before (cut reached.rest).lines (cut reached.rest).rest f (sym reached.says ∙ e)
 
 pub IsBetween-start : {X : Type 0} (format : Format X) (known : Option (List ℕ)) → IsBetween format known 1 format.first [] known
 IsBetween-start format None = tt
@@ -124,8 +132,7 @@ pub IsAfter-device : {X : Type 0} (format : Format X) (known : Option (List ℕ)
 IsAfter-device format None n kept w left none now = tt
 IsAfter-device format (Some bytes) n kept w None none now = absurd now
 IsAfter-device format (Some bytes) n kept w (Some l) none now =
-    let left = from_feeds n bytes (w ++ l) now.1 in
-    (
+    let left = from_feeds n bytes (w ++ l) now.1 in (
       omega (arith, left, line_feeds-append w l, line_feeds-unbroken w (unbroken-all w none)),
       record { before = kept; rest = w ++ l; begins = now.1; says = now.0 },
     )

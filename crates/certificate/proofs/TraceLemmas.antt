@@ -1,6 +1,6 @@
 -- What holds of the lines of a trace file, for a reader that goes from line to line.
 use Rattle.std.proofs.Common.{Bool, ◌≡◌, ◌≢◌, ℕ, ◌+◌, ◌-◌, ◌<◌, ◌≤◌, ◌⊎◌, ◌&&◌, List, [], ◌∷◌, ◌++◌, length, Option, Some, None, Result, Ok, Err, true, false, cond, arith, refl, sym, ap, ◌∙◌, subst, inl, inr, eqb-true, eq-eqb, length-append}
-use Rattle.std.specs.Prelude.{nat_lt, nat_le, ◌==◌, IfSome, ok_or, option_and_then}
+use Rattle.std.specs.Prelude.{nat_le, ◌==◌, IfSome, ok_or, option_and_then}
 use Rattle.ompt_events.specs.declared.records.Record.{Record}
 use Rattle.ompt_events.specs.Traces.{TraceView}
 use Rattle.ompt_events.specs.Limits.{max_records}
@@ -9,14 +9,13 @@ use Rattle.certificate.specs.declared.faults.ReadCause.{ReadCause}
 use Rattle.certificate.specs.declared.faults.ReadCause.TheVariants.{Device, Memory, Header, LineTooLong, NotJson, Field, Limit, Unended, TurnsSpent}
 use Rattle.certificate.specs.declared.faults.ReadFault.{ReadFault}
 use Rattle.certificate.specs.RecordLines.{line_says, header_says, said_of, value_of, names_format, version_read, version_in, bounded, record_fits, unbounded}
-use Rattle.certificate.specs.Files.{file_says_to, IsFaultlessBefore, text_adds, traces, with_record, with_header, has_room}
+use Rattle.certificate.specs.Files.{file_says_to, text_adds, traces, with_record, with_header, has_room}
 use Rattle.std.proofs.lemmas.Bool.{ltb-true, leb-true, cases_lt}
 use Rattle.std.proofs.lemmas.Option.{none-some, option_and_then_some}
 use Rattle.certificate.specs.Members.{whole}
 use Rattle.certificate.specs.MemberNames as member
-use Rattle.certificate.specs.Reading.{IsReached, IsToldIn, IsToldRightlyTo, IsAnswerIn, IsAnswerTo, Grows, IsTextCause, HasTextCauses}
+use Rattle.certificate.specs.Reading.{IsToldIn, IsToldRightlyTo, IsAnswerIn, IsAnswerTo, Grows, IsTextCause, HasTextCauses}
 use Rattle.certificate.proofs.LawLemmas.{faultless-before}
-use Rattle.certificate.proofs.ReadingLemmas.{from_feeds}
 use Rattle.certificate.proofs.RecordLemmas.{ok_not_err, both-first, both-second}
 
 -- ---- causes
@@ -54,21 +53,17 @@ traces-text_causes newest n before line e h =
 
 -- ---- what is told of a trace file
 
-IsFaultlessBefore-from : (newest n : ℕ) (bytes : List ℕ) → IsReached (traces newest) n bytes → IsFaultlessBefore newest n bytes
-IsFaultlessBefore-from newest n bytes reached =
-    faultless-before newest bytes n reached.before reached.rest reached.says (omega (arith, from_feeds n bytes reached.rest reached.begins))
-
 pub IsToldRightlyTo-from : (newest : ℕ) (e : ReadCause) (n : ℕ) (bytes : List ℕ) (left : Option (List ℕ)) → IsToldIn (traces newest) e n bytes left → IsToldRightlyTo newest e n bytes left
 unfolding file_says_to
-IsToldRightlyTo-from newest Device n bytes left told = (told.0, IsFaultlessBefore-from newest n bytes told.1)
-IsToldRightlyTo-from newest Memory n bytes left told = (told.0, IsFaultlessBefore-from newest n bytes told.1)
+IsToldRightlyTo-from newest Device n bytes left told = (told.0, faultless-before newest n bytes told.1)
+IsToldRightlyTo-from newest Memory n bytes left told = (told.0, faultless-before newest n bytes told.1)
 IsToldRightlyTo-from newest Header n bytes left told = told
 IsToldRightlyTo-from newest LineTooLong n bytes left told = told
 IsToldRightlyTo-from newest NotJson n bytes left told = told
 IsToldRightlyTo-from newest Field n bytes left told = told
 IsToldRightlyTo-from newest Limit n bytes left told = told
 IsToldRightlyTo-from newest Unended n bytes left told = told
-IsToldRightlyTo-from newest TurnsSpent n bytes left told = (told.0, IsFaultlessBefore-from newest n bytes told.1)
+IsToldRightlyTo-from newest TurnsSpent n bytes left told = (told.0, faultless-before newest n bytes told.1)
 
 pub IsAnswerTo-from : (newest : ℕ) (known : Option (List ℕ)) (answer : Result TraceView ReadFault) (left : Option (List ℕ)) → IfSome known (λ bytes. IsAnswerIn (traces newest) answer bytes left) → IfSome known (λ bytes. IsAnswerTo newest answer bytes left)
 unfolding file_says_to

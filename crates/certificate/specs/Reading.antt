@@ -41,8 +41,8 @@ IsLineBeingRead n bytes (Some left) = IsBeingRead n bytes left
 
 -- ---- what is told of a file of any format
 
--- so far no line before the one of number n has a fault: of the file is said what is said from that line on,
--- after what the lines before it stand for
+-- no line before the one of number n has a fault: the file stands for what its bytes from that line on stand
+-- for, behind what the lines before it stand for
 pub record IsReached {X : Type 0} (format : Format X) (n : ℕ) (bytes : List ℕ) : Type 0 where
   pub before : X
   pub rest : List ℕ
