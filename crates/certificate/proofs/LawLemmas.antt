@@ -7,15 +7,18 @@ use Rattle.std.proofs.Math.Seq.{take-append_seam}
 use Rattle.std.proofs.lemmas.Bool.{cases_lt}
 use Rattle.std.proofs.lemmas.Option.{slice_get_past}
 use Rattle.std.proofs.lemmas.List.Elements.{filter_map-append}
-use Rattle.std.proofs.lemmas.List.Sums.{sum_by-cons}
 use Rattle.ompt_events.specs.declared.records.Record.{Record}
 use Rattle.ompt_events.specs.Traces.{TraceView}
 use Rattle.certificate.specs.declared.faults.ReadCause.{ReadCause}
 use Rattle.certificate.specs.declared.faults.ReadCause.TheVariants.{LineTooLong, Unended, Header, Limit}
 use Rattle.certificate.specs.declared.faults.ReadFault.{ReadFault}
 use Rattle.certificate.specs.RecordLines.{line_says, header_says}
-use Rattle.certificate.specs.Files.{cut, with_byte, rest_says, is_long, has_room, no_trace, with_record, with_header, text_adds, line_adds, end_adds, from_line, go_on, fault_in, fault_of, file_says_to, trace_said, records_of, version_of, cause_in, line_feeds, trace_of, StandsFor, IsFaultlessBefore, IsFirstFault}
+use Rattle.certificate.specs.Formats.{cut, is_long, line_adds, end_adds, from_line, go_on, fault_in}
+use Rattle.certificate.specs.Files.{has_room, no_trace, with_record, with_header, text_adds, traces, fault_of, file_says_to, trace_said, records_of, version_of, cause_in, trace_of, StandsFor, IsFaultlessBefore, IsFirstFault}
+use Rattle.certificate.specs.Reading.{IsReached}
 use Rattle.certificate.proofs.RecordLemmas.{ok_not_err}
+use Rattle.certificate.proofs.FileLemmas.{line_feeds-lines}
+use Rattle.certificate.proofs.ReadingLemmas.{IsReached-within, IsReached-later}
 
 -- what is said from place k on
 abbrev Walked : ℕ → List (List ℕ) → List ℕ → ℕ → Result TraceView ReadFault → Type 0
@@ -65,7 +68,7 @@ end_adds-ok n before rs rest h =
     ] h
 
 -- the records of the lines so far, and of one more
-records_of-more : (newest : ℕ) (done : List (List ℕ)) (before after : TraceView) (line : List ℕ) → before ≡ trace_of newest done → line_adds newest (length done + 1) before line ≡ Ok after → after ≡ trace_of newest (done ++ (line ∷ []))
+records_of-more : (newest : ℕ) (done : List (List ℕ)) (before after : TraceView) (line : List ℕ) → before ≡ trace_of newest done → line_adds (traces newest) (length done + 1) before line ≡ Ok after → after ≡ trace_of newest (done ++ (line ∷ []))
 records_of-more newest done before after line is h =
     elim (is_long line) as (λ b. cond b (Err LineTooLong) (text_adds newest (length done + 1) before line) ≡ Ok after → after ≡ trace_of newest (done ++ (line ∷ []))) [
       | true ↦ λ e. absurd (ok_not_err after LineTooLong (sym e))
@@ -97,7 +100,7 @@ records_of-more newest done before after line is h =
         ∙ ap (λ (rs : List Record). let grown : TraceView = record { version = version; records = rs } in grown) (sym (filter_map-append (λ l. result_ok (line_says version l)) done (line ∷ [])))
 
 -- the walk goes over each line once
-walk : (newest : ℕ) (all : List (List ℕ)) (rest : List ℕ) (lines done : List (List ℕ)) (before : TraceView) → all ≡ done ++ lines → before ≡ trace_of newest done → Walked newest all rest (length done) (from_line newest (length done + 1) before lines rest)
+walk : (newest : ℕ) (all : List (List ℕ)) (rest : List ℕ) (lines done : List (List ℕ)) (before : TraceView) → all ≡ done ++ lines → before ≡ trace_of newest done → Walked newest all rest (length done) (from_line (traces newest) (length done + 1) before lines rest)
 unfolding from_line
 walk newest all rest [] done before whole is = by_end (end_adds (length done + 1) before rest) refl
   where
@@ -119,12 +122,12 @@ walk newest all rest [] done before whole is = by_end (end_adds (length done + 1
     )
     by_end (Err cause) e = Walked-fault newest all rest (length done) cause (omega (arith, ap length same)) (at ∙ ap result_err e)
 walk newest all rest (line ∷ lines) done before whole is =
-    by_line (line_adds newest (length done + 1) before line) refl (λ after e. walk newest all rest lines (done ++ (line ∷ [])) after (whole ∙ sym (append_assoc done (line ∷ []) lines)) (records_of-more newest done before after line is e))
+    by_line (line_adds (traces newest) (length done + 1) before line) refl (λ after e. walk newest all rest lines (done ++ (line ∷ [])) after (whole ∙ sym (append_assoc done (line ∷ []) lines)) (records_of-more newest done before after line is e))
   where
     front : trace_of newest (take (length done) all) ≡ before
     front = ap (λ ls. trace_of newest (take (length done) ls)) whole ∙ ap (trace_of newest) (take-append_seam done (line ∷ lines)) ∙ sym is
 
-    at : cause_in newest all rest (length done) ≡ result_err (line_adds newest (length done + 1) before line)
+    at : cause_in newest all rest (length done) ≡ result_err (line_adds (traces newest) (length done + 1) before line)
     at =
         ap (λ (t : TraceView). fault_of newest t (length done) rest (slice_get all (length done))) front
         ∙ ap (λ (o : Option (List ℕ)). fault_of newest before (length done) rest o) (ap (λ ls. slice_get ls (length done)) whole ∙ slice_get-seam done line lines)
@@ -132,12 +135,12 @@ walk newest all rest (line ∷ lines) done before whole is =
     one_more : length (done ++ (line ∷ [])) ≡ length done + 1
     one_more = length-append done (line ∷ [])
 
-    by_line : (r : Result TraceView ReadCause) → line_adds newest (length done + 1) before line ≡ r
-        → ((after : TraceView) → line_adds newest (length done + 1) before line ≡ Ok after → Walked newest all rest (length (done ++ (line ∷ []))) (from_line newest (length (done ++ (line ∷ [])) + 1) after lines rest))
-        → Walked newest all rest (length done) (go_on (length done + 1) r (λ rs. from_line newest (length done + 1 + 1) rs lines rest))
+    by_line : (r : Result TraceView ReadCause) → line_adds (traces newest) (length done + 1) before line ≡ r
+        → ((after : TraceView) → line_adds (traces newest) (length done + 1) before line ≡ Ok after → Walked newest all rest (length (done ++ (line ∷ []))) (from_line (traces newest) (length (done ++ (line ∷ [])) + 1) after lines rest))
+        → Walked newest all rest (length done) (go_on (length done + 1) r (λ rs. from_line (traces newest) (length done + 1 + 1) rs lines rest))
     by_line (Err cause) e later = Walked-fault newest all rest (length done) cause (omega (arith, ap length whole, length-append done (line ∷ lines))) (at ∙ ap result_err e)
     by_line (Ok after) e later =
-        Walked-back newest all rest (length done) _ (at ∙ ap result_err e) (subst (λ (n : ℕ). Walked newest all rest n (from_line newest (n + 1) after lines rest)) one_more (later after e))
+        Walked-back newest all rest (length done) _ (at ∙ ap result_err e) (subst (λ (n : ℕ). Walked newest all rest n (from_line (traces newest) (n + 1) after lines rest)) one_more (later after e))
 
 walk_file : (newest : ℕ) (bytes : List ℕ) → Walked newest (cut bytes).lines (cut bytes).rest 0 (trace_said newest bytes)
 walk_file newest bytes = walk newest (cut bytes).lines (cut bytes).rest (cut bytes).lines [] no_trace refl refl
@@ -188,9 +191,6 @@ stands_said newest bytes trace stands = by_said (trace_said newest bytes) refl
 
 -- ---- the same of what a file says
 
-fault_not_ok : {X : Type 0} (x : X) (f : ReadFault) → ◌≡◌ {A = Result X ReadFault} (Ok x) (Err f) → ⊥
-fault_not_ok x f h = cc
-
 pub stands_for : (newest : ℕ) (bytes : List ℕ) (trace : TraceView) → file_says_to newest bytes ≡ Ok trace → StandsFor newest bytes trace
 unfolding file_says_to
 stands_for newest bytes trace e = said_stands newest bytes trace e
@@ -209,38 +209,9 @@ said_of_first newest bytes f fault = first_said newest bytes f fault
 
 -- ---- lines that were read before have no fault
 
--- a fault from line n on is of that line or a later one
-said_later : (newest : ℕ) (n : ℕ) (before : TraceView) (lines : List (List ℕ)) (rest : List ℕ) (f : ReadFault) → from_line newest n before lines rest ≡ Err f → n ≤ f.line
-unfolding from_line
-said_later newest n before [] rest f e = by_step (end_adds n before rest) Ok e (λ rs more. absurd (fault_not_ok rs f more))
-  where
-    by_step : (r : Result TraceView ReadCause) (next : TraceView → Result TraceView ReadFault) → go_on n r next ≡ Err f → ((rs : TraceView) → next rs ≡ Err f → n ≤ f.line) → n ≤ f.line
-    by_step (Err cause) next e later = let same : fault_in n cause ≡ f = cc in omega (arith, ap (λ (g : ReadFault). g.line) same)
-    by_step (Ok rs) next e later = later rs e
-said_later newest n before (line ∷ lines) rest f e =
-    by_step (line_adds newest n before line) (λ rs. from_line newest (n + 1) rs lines rest) e (λ rs more. let low = said_later newest (n + 1) rs lines rest f more in omega arith)
-  where
-    by_step : (r : Result TraceView ReadCause) (next : TraceView → Result TraceView ReadFault) → go_on n r next ≡ Err f → ((rs : TraceView) → next rs ≡ Err f → n ≤ f.line) → n ≤ f.line
-    by_step (Err cause) next e later = let same : fault_in n cause ≡ f = cc in omega (arith, ap (λ (g : ReadFault). g.line) same)
-    by_step (Ok rs) next e later = later rs e
-
-line_feeds-lines : (bytes : List ℕ) → line_feeds bytes ≡ length (cut bytes).lines
-unfolding cut
-line_feeds-lines [] = refl
-line_feeds-lines (b ∷ bytes) =
-    sum_by-cons (λ (b : ℕ). cond (b == 10) 1 0) b bytes
-    ∙ elim (b == 10) as (λ t. cond t 1 0 + line_feeds bytes ≡ length (cond t (record { lines = [] ∷ (cut bytes).lines; rest = (cut bytes).rest }) (with_byte b (cut bytes).lines (cut bytes).rest)).lines) [
-      | true ↦ omega (arith, line_feeds-lines bytes)
-      | false ↦ omega (arith, line_feeds-lines bytes, by_lines (cut bytes).lines (cut bytes).rest)
-    ]
-  where
-    by_lines : (lines : List (List ℕ)) (rest : List ℕ) → length (with_byte b lines rest).lines ≡ length lines
-    by_lines [] rest = refl
-    by_lines (line ∷ lines) rest = refl
-
-pub faultless-before : (newest : ℕ) (bytes : List ℕ) (n : ℕ) (kept : TraceView) (more : List ℕ) → trace_said newest bytes ≡ rest_says newest n kept more → n ≤ line_feeds bytes + 1 → IsFaultlessBefore newest n bytes
-faultless-before newest bytes n kept more is within = by_said (trace_said newest bytes) refl
+pub faultless-before : (newest n : ℕ) (bytes : List ℕ) → IsReached (traces newest) n bytes → IsFaultlessBefore newest n bytes
+faultless-before newest n bytes reached = by_said (trace_said newest bytes) refl
   where
     by_said : (said : Result TraceView ReadFault) → trace_said newest bytes ≡ said → IsFaultlessBefore newest n bytes
-    by_said (Ok rs) e = λ k below. (said_stands newest bytes rs e).no_fault k (omega (arith, below, within, line_feeds-lines bytes))
-    by_said (Err f) e = λ k below. (said_first newest bytes f e).earlier k (omega (arith, below, said_later newest n kept (cut more).lines (cut more).rest f (sym is ∙ e)))
+    by_said (Ok rs) e = λ k below. (said_stands newest bytes rs e).no_fault k (omega (arith, below, IsReached-within (traces newest) n bytes reached, line_feeds-lines bytes))
+    by_said (Err f) e = λ k below. (said_first newest bytes f e).earlier k (omega (arith, below, IsReached-later (traces newest) n bytes f reached e))

@@ -9,6 +9,7 @@ mod FileLemmas
 mod CountLemmas
 mod SoundLemmas
 mod ReadingLemmas
+mod TraceLemmas
 mod WritingLemmas
 mod KeptLemmas
 mod LawLemmas

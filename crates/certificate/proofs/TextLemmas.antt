@@ -16,7 +16,8 @@ use Rattle.certificate.specs.Texts.{ended, whole_number}
 use Rattle.certificate.specs.Limits.{max_line}
 use Rattle.certificate.specs.Members.{each, whole_of}
 use Rattle.certificate.specs.RecordLines.{line_says, header_says, said_of}
-use Rattle.certificate.specs.Files.{Cut, cut, is_long, has_room, no_trace, from_line, trace_said}
+use Rattle.certificate.specs.Formats.{Cut, cut, is_long, from_line}
+use Rattle.certificate.specs.Files.{has_room, no_trace, traces, trace_said}
 use Rattle.certificate.proofs.FileLemmas.{IsUnbroken, cut-line}
 use Rattle.certificate.proofs.JsonLemmas.{IsPlain, ArePlain, size, items_size, value_of-compact_text, unbroken-compact_text, length-compact_text}
 
@@ -64,7 +65,7 @@ abbrev trace_at : ℕ → List Record → TraceView
 trace_at version rs = record { version = version; records = rs }
 
 from_line-records : (newest version : ℕ) (line : Record → List ℕ) (n : ℕ) (before rs : List Record) → 2 ≤ n → AllByRecursion (λ r. IsLineOf version (line r) r) rs → length (before ++ rs) ≤ max_records → tasks_in (before ++ rs) ≤ max_tasks
-    → from_line newest n (trace_at version before) (map line rs) [] ≡ Ok (trace_at version (before ++ rs))
+    → from_line (traces newest) n (trace_at version before) (map line rs) [] ≡ Ok (trace_at version (before ++ rs))
 unfolding from_line
 from_line-records newest version line n before [] later all few tasks = rw (not_first n later) (ap (λ (rs : List Record). Ok (trace_at version rs)) (sym (append-nil before)))
 from_line-records newest version line n before (r ∷ rs) later all few tasks =
@@ -77,7 +78,7 @@ trace_said-ended : (newest version : ℕ) (header : List ℕ) (line : Record →
     → length rs ≤ max_records → tasks_in rs ≤ max_tasks → trace_said newest (ended (header ∷ map line rs)) ≡ Ok (trace_at version rs)
 unfolding from_line
 trace_said-ended newest version header line rs says short unbroken all few tasks =
-    ap (λ (c : Cut). from_line newest 1 no_trace c.lines c.rest) (cut-ended (header ∷ map line rs) (unbroken, lines rs all))
+    ap (λ (c : Cut). from_line (traces newest) 1 no_trace c.lines c.rest) (cut-ended (header ∷ map line rs) (unbroken, lines rs all))
     ∙ rw (not_long header short, says) (from_line-records newest version line 2 [] rs (omega arith) all few tasks)
   where
     lines : (rs : List Record) → AllByRecursion (λ r. IsLineOf version (line r) r) rs → AllByRecursion IsUnbroken (map line rs)

@@ -1,6 +1,6 @@
 -- What a trace file stands for, and which of its lines is the first faulty one. The newest version of the
 -- format that is read is 1 or 2: a header that names a later one is a faulty line.
-use Rattle.std.specs.Prelude.{◌≡◌, ◌≤◌, ◌<◌, ℕ, ◌+◌, ◌==◌, ◌&&◌, ◌||◌, Bool, not, List, [], ◌∷◌, ◌++◌, length, take, drop, Option, Some, None, Result, Ok, Err, is_some, count_by, nat_lt, if◌then◌else◌, slice_get}
+use Rattle.std.specs.Prelude.{◌≡◌, ◌≤◌, ◌<◌, ℕ, ◌+◌, ◌==◌, ◌&&◌, ◌||◌, Bool, not, List, [], ◌∷◌, ◌++◌, length, take, drop, Option, Some, None, Result, Ok, Err, is_some, nat_lt, if◌then◌else◌, slice_get}
 use Rattle.std.specs.Result.{result_ok, result_err, result_unwrap_or}
 use Rattle.std.specs.List.{filter_map}
 use Rattle.ompt_events.specs.declared.records.Record.{Record}
@@ -8,31 +8,11 @@ use Rattle.ompt_events.specs.Records.{made}
 use Rattle.ompt_events.specs.Limits.{max_records, max_tasks}
 use Rattle.ompt_events.specs.Traces.{TraceView, tasks_in}
 use Rattle.certificate.specs.declared.faults.ReadCause.{ReadCause}
-use Rattle.certificate.specs.declared.faults.ReadCause.TheVariants.{Header, LineTooLong, Limit, Unended}
+use Rattle.certificate.specs.declared.faults.ReadCause.TheVariants.{Limit}
 use Rattle.certificate.specs.declared.faults.ReadFault.{ReadFault}
-use Rattle.certificate.specs.Limits.{max_line, newest_version}
+use Rattle.certificate.specs.Limits.{newest_version}
 use Rattle.certificate.specs.RecordLines.{line_says, header_says}
-
--- the lines that a line feed ends, without it, and the bytes after the last one
-pub record Cut : Type 0 where
-  pub lines : List (List ℕ)
-  pub rest : List ℕ
-
--- a byte more at the front of the first line
-abbrev pub with_byte : ℕ → List (List ℕ) → List ℕ → Cut
-with_byte b [] rest = record { lines = []; rest = b ∷ rest }
-with_byte b (line ∷ lines) rest = record { lines = (b ∷ line) ∷ lines; rest = rest }
-
-unfoldable pub cut : List ℕ → Cut
-cut [] = record { lines = []; rest = [] }
-cut (b ∷ bytes) =
-    let later = cut bytes in
-    if b == 10 then record { lines = [] ∷ later.lines; rest = later.rest }
-    else with_byte b later.lines later.rest
-
--- more than a line may have before its line feed
-abbrev pub is_long : List ℕ → Bool
-is_long line = nat_lt max_line (length line)
+use Rattle.certificate.specs.Formats.{Format, cut, line_adds, end_adds, said}
 
 -- whether a trace of these records may have one more
 abbrev pub has_room : List Record → Record → Bool
@@ -62,41 +42,13 @@ text_adds newest n before line =
     if n == 1 then with_header (header_says newest line)
     else with_record before (line_says before.version line)
 
--- the same of any line
-abbrev pub line_adds : ℕ → ℕ → TraceView → List ℕ → Result TraceView ReadCause
-line_adds newest n before line =
-    if is_long line then Err LineTooLong else text_adds newest n before line
-
--- the trace of a file that ends with these bytes, which no line feed ends, in the line of number n
-abbrev pub end_adds : ℕ → TraceView → List ℕ → Result TraceView ReadCause
-end_adds n before rest =
-    if is_long rest then Err LineTooLong
-    else if nat_lt 0 (length rest) then Err Unended
-    else if n == 1 then Err Header
-    else Ok before
-
-abbrev pub fault_in : ℕ → ReadCause → ReadFault
-fault_in n cause = record { line = n; cause = cause }
-
--- a step after which more may follow
-abbrev pub go_on : ℕ → Result TraceView ReadCause → (TraceView → Result TraceView ReadFault)
-    → Result TraceView ReadFault
-go_on n (Err cause) next = Err (fault_in n cause)
-go_on n (Ok trace) next = next trace
-
--- what the lines from number n on stand for, when this trace stands before them
-unfoldable pub from_line : ℕ → ℕ → TraceView → List (List ℕ) → List ℕ → Result TraceView ReadFault
-from_line newest n before [] rest = go_on n (end_adds n before rest) Ok
-from_line newest n before (line ∷ lines) rest =
-    go_on n (line_adds newest n before line) (λ trace. from_line newest (n + 1) trace lines rest)
-
--- the same of the bytes of these lines
-abbrev pub rest_says : ℕ → ℕ → TraceView → List ℕ → Result TraceView ReadFault
-rest_says newest n before bytes = from_line newest n before (cut bytes).lines (cut bytes).rest
+-- the format of the trace files of at most the newest version
+abbrev pub traces : ℕ → Format TraceView
+traces newest = record { first = no_trace; adds = text_adds newest }
 
 -- the trace that a file of at most the newest version stands for, or its first faulty line and the cause
 abbrev pub trace_said : ℕ → List ℕ → Result TraceView ReadFault
-trace_said newest bytes = rest_says newest 1 no_trace bytes
+trace_said newest bytes = said (traces newest) bytes
 
 unfoldable pub file_says_to : ℕ → List ℕ → Result TraceView ReadFault
 file_says_to newest bytes = trace_said newest bytes
@@ -130,7 +82,7 @@ trace_before newest lines k = trace_of newest (take k lines)
 -- the cause of the fault at place k: of the line there, or past the last line of the bytes that no line
 -- feed ends
 abbrev pub fault_of : ℕ → TraceView → ℕ → List ℕ → Option (List ℕ) → Option ReadCause
-fault_of newest before k rest (Some line) = result_err (line_adds newest (k + 1) before line)
+fault_of newest before k rest (Some line) = result_err (line_adds (traces newest) (k + 1) before line)
 fault_of newest before k rest None = result_err (end_adds (k + 1) before rest)
 
 abbrev pub cause_in : ℕ → List (List ℕ) → List ℕ → ℕ → Option ReadCause
@@ -154,7 +106,3 @@ pub record IsFirstFault (newest : ℕ) (bytes : List ℕ) (fault : ReadFault) : 
   pub within : place ≤ length (cut bytes).lines
   pub has : cause_in newest (cut bytes).lines (cut bytes).rest place ≡ Some fault.cause
   pub earlier : IsFaultlessBefore newest fault.line bytes
-
--- how many line feeds there are
-abbrev pub line_feeds : List ℕ → ℕ
-line_feeds bytes = count_by (λ b. b == 10) bytes

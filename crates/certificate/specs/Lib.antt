@@ -1,6 +1,6 @@
--- The trace file. Read first what a file stands for: `Files`, over `RecordLines` and `Members` for a line,
--- and `Texts` for the text of a trace; then what a call of `read` and of `write` answers: `Reading`,
--- `Counts`, `Answers`.
+-- The trace file. Read first what a file stands for: `Files`, over `RecordLines` and `Members` for a line and
+-- `Formats` for line after line, and `Texts` for the text of a trace; then what a call of `read` and of
+-- `write` answers: `Reading`, `Counts`, `Answers`.
 pub mod Limits
 pub mod Counts
 pub mod Windows
@@ -14,6 +14,7 @@ pub mod StepLines
 pub mod Texts
 pub mod PlainData
 pub mod Unordered
+pub mod Formats
 pub mod Files
 pub mod Keeping
 pub mod Reading

@@ -7,7 +7,8 @@ use Rattle.certificate.specs.declared.faults.ReadCause.{ReadCause}
 use Rattle.certificate.specs.declared.faults.ReadCause.TheVariants.{Device, Memory, Header, NotJson, Field, Limit, TurnsSpent}
 use Rattle.certificate.specs.declared.faults.ReadFault.{ReadFault}
 use Rattle.certificate.specs.Limits.{max_line, newest_version}
-use Rattle.certificate.specs.Files.{file_says_to, trace_said, rest_says, fault_in, line_feeds, IsFaultlessBefore}
+use Rattle.certificate.specs.Formats.{Format, said, rest_says, fault_in, line_feeds}
+use Rattle.certificate.specs.Files.{file_says_to, IsFaultlessBefore}
 
 -- n is one more than the line feeds that were given, where these bytes are left
 abbrev pub IsLineAfterGiven : ℕ → List ℕ → Option (List ℕ) → Type 0
@@ -38,8 +39,68 @@ abbrev pub IsLineBeingRead : ℕ → List ℕ → Option (List ℕ) → Type 0
 IsLineBeingRead n bytes None = ⊥
 IsLineBeingRead n bytes (Some left) = IsBeingRead n bytes left
 
+-- ---- what is told of a file of any format
+
+-- no line before the one of number n has a fault: the file stands for what its bytes from that line on stand
+-- for, behind what the lines before it stand for
+pub record IsReached {X : Type 0} (format : Format X) (n : ℕ) (bytes : List ℕ) : Type 0 where
+  pub before : X
+  pub rest : List ℕ
+  pub begins : IsFromLine n bytes rest
+  pub says : said format bytes ≡ rest_says format n before rest
+
 -- a fault that is told in the line of number n is that of the file, or one of the device or of memory while
 -- that line was read, and then no line before it has a fault
+abbrev pub IsToldIn : {X : Type 0} → Format X → ReadCause → ℕ → List ℕ → Option (List ℕ) → Type 0
+IsToldIn format Device n bytes left = IsLineAfterGiven n bytes left × IsReached format n bytes
+IsToldIn format TurnsSpent n bytes left = IsLineAfterGiven n bytes left × IsReached format n bytes
+IsToldIn format Memory n bytes left = IsLineBeingRead n bytes left × IsReached format n bytes
+IsToldIn format cause n bytes left = said format bytes ≡ Err (fault_in n cause)
+
+-- the answer is what the bytes stand for, or a fault that is told rightly
+abbrev pub IsAnswerIn : {X : Type 0} → Format X → Result X ReadFault → List ℕ → Option (List ℕ) → Type 0
+IsAnswerIn format (Ok x) bytes left = said format bytes ≡ Ok x
+IsAnswerIn format (Err fault) bytes left = IsToldIn format fault.cause fault.line bytes left
+
+-- ---- between two lines
+
+-- the lines before number n stand for what is kept, and what they leave waits in the window and the source
+abbrev pub IsBetween : {X : Type 0} → Format X → Option (List ℕ) → ℕ → X → List ℕ → Option (List ℕ) → Type 0
+IsBetween format None n kept window left = Unit {0}
+IsBetween format (Some bytes) n kept window None = ⊥
+IsBetween format (Some bytes) n kept window (Some left) =
+    (said format bytes ≡ rest_says format n kept (window ++ left))
+    × IsFromLine n bytes (window ++ left)
+
+-- after the line of number n was read: there was one, there was none, or it has a fault
+abbrev pub IsAfter : {X : Type 0} → Format X → Result Bool ReadCause → Option (List ℕ) → ℕ → X → List ℕ
+    → Option (List ℕ) → Type 0
+IsAfter format (Ok true) known n kept window left = IsBetween format known (n + 1) kept window left
+IsAfter format (Ok false) known n kept window left = IfSome known (λ bytes. said format bytes ≡ Ok kept)
+IsAfter format (Err cause) known n kept window left =
+    IfSome known (λ bytes. IsToldIn format cause n bytes left)
+
+-- a cause that the text of a line has
+abbrev pub IsTextCause : ReadCause → Type 0
+IsTextCause Header = Unit {0}
+IsTextCause NotJson = Unit {0}
+IsTextCause Field = Unit {0}
+IsTextCause Limit = Unit {0}
+IsTextCause _ = ⊥
+
+-- the same, or that no memory was found for the line
+abbrev pub IsOfText : ReadCause → Type 0
+IsOfText Memory = Unit {0}
+IsOfText cause = IsTextCause cause
+
+-- each fault of the text of a line has such a cause
+abbrev pub HasTextCauses : {X : Type 0} → Format X → Type 0
+HasTextCauses {X} format =
+    (n : ℕ) (before : X) (line : List ℕ) (e : ReadCause) → Err e ≡ format.adds n before line → IsTextCause e
+
+-- ---- what is told of a trace file
+
+-- the same as `IsToldIn` of a trace file of at most the newest version, in the words of `Files`
 abbrev pub IsToldRightlyTo : ℕ → ReadCause → ℕ → List ℕ → Option (List ℕ) → Type 0
 IsToldRightlyTo newest Device n bytes left =
     IsLineAfterGiven n bytes left × IsFaultlessBefore newest n bytes
@@ -62,35 +123,7 @@ IsToldRightly cause n bytes left = IsToldRightlyTo newest_version cause n bytes 
 abbrev pub IsAnswer : Result TraceView ReadFault → List ℕ → Option (List ℕ) → Type 0
 IsAnswer answer bytes left = IsAnswerTo newest_version answer bytes left
 
--- ---- between two lines
-
--- the lines before number n stand for this trace, and what they leave waits in the window and the source
-abbrev pub IsBetween : ℕ → Option (List ℕ) → ℕ → TraceView → List ℕ → Option (List ℕ) → Type 0
-IsBetween newest None n kept window left = Unit {0}
-IsBetween newest (Some bytes) n kept window None = ⊥
-IsBetween newest (Some bytes) n kept window (Some left) =
-    (trace_said newest bytes ≡ rest_says newest n kept (window ++ left))
-    × IsFromLine n bytes (window ++ left)
-
--- after the line of number n was read: there was one, there was none, or it has a fault
-abbrev pub IsAfter : ℕ → Result Bool ReadCause → Option (List ℕ) → ℕ → TraceView → List ℕ
-    → Option (List ℕ) → Type 0
-IsAfter newest (Ok true) known n kept window left = IsBetween newest known (n + 1) kept window left
-IsAfter newest (Ok false) known n kept window left =
-    IfSome known (λ bytes. file_says_to newest bytes ≡ Ok kept)
-IsAfter newest (Err cause) known n kept window left =
-    IfSome known (λ bytes. IsToldRightlyTo newest cause n bytes left)
-
 -- how the line of number n adds to the records, where it has no fault
 pub record Grows (n : ℕ) (old new : List Record) : Type 0 where
   pub one : length new ≡ (if n == 1 then 0 else length old + 1)
   pub room : n ≢ 1 → length old < max_records
-
--- a cause that the text of a line has, or that no memory was found for it
-abbrev pub IsOfText : ReadCause → Type 0
-IsOfText Memory = Unit {0}
-IsOfText Header = Unit {0}
-IsOfText NotJson = Unit {0}
-IsOfText Field = Unit {0}
-IsOfText Limit = Unit {0}
-IsOfText _ = ⊥

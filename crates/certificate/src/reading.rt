@@ -1,7 +1,7 @@
 //! The reader of trace files.
 ghost use Rattle.std.specs.Prelude.{◌≡◌, ◌≤◌, ◌+◌, ℕ, List, Option, length, Ok, true, IfOk, IfErr, IfSome};
 ghost use Rattle.std.specs.Result.{result_err, result_map_both};
-ghost use Rattle.certificate.specs.Files.{text_adds, with_header, with_record};
+ghost use Rattle.certificate.specs.Files.{text_adds, traces, with_header, with_record};
 ghost use Rattle.certificate.specs.RecordLines.{IsSaid, header_says, line_says};
 ghost use Rattle.std.specs.Io.KnownBytes.{Keeps, IsAtEnd, prepend_known};
 ghost use Rattle.certificate.specs.Counts.{TakesTurns, breaks_told, cause_told};
@@ -102,9 +102,9 @@ fn read_line<S: Source>(
     requires newest { newest ≤ 2 }
     requires line { 1 ≤ line }
     requires turns { turns.old ≤ MAX_TURNS }
-    ensures after { (known : Option (List ℕ)) → IsBetween newest known line kept.old window.old
+    ensures after { (known : Option (List ℕ)) → IsBetween (traces newest) known line kept.old window.old
         (S.remaining source.old)
-        → IsAfter newest result known line kept.new window.new (S.remaining source.new) }
+        → IsAfter (traces newest) result known line kept.new window.new (S.remaining source.new) }
     ensures grows { result ≡ Ok true → Grows line kept.old.records kept.new.records }
     ensures version { kept.old.version ≤ newest → IfOk result (λ _. kept.new.version ≤ newest) }
     ensures turns { TakesTurns (result_err result) turns.old turns.new (S.agains source.old)

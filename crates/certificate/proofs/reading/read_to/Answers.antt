@@ -1,12 +1,27 @@
-use Rattle.std.proofs.Common.{length, refl, arith, ap, ◌∙◌, Some, Ok}
+use Rattle.std.proofs.Common.{length, refl, arith, ap, ◌∙◌, Some, Ok, Err}
 use Rattle.ompt_events.specs.Traces.{TraceView}
 use Rattle.certificate.specs.declared.faults.ReadCause.TheVariants.{Memory}
+use Rattle.certificate.specs.Formats.{fault_in}
+use Rattle.certificate.specs.Files.{traces}
 use Rattle.certificate.proofs.CountLemmas.{TakesTurns-none, TakesTurns-more, TakesTurns-other}
-use Rattle.certificate.proofs.ReadingLemmas.{IsAnswer-no_window, IsBetween-start, Grows-counted}
+use Rattle.certificate.proofs.ReadingLemmas.{IsAnswerIn-no_window, IsBetween-start}
+use Rattle.certificate.proofs.TraceLemmas.{IsAnswerTo-from, Grows-counted}
 use Rattle.certificate.proofs.reading.read_to.Goals as goal
 
 pub returns-in_default-clause-file : goal.returns-in_default-clause-file
-returns-in_default-clause-file g c = IsAnswer-no_window c.args.newest (g.S.Source.remaining c.args.source.now)
+returns-in_default-clause-file g c =
+    IsAnswerTo-from c.args.newest (g.S.Source.remaining c.args.source.now) (Err (fault_in 1 Memory)) (g.S.Source.remaining c.args.source.now)
+    (IsAnswerIn-no_window (traces c.args.newest) (g.S.Source.remaining c.args.source.now))
+
+pub returns-in-Ok-false-clause-file : goal.returns-in-Ok-false-clause-file
+returns-in-Ok-false-clause-file g c =
+    rw c.into_trace.ensures (IsAnswerTo-from c.args.newest (g.S.Source.remaining c.args.source.now) (Ok c.read_line.new.kept) (g.S.Source.remaining c.read_line.new.source)
+    (rw c.in-Ok-false.field-0-test at (c.in-Ok-false.ensures.after (g.S.Source.remaining c.args.source.now) c.lines.invariant.between)))
+
+pub returns-in-Err-clause-file : goal.returns-in-Err-clause-file
+returns-in-Err-clause-file g c =
+    IsAnswerTo-from c.args.newest (g.S.Source.remaining c.args.source.now) (Err (fault_in c.lines.line c.in-Err.cause)) (g.S.Source.remaining c.read_line.new.source)
+    (c.in-Err.ensures.after (g.S.Source.remaining c.args.source.now) c.lines.invariant.between)
 
 pub returns-in_default-clause-turns : goal.returns-in_default-clause-turns
 returns-in_default-clause-turns g c = (0, TakesTurns-other (Some Memory) _ _ _ _ (λ same. cc) (TakesTurns-none 0 _ (omega arith)))
@@ -15,7 +30,7 @@ pub lines-init : goal.lines-init
 lines-init g c = record {
   low = omega arith;
   version = let low = c.requires.0 in omega (arith, low, ap (λ (t : TraceView). t.version) c.new-kept.ensures);
-  between = rw (c.in-Ok.ensures, c.new-kept.ensures) (IsBetween-start _ _);
+  between = rw (c.in-Ok.ensures, c.new-kept.ensures) (IsBetween-start (traces c.args.newest) (g.S.Source.remaining c.args.source.now));
   turns = TakesTurns-none 0 _ (omega arith);
   breaks = refl;
   counted = ap (λ (t : TraceView). length t.records) c.new-kept.ensures;

@@ -1,6 +1,6 @@
 use Rattle.certificate.specs.declared.faults.ReadCause.TheVariants.{Memory}
 use Rattle.certificate.proofs.RecordLemmas.{ok_not_err}
-use Rattle.certificate.proofs.ReadingLemmas.{header_says-known}
+use Rattle.certificate.proofs.TraceLemmas.{header_says-known}
 use Rattle.certificate.proofs.reading.take_header.Goals as goal
 
 pub begin-requires : goal.begin-requires
