@@ -10,6 +10,7 @@ mod CountLemmas
 mod SoundLemmas
 mod ReadingLemmas
 mod TraceLemmas
+mod ScriptFileLemmas
 mod WritingLemmas
 mod KeptLemmas
 mod LawLemmas

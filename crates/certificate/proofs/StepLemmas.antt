@@ -12,5 +12,15 @@ pub body_named-none : (name : List ℕ) (d : Data) → name ≢ callback.thread_
 unfolding body_named
 body_named-none name d no0 no1 no2 no3 no4 no5 no6 no7 no8 no9 =
     let other = bytes_eq-other name in
-    rw (other _ no0, other _ no1, other _ no2, other _ no3, other _ no4, other _ no5, other _ no6, other _ no7,
-    other _ no8, other _ no9) refl
+    rw (
+      other _ no0,
+      other _ no1,
+      other _ no2,
+      other _ no3,
+      other _ no4,
+      other _ no5,
+      other _ no6,
+      other _ no7,
+      other _ no8,
+      other _ no9,
+    ) refl

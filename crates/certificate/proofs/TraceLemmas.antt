@@ -20,7 +20,7 @@ use Rattle.certificate.proofs.RecordLemmas.{ok_not_err, both-first, both-second}
 
 -- ---- causes
 
-same_cause : {X : Type 0} (e f : ReadCause) → ◌≡◌ {A = Result X ReadCause} (Err e) (Err f) → IsTextCause f → IsTextCause e
+pub same_cause : {X : Type 0} (e f : ReadCause) → ◌≡◌ {A = Result X ReadCause} (Err e) (Err f) → IsTextCause f → IsTextCause e
 same_cause e f h is = let same : f ≡ e = cc in subst (λ (c : ReadCause). IsTextCause c) same is
 
 with_record-cause : (version : ℕ) (before : TraceView) (o : Option Data) (e : ReadCause) → Err e ≡ with_record before (said_of version o) → IsTextCause e
@@ -101,7 +101,7 @@ Grows-text newest n before after line h =
     ] refl h
 
 -- the records are as many as the lines before, without the header
-pub Grows-counted : (n : ℕ) (old new : List Record) → 1 ≤ n → length old ≡ n - 2 → length old ≤ max_records → Grows n old new → (length new ≡ n + 1 - 2) × (length new ≤ max_records)
+pub Grows-counted : {X : Type 0} (n : ℕ) (old new : List X) → 1 ≤ n → length old ≡ n - 2 → length old ≤ max_records → Grows n old new → (length new ≡ n + 1 - 2) × (length new ≤ max_records)
 Grows-counted n old new low counted room grows =
     elim (n == 1) as (λ b. n == 1 ≡ b → length new ≡ cond b 0 (length old + 1) → (length new ≡ n + 1 - 2) × (length new ≤ max_records)) [
       | true ↦ λ is one. let first : n ≡ 1 = eqb-true n 1 is in (omega arith, omega arith)

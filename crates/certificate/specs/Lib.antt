@@ -17,6 +17,7 @@ pub mod Unordered
 pub mod Formats
 pub mod Files
 pub mod Keeping
+pub mod ScriptFiles
 pub mod Reading
 pub mod MemoryDevices
 pub mod Answers

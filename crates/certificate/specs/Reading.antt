@@ -1,6 +1,5 @@
 -- What a reader answers on a source that tells its bytes.
 use Rattle.std.specs.Prelude.{ℕ, ◌≡◌, ◌≢◌, ◌⊎◌, ◌+◌, ◌*◌, ◌≤◌, ◌<◌, ◌==◌, Bool, true, false, List, [], ◌∷◌, ◌++◌, length, Option, Some, None, Result, Ok, Err, IfSome, if◌then◌else◌}
-use Rattle.ompt_events.specs.declared.records.Record.{Record}
 use Rattle.ompt_events.specs.Limits.{max_records}
 use Rattle.ompt_events.specs.Traces.{TraceView}
 use Rattle.certificate.specs.declared.faults.ReadCause.{ReadCause}
@@ -123,7 +122,7 @@ IsToldRightly cause n bytes left = IsToldRightlyTo newest_version cause n bytes 
 abbrev pub IsAnswer : Result TraceView ReadFault → List ℕ → Option (List ℕ) → Type 0
 IsAnswer answer bytes left = IsAnswerTo newest_version answer bytes left
 
--- how the line of number n adds to the records, where it has no fault
-pub record Grows (n : ℕ) (old new : List Record) : Type 0 where
+-- how the line of number n adds to the records or steps, where it has no fault
+pub record Grows {X : Type 0} (n : ℕ) (old new : List X) : Type 0 where
   pub one : length new ≡ (if n == 1 then 0 else length old + 1)
   pub room : n ≢ 1 → length old < max_records

@@ -177,7 +177,7 @@ fn version_in(newest: u32, value: &Element<'_, '_>) -> Option<u32>
 }
 
 /// The version, if one was found and it is from 1 to the newest one.
-fn version_read(newest: u32, found: Result<u64, ReadCause>) -> Option<u32>
+pub(crate) fn version_read(newest: u32, found: Result<u64, ReadCause>) -> Option<u32>
     ensures { result ≡ option_and_then (spec.version_read newest) (result_ok found) }
 {
     match found {

@@ -18,7 +18,7 @@ use ompt_events::{MAX_RECORDS, Trace};
 use std::alloc::Global;
 
 /// The number of the last line that is read: after the header and the records, one that is too many.
-const LAST_LINE: u32 = 2 + MAX_RECORDS as u32;
+pub(crate) const LAST_LINE: u32 = 2 + MAX_RECORDS as u32;
 
 /// The newest version of the format that [`read`] takes.
 pub const NEWEST_VERSION: u32 = 2;
@@ -178,7 +178,7 @@ fn take_other(
 }
 
 /// The length of the next line, which the window then begins with; none at the end of the input.
-fn next_line<S: Source>(
+pub(crate) fn next_line<S: Source>(
     window: &mut Window,
     source: &mut S,
     turns: &mut u32,

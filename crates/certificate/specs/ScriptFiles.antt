@@ -1,0 +1,65 @@
+-- What a script file stands for.
+use Rattle.std.specs.Prelude.{ℕ, ◌==◌, ◌&&◌, ◌||◌, Bool, false, not, List, [], ◌∷◌, ◌++◌, Option, Some, None, Result, Ok, Err, ok_or, option_and_then, codes, nat_lt, if◌then◌else◌}
+use Rattle.std.specs.Option.{option_map_or}
+use Rattle.std.specs.Str.{bytes_eq}
+use Rattle.serde_json.specs.Data.{Data}
+use Rattle.ompt_events.specs.Limits.{max_threads}
+use Rattle.scripts.specs.declared.script.Step.{Step}
+use Rattle.scripts.specs.declared.fault.ScriptFault.{ScriptFault}
+use Rattle.scripts.specs.declared.fault.ScriptFault.TheVariants as fault
+use Rattle.scripts.specs.Scripts.{may_follow, is_full, step_of}
+use Rattle.certificate.specs.declared.faults.ReadCause.{ReadCause}
+use Rattle.certificate.specs.declared.faults.ReadCause.TheVariants.{Memory, Header, Field, Limit}
+use Rattle.certificate.specs.declared.step_lines.SaidStep.{SaidStep}
+use Rattle.certificate.specs.Members.{◌>>=◌, whole, text}
+use Rattle.certificate.specs.MemberNames as member
+use Rattle.certificate.specs.RecordLines.{value_of, version_read}
+use Rattle.certificate.specs.StepLines.{step_said}
+use Rattle.certificate.specs.Formats.{Format}
+
+-- what the header says
+abbrev pub script_name : List ℕ
+script_name = codes "task-credit-script"
+
+abbrev pub names_script : Data → Bool
+names_script d = option_map_or (λ s. bytes_eq s script_name) (text member.format d) false
+
+-- the version that the object of a header names: there is one alone
+abbrev pub script_version : Data → Option ℕ
+script_version d = if names_script d then whole member.version d >>= version_read 1 else None
+
+abbrev pub script_header_says : List ℕ → Result ℕ ReadCause
+script_header_says line = ok_or (option_and_then script_version (value_of line)) Header
+
+-- the script without a step that a header begins
+abbrev pub no_steps : Result ℕ ReadCause → Result (List Step) ReadCause
+no_steps (Err cause) = Err cause
+no_steps (Ok version) = Ok []
+
+-- the cause of a line whose step is refused
+abbrev pub cause_of : ScriptFault → ReadCause
+cause_of fault.Misplaced = Field
+cause_of fault.Full = Limit
+cause_of fault.Memory = Memory
+
+-- whether the numbers and lists of a line are within their limits
+abbrev pub is_within : SaidStep → Bool
+is_within s = s.loose.fits && nat_lt s.thread max_threads
+
+-- the steps and one step more, where it may follow them, before any limit
+abbrev pub with_step : List Step → Result SaidStep ReadCause → Result (List Step) ReadCause
+with_step before (Err cause) = Err cause
+with_step before (Ok s) =
+    if not (may_follow before s.after s.loose.body) then Err Field
+    else if not (is_within s) || is_full before s.loose.body then Err Limit
+    else Ok (before ++ step_of before s.thread s.after s.loose.body ∷ [])
+
+-- the steps after the line of number n, when these stand before it
+abbrev pub script_adds : ℕ → List Step → List ℕ → Result (List Step) ReadCause
+script_adds n before line =
+    if n == 1 then no_steps (script_header_says line)
+    else with_step before (step_said (value_of line))
+
+-- the format of scripts
+abbrev pub scripts : Format (List Step)
+scripts = record { first = []; adds = script_adds }

@@ -1,0 +1,198 @@
+//! The reader of script files.
+ghost use Rattle.std.specs.Prelude.{◌≡◌, ◌≤◌, ◌+◌, ℕ, List, [], Option, length, Ok, true, IfErr, IfSome, if◌then◌else◌};
+ghost use Rattle.std.specs.Result.{result_err, result_map_both};
+ghost use Rattle.certificate.specs.Counts.{TakesTurns, breaks_told, cause_told};
+ghost use Rattle.certificate.specs.Meanings.{meant_at};
+ghost use Rattle.certificate.specs.Reading.{IsAnswerIn, IsBetween, IsAfter, Grows};
+ghost use Rattle.certificate.specs.RecordLines.{IsSaid};
+ghost use Rattle.certificate.specs.ScriptFiles.{cause_of, is_within, script_adds, script_header_says, script_version, scripts, with_step};
+ghost use Rattle.json.specs.Find.{HasValue};
+ghost use Rattle.scripts.specs.Scripts.{may_follow};
+
+use crate::device::{MAX_TURNS, Source};
+use crate::faults::{ReadCause, ReadFault};
+use crate::lines::version_read;
+use crate::members::{id, text};
+use crate::reading::{LAST_LINE, next_line};
+use crate::step_lines::{Loose, SaidStep, step};
+use crate::values::tape_of;
+use crate::window::Window;
+use json::{Element, Scratch};
+use scripts::{Script, ScriptFault};
+use std::alloc::Global;
+
+/// Reads a script file to its end. At most 131,074 bytes wait at a time, two of the longest lines with their line
+/// feeds, and the source is asked for no more than there is room for. After a refusal nothing is said of how far
+/// the source was read.
+pub fn read_script<S: Source>(alloc: Global, source: &mut S) -> Result<Script, ReadFault>
+    // The steps that the bytes stand for, their first fault, or a fault of the device or of memory.
+    ensures file { IfSome (S.remaining source.old)
+        (λ bytes. IsAnswerIn scripts result bytes (S.remaining source.new)) }
+
+    // Each answer `Again` is a turn, and the 10,001st ends the call.
+    ensures turns { (turns : ℕ) × TakesTurns (cause_told result) 0 turns (S.agains source.old)
+        (S.agains source.new) }
+
+    // `Device` is told exactly where the source broke.
+    ensures breaks { S.breaks source.new ≡ breaks_told (cause_told result) (S.breaks source.old) }
+    ensures line { IfErr result (λ fault. (1 ≤ fault.line) × (fault.line ≤ LAST_LINE)) }
+{
+    let Ok(mut window) = Window::new(alloc) else {
+        return Err(ReadFault {
+            line: 1,
+            cause: ReadCause::Memory,
+        });
+    };
+    let mut script = Script::new(alloc);
+    let mut scratch = Scratch::new(alloc);
+    let mut turns = 0;
+    'lines: for line in 1..=LAST_LINE {
+        match read_line(
+            alloc,
+            line,
+            &mut window,
+            source,
+            &mut turns,
+            &mut script,
+            &mut scratch,
+        ) {
+            Ok(true) => {}
+            Ok(false) => return Ok(script),
+            Err(cause) => return Err(ReadFault { line, cause }),
+        }
+    }
+    unreachable!()
+}
+
+/// Reads the line of this number and adds what it stands for. Says whether there was one.
+fn read_line<S: Source>(
+    alloc: Global,
+    line: u32,
+    window: &mut Window,
+    source: &mut S,
+    turns: &mut u32,
+    script: &mut Script,
+    scratch: &mut Scratch,
+) -> Result<bool, ReadCause>
+    requires line { 1 ≤ line }
+    requires turns { turns.old ≤ MAX_TURNS }
+    requires first { line ≡ 1 → script.old ≡ [] }
+    ensures after { (known : Option (List ℕ)) → IsBetween scripts known line script.old window.old
+        (S.remaining source.old)
+        → IsAfter scripts result known line script.new window.new (S.remaining source.new) }
+    ensures grows { result ≡ Ok true → Grows line script.old script.new }
+    ensures turns { TakesTurns (result_err result) turns.old turns.new (S.agains source.old)
+        (S.agains source.new) }
+    ensures breaks { S.breaks source.new ≡ breaks_told (result_err result) (S.breaks source.old) }
+{
+    match next_line(window, source, turns)? {
+        Some(len) => {
+            take_text(alloc, line, window.front(len), script, scratch)?;
+            window.skip(len + 1);
+            Ok(true)
+        }
+        None if line == 1 => Err(ReadCause::Header),
+        None => Ok(false),
+    }
+}
+
+/// Takes the text of the line of this number: the header, or a step.
+fn take_text(
+    alloc: Global,
+    line: u32,
+    text: &[u8],
+    script: &mut Script,
+    scratch: &mut Scratch,
+) -> Result<(), ReadCause>
+    requires line { 1 ≤ line }
+    requires first { line ≡ 1 → script.old ≡ [] }
+    ensures { IsSaid (result_map_both (λ _. script.new) (λ e. e) result)
+        (script_adds line script.old text.now) }
+{
+    if line > 1 {
+        return add(script, step(alloc, text, scratch)?);
+    }
+    header(alloc, text, scratch)?;
+    Ok(())
+}
+
+/// The version that a header line names, which is 1.
+fn header(alloc: Global, text: &[u8], scratch: &mut Scratch) -> Result<u32, ReadCause>
+    ensures { IsSaid result (script_header_says text.now) }
+{
+    match tape_of(alloc, text, scratch) {
+        Ok(tape) => version_in(&tape.root()).ok_or(ReadCause::Header),
+        Err(ReadCause::Memory) => Err(ReadCause::Memory),
+        Err(_) => Err(ReadCause::Header),
+    }
+}
+
+/// The version, if the format is that of scripts and the version 1.
+fn version_in(value: &Element<'_, '_>) -> Option<u32>
+    requires { HasValue value.now }
+    ensures { result ≡ script_version (meant_at value.now) }
+{
+    match text(value, "format") {
+        Ok(found) if found == "task-credit-script" => version_read(1, id(value, "version")),
+        _ => None,
+    }
+}
+
+/// Adds a step. That it may not follow is told before a limit is.
+fn add(script: &mut Script, said: SaidStep) -> Result<(), ReadCause>
+    ensures { IsSaid (result_map_both (λ _. script.new) (λ e. e) result) (with_step script.old (Ok said)) }
+{
+    if is_within(&said) {
+        add_within(script, said)
+    } else {
+        Err(past_limit(script, &said))
+    }
+}
+
+/// Whether the numbers and lists of a line are within their limits.
+fn is_within(said: &SaidStep) -> bool
+    ensures { result ≡ is_within said.now }
+{
+    said.loose.fits && said.thread < 256
+}
+
+/// Adds a step of a line within its limits.
+fn add_within(script: &mut Script, said: SaidStep) -> Result<(), ReadCause>
+    requires { is_within said ≡ true }
+    ensures { IsSaid (result_map_both (λ _. script.new) (λ e. e) result) (with_step script.old (Ok said)) }
+{
+    let SaidStep {
+        thread,
+        after,
+        loose,
+    } = said;
+    let Loose { body, .. } = loose;
+    match script.add(thread as u8, after, body) {
+        Ok(()) => Ok(()),
+        Err((_body, fault)) => Err(cause_of(fault)),
+    }
+}
+
+/// The cause of a line of which something is past its limit.
+fn past_limit(script: &Script, said: &SaidStep) -> ReadCause
+    ensures { result ≡ (if may_follow script.now said.now.after said.now.loose.body
+        then ReadCause.Limit
+        else ReadCause.Field) }
+{
+    if script.may_follow(said.after, &said.loose.body) {
+        ReadCause::Limit
+    } else {
+        ReadCause::Field
+    }
+}
+
+/// The cause of a line whose step is refused.
+fn cause_of(fault: ScriptFault) -> ReadCause
+    ensures { result ≡ cause_of fault }
+{
+    match fault {
+        ScriptFault::Misplaced => ReadCause::Field,
+        ScriptFault::Full => ReadCause::Limit,
+        ScriptFault::Memory => ReadCause::Memory,
+    }
+}
