@@ -13,6 +13,7 @@ mod ledger;
 mod lines;
 mod names;
 mod refusals;
+mod script;
 mod shared;
 mod shares;
 mod states;
@@ -25,7 +26,7 @@ use anyhow::{Result, bail};
 use std::env;
 
 const WORDS: &str =
-    "values, read, write, lines, lines_with_turns, turns, rise, arrange, names, tables, shares, states, \
+    "values, read, write, lines, lines_with_turns, scripts, turns, rise, arrange, names, tables, shares, states, \
      ledger, devices, refusals, tree, edges, verdict, counters, waits, coverage, open, shared or calls";
 
 /// Does what the word asks for.
@@ -35,6 +36,7 @@ fn run(rt: &HostRuntime, word: &str) -> Result<()> {
         "read" => layers::records(rt),
         "write" => layers::rewrite(rt),
         "lines" => lines::each(rt, lines::HEADER),
+        "scripts" => script::each(rt),
         "lines_with_turns" => lines::each(rt, lines::HEADER_WITH_TURNS),
         "turns" => in_turns::of_input(rt),
         "rise" => in_turns::rise(rt),

@@ -1,0 +1,29 @@
+//! What scripts say.
+use crate::lines::{input, told};
+use anyhow::Result;
+use certificate::{FromRead, Script, read_script};
+
+/// What stands between two scripts: a form feed.
+const BETWEEN: u8 = 12;
+
+/// Prints for each script of standard input its steps, or its fault, and then a line `end`.
+pub fn each(rt: &HostRuntime) -> Result<()> {
+    let bytes = input(rt)?;
+    for file in bytes.split(|byte| *byte == BETWEEN) {
+        match read_script(rt.alloc(), &mut FromRead::new(file)) {
+            Ok(script) => tell(rt, &script)?,
+            Err(fault) => println!(rt; "{}", told(rt.alloc(), fault)?)?,
+        }
+        println!(rt; "end")?;
+    }
+    Ok(())
+}
+
+/// Prints the steps.
+fn tell(rt: &HostRuntime, script: &Script) -> Result<()> {
+    for step in script.steps() {
+        let (line, thread, after) = (step.line, step.thread, step.after);
+        println!(rt; "{line} {thread} {after:?} {:?}", step.body)?;
+    }
+    Ok(())
+}
