@@ -41,6 +41,7 @@ impl Tally {
             None => true,
         }
     }
+
     /// Counts one more step.
     pub(crate) fn count(&mut self, step: &Step)
         requires steps { get_or self.old.steps step.now.thread 0 < max_records }
