@@ -1,2 +1,4 @@
+mod CallLemmas
 mod LifeLemmas
+mod RuleLemmas
 mod ScriptLemmas
