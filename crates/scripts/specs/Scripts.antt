@@ -15,11 +15,11 @@ use Rattle.scripts.specs.declared.fault.ScriptFault.TheVariants.{Memory, Full, M
 
 -- ---- what becomes of a task
 
--- whether a recorder can be given the call: it makes no claim and tells no turns
+-- whether it is a call for a recorder: it makes no claim and tells no turns
 abbrev pub is_call : Body → Bool
 is_call body = not (is_some (claim body)) && not (is_some (told_turns body))
 
--- the task that the call finishes, by a discard too, but for one whose body alone it finishes (status `detach`)
+-- the task that the call finishes, by a discard too, unless it finishes the body alone (status `detach`)
 abbrev pub finished : Body → Option ℕ
 finished body = option_and_then whole (finish body)
   where
@@ -77,7 +77,7 @@ may_be_named false (Some Live) = true
 may_be_named _ _ = false
 
 -- whether a call may follow the steps: its `after` names one of them, it names no task twice, and it may
--- name each
+-- name each task that it names
 abbrev pub may_follow : List Step → Option (ℕ × ℕ) → Body → Bool
 may_follow steps after body = is_call body && is_earlier steps after && not (has_twice (named body))
     && list_all (λ task. may_be_named (is_made (made body) task) (life steps task)) (named body)

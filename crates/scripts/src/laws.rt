@@ -1,4 +1,4 @@
-//! What the rules of a script come to. The function does nothing: its contract is the law.
+//! The rules of a script in plain words. The function does nothing: its contract is the law.
 ghost use Rattle.std.specs.Prelude.{◌≡◌, ◌↔◌, ℕ, List, Option, true};
 ghost use Rattle.ompt_events.specs.declared.records.Body.{Body};
 ghost use Rattle.scripts.specs.declared.script.Step.{Step};
