@@ -1,4 +1,4 @@
 mod CallLemmas
 mod LifeLemmas
-mod RuleLemmas
+pub mod RuleLemmas
 mod ScriptLemmas

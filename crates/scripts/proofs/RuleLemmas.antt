@@ -1,20 +1,20 @@
 -- What has become of a task in a script, by the steps that make and end it, and the rules of a call.
-use Rattle.std.proofs.Common.{◌≡◌, ◌∙◌, ℕ, ◌<◌, ◌≤◌, ◌+◌, List, [], ◌∷◌, ◌++◌, length, take, get_or, Option, Some, None, Bool, true, false, not, ◌&&◌, cond, refl, sym, ap, subst, arith, inl, inr, zero, suc}
-use Rattle.std.specs.Prelude.{Contains, IfSome, option_map, is_some, ◌==◌}
+use Rattle.std.proofs.Common.{◌≡◌, ◌∙◌, ℕ, ◌<◌, ◌≤◌, ◌+◌, List, [], ◌∷◌, ◌++◌, length, take, drop, get_or, length-take-le, take-take, take-append-drop, get_or-take, Option, Some, None, Bool, true, false, not, ◌&&◌, cond, refl, sym, ap, subst, arith, inl, inr, zero, suc}
+use Rattle.std.specs.Prelude.{Contains, IfSome, option_map, is_some, slice_get, ◌==◌}
 use Rattle.std.specs.Option.{option_map_or}
 use Rattle.std.specs.List.{list_all}
 use Rattle.std.proofs.lemmas.Bool.{cases_eq, false≢true, eq-eqb, ne_eqb, and_parts, and_from, ltb-true, lt-ltb}
-use Rattle.std.proofs.lemmas.Option.{none-some, same_Some, slice_get-get_or}
+use Rattle.std.proofs.lemmas.Option.{none-some, same_Some, slice_get-get_or, slice_get_within}
 use Rattle.std.proofs.lemmas.List.{take_more, take_all}
 use Rattle.std.proofs.lemmas.List.Elements.{All-contains, Contains-get_or, Contains-append_left, Contains-push, Contains-push_cases}
-use Rattle.std.proofs.lemmas.List.Sums.{fold_push, AllPass-from_list_all, list_all-from_AllPass}
+use Rattle.std.proofs.lemmas.List.Sums.{fold_push, sum_by-append, AllPass-from_list_all, list_all-from_AllPass}
 use Rattle.ompt_events.specs.declared.records.Body.{Body}
 use Rattle.ompt_events.specs.declared.records.Body.TheVariants.{ThreadEnd}
 use Rattle.ompt_events.specs.Records.{made, named, claim, told_turns}
 use Rattle.scripts.specs.declared.script.Step.{Step}
 use Rattle.scripts.specs.declared.lives.Life.{Life}
 use Rattle.scripts.specs.declared.lives.Life.TheVariants.{Live, Over}
-use Rattle.scripts.specs.Scripts.{is_call, ended, life_after, life, steps_of, is_earlier, has_twice, is_made, may_be_named, may_follow, IsScript}
+use Rattle.scripts.specs.Scripts.{is_call, ended, life_after, life, steps_of, tasks_of, is_earlier, has_twice, is_made, may_be_named, may_follow, IsScript}
 use Rattle.scripts.specs.Rules.{IsMade, IsEnded, MayFollow}
 use Rattle.scripts.proofs.CallLemmas.{making_ends_none, made_is_named, ended_is_named, apart_from_test, apart_to_test}
 
@@ -193,3 +193,29 @@ rules_to steps after body script rules =
 
     may : (task : ℕ) → Contains (named body) task → may_be_named (is_made (made body) task) (life steps task) ≡ true
     may task has = by_made task has (made body) refl
+
+-- ---- the first steps of a script
+
+take_stands : (steps : List Step) (n i : ℕ) (s : Step) → n ≤ length steps → slice_get (take n steps) i ≡ Some s → (i < n) × (slice_get steps i ≡ Some s)
+take_stands steps n i s low is =
+    let within = slice_get_within (take n steps) i s is in
+    let short = length-take-le n steps low in
+    let before : i < n = omega (arith, within, short) in
+    (before, slice_get-get_or steps i s (omega arith) ∙ ap Some (sym (get_or-take n steps i s before)) ∙ sym (slice_get-get_or (take n steps) i s within) ∙ is)
+
+IsScript-take : (steps : List Step) (n : ℕ) → n ≤ length steps → IsScript steps → IsScript (take n steps)
+IsScript-take steps n low script =
+    let both : tasks_of (take n steps) + tasks_of (drop n steps) ≡ tasks_of steps = sym (sum_by-append (λ (x : Step). cond (is_some (made x.body)) 1 0) (take n steps) (drop n steps)) ∙ ap (λ (xs : List Step). tasks_of xs) (take-append-drop n steps) in
+    record {
+      few_steps = omega (arith, length-take-le n steps low, script.few_steps);
+      few_tasks = omega (arith, both, script.few_tasks);
+      lines = λ i s is. script.lines i s (take_stands steps n i s low is).1;
+      follows = λ i s is.
+          let stands = take_stands steps n i s low is in
+          ap (λ (before : List Step). may_follow before s.after s.body) (take-take i n steps (omega (arith, stands.0))) ∙ script.follows i s stands.1;
+    }
+
+pub step_rules : (steps : List Step) (i : ℕ) (s : Step) → IsScript steps → slice_get steps i ≡ Some s → MayFollow (take i steps) s.after s.body
+step_rules steps i s script is =
+    let within = slice_get_within steps i s is in
+    rules_from (take i steps) s.after s.body (IsScript-take steps i (omega arith) script) (script.follows i s is)

@@ -1,5 +1,5 @@
-//! The rules of a script in plain words. The function does nothing: its contract is the law.
-ghost use Rattle.std.specs.Prelude.{◌≡◌, ◌↔◌, ℕ, List, Option, true};
+//! The rules of a script in plain words. The functions do nothing: their contracts are the laws.
+ghost use Rattle.std.specs.Prelude.{◌≡◌, ◌↔◌, ℕ, List, Option, Some, true, slice_get, take};
 ghost use Rattle.ompt_events.specs.declared.records.Body.{Body};
 ghost use Rattle.scripts.specs.declared.script.Step.{Step};
 ghost use Rattle.scripts.specs.Scripts.{may_follow, IsScript};
@@ -11,4 +11,10 @@ ghost use Rattle.scripts.specs.Rules.{MayFollow};
 pub fn calls_follow_by_the_rules()
     ensures { (steps : List Step) (after : Option (ℕ × ℕ)) (body : Body) → IsScript steps
         → (may_follow steps after body ≡ true) ↔ MayFollow steps after body }
+{}
+
+/// So does each step of a script follow those before it.
+pub fn steps_follow_by_the_rules()
+    ensures { (steps : List Step) (i : ℕ) (s : Step) → IsScript steps → slice_get steps i ≡ Some s
+        → MayFollow (take i steps) s.after s.body }
 {}
