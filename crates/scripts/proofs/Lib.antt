@@ -1,3 +1,5 @@
+mod CallLemmas
 mod LifeLemmas
+pub mod RuleLemmas
 mod ScriptLemmas
 mod TallyLemmas

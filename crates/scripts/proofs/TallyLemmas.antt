@@ -1,6 +1,6 @@
 -- Whether a step is named that is there.
 use Rattle.std.proofs.Common.{◌≡◌, ℕ, ◌<◌, ◌≤◌, List, [], ◌∷◌, ◌++◌, ◌+◌, length, set, get_or, Option, Some, true, false, cond, arith, refl, sym, ap, inl, inr, ◌∙◌}
-use Rattle.std.specs.Prelude.{◌==◌, None, is_some, IfSome}
+use Rattle.std.specs.Prelude.{◌==◌, ◌&&◌, Bool, None, is_some, IfSome}
 use Rattle.std.proofs.lemmas.List.Sums.{sum_by_push}
 use Rattle.std.proofs.lemmas.Bool.{cases_eq}
 use Rattle.std.proofs.lemmas.Grind.{get_or-set_at}
@@ -29,6 +29,16 @@ pub found-same : (steps : List Step) (named : Option (ℕ × ℕ)) (found : Opti
     → IsFound steps named found → IfSome found (λ step. step ≡ named)
 found-same steps named None is = tt
 found-same steps named (Some step) is = is.1
+
+-- the tests of a call, its `after` last
+pub after-last : (called earlier once named : Bool) → (called && earlier && once && named) ≡ ((called && once && named) && earlier)
+after-last false earlier once named = refl
+after-last true true false named = refl
+after-last true true true false = refl
+after-last true true true true = refl
+after-last true false false named = refl
+after-last true false true false = refl
+after-last true false true true = refl
 
 -- ---- one step more
 

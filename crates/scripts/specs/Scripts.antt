@@ -15,11 +15,11 @@ use Rattle.scripts.specs.declared.fault.ScriptFault.TheVariants.{Memory, Full, M
 
 -- ---- what becomes of a task
 
--- whether a recorder can be given the call: it makes no claim and tells no turns
+-- whether it is a call for a recorder: it makes no claim and tells no turns
 abbrev pub is_call : Body → Bool
 is_call body = not (is_some (claim body)) && not (is_some (told_turns body))
 
--- the task that the call finishes, by a discard too, but for one whose body alone it finishes (status `detach`)
+-- the task that the call finishes, by a discard too, unless it finishes the body alone (status `detach`)
 abbrev pub finished : Body → Option ℕ
 finished body = option_and_then whole (finish body)
   where
@@ -76,14 +76,16 @@ may_be_named true None = true
 may_be_named false (Some Live) = true
 may_be_named _ _ = false
 
--- whether a call that may follow the steps names no task twice, and may name each
+-- whether a call may follow the steps: its `after` names one of them, it names no task twice, and it may
+-- name each task that it names
+abbrev pub may_follow : List Step → Option (ℕ × ℕ) → Body → Bool
+may_follow steps after body = is_call body && is_earlier steps after && not (has_twice (named body))
+    && list_all (λ task. may_be_named (is_made (made body) task) (life steps task)) (named body)
+
+-- the same but for its `after`: whether a call names no task twice, and may name each that it names
 abbrev pub may_name : List Step → Body → Bool
 may_name steps body = is_call body && not (has_twice (named body))
     && list_all (λ task. may_be_named (is_made (made body) task) (life steps task)) (named body)
-
--- whether a call may follow the steps: its `after` names one of them, and it may name its tasks
-abbrev pub may_follow : List Step → Option (ℕ × ℕ) → Body → Bool
-may_follow steps after body = may_name steps body && is_earlier steps after
 
 -- the steps are a script
 pub record IsScript (steps : List Step) : Type 0 where

@@ -5,14 +5,14 @@ ghost use Rattle.scripts.specs.Scripts.{is_call, finished, ended, fate, has_twic
 use crate::lives::Life;
 use ompt_events::{Body, Part};
 
-/// Whether a recorder can be given the call: it makes no claim and tells no turns, which a recorder adds.
+/// Whether it is a call for a recorder, which adds claims and turns itself: it has neither.
 pub(crate) fn is_call(body: &Body) -> bool
     ensures { result ≡ is_call body.now }
 {
     body.claim().is_none() && body.told_turns().is_none()
 }
 
-/// The task that the call finishes, but for one whose body alone it finishes.
+/// The task that the call finishes, unless it finishes the task's body alone.
 fn finished(body: &Body) -> Option<u64>
     ensures { result ≡ finished body.now }
 {
@@ -35,7 +35,7 @@ fn ended(body: &Body) -> Option<u64>
     }
 }
 
-/// The task of which something becomes by the call, and what.
+/// The task that the call makes or ends, and what becomes of it.
 pub(crate) fn fate(body: &Body) -> Option<(u64, Life)>
     ensures { result ≡ fate body.now }
 {

@@ -26,7 +26,7 @@ fn life_of(lives: &BTreeMap<u64, Life>, task: u64) -> Option<Life>
     lives.get(&task).copied()
 }
 
-/// Whether a call may name the task, which it makes or does not.
+/// Whether a call that makes the task, or does not, may name it.
 fn may_be_named(lives: &BTreeMap<u64, Life>, makes: bool, task: u64) -> bool
     ensures { result ≡ may_be_named makes (get nat_cmp lives.now task) }
 {

@@ -92,10 +92,7 @@ impl Script {
         if self.is_full(&body) {
             return Err((body, ScriptFault::Full));
         }
-        if self.steps.reserve(1).is_err() {
-            return Err((body, ScriptFault::Memory));
-        }
-        if note(&mut self.lives, &body).is_err() {
+        if self.steps.reserve(1).is_err() || note(&mut self.lives, &body).is_err() {
             return Err((body, ScriptFault::Memory));
         }
         let step = Step {

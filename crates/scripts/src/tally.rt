@@ -6,7 +6,7 @@ ghost use Rattle.scripts.specs.Keeping.{IsTally, IsFound};
 
 use crate::script::Step;
 
-/// The number of steps by thread, and the number of tasks.
+/// The number of steps by thread, and the number of tasks that they make.
 #[derive(Drop)]
 pub(crate) struct Tally {
     steps: [u32; 256],
@@ -14,7 +14,7 @@ pub(crate) struct Tally {
 }
 
 impl Tally {
-    /// Of no step.
+    /// No step and no task.
     pub(crate) fn new() -> Tally
         ensures { IsTally [] result }
     {
