@@ -1,6 +1,6 @@
 -- What the lines of a script file add.
-use Rattle.std.proofs.Common.{Bool, ◌≡◌, ◌≢◌, ℕ, ◌+◌, ◌<◌, ◌≤◌, List, [], ◌∷◌, ◌++◌, length, Option, Some, None, Result, Ok, Err, true, false, cond, arith, refl, sym, ap, ◌∙◌, subst, eqb-true, length-append}
-use Rattle.std.specs.Prelude.{◌==◌, ◌&&◌, ◌||◌, not, ok_or, option_and_then, nat_le}
+use Rattle.std.proofs.Common.{Bool, ◌≡◌, ◌≢◌, ℕ, ◌+◌, ◌<◌, List, [], ◌∷◌, ◌++◌, length, Option, Some, None, Result, Ok, Err, true, false, cond, refl, sym, ap, ◌∙◌, eqb-true, length-append}
+use Rattle.std.specs.Prelude.{◌==◌, ◌||◌, not, ok_or, option_and_then, nat_le}
 use Rattle.std.proofs.lemmas.Bool.{leb-false}
 use Rattle.ompt_events.specs.declared.records.Body.{Body}
 use Rattle.ompt_events.specs.Limits.{max_records}
@@ -14,7 +14,6 @@ use Rattle.certificate.specs.declared.faults.ReadCause.TheVariants.{Memory, Head
 use Rattle.certificate.specs.declared.step_lines.SaidStep.{SaidStep}
 use Rattle.certificate.specs.RecordLines.{value_of}
 use Rattle.certificate.specs.StepLines.{step, step_said}
-use Rattle.certificate.specs.Formats.{Format}
 use Rattle.certificate.specs.Reading.{Grows, IsTextCause, HasTextCauses}
 use Rattle.certificate.specs.ScriptFiles.{scripts, script_adds, script_header_says, script_version, no_steps, with_step, is_within, cause_of}
 use Rattle.certificate.proofs.RecordLemmas.{ok_not_err}
@@ -107,3 +106,11 @@ add-refused before s refused within is other =
     by_tests true true more refused e other = ap (λ f. Err (cause_of f)) e
     by_tests true false more refused e other = absurd (other (ap (λ f. Err (cause_of f)) e))
     by_tests false full more refused e other = ap (λ f. Err (cause_of f)) e
+
+pub past-limit : (before : List Step) (s : SaidStep) → is_within s ≡ false
+    → ◌≡◌ {A = Result (List Step) ReadCause} (Err (cond (may_follow before s.after s.loose.body) Limit Field)) (with_step before (Ok s))
+past-limit before s past = rw past (by_test (may_follow before s.after s.loose.body))
+  where
+    by_test : (may : Bool) → ◌≡◌ {A = Result (List Step) ReadCause} (Err (cond may Limit Field)) (cond (not may) (Err Field) (Err Limit))
+    by_test true = refl
+    by_test false = refl

@@ -1,9 +1,8 @@
 -- What a single line of a script stands for: a callback, without what a recorder adds to it.
-use Rattle.std.specs.Prelude.{ℕ, ◌&&◌, ◌^◌, Bool, true, List, [], ◌∷◌, length, Option, Some, None, Result, Ok, Err, option_map, option_and_then, ok_or, nat_le, nat_lt, if◌then◌else◌}
+use Rattle.std.specs.Prelude.{ℕ, List, [], ◌∷◌, Option, Some, None, Result, Err, option_map, option_and_then, ok_or, if◌then◌else◌}
 use Rattle.std.specs.Str.{bytes_eq}
 use Rattle.serde_json.specs.Data.{Data}
 use Rattle.serde_json.specs.Find.{get, as_array}
-use Rattle.ompt_events.specs.declared.deps.Dep.{Dep}
 use Rattle.ompt_events.specs.declared.records.Body.{Body}
 use Rattle.ompt_events.specs.declared.records.Body.TheVariants.{ParallelBegin, ImplicitTask, TaskSchedule, Cancel}
 use Rattle.certificate.specs.declared.faults.ReadCause.{ReadCause}
@@ -14,7 +13,7 @@ use Rattle.certificate.specs.Members.{◌>>=◌, each, whole, whole_of, text, st
 use Rattle.certificate.specs.MemberNames as member
 use Rattle.certificate.specs.CallbackNames as callback
 use Rattle.certificate.specs.RecordLines as recorded
-use Rattle.certificate.specs.RecordLines.{is_short, body_fits, value_or_cause}
+use Rattle.certificate.specs.RecordLines.{is_short, body_fits}
 
 -- a number, or where it has more than 32 bits the greatest one that has not
 abbrev pub cut_short : ℕ → ℕ

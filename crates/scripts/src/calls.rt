@@ -1,5 +1,5 @@
 //! What one call says of the tasks that it names.
-ghost use Rattle.std.specs.Prelude.{◌≡◌, length};
+ghost use Rattle.std.specs.Prelude.{◌≡◌};
 ghost use Rattle.scripts.specs.Scripts.{is_call, finished, ended, fate, has_twice};
 
 use crate::lives::Life;

@@ -1,5 +1,5 @@
 //! A script and its steps.
-ghost use Rattle.std.specs.Prelude.{◌≡◌, ◌+◌, ◌++◌, ◌∷◌, [], length, false, true, IfErr, IfSome, IsErr, OnOk, OnErr, is_some};
+ghost use Rattle.std.specs.Prelude.{◌≡◌, ◌+◌, ◌++◌, ◌∷◌, [], false, true, IfErr, IfSome, IsErr, OnOk, OnErr, is_some};
 ghost use Rattle.scripts.specs.Scripts.{may_follow, may_name, is_full, fault_of, step_of, IsScript};
 
 use crate::calls::{has_twice, is_call};

@@ -13,10 +13,10 @@ returns-then-may_name-clause-may c =
     let now = c.args.self.now in
     let body = c.args.body.now in
     let found : is_some c.find.result ≡ is_earlier now c.args.after =
-        found-decides steps c.args.after c.find.result (c.find.ensures steps c.self.invariant.is_tally)
-        ∙ ap (λ (xs : List Step). is_earlier xs c.args.after) c.self.view_is in
+    found-decides steps c.args.after c.find.result (c.find.ensures steps c.self.invariant.is_tally)
+    ∙ ap (λ (xs : List Step). is_earlier xs c.args.after) c.self.view_is in
     let named_well : is_earlier now c.args.after ≡ (may_name now body && is_earlier now c.args.after) =
-        ap (λ b. b && is_earlier now c.args.after) c.if-may_name.ensures in
+    ap (λ b. b && is_earlier now c.args.after) c.if-may_name.ensures in
     found ∙ named_well ∙ sym (after-last (is_call body) (is_earlier now c.args.after) (not (has_twice (named body)))
     (list_all (λ task. may_be_named (is_made (made body) task) (life now task)) (named body)))
 
