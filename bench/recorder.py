@@ -5,7 +5,8 @@ bytes a record.
 Each thread of `probe` makes CALLS calls (200,000): it creates tasks; switches to a task and back; creates a task,
 switches to it, and the task is complete; begins and ends a taskwait. `list` puts the records of creations into one
 list behind a mutex, with no recorder. A complete task is what the three calls take more than a creation and a
-switch. The least of RUNS runs (5). Bytes are those that the process takes more at its peak than with no call.
+switch. The least of RUNS runs (5). Bytes are those that the process takes more at its peak for twice as many
+calls.
 """
 
 import os
@@ -15,6 +16,8 @@ import sys
 from bench import TOP
 
 PROBE = os.path.join(TOP, "crates", "probe", "out", "probe")
+# So many pieces of the work tell the bytes.
+MANY = 2**19
 # How many records each piece of the work makes.
 RECORDS = {"create": 1, "switch": 2, "finish": 3, "region": 2, "list": 1}
 
@@ -35,10 +38,10 @@ def least(work, pieces, threads, runs):
     return min(run(work, pieces, threads)[0] for _ in range(runs))
 
 
-def bytes_of(work, pieces):
-    """The bytes a record."""
-    more = run(work, pieces, 1)[1] - run(work, 0, 1)[1]
-    return more / (RECORDS[work] * pieces)
+def bytes_of(work):
+    """The bytes a record: what twice as many records take more. Before it runs, a process has the size of this one."""
+    more = run(work, 2 * MANY, 1)[1] - run(work, MANY, 1)[1]
+    return more / (RECORDS[work] * MANY)
 
 
 def main():
@@ -51,7 +54,7 @@ def main():
         print(f"| {threads} | {times['create']:,} | {times['switch'] // 2:,} | {complete:,} | {times['region']:,} "
               f"| {times['list']:,} |", flush=True)
     print()
-    print("Bytes a record:", ", ".join(f"{work} {bytes_of(work, calls):.0f}" for work in RECORDS))
+    print("Bytes a record:", ", ".join(f"{work} {bytes_of(work):.0f}" for work in RECORDS))
 
 
 if __name__ == "__main__":
