@@ -62,27 +62,32 @@ fn trace_of(alloc: Global, file: &[u8]) -> Result<Trace> {
     }
 }
 
-/// The first line without its line feed, and the bytes after it; none where no line feed is left.
-fn split_line(bytes: &[u8]) -> Option<(&[u8], &[u8])> {
-    let at = memchr(b'\n', bytes)?;
+/// The first part of the bytes that this byte ends, without it, and the bytes after it; none where no such byte is left.
+fn split_part(bytes: &[u8], end: u8) -> Option<(&[u8], &[u8])> {
+    let at = memchr(end, bytes)?;
     if at >= bytes.len() {
         return None;
     }
     Some((&bytes[..at], &bytes[at + 1..]))
 }
 
-/// The lines that a line feed ends, without it.
-pub fn lines_of(alloc: Global, bytes: &[u8]) -> Result<Vec<&[u8]>> {
-    let mut lines = Vec::new(alloc);
+/// The parts that this byte ends, without it.
+pub fn parts_of(alloc: Global, bytes: &[u8], end: u8) -> Result<Vec<&[u8]>> {
+    let mut parts = Vec::new(alloc);
     let mut rest = bytes;
     for _ in 0..u64::MAX {
-        let Some((line, behind)) = split_line(rest) else {
+        let Some((part, behind)) = split_part(rest, end) else {
             break;
         };
-        lines.push(line)?;
+        parts.push(part)?;
         rest = behind;
     }
-    Ok(lines)
+    Ok(parts)
+}
+
+/// The lines that a line feed ends, without it.
+pub fn lines_of(alloc: Global, bytes: &[u8]) -> Result<Vec<&[u8]>> {
+    parts_of(alloc, bytes, b'\n')
 }
 
 /// For each line of standard input, as line 2 of a file with this header: the line that is written of its

@@ -1,16 +1,16 @@
 //! What scripts say.
-use crate::lines::{input, told};
+use crate::lines::{input, parts_of, told};
 use anyhow::Result;
 use certificate::{FromRead, Script, read_script};
 
-/// What stands between two scripts: a form feed.
-const BETWEEN: u8 = 12;
+/// What ends a script: a form feed.
+const END: u8 = 12;
 
 /// Prints for each script of standard input its steps, or its fault, and then a line `end`.
 pub fn each(rt: &HostRuntime) -> Result<()> {
     let bytes = input(rt)?;
-    for file in bytes.split(|byte| *byte == BETWEEN) {
-        match read_script(rt.alloc(), &mut FromRead::new(file)) {
+    for file in parts_of(rt.alloc(), &bytes, END)?.iter() {
+        match read_script(rt.alloc(), &mut FromRead::new(*file)) {
             Ok(script) => tell(rt, &script)?,
             Err(fault) => println!(rt; "{}", told(rt.alloc(), fault)?)?,
         }
