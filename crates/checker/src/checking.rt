@@ -1,5 +1,5 @@
 //! The check as a whole.
-ghost use Rattle.std.specs.Prelude.{ℕ, ◌≡◌, List, MatchOption, IfOk, IfErr};
+ghost use Rattle.std.specs.Prelude.{ℕ, ◌≡◌, List, MatchOption, IfOk, IfErr, IsOkUnless};
 ghost use Rattle.ompt_events.specs.declared.records.Record.{Record};
 ghost use Rattle.ompt_events.specs.declared.fault.Fault.TheVariants.{Memory};
 ghost use Rattle.checker.specs.Readings.{by_task};
@@ -19,7 +19,8 @@ use wait_coverage::{find_known, find_open};
 /// which covers an unfinished task, or that starts a task before a predecessor is finished; else yes with the
 /// greedy order. Fails only when out of memory.
 pub fn check(alloc: Global, trace: &Trace) -> Result<Verdict, CheckFault>
-    ensures { IfOk result (IsVerdict trace.now.records) }
+    ensures verdict { IfOk result (IsVerdict trace.now.records) }
+    ensures memory { IsOkUnless result CheckFault.Memory }
 {
     match ask(alloc, trace, &ForVerdict) {
         Ok(verdict) => Ok(verdict),

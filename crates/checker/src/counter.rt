@@ -1,5 +1,5 @@
 //! An order that leaves a task incomplete where it must be complete.
-ghost use Rattle.std.specs.Prelude.{◌≡◌, ◌<◌, ◌↔◌, IfOk, IfErr, IsTrue, length};
+ghost use Rattle.std.specs.Prelude.{◌≡◌, ◌<◌, ◌↔◌, IfOk, IfErr, IsOkUnless, IsTrue, length};
 ghost use Rattle.ompt_events.specs.declared.fault.Fault.TheVariants.{Memory};
 ghost use Rattle.ompt_events.specs.Linearization.{IsLinearization};
 ghost use Rattle.checker.specs.Readings.{by_task};
@@ -30,7 +30,8 @@ pub fn counter_order(
     at: usize,
     task: u64,
 ) -> Result<Option<Order>, CheckFault>
-    ensures { IfOk result (IsCounterBy (by_task trace.now.records) at task) }
+    ensures counter { IfOk result (IsCounterBy (by_task trace.now.records) at task) }
+    ensures memory { IsOkUnless result CheckFault.Memory }
 {
     match ask(alloc, trace, &ForCounter { at, task }) {
         Ok(found) => Ok(found),
@@ -47,6 +48,7 @@ pub fn check_with_counter(
 ) -> Result<(Verdict, Option<Order>), CheckFault>
     ensures verdict { IfOk result (λ answer. IsVerdict trace.now.records answer.0) }
     ensures counter { IfOk result (λ answer. IsShownBy (by_task trace.now.records) answer.0 answer.1) }
+    ensures memory { IsOkUnless result CheckFault.Memory }
 {
     match ask(alloc, trace, &ForVerdictAndCounter) {
         Ok(answer) => Ok(answer),

@@ -104,10 +104,13 @@ pub enum Verdict {
     Malformed { at: usize, cause: Cause },
 }
 
-/// Why a check has no verdict.
+/// Why there is no answer. As a `u8` it is the fault's number.
 #[derive(Clone, Copy, Debug, PartialEq, Eq, Error)]
 pub enum CheckFault {
-    /// Memory ran out. Number 1.
+    /// Out of memory.
     #[error("out of memory")]
-    Memory,
+    Memory = 1,
+    /// A thread could not be started.
+    #[error("no thread")]
+    Thread = 4,
 }

@@ -83,8 +83,10 @@ fn faults(rt: &HostRuntime) -> Result<()> {
     ] {
         println!(rt; "{fault:?}: {fault}")?;
     }
-    let fault = CheckFault::Memory;
-    println!(rt; "{fault:?}: {fault}")?;
+    for fault in [CheckFault::Memory, CheckFault::Thread] {
+        let number = fault as u8;
+        println!(rt; "{number} {fault:?}: {fault}")?;
+    }
     for fault in [
         CreditFault::Memory,
         CreditFault::Overlap,
