@@ -1,0 +1,4 @@
+-- Lemmas: CallLemmas of one call, PlaceLemmas of the steps of a thread, GatherLemmas of the gathered trace.
+pub mod CallLemmas
+pub mod PlaceLemmas
+pub mod GatherLemmas

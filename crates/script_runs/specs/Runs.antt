@@ -1,0 +1,35 @@
+-- Which trace is that of a run of a script.
+use Rattle.std.specs.Prelude.{ℕ, ◌≡◌, ◌≤◌, ◌+◌, ⊤, List, length}
+use Rattle.ompt_events.specs.declared.cause.Cause.TheVariants.{SeqGap, CreatedTwice, NestedParallel}
+use Rattle.ompt_events.specs.declared.cause.Cause.TheVariants.{EntryTwice, LengthAhead, LengthBack, TargetTask}
+use Rattle.ompt_events.specs.Causes.{IsFreeOf}
+use Rattle.ompt_events.specs.Traces.{TraceView}
+use Rattle.scripts.specs.declared.script.Step.{Step}
+use Rattle.callbacks.specs.Closed.{ClosedView, AreClosed}
+use Rattle.callbacks.specs.Gathered.{gathered, AreApart, ArePaired, AreHandedOver}
+use Rattle.script_runs.specs.Calls.{records_of, recorded_calls, calls_of}
+use Rattle.script_runs.specs.declared.fault.RunFault.{RunFault}
+use Rattle.script_runs.specs.declared.fault.RunFault.TheVariants.{Memory, Thread, Call}
+
+-- the trace is gathered from the recorders of a run of the script: the records of each thread are its steps, in
+-- their order, and the finishing records pair off with the entries of the one ledger
+pub record IsRun (steps : List Step) (trace : TraceView) : Type 0 where
+  pub version : trace.version ≡ 2
+  pub calls : (thread : ℕ) → recorded_calls (records_of trace.records thread) ≡ calls_of steps thread
+  pub closed : ClosedView
+  pub are_closed : AreClosed closed
+  pub gathered_from : trace.records ≡ gathered closed.buffers
+  pub apart : AreApart closed.buffers
+  pub paired : ArePaired closed
+  pub numbered : IsFreeOf trace.records SeqGap
+  pub outside : IsFreeOf trace.records CreatedTwice → IsFreeOf trace.records NestedParallel
+  pub once : IsFreeOf trace.records EntryTwice
+  pub not_ahead : IsFreeOf trace.records LengthAhead
+  pub on_host : IsFreeOf trace.records TargetTask
+  pub rising : AreHandedOver trace.records → IsFreeOf trace.records LengthBack
+
+-- a refused call stands on a line of the script: line 1 is the header
+abbrev pub IsOfLine : List Step → RunFault → Type 0
+IsOfLine steps (Call line fault) = line ≤ length steps + 1
+IsOfLine steps Memory = ⊤
+IsOfLine steps Thread = ⊤

@@ -1,0 +1,207 @@
+//! What the threads of a run share: how far each is, and the tasks that none of them has.
+ghost use Rattle.std.specs.Prelude.{◌≡◌, List, [], IfSome};
+ghost use Rattle.atomic_table.specs.Seated.{TableId};
+ghost use Rattle.script_runs.specs.Runs.{IsOfLine};
+ghost use Rattle.scripts.specs.declared.script.Step.{Step};
+
+use crate::fault::RunFault;
+use crate::uses::{Use, Uses};
+use callbacks::{Note, TaskData};
+use scripts::Step;
+use std::alloc::{AllocError, Global};
+use std::marker::{Brand, PhantomData};
+
+/// The ledger and the steps of a run. The run picks them.
+pub trait Context {
+    ghost ledger: { TableId };
+
+    ghost steps: { List Step };
+}
+
+impl Context for Brand {
+    ghost ledger = { record {
+      words = 0;
+      slots = 0;
+      views_name = 0;
+      atom = 0;
+      block = 0;
+      offset = 0;
+      slot_names = [];
+    } };
+
+    ghost steps = { [] };
+}
+
+/// A task that no thread has, with a note where the next step that names it is one of another thread.
+#[derive(Drop)]
+pub(crate) struct Held<C: Context> {
+    pub task: TaskData,
+    pub note: Option<Note>,
+    pub of: PhantomData<C>,
+    pub ghost of_the_run: { IfSome note (λ n. n.ledger ≡ C.ledger) },
+}
+
+/// The tasks of a step that no thread has, in the order in which its call names them.
+#[derive(Drop)]
+pub(crate) struct Pair<C: Context> {
+    pub first: Option<Held<C>>,
+    pub second: Option<Held<C>>,
+}
+
+/// Where a task waits for the next step that names it.
+#[derive(Drop)]
+struct Slot<C: Context> {
+    held: Option<Held<C>>,
+    /// How many of the steps that name it are done.
+    done: u32,
+}
+
+/// How far a thread is.
+#[derive(Clone, Copy)]
+struct Progress {
+    /// How many of its steps are done.
+    done: u32,
+    /// The step that its next one is to be after, if there is one.
+    after: Option<(u8, u32)>,
+}
+
+/// What the threads of a run share.
+#[derive(Drop)]
+pub(crate) struct Board<C: Context> {
+    /// By number of the task.
+    slots: Vec<Slot<C>>,
+    /// By number of the thread.
+    threads: Vec<Progress>,
+    /// Why the run ends without a trace, if it does.
+    fault: Option<RunFault>,
+    ghost of_a_line: { IfSome fault (IsOfLine C.steps) },
+}
+
+impl<C: Context> Board<C> {
+    /// The board of a run in which no step is done.
+    pub(crate) fn new(alloc: Global, tasks: usize, threads: usize) -> Result<Board<C>, AllocError> {
+        let mut slots = Vec::with_capacity(alloc, tasks)?;
+        for _ in 0..tasks {
+            slots.push(Slot {
+                held: None,
+                done: 0,
+            })?;
+        }
+        let start = Progress {
+            done: 0,
+            after: None,
+        };
+        Ok(Board {
+            slots,
+            threads: vec![in alloc; start; threads]?,
+            fault: None,
+        })
+    }
+
+    /// Why the run ends without a trace, if it does.
+    pub(crate) fn fault(&self) -> Option<RunFault>
+        ensures { IfSome result (IsOfLine C.steps) }
+    {
+        self.fault
+    }
+
+    /// The run ends without a trace, unless it ends at an earlier line already.
+    pub(crate) fn stop(&mut self, fault: RunFault)
+        requires { IsOfLine C.steps fault }
+    {
+        if !self.ends_before(fault.line()) {
+            self.fault = Some(fault);
+        }
+    }
+
+    /// Whether a step on this line is taken no more.
+    pub(crate) fn ends_before(&self, line: u32) -> bool {
+        match self.fault {
+            Some(fault) => fault.line() <= line,
+            None => false,
+        }
+    }
+
+    /// The thread is about to take this step.
+    pub(crate) fn expect(&mut self, step: &Step) {
+        if let Some(progress) = self.threads.get_mut(usize::from(step.thread)) {
+            progress.after = step.after;
+        }
+    }
+
+    /// Whether all is done that the step waits for.
+    pub(crate) fn is_ready(&self, step: &Step, uses: Uses) -> bool {
+        self.is_used_up(uses.first) && self.is_used_up(uses.second) && self.is_done(step.after)
+    }
+
+    /// Whether all earlier steps that name the task are done.
+    fn is_used_up(&self, used: Option<Use>) -> bool {
+        let Some(used) = used else {
+            return true;
+        };
+        match self.slots.get(used.task) {
+            Some(slot) => slot.done == used.before,
+            None => false,
+        }
+    }
+
+    /// Whether the step is done that is named by its thread and its number there.
+    fn is_done(&self, after: Option<(u8, u32)>) -> bool {
+        let Some((thread, number)) = after else {
+            return true;
+        };
+        match self.threads.get(usize::from(thread)) {
+            Some(progress) => number < progress.done,
+            None => false,
+        }
+    }
+
+    /// Takes the tasks of a step.
+    pub(crate) fn take(&mut self, uses: Uses) -> Pair<C> {
+        Pair {
+            first: self.take_one(uses.first),
+            second: self.take_one(uses.second),
+        }
+    }
+
+    /// Takes a task, if it is there: a step makes one of its tasks.
+    fn take_one(&mut self, used: Option<Use>) -> Option<Held<C>> {
+        match self.slots.get_mut(used?.task) {
+            Some(slot) => slot.held.take(),
+            None => None,
+        }
+    }
+
+    /// The step of the thread is done, and leaves these of its tasks.
+    pub(crate) fn finish(&mut self, thread: u8, uses: Uses, left: Pair<C>) {
+        self.put(uses.first, left.first);
+        self.put(uses.second, left.second);
+        if let Some(progress) = self.threads.get_mut(usize::from(thread)) {
+            progress.done = progress.done.saturating_add(1);
+        }
+    }
+
+    /// One more step that names the task is done, and leaves it, unless the task is over.
+    fn put(&mut self, used: Option<Use>, held: Option<Held<C>>) {
+        let Some(used) = used else {
+            return;
+        };
+        if let Some(slot) = self.slots.get_mut(used.task) {
+            slot.held = held;
+            slot.done = slot.done.saturating_add(1);
+        }
+    }
+
+    /// Whether the next step of a thread is to be after the last step that this one has done.
+    pub(crate) fn awaits(&self, thread: usize, other: u8) -> bool {
+        let (Some(waiting), Some(done)) =
+            (self.threads.get(thread), self.threads.get(usize::from(other)))
+        else {
+            return false;
+        };
+        match waiting.after {
+            Some((named, number)) => named == other && number + 1 == done.done,
+            None => false,
+        }
+    }
+}

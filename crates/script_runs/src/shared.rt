@@ -1,0 +1,198 @@
+//! How the threads of a run take their steps.
+ghost use Rattle.std.specs.Prelude.{◌≡◌, ◌++◌, ◌∷◌, [], IfSome, IsTrue, length};
+ghost use Rattle.credit_ledger.specs.Places.{ledger_id};
+ghost use Rattle.scripts.specs.Scripts.{IsScript};
+ghost use Rattle.script_runs.specs.Runs.{IsOfLine};
+ghost use Rattle.script_runs.specs.Parts.{ArePlaces, IsTaken};
+
+use crate::board::{Board, Context, Held, Pair};
+use crate::calling::{Values, call};
+use crate::fault::RunFault;
+use crate::uses::{Use, UseTable, Uses};
+use callbacks::{Recorder, TaskData};
+use credit_ledger::SharedLedger;
+use scripts::Step;
+use std::alloc::Global;
+use std::marker::PhantomData;
+use std::sync::{Condvar, Mutex, Wait};
+
+/// What the threads of a run share.
+#[derive(Drop)]
+pub(crate) struct Shared<'a, C: Context> {
+    pub alloc: Global,
+    pub ledger: &'a SharedLedger,
+    pub steps: &'a [Step],
+    /// The places of the steps of each thread.
+    pub threads: &'a [Vec<u32>],
+    pub uses: &'a UseTable,
+    pub board: &'a Mutex<Board<C>>,
+    /// By number of the thread: told of when the thread may go on.
+    pub changes: &'a [Condvar],
+    pub ghost of_the_ledger: { ledger_id ledger.now ≡ C.ledger },
+    pub ghost of_the_script: { steps.now ≡ C.steps },
+    pub ghost is_script: { IsScript C.steps },
+    pub ghost by_thread: { ArePlaces C.steps (length C.steps) threads.now },
+}
+
+impl<'a, C: Context> Shared<'a, C> {
+    /// Takes the step at this place, once all is done that it waits for; says whether it did. The run ends
+    /// without a trace where the recorder refuses the call, and with it ends the wait of every thread.
+    pub(crate) fn take_step<R: Wait>(&self, rt: &R, recorder: &mut Recorder, at: usize) -> bool
+        requires { recorder.old.ledger ≡ C.ledger }
+        ensures ledger { recorder.new.ledger ≡ recorder.old.ledger }
+        ensures thread { recorder.new.thread ≡ recorder.old.thread }
+        ensures taken { IsTrue result → IsTaken C.steps at recorder.old recorder.new }
+    {
+        let Some(step) = self.steps.get(at) else {
+            return false;
+        };
+        let uses = self.uses.at(at);
+        let Some(pair) = self.await_tasks(rt, step, uses) else {
+            return false;
+        };
+        let mut values = self.met(rt, recorder, pair);
+        match call(recorder, self.ledger, rt, &step.body, &mut values) {
+            Ok(()) => {
+                let left = self.left(recorder, uses, values);
+                self.finish(rt, step, uses, left);
+                true
+            }
+            Err(fault) => {
+                self.stop(rt, RunFault::of_call(step.line, fault));
+                false
+            }
+        }
+    }
+
+    /// The run ends without a trace, and no thread waits any longer.
+    pub(crate) fn stop<R: Wait>(&self, rt: &R, fault: RunFault)
+        requires { IsOfLine C.steps fault }
+    {
+        self.board.lock(rt).stop(fault);
+        for change in self.changes {
+            change.notify_one();
+        }
+    }
+
+    /// Why the run ends without a trace. A run that does has a fault.
+    pub(crate) fn fault<R: Wait>(&self, rt: &R) -> RunFault
+        ensures { IsOfLine C.steps result }
+    {
+        self.board.lock(rt).fault().unwrap_or(RunFault::Memory)
+    }
+
+    /// These recorders and one more.
+    pub(crate) fn with<R: Wait>(&self, rt: &R, recorders: Vec<Recorder>, recorder: Recorder) -> Option<Vec<Recorder>>
+        ensures { IfSome result (λ all. all.items ≡ recorders.items ++ recorder ∷ []) }
+    {
+        let mut recorders = recorders;
+        if recorders.push(recorder).is_err() {
+            self.stop(rt, RunFault::Memory);
+            return None;
+        }
+        Some(recorders)
+    }
+
+    /// Waits until all is done that the step waits for, and takes its tasks. None where the run ends before
+    /// the step.
+    fn await_tasks<R: Wait>(&self, rt: &R, step: &Step, uses: Uses) -> Option<Pair<C>> {
+        let mut board = self.board.lock(rt);
+        board.expect(step);
+        let mut board = match self.changes.get(usize::from(step.thread)) {
+            Some(change) => change.wait_while(rt, board, |board| {
+                !board.ends_before(step.line) && !board.is_ready(step, uses)
+            }),
+            None => board,
+        };
+        if board.ends_before(step.line) {
+            return None;
+        }
+        Some(board.take(uses))
+    }
+
+    /// The values of the tasks, after their notes were met.
+    fn met<R: Wait>(&self, rt: &R, recorder: &mut Recorder, pair: Pair<C>) -> Values
+        requires { recorder.old.ledger ≡ C.ledger }
+        ensures ledger { recorder.new.ledger ≡ recorder.old.ledger }
+        ensures thread { recorder.new.thread ≡ recorder.old.thread }
+        ensures records { recorder.new.records ≡ recorder.old.records }
+    {
+        let Pair { first, second } = pair;
+        Values {
+            alloc: self.alloc,
+            first: self.meet(rt, recorder, first),
+            second: self.meet(rt, recorder, second),
+        }
+    }
+
+    /// The value of a task, after its note was met.
+    fn meet<R: Wait>(&self, rt: &R, recorder: &mut Recorder, held: Option<Held<C>>) -> Option<TaskData>
+        requires { recorder.old.ledger ≡ C.ledger }
+        ensures ledger { recorder.new.ledger ≡ recorder.old.ledger }
+        ensures thread { recorder.new.thread ≡ recorder.old.thread }
+        ensures records { recorder.new.records ≡ recorder.old.records }
+    {
+        let Held { task, note, .. } = held?;
+        if let Some(note) = note {
+            recorder.meet(self.ledger, rt, note);
+        }
+        Some(task)
+    }
+
+    /// The tasks that a step leaves, each with a note where the next step that names it is one of another
+    /// thread.
+    fn left(&self, recorder: &mut Recorder, uses: Uses, values: Values) -> Pair<C>
+        requires { recorder.old.ledger ≡ C.ledger }
+        ensures ledger { recorder.new.ledger ≡ recorder.old.ledger }
+        ensures thread { recorder.new.thread ≡ recorder.old.thread }
+        ensures records { recorder.new.records ≡ recorder.old.records }
+    {
+        let Values { first, second, .. } = values;
+        Pair {
+            first: self.hold(recorder, uses.first, first),
+            second: self.hold(recorder, uses.second, second),
+        }
+    }
+
+    /// A task, with a note where the next step that names it is one of another thread.
+    fn hold(&self, recorder: &mut Recorder, used: Option<Use>, task: Option<TaskData>) -> Option<Held<C>>
+        requires { recorder.old.ledger ≡ C.ledger }
+        ensures ledger { recorder.new.ledger ≡ recorder.old.ledger }
+        ensures thread { recorder.new.thread ≡ recorder.old.thread }
+        ensures records { recorder.new.records ≡ recorder.old.records }
+    {
+        let task = task?;
+        let note = match used?.next {
+            Some(thread) if thread != recorder.thread() => Some(recorder.note(self.ledger)),
+            _ => None,
+        };
+        Some(Held {
+            task,
+            note,
+            of: PhantomData,
+        })
+    }
+
+    /// The step is done, and leaves these of its tasks: the threads that wait for it may go on.
+    fn finish<R: Wait>(&self, rt: &R, step: &Step, uses: Uses, left: Pair<C>) {
+        let mut board = self.board.lock(rt);
+        board.finish(step.thread, uses, left);
+        self.tell_next(uses.first);
+        self.tell_next(uses.second);
+        for thread in 0..self.changes.len() {
+            if board.awaits(thread, step.thread) {
+                self.changes[thread].notify_one();
+            }
+        }
+    }
+
+    /// The next step that names the task may go on.
+    fn tell_next(&self, used: Option<Use>) {
+        if let Some(Use {
+            next: Some(thread),
+            ..
+        }) = used && let Some(change) = self.changes.get(usize::from(thread)) {
+            change.notify_one();
+        }
+    }
+}
