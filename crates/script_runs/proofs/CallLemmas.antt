@@ -1,13 +1,22 @@
 -- A call of a recorder adds one record, with that call.
-use Rattle.std.proofs.Common.{◌≡◌, ◌∙◌, ◌++◌, ◌∷◌, [], Some, None, Option, map, refl, ap, sym, subst}
+use Rattle.std.proofs.Common.{ℕ, length, ◌≡◌, ◌∙◌, ◌++◌, ◌∷◌, [], Some, None, Option, map, refl, ap, sym, subst}
+use Rattle.std.proofs.Common.{arith}
 use Rattle.std.proofs.lemmas.List.{map-append}
+use Rattle.std.specs.Int.Bits.{bit_and, bit_or, or_add_and}
 use Rattle.ompt_events.specs.declared.records.Body.{Body}
+use Rattle.ompt_events.specs.declared.records.Body.TheVariants.{TaskSchedule, Cancel}
+use Rattle.ompt_events.specs.declared.records.Claim.{Claim}
+use Rattle.ompt_events.specs.declared.records.Turns.{Turns}
+use Rattle.ompt_events.specs.declared.names.Status.{Status}
+use Rattle.ompt_events.specs.declared.flags.CancelFlags.{CancelFlags}
 use Rattle.ompt_events.specs.declared.records.Record.{Record}
 use Rattle.ompt_events.specs.declared.records.Part.{Part}
 use Rattle.ompt_events.specs.Names.{status_part}
+use Rattle.credit_ledger.specs.declared.entry.Entry.{Entry}
 use Rattle.credit_ledger.specs.declared.view.View.{View}
+use Rattle.recorder.specs.Tasks.{TaskView}
 use Rattle.recorder.specs.Recorders.{RecorderView, recorded, with_record, IsObserved, IsConcluded}
-use Rattle.recorder.specs.Schedules.{ScheduleView, schedule_body, IsStopped, IsStoppedBy}
+use Rattle.recorder.specs.Schedules.{ScheduleView, schedule_body, schedule_of, discard_body, IsStopped, IsStoppedBy}
 use Rattle.script_runs.specs.Calls.{called, recorded_calls}
 use Rattle.script_runs.specs.Parts.{IsCalled}
 
@@ -35,3 +44,27 @@ call_stopped None old new s told (seen, observed) same =
     call_recorded old new seen new.seat (schedule_body s None) told observed.1 same
 call_stopped (Some part) old new s told (index, concluded) same =
     call_recorded old new index new.seat (schedule_body s (Some s.prior.claim)) told concluded.1 same
+
+-- one task stops and another one runs
+pub call_switched : (old new : RecorderView) (prior other : TaskView) (status : Status) (turns : Option Turns)
+    (p n : ℕ) (share : Option Claim) → IsStopped old (schedule_of prior status (Some other)) new
+    → prior.id ≡ p → other.id ≡ n → IsCalled old (TaskSchedule status turns p (Some n) share) new
+call_switched old new prior other status turns p n share stopped first second =
+    call_stopped (status_part status) old new (schedule_of prior status (Some other))
+    (TaskSchedule status turns p (Some n) share) stopped
+    (ap (λ id. TaskSchedule status None id (Some other.id) None) first
+    ∙ ap (λ id. TaskSchedule status None p (Some id) None) second)
+
+-- a task is discarded: its flags say so already
+pub call_discarded : (old new : RecorderView) (t : TaskView) (given : CancelFlags) (index : ℕ) (entry : Entry)
+    (task : ℕ) (share : Option Claim)
+    → IsConcluded old entry index (discard_body t given (Some t.claim)) new
+    → bit_and given.0 64 ≡ 64 → t.id ≡ task → IsCalled old (Cancel given task share) new
+call_discarded old new t given index entry task share concluded has first =
+    call_recorded old new index new.seat (discard_body t given (Some t.claim)) (Cancel given task share)
+    concluded.1
+    (ap (λ bits. Cancel (record { 0 = bits }) t.id None) same
+    ∙ ap (λ id. Cancel given id None) first)
+  where
+    same : bit_or given.0 64 ≡ given.0
+    same = omega (arith, or_add_and given.0 64, has)

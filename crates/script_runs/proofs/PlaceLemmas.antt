@@ -1,6 +1,6 @@
 -- The steps of one thread, one after another.
 use Rattle.std.proofs.Common.{ℕ, ◌≡◌, ◌≢◌, ◌∙◌, ◌++◌, ◌∷◌, ◌+◌, ◌≤◌, ◌<◌, [], List, Some, None, Option, map, take, length, refl, ap, sym, subst, cond, inl, inr, arith}
-use Rattle.std.specs.Prelude.{filter, slice_get, option_map}
+use Rattle.std.specs.Prelude.{◌==◌, filter, slice_get, option_map}
 use Rattle.std.specs.Global.{Vec}
 use Rattle.std.proofs.lemmas.Bool.{eq-eqb, ne_eqb}
 use Rattle.std.proofs.lemmas.Bool.Decides.{eqb_tells}
@@ -12,11 +12,11 @@ use Rattle.task_states.specs.Rows.{row_at}
 use Rattle.recorder.specs.Recorders.{RecorderView}
 use Rattle.callbacks.proofs.KnownLaw.{take_next}
 use Rattle.script_runs.specs.Calls.{called, step_calls, steps_of, calls_of, recorded_calls}
-use Rattle.script_runs.specs.Parts.{call_at, ArePlaces, IsPlaceAdded, IsTaken, HasRun, HasRunTo}
+use Rattle.script_runs.specs.Parts.{call_at, ArePlaces, IsCalled, IsPlaceAdded, IsTaken, HasRun, HasRunTo}
 
 -- ---- lists of what is there
 
-somes : {X : Type 0} → List (Option X) → List X
+abbrev somes : {X : Type 0} → List (Option X) → List X
 somes [] = []
 somes (Some x ∷ xs) = x ∷ somes xs
 somes (None ∷ xs) = somes xs
@@ -53,7 +53,7 @@ places_next steps n s before after is are added thread = elim (eqb_tells s.threa
   | inl same ↦
       let Row : ℕ → Type 0 = λ t. row_at after t ≡ row_at before t ++ n ∷ [] in
       let calls = calls_next steps n s thread is
-          ∙ ap (λ l. calls_of (take n steps) thread ++ l) (own_calls s thread same.1) in
+      ∙ ap (λ l. calls_of (take n steps) thread ++ l) (own_calls s thread same.1) in
       ap (map (call_at steps)) (subst Row same.1 added.here)
       ∙ map-append (call_at steps) (row_at before thread) (n ∷ [])
       ∙ ap (λ l. l ++ call_at steps n ∷ []) (are thread)
@@ -62,8 +62,8 @@ places_next steps n s before after is are added thread = elim (eqb_tells s.threa
       ∙ ap (map Some) (sym calls)
   | inr apart ↦
       let calls = calls_next steps n s thread is
-          ∙ ap (λ l. calls_of (take n steps) thread ++ l) (other_calls s thread apart.1)
-          ∙ append-nil (calls_of (take n steps) thread) in
+      ∙ ap (λ l. calls_of (take n steps) thread ++ l) (other_calls s thread apart.1)
+      ∙ append-nil (calls_of (take n steps) thread) in
       ap (map (call_at steps)) (added.others thread (λ e. apart.1 (sym e)))
       ∙ are thread ∙ ap (map Some) (sym calls)
 ]
@@ -75,18 +75,19 @@ pub run_next : (steps : List Step) (row : List ℕ) (k at : ℕ) (old new : Reco
     → slice_get row k ≡ Some at → HasRunTo steps (take k row) old → IsTaken steps at old new
     → HasRunTo steps (take (k + 1) row) new
 run_next steps row k at old new is before taken =
-    taken ∙ ap (λ l. l ++ call_at steps at ∷ []) before
+    taken.calls ∙ ap (λ l. l ++ call_at steps at ∷ []) before
     ∙ sym (map-append (call_at steps) (take k row) (at ∷ []))
     ∙ ap (map (call_at steps)) (sym (take_next row k at is))
 
 -- all are
-pub run_all : (steps : List Step) (threads : List (Vec ℕ)) (k : ℕ) (r : RecorderView)
-    → ArePlaces steps (length steps) threads → HasRunTo steps (take k (row_at threads r.thread)) r
-    → length (row_at threads r.thread) ≤ k → HasRun steps r
-run_all steps threads k r are before all =
+pub run_all : (steps : List Step) (threads : List (Vec ℕ)) (thread k : ℕ) (row : List ℕ) (r : RecorderView)
+    → ArePlaces steps (length steps) threads → row ≡ row_at threads thread → r.thread ≡ thread
+    → HasRunTo steps (take k row) r → length row ≤ k → HasRun steps r
+run_all steps threads thread k row r are is own before all =
     same_somes (recorded_calls r.records) (calls_of steps r.thread)
-    (before ∙ ap (map (call_at steps)) (take_all k (row_at threads r.thread) all)
-    ∙ are r.thread ∙ ap (λ l. map Some (calls_of l r.thread)) (take_all (length steps) steps (omega arith)))
+    (before ∙ ap (map (call_at steps)) (take_all k row all ∙ is)
+    ∙ are thread ∙ ap (λ l. map Some (calls_of l thread)) (take_all (length steps) steps (omega arith))
+    ∙ ap (λ t. map Some (calls_of steps t)) (sym own))
 
 -- a thread without a place has no call
 pub no_places : (steps : List Step) (threads : List (Vec ℕ)) (thread : ℕ)
@@ -95,3 +96,17 @@ no_places steps threads thread are none =
     same_somes (calls_of steps thread) []
     (ap (λ l. map Some (calls_of l thread)) (sym (take_all (length steps) steps (omega arith)))
     ∙ sym (are thread) ∙ ap (map (call_at steps)) none)
+
+-- the call of a step, with notes that were met before it and given after it
+pub taken_here : (steps : List Step) (at : ℕ) (s : Step) (old met after new : RecorderView)
+    → slice_get steps at ≡ Some s → met.records ≡ old.records → met.thread ≡ old.thread
+    → IsCalled met s.body after → new.records ≡ after.records → new.thread ≡ after.thread
+    → IsTaken steps at old new
+taken_here steps at s old met after new is same same_thread by left left_thread = record {
+  thread = left_thread ∙ by.thread ∙ same_thread;
+  calls = ap (λ rs. map Some (recorded_calls rs)) left
+      ∙ ap (map Some) by.calls
+      ∙ map-append Some (recorded_calls met.records) (called s.body ∷ [])
+      ∙ ap (λ rs. map Some (recorded_calls rs) ++ Some (called s.body) ∷ []) same
+      ∙ ap (λ c. map Some (recorded_calls old.records) ++ c ∷ []) (sym (ap (option_map (λ (q : Step). called q.body)) is));
+}

@@ -1,6 +1,7 @@
 -- Words for private steps.
 use Rattle.std.specs.Prelude.{ℕ, ◌≡◌, ◌≢◌, ◌≤◌, ◌⊎◌, ◌++◌, ◌∷◌, [], List, Option, Some, map, option_map, All, Contains, slice_get, take}
 use Rattle.std.specs.Global.{Vec}
+use Rattle.atomic_table.specs.Seated.{TableId}
 use Rattle.ompt_events.specs.declared.records.Body.{Body}
 use Rattle.scripts.specs.declared.script.Step.{Step}
 use Rattle.task_states.specs.Rows.{row_at}
@@ -19,9 +20,10 @@ abbrev pub call_at : List Step → ℕ → Option Body
 call_at steps at = option_map (λ (s : Step). called s.body) (slice_get steps at)
 
 -- the recorder has one record more, with the call of the step at this place
-abbrev pub IsTaken : List Step → ℕ → RecorderView → RecorderView → Type 0
-IsTaken steps at old new =
-    map Some (recorded_calls new.records) ≡ map Some (recorded_calls old.records) ++ call_at steps at ∷ []
+pub record IsTaken (steps : List Step) (at : ℕ) (old new : RecorderView) : Type 0 where
+  pub thread : new.thread ≡ old.thread
+  pub calls : map Some (recorded_calls new.records)
+      ≡ map Some (recorded_calls old.records) ++ call_at steps at ∷ []
 
 -- the recorder has recorded the calls of the steps at these places
 abbrev pub HasRunTo : List Step → List ℕ → RecorderView → Type 0
@@ -44,6 +46,12 @@ pub record IsPlaceAdded (before after : List (Vec ℕ)) (thread place : ℕ) : T
 -- the recorder has recorded the calls of its thread
 abbrev pub HasRun : List Step → RecorderView → Type 0
 HasRun steps r = recorded_calls r.records ≡ calls_of steps r.thread
+
+-- the recorder is of this ledger and this thread, and has recorded the calls of its thread
+pub record HasRunFor (ledger : TableId) (steps : List Step) (thread : ℕ) (r : RecorderView) : Type 0 where
+  pub of_ledger : r.ledger ≡ ledger
+  pub of_thread : r.thread ≡ thread
+  pub run : HasRun steps r
 
 -- one of the recorders is of the thread
 abbrev pub IsAmong : List RecorderView → ℕ → Type 0

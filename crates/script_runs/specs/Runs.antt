@@ -1,5 +1,5 @@
 -- Which trace is that of a run of a script.
-use Rattle.std.specs.Prelude.{ℕ, ◌≡◌, ◌≤◌, ◌+◌, ⊤, List, length}
+use Rattle.std.specs.Prelude.{ℕ, ◌≡◌, ◌≤◌, ◌+◌, List, length}
 use Rattle.ompt_events.specs.declared.cause.Cause.TheVariants.{SeqGap, CreatedTwice, NestedParallel}
 use Rattle.ompt_events.specs.declared.cause.Cause.TheVariants.{EntryTwice, LengthAhead, LengthBack, TargetTask}
 use Rattle.ompt_events.specs.Causes.{IsFreeOf}
@@ -28,8 +28,12 @@ pub record IsRun (steps : List Step) (trace : TraceView) : Type 0 where
   pub on_host : IsFreeOf trace.records TargetTask
   pub rising : AreHandedOver trace.records → IsFreeOf trace.records LengthBack
 
+-- the line of a fault; 0 where it is of no line
+abbrev pub line_of : RunFault → ℕ
+line_of (Call line fault) = line
+line_of Memory = 0
+line_of Thread = 0
+
 -- a refused call stands on a line of the script: line 1 is the header
 abbrev pub IsOfLine : List Step → RunFault → Type 0
-IsOfLine steps (Call line fault) = line ≤ length steps + 1
-IsOfLine steps Memory = ⊤
-IsOfLine steps Thread = ⊤
+IsOfLine steps fault = line_of fault ≤ length steps + 1

@@ -1,7 +1,8 @@
 //! What the threads of a run share: how far each is, and the tasks that none of them has.
-ghost use Rattle.std.specs.Prelude.{◌≡◌, List, [], IfSome};
+ghost use Rattle.std.specs.Prelude.{◌≡◌, ◌≤◌, ◌+◌, List, [], IfSome, length};
+ghost use Rattle.std.specs.Option.{option_map_or};
 ghost use Rattle.atomic_table.specs.Seated.{TableId};
-ghost use Rattle.script_runs.specs.Runs.{IsOfLine};
+ghost use Rattle.script_runs.specs.Runs.{line_of, IsOfLine};
 ghost use Rattle.scripts.specs.declared.script.Step.{Step};
 
 use crate::fault::RunFault;
@@ -32,13 +33,19 @@ impl Context for Brand {
     ghost steps = { [] };
 }
 
+/// A note of a recorder of the run.
+#[derive(Drop)]
+pub(crate) struct RunNote<C: Context> {
+    pub note: Note,
+    pub of: PhantomData<C>,
+    pub ghost of_the_run: { note.ledger ≡ C.ledger },
+}
+
 /// A task that no thread has, with a note where the next step that names it is one of another thread.
 #[derive(Drop)]
 pub(crate) struct Held<C: Context> {
     pub task: TaskData,
-    pub note: Option<Note>,
-    pub of: PhantomData<C>,
-    pub ghost of_the_run: { IfSome note (λ n. n.ledger ≡ C.ledger) },
+    pub note: Option<RunNote<C>>,
 }
 
 /// The tasks of a step that no thread has, in the order in which its call names them.
@@ -74,7 +81,7 @@ pub(crate) struct Board<C: Context> {
     threads: Vec<Progress>,
     /// Why the run ends without a trace, if it does.
     fault: Option<RunFault>,
-    ghost of_a_line: { IfSome fault (IsOfLine C.steps) },
+    ghost of_a_line: { option_map_or line_of fault 0 ≤ length C.steps + 1 },
 }
 
 impl<C: Context> Board<C> {
@@ -194,13 +201,14 @@ impl<C: Context> Board<C> {
 
     /// Whether the next step of a thread is to be after the last step that this one has done.
     pub(crate) fn awaits(&self, thread: usize, other: u8) -> bool {
-        let (Some(waiting), Some(done)) =
-            (self.threads.get(thread), self.threads.get(usize::from(other)))
-        else {
+        let (Some(waiting), Some(done)) = (
+            self.threads.get(thread),
+            self.threads.get(usize::from(other)),
+        ) else {
             return false;
         };
         match waiting.after {
-            Some((named, number)) => named == other && number + 1 == done.done,
+            Some((named, number)) => named == other && done.done.checked_sub(1) == Some(number),
             None => false,
         }
     }

@@ -61,7 +61,8 @@ pub(crate) fn call<R: Wait>(
     match body {
         Body::ThreadBegin { kind } => recorder.ompt_callback_thread_begin(*kind),
         Body::ThreadEnd => recorder.ompt_callback_thread_end(),
-        Body::TaskSchedule { .. } => schedule(recorder, ledger, wait, body, values),
+        Body::TaskSchedule { next: Some(_), .. } => switch(recorder, ledger, wait, body, values),
+        Body::TaskSchedule { next: None, .. } => fulfil(recorder, ledger, wait, body, values),
         Body::SyncRegion { .. } => region(recorder, ledger, wait, body, values),
         Body::Cancel { .. } => cancel(recorder, ledger, wait, body, values),
         _ => call_alone(recorder, body, values),
@@ -69,11 +70,7 @@ pub(crate) fn call<R: Wait>(
 }
 
 /// Makes a call that asks no ledger.
-fn call_alone(
-    recorder: &mut Recorder,
-    body: &Body,
-    values: &mut Values,
-) -> Result<(), CallFault>
+fn call_alone(recorder: &mut Recorder, body: &Body, values: &mut Values) -> Result<(), CallFault>
     ensures ledger { recorder.new.ledger ≡ recorder.old.ledger }
     ensures called { OnOk result (IsCalled recorder.old body.now recorder.new) }
 {
@@ -102,11 +99,7 @@ fn call_alone(
 }
 
 /// An initial or implicit task begins or ends.
-fn implicit_task(
-    recorder: &mut Recorder,
-    body: &Body,
-    values: &mut Values,
-) -> Result<(), CallFault>
+fn implicit_task(recorder: &mut Recorder, body: &Body, values: &mut Values) -> Result<(), CallFault>
     ensures ledger { recorder.new.ledger ≡ recorder.old.ledger }
     ensures called { OnOk result (IsCalled recorder.old body.now recorder.new) }
 {
@@ -119,8 +112,9 @@ fn implicit_task(
             parallel,
             task,
         } => {
-            let begun = recorder
-                .ompt_callback_implicit_task_begin(*parallel, *task, *actual, *index, *flags)?;
+            let begun = recorder.ompt_callback_implicit_task_begin(
+                *parallel, *task, *actual, *index, *flags,
+            )?;
             values.first = Some(begun);
             Ok(())
         }
@@ -150,7 +144,8 @@ fn create(recorder: &mut Recorder, body: &Body, values: &mut Values) -> Result<(
         flags,
         task,
         child,
-    } = body else {
+    } = body
+    else {
         return Err(CallFault::WrongState);
     };
     let mut value = values.take_first(*task)?;
@@ -192,8 +187,8 @@ fn copied(alloc: Global, list: &[Dep]) -> Result<Vec<Dep>, CallFault>
     }
 }
 
-/// A task stops or is fulfilled, and another one runs next, if there is one.
-fn schedule<R: Wait>(
+/// A task stops, and another one runs next.
+fn switch<R: Wait>(
     recorder: &mut Recorder,
     ledger: &SharedLedger,
     wait: &R,
@@ -209,21 +204,48 @@ fn schedule<R: Wait>(
         prior,
         next,
         ..
-    } = body else {
+    } = body
+    else {
+        return Err(CallFault::WrongState);
+    };
+    let Some(next) = next else {
         return Err(CallFault::WrongState);
     };
     let value = values.take_first(*prior)?;
-    let answer = match next {
-        Some(task) => {
-            let mut other = values.take_second(*task)?;
-            let answer = recorder
-                .ompt_callback_task_schedule(ledger, wait, value, *status, Some(&mut other));
+    let mut other = values.take_second(*next)?;
+    match recorder.ompt_callback_task_schedule(ledger, wait, value, *status, Some(&mut other)) {
+        Ok(back) => {
+            values.first = back;
             values.second = Some(other);
-            answer
+            Ok(())
         }
-        None => recorder.ompt_callback_task_schedule(ledger, wait, value, *status, None),
+        Err((_, fault)) => Err(fault),
+    }
+}
+
+/// A task is fulfilled, or complete as a taskwait.
+fn fulfil<R: Wait>(
+    recorder: &mut Recorder,
+    ledger: &SharedLedger,
+    wait: &R,
+    body: &Body,
+    values: &mut Values,
+) -> Result<(), CallFault>
+    requires { recorder.old.ledger ≡ ledger_id ledger.now }
+    ensures ledger { recorder.new.ledger ≡ recorder.old.ledger }
+    ensures called { OnOk result (IsCalled recorder.old body.now recorder.new) }
+{
+    let Body::TaskSchedule {
+        status,
+        prior,
+        next: None,
+        ..
+    } = body
+    else {
+        return Err(CallFault::WrongState);
     };
-    match answer {
+    let value = values.take_first(*prior)?;
+    match recorder.ompt_callback_task_schedule(ledger, wait, value, *status, None) {
         Ok(back) => {
             values.first = back;
             Ok(())
@@ -249,7 +271,8 @@ fn region<R: Wait>(
         endpoint,
         parallel,
         task,
-    } = body else {
+    } = body
+    else {
         return Err(CallFault::WrongState);
     };
     let mut value = values.take_first(*task)?;

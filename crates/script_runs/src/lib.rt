@@ -1,7 +1,7 @@
 //! Runs scripts of OMPT callbacks: the calls of each thread of a script are made on a thread of its own, each
 //! with a recorder.
 //!
-//! Read `run`, then `shared`, how a thread takes a step, and `calling`, how a step is a call. `board` is what
+//! Read `running`, then `shared`, how a thread takes a step, and `calling`, how a step is a call. `board` is what
 //! the threads share behind a lock; `uses` says beforehand who goes on with a task, `plan` which steps are whose.
 #![tactic(auto)]
 
@@ -9,9 +9,9 @@ mod board;
 mod calling;
 mod fault;
 mod plan;
-mod run;
+mod running;
 mod shared;
 mod uses;
 
 pub use fault::RunFault;
-pub use run::run;
+pub use running::run;

@@ -8,10 +8,7 @@ use std::alloc::{AllocError, Global};
 use task_states::reach;
 
 /// The places of the steps of each thread, by its number, up to the greatest thread that has one.
-pub(crate) fn places_by_thread(
-    alloc: Global,
-    steps: &[Step],
-) -> Result<Vec<Vec<u32>>, AllocError>
+pub(crate) fn places_by_thread(alloc: Global, steps: &[Step]) -> Result<Vec<Vec<u32>>, AllocError>
     requires { length steps.now ≤ max_records }
     ensures places { IfOk result (λ threads. ArePlaces steps.now (length steps.now) threads.items) }
     ensures few { IfOk result (λ threads. length threads.items ≤ 256) }

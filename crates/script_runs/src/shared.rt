@@ -1,49 +1,77 @@
 //! How the threads of a run take their steps.
-ghost use Rattle.std.specs.Prelude.{◌≡◌, ◌++◌, ◌∷◌, [], IfSome, IsTrue, length};
+ghost use Rattle.std.specs.Prelude.{◌≡◌, ◌≤◌, IfOk, IfErr, IsTrue, length};
 ghost use Rattle.credit_ledger.specs.Places.{ledger_id};
-ghost use Rattle.scripts.specs.Scripts.{IsScript};
+ghost use Rattle.ompt_events.specs.Limits.{max_records};
 ghost use Rattle.script_runs.specs.Runs.{IsOfLine};
 ghost use Rattle.script_runs.specs.Parts.{ArePlaces, IsTaken};
 
-use crate::board::{Board, Context, Held, Pair};
+use crate::board::{Board, Context, Held, Pair, RunNote};
 use crate::calling::{Values, call};
 use crate::fault::RunFault;
+use crate::plan::places_by_thread;
 use crate::uses::{Use, UseTable, Uses};
 use callbacks::{Recorder, TaskData};
 use credit_ledger::SharedLedger;
-use scripts::Step;
-use std::alloc::Global;
+use scripts::{Script, Step};
+use std::alloc::{AllocError, Global};
 use std::marker::PhantomData;
 use std::sync::{Condvar, Mutex, Wait};
 
 /// What the threads of a run share.
 #[derive(Drop)]
-pub(crate) struct Shared<'a, C: Context> {
+pub(crate) struct Shared<C: Context> {
     pub alloc: Global,
-    pub ledger: &'a SharedLedger,
-    pub steps: &'a [Step],
+    pub ledger: SharedLedger,
+    pub script: Script,
     /// The places of the steps of each thread.
-    pub threads: &'a [Vec<u32>],
-    pub uses: &'a UseTable,
-    pub board: &'a Mutex<Board<C>>,
+    pub threads: Vec<Vec<u32>>,
+    pub uses: UseTable,
+    pub board: Mutex<Board<C>>,
     /// By number of the thread: told of when the thread may go on.
-    pub changes: &'a [Condvar],
-    pub ghost of_the_ledger: { ledger_id ledger.now ≡ C.ledger },
-    pub ghost of_the_script: { steps.now ≡ C.steps },
-    pub ghost is_script: { IsScript C.steps },
-    pub ghost by_thread: { ArePlaces C.steps (length C.steps) threads.now },
+    pub changes: Vec<Condvar>,
+    pub ghost of_the_ledger: { ledger_id ledger ≡ C.ledger },
+    pub ghost of_the_script: { script ≡ C.steps },
+    pub ghost by_thread: { ArePlaces C.steps (length C.steps) threads.items },
+    pub ghost few: { length threads.items ≤ 256 },
 }
 
-impl<'a, C: Context> Shared<'a, C> {
+impl<C: Context> Shared<C> {
+    /// What the threads of a run share before it begins. The ledger and the script come back where there is no
+    /// memory for it.
+    pub(crate) fn new(
+        alloc: Global,
+        ledger: SharedLedger,
+        script: Script,
+    ) -> Result<Shared<C>, (Script, RunFault)>
+        requires ledger { ledger_id ledger ≡ C.ledger }
+        requires steps { script ≡ C.steps }
+        ensures ledger { IfOk result (λ shared. shared.ledger ≡ ledger) }
+        ensures script { IfOk result (λ shared. shared.script ≡ script) }
+        ensures returned { IfErr result (λ refused. refused.0 ≡ script) }
+        ensures line { IfErr result (λ refused. IsOfLine script refused.1) }
+    {
+        match tables(alloc, script.steps()) {
+            Ok((threads, uses, board, changes)) => Ok(Shared {
+                alloc,
+                ledger,
+                script,
+                threads,
+                uses,
+                board: Mutex::new(board),
+                changes,
+            }),
+            Err(AllocError) => Err((script, RunFault::Memory)),
+        }
+    }
+
     /// Takes the step at this place, once all is done that it waits for; says whether it did. The run ends
     /// without a trace where the recorder refuses the call, and with it ends the wait of every thread.
     pub(crate) fn take_step<R: Wait>(&self, rt: &R, recorder: &mut Recorder, at: usize) -> bool
         requires { recorder.old.ledger ≡ C.ledger }
         ensures ledger { recorder.new.ledger ≡ recorder.old.ledger }
-        ensures thread { recorder.new.thread ≡ recorder.old.thread }
         ensures taken { IsTrue result → IsTaken C.steps at recorder.old recorder.new }
     {
-        let Some(step) = self.steps.get(at) else {
+        let Some(step) = self.script.steps().get(at) else {
             return false;
         };
         let uses = self.uses.at(at);
@@ -51,7 +79,7 @@ impl<'a, C: Context> Shared<'a, C> {
             return false;
         };
         let mut values = self.met(rt, recorder, pair);
-        match call(recorder, self.ledger, rt, &step.body, &mut values) {
+        match call(recorder, &self.ledger, rt, &step.body, &mut values) {
             Ok(()) => {
                 let left = self.left(recorder, uses, values);
                 self.finish(rt, step, uses, left);
@@ -69,8 +97,8 @@ impl<'a, C: Context> Shared<'a, C> {
         requires { IsOfLine C.steps fault }
     {
         self.board.lock(rt).stop(fault);
-        for change in self.changes {
-            change.notify_one();
+        for thread in 0..self.changes.len() {
+            self.changes[thread].notify_one();
         }
     }
 
@@ -79,18 +107,6 @@ impl<'a, C: Context> Shared<'a, C> {
         ensures { IsOfLine C.steps result }
     {
         self.board.lock(rt).fault().unwrap_or(RunFault::Memory)
-    }
-
-    /// These recorders and one more.
-    pub(crate) fn with<R: Wait>(&self, rt: &R, recorders: Vec<Recorder>, recorder: Recorder) -> Option<Vec<Recorder>>
-        ensures { IfSome result (λ all. all.items ≡ recorders.items ++ recorder ∷ []) }
-    {
-        let mut recorders = recorders;
-        if recorders.push(recorder).is_err() {
-            self.stop(rt, RunFault::Memory);
-            return None;
-        }
-        Some(recorders)
     }
 
     /// Waits until all is done that the step waits for, and takes its tasks. None where the run ends before
@@ -126,15 +142,20 @@ impl<'a, C: Context> Shared<'a, C> {
     }
 
     /// The value of a task, after its note was met.
-    fn meet<R: Wait>(&self, rt: &R, recorder: &mut Recorder, held: Option<Held<C>>) -> Option<TaskData>
+    fn meet<R: Wait>(
+        &self,
+        rt: &R,
+        recorder: &mut Recorder,
+        held: Option<Held<C>>,
+    ) -> Option<TaskData>
         requires { recorder.old.ledger ≡ C.ledger }
         ensures ledger { recorder.new.ledger ≡ recorder.old.ledger }
         ensures thread { recorder.new.thread ≡ recorder.old.thread }
         ensures records { recorder.new.records ≡ recorder.old.records }
     {
         let Held { task, note, .. } = held?;
-        if let Some(note) = note {
-            recorder.meet(self.ledger, rt, note);
+        if let Some(RunNote { note, .. }) = note {
+            recorder.meet(&self.ledger, rt, note);
         }
         Some(task)
     }
@@ -155,7 +176,12 @@ impl<'a, C: Context> Shared<'a, C> {
     }
 
     /// A task, with a note where the next step that names it is one of another thread.
-    fn hold(&self, recorder: &mut Recorder, used: Option<Use>, task: Option<TaskData>) -> Option<Held<C>>
+    fn hold(
+        &self,
+        recorder: &mut Recorder,
+        used: Option<Use>,
+        task: Option<TaskData>,
+    ) -> Option<Held<C>>
         requires { recorder.old.ledger ≡ C.ledger }
         ensures ledger { recorder.new.ledger ≡ recorder.old.ledger }
         ensures thread { recorder.new.thread ≡ recorder.old.thread }
@@ -163,24 +189,30 @@ impl<'a, C: Context> Shared<'a, C> {
     {
         let task = task?;
         let note = match used?.next {
-            Some(thread) if thread != recorder.thread() => Some(recorder.note(self.ledger)),
+            Some(thread) if thread != recorder.thread() => Some(RunNote {
+                note: recorder.note(&self.ledger),
+                of: PhantomData,
+            }),
             _ => None,
         };
-        Some(Held {
-            task,
-            note,
-            of: PhantomData,
-        })
+        Some(Held { task, note })
     }
 
     /// The step is done, and leaves these of its tasks: the threads that wait for it may go on.
     fn finish<R: Wait>(&self, rt: &R, step: &Step, uses: Uses, left: Pair<C>) {
-        let mut board = self.board.lock(rt);
-        board.finish(step.thread, uses, left);
+        self.board.lock(rt).finish(step.thread, uses, left);
         self.tell_next(uses.first);
         self.tell_next(uses.second);
+        if uses.is_awaited {
+            self.tell_waiting(rt, step.thread);
+        }
+    }
+
+    /// The threads may go on whose next step is to be after the last one that this thread has done.
+    fn tell_waiting<R: Wait>(&self, rt: &R, done: u8) {
+        let board = self.board.lock(rt);
         for thread in 0..self.changes.len() {
-            if board.awaits(thread, step.thread) {
+            if board.awaits(thread, done) {
                 self.changes[thread].notify_one();
             }
         }
@@ -188,11 +220,41 @@ impl<'a, C: Context> Shared<'a, C> {
 
     /// The next step that names the task may go on.
     fn tell_next(&self, used: Option<Use>) {
-        if let Some(Use {
-            next: Some(thread),
-            ..
-        }) = used && let Some(change) = self.changes.get(usize::from(thread)) {
+        if let Some(
+            Use {
+                next: Some(thread),
+                ..
+            },
+        ) = used
+            && let Some(change) = self.changes.get(usize::from(thread))
+        {
             change.notify_one();
         }
     }
+}
+
+/// The places of the steps of each thread, the uses of the steps, the board at the start, and a condition for each
+/// thread.
+fn tables<C: Context>(
+    alloc: Global,
+    steps: &[Step],
+) -> Result<(Vec<Vec<u32>>, UseTable, Board<C>, Vec<Condvar>), AllocError>
+    requires { length steps.now ≤ max_records }
+    ensures places { IfOk result (λ made. ArePlaces steps.now (length steps.now) made.0.items) }
+    ensures few { IfOk result (λ made. length made.0.items ≤ 256) }
+{
+    let threads = places_by_thread(alloc, steps)?;
+    let uses = UseTable::of(alloc, steps, threads.as_slice())?;
+    let board = Board::new(alloc, uses.tasks(), threads.len())?;
+    let changes = conditions(alloc, threads.len())?;
+    Ok((threads, uses, board, changes))
+}
+
+/// So many conditions to wait for.
+fn conditions(alloc: Global, count: usize) -> Result<Vec<Condvar>, AllocError> {
+    let mut conditions = Vec::with_capacity(alloc, count)?;
+    for _ in 0..count {
+        conditions.push(Condvar::new())?;
+    }
+    Ok(conditions)
 }

@@ -1,7 +1,8 @@
-//! What each step of a script has to do with the tasks that it names.
+//! What each step of a script has to do with the tasks that it names, and which steps are awaited.
 use scripts::Step;
 use std::alloc::{AllocError, Global};
 use std::collections::BTreeMap;
+use task_states::row;
 
 /// What a step has to do with a task that it names.
 #[derive(Clone, Copy)]
@@ -19,6 +20,8 @@ pub(crate) struct Use {
 pub(crate) struct Uses {
     pub first: Option<Use>,
     pub second: Option<Use>,
+    /// Whether a later step names this one by its `after`.
+    pub is_awaited: bool,
 }
 
 /// The last step that names a task.
@@ -44,14 +47,21 @@ pub(crate) struct UseTable {
 }
 
 impl UseTable {
-    /// What each of the steps has to do with its tasks.
-    pub(crate) fn of(alloc: Global, steps: &[Step]) -> Result<UseTable, AllocError> {
+    /// The uses of the steps, of which each thread has those at these places.
+    pub(crate) fn of(
+        alloc: Global,
+        steps: &[Step],
+        threads: &[Vec<u32>],
+    ) -> Result<UseTable, AllocError> {
         let mut table = UseTable {
             uses: Vec::with_capacity(alloc, steps.len())?,
             tasks: BTreeMap::new(alloc),
         };
         for at in 0..steps.len() {
             table.add(&steps[at])?;
+            if let Some((thread, number)) = steps[at].after {
+                table.await_step(row(threads, usize::from(thread)).get(number as usize));
+            }
         }
         Ok(table)
     }
@@ -68,7 +78,17 @@ impl UseTable {
             None => Uses {
                 first: None,
                 second: None,
+                is_awaited: false,
             },
+        }
+    }
+
+    /// Notes that the step at this place is awaited.
+    fn await_step(&mut self, at: Option<&u32>) {
+        if let Some(at) = at
+            && let Some(uses) = self.uses.get_mut(*at as usize)
+        {
+            uses.is_awaited = true;
         }
     }
 
@@ -78,7 +98,11 @@ impl UseTable {
         let tasks = named.as_slice();
         let first = self.name(tasks.first(), step.thread, false)?;
         let second = self.name(tasks.get(1), step.thread, true)?;
-        self.uses.push(Uses { first, second })?;
+        self.uses.push(Uses {
+            first,
+            second,
+            is_awaited: false,
+        })?;
         Ok(())
     }
 

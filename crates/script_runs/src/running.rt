@@ -2,47 +2,46 @@
 ghost use Rattle.std.specs.Prelude.{◌≡◌, ◌≤◌, All, IfOk, IfErr, IfSome, length};
 ghost use Rattle.std.specs.Thread.{IsSync};
 ghost use Rattle.credit_ledger.specs.Places.{ledger_id, seat_id};
-ghost use Rattle.scripts.specs.Scripts.{IsScript};
 ghost use Rattle.script_runs.specs.Runs.{IsRun, IsOfLine};
-ghost use Rattle.script_runs.specs.Parts.{HasRun, HaveRun};
+ghost use Rattle.script_runs.specs.Parts.{HasRunFor, HaveRun};
 
-use crate::board::{Board, Context};
+use crate::board::Context;
 use crate::fault::RunFault;
-use crate::plan::places_by_thread;
 use crate::shared::Shared;
-use crate::uses::UseTable;
 use callbacks::{Recorder, close_all, gather};
 use credit_ledger::{Seat, SharedLedger};
 use ompt_events::Trace;
-use scripts::{Script, Step};
-use std::alloc::{AllocError, Global};
+use scripts::Script;
+use std::alloc::Global;
 use std::marker::{Brand, PhantomData};
-use std::sync::{Condvar, Mutex, Wait};
-use std::thread::{Promise, Scope, Threads, scope, scope_env};
+use std::sync::Wait;
+use std::thread::{Promise, PromisedHandle, Scope, Threads, scope, scope_env};
 use task_states::row;
 
 /// Makes the calls of a script, each thread of the script on a thread of its own, and returns the trace that
 /// their recorders gather. A step waits until the step named by its `after` is done, and until all earlier
 /// steps are done that name one of its tasks. The first refused call, in the order of the script, ends the run.
+/// The script comes back where the run has no trace.
 pub fn run<R: Threads + Wait + Sync>(
     rt: &R,
     alloc: Global,
-    script: &Script,
-) -> Result<Trace, RunFault>
-    ensures trace { IfOk result (IsRun script.now) }
-    ensures line { IfErr result (IsOfLine script.now) }
+    script: Script,
+) -> Result<Trace, (Script, RunFault)>
+    ensures trace { IfOk result (IsRun script) }
+    ensures returned { IfErr result (λ refused. refused.0 ≡ script) }
+    ensures line { IfErr result (λ refused. IsOfLine script refused.1) }
 {
-    let steps = script.steps();
+    let last = script.steps().len() as u32 + 1;
     let Ok((ledger, seat)) = SharedLedger::new(alloc) else {
-        return Err(RunFault::Memory);
+        return Err((script, RunFault::Memory));
     };
-    let recorders = recorded::<Brand, R>(rt, alloc, &ledger, seat, steps)?;
+    let (script, ledger, recorders) = recorded::<Brand, R>(rt, alloc, ledger, seat, script)?;
     let Ok(closed) = close_all(alloc, ledger, rt, recorders) else {
-        return Err(RunFault::Memory);
+        return Err((script, RunFault::Memory));
     };
     match gather(alloc, closed) {
         Ok(trace) => Ok(trace),
-        Err((_, fault)) => Err(RunFault::of_call(steps.len() as u32 + 1, fault)),
+        Err((_, fault)) => Err((script, RunFault::of_call(last, fault))),
     }
 }
 
@@ -50,44 +49,28 @@ pub fn run<R: Threads + Wait + Sync>(
 fn recorded<C: Context + Send + Sync, R: Threads + Wait + Sync>(
     rt: &R,
     alloc: Global,
-    ledger: &SharedLedger,
+    ledger: SharedLedger,
     seat: Seat,
-    steps: &[Step],
-) -> Result<Vec<Recorder>, RunFault>
+    script: Script,
+) -> Result<(Script, SharedLedger, Vec<Recorder>), (Script, RunFault)>
     requires seat { seat_id seat ≡ C.ledger }
-    requires ledger { ledger_id ledger.now ≡ C.ledger }
-    requires steps { steps.now ≡ C.steps }
-    requires script { IsScript steps.now }
-    ensures ledger { IfOk result (λ recorders. All (λ r. r.ledger ≡ C.ledger) recorders.items) }
-    ensures run { IfOk result (λ recorders. HaveRun C.steps 0 recorders.items) }
-    ensures line { IfErr result (IsOfLine C.steps) }
+    requires ledger { ledger_id ledger ≡ C.ledger }
+    requires steps { script ≡ C.steps }
+    ensures script { IfOk result (λ made. made.0 ≡ script) }
+    ensures same_ledger { IfOk result (λ made. made.1 ≡ ledger) }
+    ensures ledger { IfOk result (λ made. All (λ r. r.ledger ≡ C.ledger) made.2.items) }
+    ensures run { IfOk result (λ made. HaveRun C.steps 0 made.2.items) }
+    ensures returned { IfErr result (λ refused. refused.0 ≡ script) }
+    ensures line { IfErr result (λ refused. IsOfLine C.steps refused.1) }
 {
-    let threads = places_by_thread(alloc, steps)?;
-    let uses = UseTable::of(alloc, steps)?;
-    let board: Mutex<Board<C>> = Mutex::new(Board::new(alloc, uses.tasks(), threads.len())?);
-    let changes = conditions(alloc, threads.len())?;
-    let shared = Shared {
-        alloc,
-        ledger,
-        steps,
-        threads: threads.as_slice(),
-        uses: &uses,
-        board: &board,
-        changes: changes.as_slice(),
-    };
-    match in_scope(rt, &shared, seat) {
-        Some(recorders) => Ok(recorders),
-        None => Err(shared.fault(rt)),
+    let shared: Shared<C> = Shared::new(alloc, ledger, script)?;
+    let recorders = in_scope(rt, &shared, seat);
+    let fault = shared.fault(rt);
+    let Shared { script, ledger, .. } = shared;
+    match recorders {
+        Some(recorders) => Ok((script, ledger, recorders)),
+        None => Err((script, fault)),
     }
-}
-
-/// So many conditions to wait for.
-fn conditions(alloc: Global, count: usize) -> Result<Vec<Condvar>, AllocError> {
-    let mut conditions = Vec::with_capacity(alloc, count)?;
-    for _ in 0..count {
-        conditions.push(Condvar::new())?;
-    }
-    Ok(conditions)
 }
 
 /// The recorders of the script's threads, or none where the run ends without a trace.
@@ -112,8 +95,8 @@ fn in_scope<C: Context + Send + Sync, R: Threads + Wait + Sync>(
     )
 }
 
-/// The promise of a thread: its recorder, if it comes to its end, has recorded the calls of this thread of the
-/// script.
+/// The promise of a thread: if it comes to its end, its recorder is of this thread, and has recorded the calls
+/// of its steps.
 #[derive(Clone, Copy)]
 struct ByThread<C: Context> {
     thread: u8,
@@ -121,15 +104,14 @@ struct ByThread<C: Context> {
 }
 
 impl<C: Context> Promise<Option<Recorder>> for ByThread<C> {
-    ghost kept_by = { λ promise result. IfSome result (λ r.
-        (r.thread ≡ promise.thread) × (r.ledger ≡ C.ledger) × HasRun C.steps r) };
+    ghost kept_by = { λ promise result. IfSome result (HasRunFor C.ledger C.steps promise.thread) };
 }
 
 /// Runs the threads from this one on, and returns their recorders, or none where the run ends without a trace.
 fn run_from<'s, E, C: Context + Send + Sync, R: Threads + Wait + Sync>(
     scope: &Scope<'s, E>,
     rt: &'s R,
-    shared: &'s Shared<'s, C>,
+    shared: &'s Shared<C>,
     seat: Seat,
     thread: usize,
 ) -> Option<Vec<Recorder>>
@@ -141,22 +123,45 @@ fn run_from<'s, E, C: Context + Send + Sync, R: Threads + Wait + Sync>(
         return Some(Vec::new(shared.alloc));
     }
     let mut seat = seat;
-    if shared.threads[thread].is_empty() {
+    if row(shared.threads.as_slice(), thread).is_empty() {
         return run_from(scope, rt, shared, seat, thread + 1);
     }
     let own = shared.ledger.split(&mut seat);
-    let number = thread as u8;
-    let promise: ByThread<C> = ByThread {
-        thread: number,
-        of: PhantomData,
-    };
-    let Ok(child) = scope.spawn_with(promise, move || run_thread(rt, shared, own, number)) else {
-        shared.stop(rt, RunFault::Thread);
+    let Some(child) = start(scope, rt, shared, own, thread as u8) else {
         return None;
     };
     let rest = run_from(scope, rt, shared, seat, thread + 1);
-    let recorder = child.join(rt);
-    shared.with(rt, rest?, recorder?)
+    let recorder = child.join(rt)?;
+    let mut recorders = rest?;
+    if recorders.push(recorder).is_err() {
+        shared.stop(rt, RunFault::Memory);
+        return None;
+    }
+    Some(recorders)
+}
+
+/// Starts a thread of the script. Where none can be started the run ends without a trace.
+fn start<'s, E, C: Context + Send + Sync, R: Threads + Wait + Sync>(
+    scope: &Scope<'s, E>,
+    rt: &'s R,
+    shared: &'s Shared<C>,
+    seat: Seat,
+    thread: u8,
+) -> Option<PromisedHandle<Option<Recorder>, ByThread<C>>>
+    requires { seat_id seat ≡ C.ledger }
+    ensures { IfSome result (λ child. child.promise.thread ≡ thread) }
+{
+    let promise: ByThread<C> = ByThread {
+        thread,
+        of: PhantomData,
+    };
+    match scope.spawn_with(promise, move || run_thread(rt, shared, seat, thread)) {
+        Ok(child) => Some(child),
+        Err(_) => {
+            shared.stop(rt, RunFault::Thread);
+            None
+        }
+    }
 }
 
 /// Takes the steps of a thread. Returns its recorder, or none where the run ends before its last step.
@@ -167,10 +172,10 @@ fn run_thread<C: Context, R: Wait>(
     thread: u8,
 ) -> Option<Recorder>
     requires { seat_id seat ≡ C.ledger }
-    ensures { IfSome result (λ r. (r.thread ≡ thread) × (r.ledger ≡ C.ledger) × HasRun C.steps r) }
+    ensures { IfSome result (HasRunFor C.ledger C.steps thread) }
 {
     let mut recorder = Recorder::new(shared.alloc, thread, seat);
-    let places = row(shared.threads, usize::from(thread));
+    let places = row(shared.threads.as_slice(), usize::from(thread));
     for index in 0..places.len() {
         if !shared.take_step(rt, &mut recorder, places[index] as usize) {
             return None;
