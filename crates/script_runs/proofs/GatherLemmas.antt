@@ -1,6 +1,6 @@
 -- The records of each thread in the trace that is gathered.
-use Rattle.std.proofs.Common.{ℕ, zero, suc, ◌≡◌, ◌≢◌, ◌∙◌, ◌++◌, ◌∷◌, ◌+◌, ◌<◌, ◌≤◌, ◌⊎◌, [], List, Some, None, Option, Bool, true, false, map, length, refl, ap, sym, subst, cond, inl, inr, arith}
-use Rattle.std.specs.Prelude.{◌==◌, All, Contains, filter, slice_get, option_map}
+use Rattle.std.proofs.Common.{ℕ, zero, suc, ◌≡◌, ◌≢◌, ◌∙◌, ◌++◌, ◌∷◌, ◌+◌, ◌⊎◌, [], List, Some, None, Option, Bool, true, false, map, refl, ap, sym, cond, inl, inr, arith}
+use Rattle.std.specs.Prelude.{◌==◌, Contains, filter, slice_get, option_map}
 use Rattle.std.specs.List.Sorted.{IsPermutation}
 use Rattle.std.proofs.lemmas.Bool.{eq-eqb, ne_eqb}
 use Rattle.std.proofs.lemmas.Bool.Decides.{eqb_tells}

@@ -1,12 +1,11 @@
 -- The steps of one thread, one after another.
-use Rattle.std.proofs.Common.{ℕ, ◌≡◌, ◌≢◌, ◌∙◌, ◌++◌, ◌∷◌, ◌+◌, ◌≤◌, ◌<◌, [], List, Some, None, Option, map, take, length, refl, ap, sym, subst, cond, inl, inr, arith}
+use Rattle.std.proofs.Common.{ℕ, ◌≡◌, ◌≢◌, ◌∙◌, ◌++◌, ◌∷◌, ◌+◌, ◌≤◌, [], List, Some, None, Option, map, take, length, refl, ap, sym, subst, cond, inl, inr, arith}
 use Rattle.std.specs.Prelude.{◌==◌, filter, slice_get, option_map}
 use Rattle.std.specs.Global.{Vec}
 use Rattle.std.proofs.lemmas.Bool.{eq-eqb, ne_eqb}
 use Rattle.std.proofs.lemmas.Bool.Decides.{eqb_tells}
 use Rattle.std.proofs.lemmas.List.{map-append, append-nil, take_all}
 use Rattle.std.proofs.lemmas.List.Elements.{filter-append}
-use Rattle.ompt_events.specs.declared.records.Body.{Body}
 use Rattle.scripts.specs.declared.script.Step.{Step}
 use Rattle.task_states.specs.Rows.{row_at}
 use Rattle.recorder.specs.Recorders.{RecorderView}

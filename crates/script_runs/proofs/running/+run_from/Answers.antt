@@ -1,4 +1,4 @@
-use Rattle.std.proofs.Common.{◌≡◌, ◌∙◌, ap, arith}
+use Rattle.std.proofs.Common.{◌∙◌, arith}
 use Rattle.script_runs.proofs.RunLemmas.{no_more, one_more}
 use Rattle.script_runs.proofs.running.+run_from.Goals as goal
 
