@@ -22,10 +22,10 @@ REASONS = ('a list is awaited', 'no such list is awaited', 'has the flag target'
 class Task:
     """The value of a task."""
 
-    def __init__(self, number, flags, parent, home=None, actual=0, index=0):
+    def __init__(self, number, flags, parent, actual=0, index=0):
         self.number, self.flags, self.parent, self.kept, self.regions = number, flags, parent, 0, []
-        # of a root, the thread on which it begins, and its place in the team
-        self.home, self.actual, self.index = home, actual, index
+        # of a root, its place in the team
+        self.actual, self.index = actual, index
         self.root, self.path = (parent.root, [*parent.path, parent.kept]) if parent else (number, [])
         self.state, self.turn = ('Created', -1) if parent else ('Running', 0)
 
@@ -131,7 +131,7 @@ def record_of(number, thread, step, tasks, scripts):
         record['list'] = [{'type': it['type'], 'var': it['var']} for it in step['list']]
     thread.count, thread.awaited = thread.count + 1, None
     if cb == 'implicit_task':
-        pass_root(number, thread, record, tasks)
+        pass_root(thread, record, tasks)
     elif cb == 'task_create':
         parent = tasks[step['task']]
         tasks[step['child']] = Task(step['child'], record['flags'], parent)
@@ -148,10 +148,10 @@ def record_of(number, thread, step, tasks, scripts):
     return record
 
 
-def pass_root(number, thread, record, tasks):
+def pass_root(thread, record, tasks):
     """A root begins or ends; its end tells how it began."""
     if record['endpoint'] == 'begin':
-        root = Task(record['task'], record['flags'], None, number, record['actual'], record['index'])
+        root = Task(record['task'], record['flags'], None, record['actual'], record['index'])
         tasks[record['task']] = root
         thread.roots.append(root)
     else:
