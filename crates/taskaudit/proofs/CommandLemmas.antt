@@ -21,19 +21,20 @@ unfolding command_line clap_on_literals
 is_free_line a e = ap is_simple_and_free e
 
 -- what a subcommand comes to, where the tests say which one is named
-named_if : (first second : Bool) (s t : Shape) (rest : List Text) → s.name ≡ codes "check" → t.name ≡ codes "order"
-    → is_some (option_map (λ (it : Shape). rows_at it rest) (cond first (Some s) (cond second (Some t) None))) ≡ true
-    → is_some (option_and_then job_named (option_map (λ (it : Shape). rows_at it rest) (cond first (Some s) (cond second (Some t) None)))) ≡ true
-named_if true second s t rest check order e = rw check
-named_if false true s t rest check order e = rw order
-named_if false false s t rest check order e = cc
+named_if : (first second third : Bool) (s t u : Shape) (rest : List Text) → s.name ≡ codes "check" → t.name ≡ codes "order" → u.name ≡ codes "record"
+    → is_some (option_map (λ (it : Shape). rows_at it rest) (cond first (Some s) (cond second (Some t) (cond third (Some u) None)))) ≡ true
+    → is_some (option_and_then job_named (option_map (λ (it : Shape). rows_at it rest) (cond first (Some s) (cond second (Some t) (cond third (Some u) None))))) ≡ true
+named_if true second third s t u rest check order recording e = rw check
+named_if false true third s t u rest check order recording e = rw order
+named_if false false true s t u rest check order recording e = rw recording
+named_if false false false s t u rest check order recording e = cc
 
 -- whatever the walk stopped at, a subcommand that is entered names a job
 names_at : (stop : Option (Text × List Text)) → is_some (entered (built command_line) stop) ≡ true
     → is_some (option_and_then job_named (entered (built command_line) stop)) ≡ true
 unfolding command_line
 names_at None e = cc
-names_at (Some (name, rest)) e = named_if _ _ _ _ rest refl refl e
+names_at (Some (name, rest)) e = named_if _ _ _ _ _ _ rest refl refl refl e
 
 is_some_map : {T U : Type 0} (f : T → U) (o : Option T) → is_some (option_map f o) ≡ is_some o
 is_some_map f None = refl

@@ -3,3 +3,4 @@ mod CountLemmas
 mod PlaceLemmas
 mod HeadlineLemmas
 mod OrderLemmas
+mod RecordingLemmas

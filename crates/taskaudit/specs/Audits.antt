@@ -5,16 +5,17 @@ use Rattle.ompt_events.specs.declared.records.Record.{Record}
 use Rattle.ompt_events.specs.Traces.{TraceView}
 use Rattle.certificate.specs.Files.{file_says}
 use Rattle.certificate.specs.Reading.{IsToldRightly}
+use Rattle.checker.specs.declared.verdict.CheckFault.TheVariants as check
 use Rattle.checker.specs.declared.verdict.Verdict.{Verdict}
 use Rattle.checker.specs.declared.verdict.Verdict.TheVariants as verdict
 use Rattle.checker.specs.Verdicts.{IsVerdict, task_of}
 use Rattle.checker.specs.Counter.{IsCounterOrder}
-use Rattle.taskaudit.specs.declared.work.Job.{Job}
-use Rattle.taskaudit.specs.declared.work.Job.TheVariants.{Check, Order}
+use Rattle.taskaudit.specs.declared.work.Shown.{Shown}
+use Rattle.taskaudit.specs.declared.work.Shown.TheVariants.{Report, Order}
 use Rattle.taskaudit.specs.declared.work.Outcome.{Outcome}
 use Rattle.taskaudit.specs.declared.work.Outcome.TheVariants.{Yes}
 use Rattle.taskaudit.specs.declared.work.AuditFault.{AuditFault}
-use Rattle.taskaudit.specs.declared.work.AuditFault.TheVariants.{Read, Write}
+use Rattle.taskaudit.specs.declared.work.AuditFault.TheVariants.{Read, Write, Check, Call, Memory}
 use Rattle.taskaudit.specs.Headline.{IsSynchronised}
 use Rattle.taskaudit.specs.Orders.{order_lines}
 use Rattle.taskaudit.specs.Reports.{report_of, outcome_of}
@@ -24,41 +25,50 @@ pub record IsJudged (bytes : Option (List ℕ)) (trace : TraceView) (verdict : V
   pub file : IfSome bytes (λ known. file_says known ≡ Ok trace)
   pub right : IsVerdict trace.records verdict
 
--- what a job prints of the verdict: `check` its report; `order` behind it, of a yes its order, and of a no an
--- order that leaves the named task incomplete at the named record
-abbrev pub Prints : Job → List Record → Verdict → List ℕ → Type 0
-Prints (Check workers) rs found text = text ≡ report_of rs found
+-- what is shown of the verdict: its report; or behind it too, of a yes its order, and of a no an order that
+-- leaves the named task incomplete at the named record
+abbrev pub Prints : Shown → List Record → Verdict → List ℕ → Type 0
+Prints Report rs found text = text ≡ report_of rs found
 Prints Order rs (verdict.Yes order) text = text ≡ report_of rs (verdict.Yes order) ++ order_lines rs order
 Prints Order rs (verdict.No i why) text =
     (order : List ℕ) × IsCounterOrder rs i (task_of why) order
     × (text ≡ report_of rs (verdict.No i why) ++ order_lines rs order)
 Prints Order rs (verdict.Malformed i cause) text = text ≡ report_of rs (verdict.Malformed i cause)
 
--- what the job prints of the verdict was written, and nothing else, and the outcome is the verdict's kind
-pub record Reports (job : Job) (bytes old new : Option (List ℕ)) (outcome : Outcome) : Type 0 where
+-- what is shown of the verdict was written, and nothing else, and the outcome is the verdict's kind
+pub record Reports (shown : Shown) (bytes old new : Option (List ℕ)) (outcome : Outcome) : Type 0 where
   pub trace : TraceView
   pub verdict : Verdict
   pub judged : IsJudged bytes trace verdict
   pub text : List ℕ
-  pub printed : Prints job trace.records verdict text
+  pub printed : Prints shown trace.records verdict text
   pub written : Appends old new text
   pub kind : outcome ≡ outcome_of verdict
   pub kept : outcome ≡ Yes → IsSynchronised trace.records
 
 -- that text was written up to somewhere
-pub record BreaksOff (job : Job) (bytes old new : Option (List ℕ)) : Type 0 where
+pub record BreaksOff (shown : Shown) (bytes old new : Option (List ℕ)) : Type 0 where
   pub trace : TraceView
   pub verdict : Verdict
   pub judged : IsJudged bytes trace verdict
   pub text : List ℕ
-  pub printed : Prints job trace.records verdict text
+  pub printed : Prints shown trace.records verdict text
   pub count : ℕ
   pub written : Appends old new (take count text)
 
--- what a fault leaves: a prefix of that text where the sink failed, and else nothing
-abbrev pub Leaves : Job → Option (List ℕ) → Option (List ℕ) → Option (List ℕ) → AuditFault → Type 0
-Leaves job bytes old new (Write f) = BreaksOff job bytes old new
-Leaves job bytes old new _ = Keeps old new
+-- memory ran out for the check or for the report
+abbrev pub IsOutOfMemory : AuditFault → Type 0
+IsOutOfMemory (Check check.Memory) = ⊤
+IsOutOfMemory Memory = ⊤
+IsOutOfMemory _ = ⊥
+
+-- what a fault leaves: a prefix of that text where the sink failed, and else nothing. An audit starts no thread
+-- and makes no call of a script
+abbrev pub Leaves : Shown → Option (List ℕ) → Option (List ℕ) → Option (List ℕ) → AuditFault → Type 0
+Leaves shown bytes old new (Write f) = BreaksOff shown bytes old new
+Leaves shown bytes old new (Check check.Thread) = ⊥
+Leaves shown bytes old new (Call line f) = ⊥
+Leaves shown bytes old new _ = Keeps old new
 
 -- a fault of the input is the file's first one, or one of the source or of memory while the line was read;
 -- left is what the source has left

@@ -3,9 +3,9 @@ use Rattle.std.specs.Prelude.{◌≡◌, true, false, List, [], ◌∷◌, Optio
 use Rattle.std.specs.Str.{bytes_eq}
 use Rattle.clap.specs.Words.{App, Row, Text, new_app, subcommand_of}
 use Rattle.taskaudit.specs.declared.work.Job.{Job}
-use Rattle.taskaudit.specs.declared.work.Job.TheVariants.{Check, Order}
+use Rattle.taskaudit.specs.declared.work.Job.TheVariants.{Check, Order, Record}
 
--- what clap reads of the command: it wants a subcommand, of which there are two, without arguments
+-- what clap reads of the command: it wants a subcommand, of which there are three, without arguments
 unfoldable pub command_line : App
 command_line = record {
   top = record (new_app (codes "taskaudit")).top {
@@ -13,13 +13,15 @@ command_line = record {
     subcommand_required = true;
     disable_help_subcommand = true;
   };
-  subs = (new_app (codes "check")).top ∷ (new_app (codes "order")).top ∷ [];
+  subs = (new_app (codes "check")).top ∷ (new_app (codes "order")).top
+      ∷ (new_app (codes "record")).top ∷ [];
 }
 
 -- the job that a subcommand names, with the values that were found for its arguments
 abbrev pub job_named : Text × List Row → Option Job
 job_named (name, rows) = if bytes_eq name (codes "check") then Some (Check None)
-    else (if bytes_eq name (codes "order") then Some Order else None)
+    else (if bytes_eq name (codes "order") then Some Order
+    else (if bytes_eq name (codes "record") then Some Record else None))
 
 -- the words ask for the job
 abbrev pub AsksFor : List Text → Job → Type 0

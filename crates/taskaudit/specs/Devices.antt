@@ -1,10 +1,8 @@
--- What an audit tells of the failures of its source and its sink.
-use Rattle.std.specs.Prelude.{◌≡◌, ◌≢◌, ℕ, Option, Some, None, Result, Ok, Err, ⊤}
+-- What an audit or a recording tells of the failures of its source and its sink.
+use Rattle.std.specs.Prelude.{◌≡◌, ℕ, Option, Some, None, Result, Ok, Err}
 use Rattle.certificate.specs.declared.faults.ReadCause.{ReadCause}
 use Rattle.certificate.specs.declared.faults.WriteFault.{WriteFault}
-use Rattle.certificate.specs.declared.faults.WriteFault.TheVariants as write
 use Rattle.certificate.specs.Counts.{TakesTurns, TakesStalls, breaks_told, breaks_written}
-use Rattle.taskaudit.specs.declared.work.Outcome.{Outcome}
 use Rattle.taskaudit.specs.declared.work.AuditFault.{AuditFault}
 use Rattle.taskaudit.specs.declared.work.AuditFault.TheVariants.{Read, Write}
 
@@ -14,30 +12,25 @@ pub record Counters : Type 0 where
   pub breaks : ℕ
 
 -- how the reading ended: well, or with this cause
-abbrev pub read_cause_of : Result Outcome AuditFault → Option ReadCause
+abbrev pub read_cause_of : {X : Type 0} → Result X AuditFault → Option ReadCause
 read_cause_of (Err (Read f)) = Some f.cause
 read_cause_of _ = None
 
 -- how the writing ended, if there was any
-abbrev pub written_of : Result Outcome AuditFault → Result (Unit {0}) WriteFault
+abbrev pub written_of : {X : Type 0} → Result X AuditFault → Result (Unit {0}) WriteFault
 written_of (Err (Write f)) = Err f
 written_of _ = Ok tt
 
--- the fault is of neither device
-abbrev pub IsOfNoDevice : AuditFault → Type 0
-IsOfNoDevice (Read f) = ⊥
-IsOfNoDevice (Write f) = ⊥
-IsOfNoDevice _ = ⊤
-
 -- the sink's answers that ask for another turn, counted: with the 10,001st the writing ends, and where
 -- nothing was written there was none
-abbrev pub AsksForTurns : Result Outcome AuditFault → ℕ → ℕ → Type 0
-AsksForTurns (Ok outcome) old new = (turns : ℕ) × TakesStalls (Ok tt) turns old new
+abbrev pub AsksForTurns : {X : Type 0} → Result X AuditFault → ℕ → ℕ → Type 0
+AsksForTurns (Ok x) old new = (turns : ℕ) × TakesStalls (Ok tt) turns old new
 AsksForTurns (Err (Write f)) old new = (turns : ℕ) × TakesStalls (Err f) turns old new
 AsksForTurns (Err _) old new = new ≡ old
 
--- the devices are told of exactly where they fail, by what each counted before and after the audit
-pub record TellsDevices (result : Result Outcome AuditFault) (source source' sink sink' : Counters) : Type 0 where
+-- the devices are told of exactly where they fail, by what each counted before and after the call
+pub record TellsDevices {X : Type 0} (result : Result X AuditFault) (source source' sink sink' : Counters)
+    : Type 0 where
   -- the reading ends with `Device` exactly where the source breaks
   pub source_breaks : source'.breaks ≡ breaks_told (read_cause_of result) source.breaks
   -- and with `TurnsSpent` exactly where it asks for its 10,001st turn
@@ -46,5 +39,3 @@ pub record TellsDevices (result : Result Outcome AuditFault) (source source' sin
   pub sink_breaks : sink'.breaks ≡ breaks_written (written_of result) sink.breaks
   -- and with `TurnsSpent` exactly where it asks for its 10,001st turn
   pub sink_turns : AsksForTurns result sink.turns sink'.turns
-  -- it never ends with `Memory`
-  pub sink_memory : result ≢ Err (Write write.Memory)

@@ -17,6 +17,8 @@ use Rattle.certificate.specs.declared.faults.WriteFault.{WriteFault}
 use Rattle.certificate.specs.declared.faults.WriteFault.TheVariants as write
 use Rattle.certificate.specs.FaultNames.{read_cause_number, read_cause_name, write_fault_number, write_fault_name}
 use Rattle.checker.specs.declared.verdict.CheckFault.TheVariants as check
+use Rattle.recorder.specs.declared.fault.CallFault.{CallFault}
+use Rattle.recorder.specs.declared.fault.CallFault.TheVariants as call
 use Rattle.taskaudit.specs.declared.work.Outcome.{Outcome}
 use Rattle.taskaudit.specs.declared.work.Outcome.TheVariants as outcome
 use Rattle.taskaudit.specs.declared.work.AuditFault.{AuditFault}
@@ -92,16 +94,40 @@ unreadable_line line cause =
     codes "unreadable: line " ++ (decimal line
     ++ (codes ": " ++ (decimal (read_cause_number cause) ++ (codes " " ++ read_cause_name cause))))
 
--- the report could not be written
+-- the report or the trace could not be written
 abbrev pub unwritten_line : WriteFault → List ℕ
 unwritten_line write.Memory = no_memory_line
 unwritten_line cause =
     codes "unwritten: " ++ (decimal (write_fault_number cause) ++ (codes " " ++ write_fault_name cause))
 
+-- what the fault of a refused call is called in a report
+abbrev pub call_fault_number : CallFault → ℕ
+call_fault_number call.Memory = 1
+call_fault_number call.Full = 2
+call_fault_number call.WrongState = 3
+call_fault_number call.TooDeep = 4
+call_fault_number call.Overlap = 5
+
+abbrev pub call_fault_name : CallFault → List ℕ
+call_fault_name call.Memory = codes "Memory"
+call_fault_name call.Full = codes "Full"
+call_fault_name call.WrongState = codes "WrongState"
+call_fault_name call.TooDeep = codes "TooDeep"
+call_fault_name call.Overlap = codes "Overlap"
+
+-- the call on this line of the script is refused
+abbrev pub refused_line : ℕ → CallFault → List ℕ
+refused_line line call.Memory = no_memory_line
+refused_line line f =
+    codes "refused: line " ++ (decimal line
+    ++ (codes ": " ++ (decimal (call_fault_number f) ++ (codes " " ++ call_fault_name f))))
+
 abbrev pub fault_line : AuditFault → List ℕ
 fault_line (fault.Read f) = unreadable_line f.line f.cause
 fault_line (fault.Write f) = unwritten_line f
 fault_line (fault.Check check.Memory) = no_memory_line
+fault_line (fault.Check check.Thread) = codes "no thread"
+fault_line (fault.Call line f) = refused_line line f
 fault_line fault.Memory = no_memory_line
 
 -- what is printed of a fault

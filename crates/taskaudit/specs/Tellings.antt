@@ -1,4 +1,4 @@
--- What becomes of an ending when it is told why there is no verdict.
+-- What becomes of an ending when it is told why there is no verdict or no trace.
 use Rattle.std.specs.Prelude.{◌≡◌, ◌≢◌, ℕ, Bool, true, false, List, Result, Ok, Err, codes}
 use Rattle.clap.specs.Words.{kind_of}
 use Rattle.clap.specs.declared.error.Error.{Error}
@@ -6,7 +6,7 @@ use Rattle.clap.specs.declared.error.kind.ErrorKind.TheVariants.{OutOfMemory}
 use Rattle.certificate.specs.declared.faults.WriteFault.TheVariants.{Device}
 use Rattle.taskaudit.specs.declared.work.AuditFault.{AuditFault}
 use Rattle.taskaudit.specs.declared.work.AuditFault.TheVariants.{Memory, Write}
-use Rattle.taskaudit.specs.declared.work.Outcome.{Outcome}
+use Rattle.taskaudit.specs.declared.work.Done.{Done}
 use Rattle.taskaudit.specs.declared.work.Refusal.{Refusal}
 use Rattle.taskaudit.specs.declared.work.Refusal.TheVariants.{NotText, Words, Audit}
 use Rattle.taskaudit.specs.Reports.{fault_text_of}
@@ -43,8 +43,8 @@ pub data IsToldWords (made : Call → Type 0) : Error → Refusal → Type 0 whe
       → IsToldFault made Memory fault → IsToldWords made error (Audit fault)
 
 -- an ending, and what it is after it was told; made are the calls of the console
-abbrev pub IsTold : (Call → Type 0) → Result Outcome Refusal → Result Outcome Refusal → Type 0
-IsTold made (Ok outcome) told = told ≡ Ok outcome
+abbrev pub IsTold : (Call → Type 0) → Result Done Refusal → Result Done Refusal → Type 0
+IsTold made (Ok done) told = told ≡ Ok done
 IsTold made (Err NotText) told =
     (told ≡ Err NotText) × made (print (codes "error: a command-line argument is not UTF-8\n"))
 IsTold made (Err (Words error)) told = (refusal : Refusal) × (told ≡ Err refusal) × IsToldWords made error refusal

@@ -8,7 +8,7 @@ ghost use Rattle.taskaudit.specs.Audits.{Prints};
 ghost use Rattle.taskaudit.specs.Orders.{order_lines, order_shown};
 
 use crate::report::report_text;
-use crate::work::{AuditFault, Job};
+use crate::work::{AuditFault, Shown};
 use checker::{Order, Verdict};
 use itoa::Buffer;
 use ompt_events::{Record, Trace};
@@ -28,7 +28,7 @@ pub fn shown_text(
 ) -> Result<Vec<u8>, AuditFault>
     requires verdict { IsVerdict trace.now.records verdict.now }
     requires counter { IsShownBy (by_task trace.now.records) verdict.now counter.now }
-    ensures text { IfOk result (λ text. Prints Job.Order trace.now.records verdict.now text.items) }
+    ensures text { IfOk result (λ text. Prints Shown.Order trace.now.records verdict.now text.items) }
     ensures memory { IsOkUnless result AuditFault.Memory }
 {
     let report = report_text(alloc, verdict, trace)?;

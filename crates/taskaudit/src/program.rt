@@ -1,21 +1,25 @@
 //! The program from the words of its command line to its exit status.
 ghost use Rattle.std.specs.Prelude.{◌≡◌, map, IfOk, IfErr};
 ghost use Rattle.std.specs.Result.{result_map_both};
-ghost use Rattle.taskaudit.specs.Programs.{ReportsAsked, IsRefused, Ends, Runs};
+ghost use Rattle.taskaudit.specs.Programs.{DoesAsked, IsRefused, Ends, Runs};
 ghost use Rattle.taskaudit.specs.Statuses.{exit_status_of};
 
 use crate::auditing::{audit, audit_order};
+use crate::record::record;
 use crate::report::{WRONG_WORDS, fault_status, usage_status};
 use crate::telling::{Console, tell};
 use crate::words::job;
-use crate::work::{Job, Outcome, Refusal};
+use crate::work::{Done, Job, Refusal};
 use certificate::{Sink, Source};
 use std::alloc::Global;
 use std::convert::AsStr;
+use std::sync::Wait;
+use std::thread::Threads;
 
 /// Runs the program on the words of its command line, or why there are none, on this input and output. Tells
-/// on the console why there is no verdict, and returns the exit status.
-pub fn run<S: AsStr + Drop, C: Console, I: Source, O: Sink>(
+/// on the console why there is no verdict or no trace, and returns the exit status. The console is also what
+/// starts threads.
+pub fn run<S: AsStr + Drop, C: Console + Threads + Wait + Sync, I: Source, O: Sink>(
     words: Result<Vec<S>, Refusal>,
     alloc: Global,
     console: &C,
@@ -27,13 +31,16 @@ pub fn run<S: AsStr + Drop, C: Console, I: Source, O: Sink>(
         (I.remaining source.old) (O.contents sink.old) (O.contents sink.new) result }
 {
     match words {
-        Ok(words) => end(console, serve(alloc, words.as_slice(), source, sink)),
+        Ok(words) => end(
+            console,
+            serve(alloc, console, words.as_slice(), source, sink),
+        ),
         Err(refusal) => end(console, Err(refusal)),
     }
 }
 
-/// Tells why there is no verdict, and returns the exit status.
-fn end<C: Console>(console: &C, ending: Result<Outcome, Refusal>) -> u8
+/// Tells why there is no verdict or no trace, and returns the exit status.
+fn end<C: Console>(console: &C, ending: Result<Done, Refusal>) -> u8
     ensures { Ends (C.made console.now) ending result }
 {
     exit_status(&tell(console, ending))
@@ -41,30 +48,38 @@ fn end<C: Console>(console: &C, ending: Result<Outcome, Refusal>) -> u8
 
 /// Does what the words of the command line ask for (the first of them is the program's name), on this input
 /// and output.
-pub fn serve<S: AsStr, I: Source, O: Sink>(
+pub fn serve<S: AsStr, R: Threads + Wait + Sync, I: Source, O: Sink>(
     alloc: Global,
+    rt: &R,
     words: &[S],
     source: &mut I,
     sink: &mut O,
-) -> Result<Outcome, Refusal>
-    ensures reports { IfOk result (ReportsAsked (map S.text words.entry.now)
+) -> Result<Done, Refusal>
+    ensures does { IfOk result (DoesAsked (map S.text words.entry.now)
         (I.remaining source.old) (O.contents sink.old) (O.contents sink.new)) }
     ensures refused { IfErr result (IsRefused (map S.text words.entry.now)
         (I.remaining source.old) (O.contents sink.old) (O.contents sink.new)) }
 {
     match job(alloc, words) {
-        Ok(Job::Check(_)) => audit(alloc, source, sink).map_err(Refusal::Audit),
-        Ok(Job::Order) => audit_order(alloc, source, sink).map_err(Refusal::Audit),
+        Ok(Job::Check(_)) => audit(alloc, source, sink)
+            .map(Done::Judged)
+            .map_err(Refusal::Audit),
+        Ok(Job::Order) => audit_order(alloc, source, sink)
+            .map(Done::Judged)
+            .map_err(Refusal::Audit),
+        Ok(Job::Record) => record(rt, alloc, source, sink)
+            .map(|()| Done::Written)
+            .map_err(Refusal::Audit),
         Err(error) => Err(Refusal::Words(error)),
     }
 }
 
 /// The exit status of a run of the program that ended so.
-pub fn exit_status(ending: &Result<Outcome, Refusal>) -> u8
+pub fn exit_status(ending: &Result<Done, Refusal>) -> u8
     ensures { result ≡ exit_status_of ending.now }
 {
     match ending {
-        Ok(outcome) => outcome.status(),
+        Ok(done) => done.status(),
         Err(Refusal::NotText) => WRONG_WORDS,
         Err(Refusal::Words(error)) => usage_status(error),
         Err(Refusal::Audit(fault)) => fault_status(fault),

@@ -8,20 +8,24 @@ ghost use Rattle.taskaudit.specs.Reports.{report_of, fault_text_of, yes_text, no
 ghost use Rattle.taskaudit.specs.Statuses.{fault_status_of, usage_status_of};
 
 use crate::work::AuditFault;
+use callbacks::CallFault;
 use certificate::{ReadCause, WriteFault};
-use checker::{CheckFault, Verdict, Why};
+use checker::{Verdict, Why};
 use clap::error::ErrorKind;
 use ompt_events::{Cause, Record, Trace, finish};
 use std::alloc::{AllocError, Global};
 use std::fmt;
 
-/// The exit status where the input is not read or the report is not written.
+/// The exit status where a call of a script is refused.
+const CALL_REFUSED: u8 = 2;
+
+/// The exit status where the input is not read, or the report or the trace is not written.
 const NOT_REPORTED: u8 = 3;
 
 /// The exit status of wrong command-line arguments.
 pub const WRONG_WORDS: u8 = 4;
 
-/// The exit status where memory ran out.
+/// The exit status where memory ran out, or a thread could not be started.
 const NO_MEMORY: u8 = 5;
 
 /// The report of the trace's verdict: one line, with its line feed.
@@ -188,7 +192,7 @@ pub fn fault_text(alloc: Global, fault: &AuditFault) -> Result<String, AuditFaul
     format!(in alloc; "{fault}\n").map_err(|_| AuditFault::Memory)
 }
 
-/// The exit status of the program where no verdict is reported.
+/// The exit status of the program where no verdict is reported, or no trace written.
 pub fn fault_status(fault: &AuditFault) -> u8
     ensures { result ≡ fault_status_of fault.now }
 {
@@ -196,7 +200,9 @@ pub fn fault_status(fault: &AuditFault) -> u8
         AuditFault::Read(fault) if fault.cause == ReadCause::Memory => NO_MEMORY,
         AuditFault::Write(WriteFault::Memory) => NO_MEMORY,
         AuditFault::Read(_) | AuditFault::Write(_) => NOT_REPORTED,
-        AuditFault::Check(CheckFault::Memory) | AuditFault::Memory => NO_MEMORY,
+        AuditFault::Call { fault, .. } if *fault != CallFault::Memory => CALL_REFUSED,
+        AuditFault::Call { .. } => NO_MEMORY,
+        AuditFault::Check(_) | AuditFault::Memory => NO_MEMORY,
     }
 }
 

@@ -1,14 +1,14 @@
-//! Telling why there is no verdict.
+//! Telling why there is no verdict or no trace.
 ghost use Rattle.std.specs.Prelude.{◌≡◌, IfSome, is_some, string_bytes};
 ghost use Rattle.taskaudit.specs.Reports.{fault_text_of};
 ghost use Rattle.taskaudit.specs.Tellings.{IsTold, IsToldWords, IsToldFault};
 
 use crate::report::{fault_text, usage_status};
-use crate::work::{AuditFault, Outcome, Refusal};
+use crate::work::{AuditFault, Done, Refusal};
 use certificate::WriteFault;
 use clap::error::ErrorKind;
 
-/// Where the program tells why there is no verdict.
+/// Where the program tells why there is no verdict or no trace.
 pub trait Console {
     ghost use Rattle.taskaudit.specs.Tellings.{Call, text_of, show, print};
 
@@ -46,13 +46,13 @@ impl<R: Print + Eprint + AllocGlobal> Console for R {
     }
 }
 
-/// Tells why there is no verdict, or shows the help that was asked for. The ending becomes another one only
-/// where there is no memory for the text of a fault, or the help is not written.
-pub fn tell<C: Console>(console: &C, ending: Result<Outcome, Refusal>) -> Result<Outcome, Refusal>
+/// Tells why there is no verdict or no trace, or shows the help that was asked for. The ending becomes another
+/// one only where there is no memory for the text of a fault, or the help is not written.
+pub fn tell<C: Console>(console: &C, ending: Result<Done, Refusal>) -> Result<Done, Refusal>
     ensures { IsTold (C.made console.now) ending result }
 {
     match ending {
-        Ok(outcome) => Ok(outcome),
+        Ok(done) => Ok(done),
         Err(Refusal::NotText) => {
             console.print("error: a command-line argument is not UTF-8\n");
             Err(Refusal::NotText)

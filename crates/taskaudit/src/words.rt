@@ -22,6 +22,10 @@ const CHECK_ABOUT: &str = "Checks the trace file on standard input";
 const ORDER_ABOUT: &str =
     "Checks the trace file on standard input, and prints an order of its events that shows the answer";
 
+/// What `record` is for.
+const RECORD_ABOUT: &str =
+    "Runs the script on standard input with recorders, and writes the trace that they record";
+
 /// What stands below the options in the help, and in that of `check`.
 const EXPLANATION: &str = r#"Answers of check, one line on standard output:
   yes: 6 records, 1 entries, 1 tasks, 1 waits
@@ -40,6 +44,7 @@ const EXPLANATION: &str = r#"Answers of check, one line on standard output:
 
 Exit status: 0 yes, 1 no, 2 malformed, 3 input not read or answer not written,
   4 wrong arguments, 5 out of memory. Errors go to standard error.
+  Those of record: taskaudit record --help.
 
 Input: one JSON object a line, in UTF-8. The first line is
   {"format":"task-credit-audit","version":2}
@@ -81,6 +86,39 @@ Exit status: 0 yes, 1 no, 2 malformed, 3 input not read or answer not written,
 
 taskaudit check --help says what the answers mean and what the input is."#;
 
+/// What stands below the options in the help of `record`.
+const RECORD_EXPLANATION: &str =
+    r#"A script is a list of calls of OpenMP's tool interface (OMPT). Each thread of the
+script runs on a thread of its own, with a recorder, and makes its calls in their
+order. What the recorders gather is written as a trace file of version 2, the input
+of taskaudit check. Where a call is refused nothing is written.
+
+Input: one JSON object a line, in UTF-8. The first line is
+  {"format":"task-credit-script","version":1}
+and each other one a call: an event as in the input of check, but without seq, seen,
+root, path, kept, prior_turn and next_turn, which the recorders find. It may have the
+member
+  after          [thread, step]: a step on an earlier line, by its thread and its
+                 number among the steps of that thread, from 0
+A step is taken when the step named by its after is done, and all steps on earlier
+lines that name one of its tasks. A task is named by no line before the one that
+makes it, and by none after the one that ends it.
+
+Errors, one line on standard error:
+  refused: line 4: 3 WrongState
+      the recorder refused the call on this line, the first such in the script:
+      2 Full, a limit of the file format; 3 WrongState, it does not fit the state of
+      the thread or of a task; 4 TooDeep, a task too deep below its root; 5 Overlap,
+      two tasks with one place in the tree. What the recorders together cannot
+      gather is refused at the last line.
+  unreadable: line 3: 6 Field
+      the first faulty line, and why it is none of a script
+
+Exit status: 0 written, 2 a call refused, 3 input not read or trace not written,
+  4 wrong arguments, 5 out of memory or no thread could be started.
+
+taskaudit check --help says what the members of an event are."#;
+
 /// What the command line asks for; its first word is the program's name.
 pub fn job<'a, S: AsStr>(alloc: Global, words: &'a [S]) -> Result<Job, Error>
     ensures asked { IfOk result (AsksFor (map S.text words.entry.now)) }
@@ -104,6 +142,7 @@ fn job_met(matches: &ArgMatches) -> Job
 {
     match matches.subcommand_name() {
         Some("order") => Job::Order,
+        Some("record") => Job::Record,
         _ => Job::Check(None),
     }
 }
@@ -115,13 +154,15 @@ fn command<'a>(alloc: Global) -> Result<Command<'a>, AllocError>
 {
     let check = plain(alloc, "check", CHECK_ABOUT, EXPLANATION);
     let order = plain(alloc, "order", ORDER_ABOUT, ORDER_EXPLANATION);
+    let recording = plain(alloc, "record", RECORD_ABOUT, RECORD_EXPLANATION);
     Command::new(alloc, "taskaudit")
         .about(ABOUT)
         .after_help(EXPLANATION)
         .disable_help_subcommand(true)
         .subcommand_required(true)
         .subcommand(check)?
-        .subcommand(order)
+        .subcommand(order)?
+        .subcommand(recording)
 }
 
 /// A subcommand without arguments.

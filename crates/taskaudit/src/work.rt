@@ -1,7 +1,9 @@
 //! What the program is asked to do, and what comes of it.
 ghost use Rattle.std.specs.Prelude.{◌≡◌};
-ghost use Rattle.taskaudit.specs.Statuses.{outcome_status};
+ghost use Rattle.taskaudit.specs.Reports.{call_fault_name, call_fault_number};
+ghost use Rattle.taskaudit.specs.Statuses.{done_status, outcome_status};
 
+use callbacks::CallFault;
 use certificate::{ReadCause, ReadFault, WriteFault};
 use checker::{CheckFault, Verdict};
 use std::error::Error;
@@ -14,6 +16,38 @@ pub enum Job {
     Check(Option<u32>),
     /// To judge the trace on standard input and print an order that shows the verdict.
     Order,
+    /// To run the script on standard input and write the trace that its recorders gather.
+    Record,
+}
+
+/// What is printed of a verdict.
+#[derive(Clone, Copy, Debug, PartialEq, Eq)]
+pub enum Shown {
+    /// Its report.
+    Report,
+    /// Its report, and behind it an order that shows it.
+    Order,
+}
+
+/// What the program has done.
+#[derive(Clone, Copy, Debug, PartialEq, Eq)]
+pub enum Done {
+    /// A verdict of this kind was reported.
+    Judged(Outcome),
+    /// A trace was written.
+    Written,
+}
+
+impl Done {
+    /// The exit status of the program.
+    pub fn status(self) -> u8
+        ensures { result ≡ done_status self }
+    {
+        match self {
+            Done::Judged(outcome) => outcome.status(),
+            Done::Written => 0,
+        }
+    }
 }
 
 /// The kind of a verdict that was reported.
@@ -53,16 +87,19 @@ impl Outcome {
     }
 }
 
-/// Why no verdict was reported. Its text is what the program prints, without the line feed.
+/// Why no verdict was reported, or no trace written. Its text is what the program prints, without the line
+/// feed.
 #[derive(Clone, Copy, Debug, PartialEq, Eq)]
 pub enum AuditFault {
     /// The input is not read.
     Read(ReadFault),
-    /// The report is not written, or not to its end.
+    /// What is to be written is not, or not to its end.
     Write(WriteFault),
-    /// The trace has no verdict.
+    /// The trace has no verdict, or the script no thread to run on.
     Check(CheckFault),
-    /// Out of memory for the report.
+    /// The call on this line of the script is refused.
+    Call { line: u32, fault: CallFault },
+    /// Out of memory for the report, or for the run of the script.
     Memory,
 }
 
@@ -85,6 +122,12 @@ impl fmt::Display for AuditFault {
                 let name = fault.name();
                 write!(f, "unwritten: {number} {name}")
             }
+            AuditFault::Call { line, fault } if *fault != CallFault::Memory => {
+                let number = call_fault_number(*fault);
+                let name = call_fault_name(*fault);
+                write!(f, "refused: line {line}: {number} {name}")
+            }
+            AuditFault::Check(CheckFault::Thread) => write!(f, "no thread"),
             _ => write!(f, "out of memory"),
         }
     }
@@ -92,13 +135,33 @@ impl fmt::Display for AuditFault {
 
 impl Error for AuditFault {}
 
-/// Why the program gives no verdict.
+/// The number of the fault in a report, from 1 to 5.
+fn call_fault_number(fault: CallFault) -> u8
+    ensures { result ≡ call_fault_number fault }
+{
+    fault as u8
+}
+
+/// The name of the fault in a report.
+fn call_fault_name(fault: CallFault) -> &'static str
+    ensures { result.now ≡ call_fault_name fault }
+{
+    match fault {
+        CallFault::Memory => "Memory",
+        CallFault::Full => "Full",
+        CallFault::WrongState => "WrongState",
+        CallFault::TooDeep => "TooDeep",
+        CallFault::Overlap => "Overlap",
+    }
+}
+
+/// Why the program has not done what it is asked for.
 #[derive(Drop)]
 pub enum Refusal {
     /// An argument of the command line is not UTF-8.
     NotText,
     /// The arguments are wrong, or ask for help.
     Words(clap::Error),
-    /// The audit has this fault.
+    /// The audit, or the recording, has this fault.
     Audit(AuditFault),
 }
