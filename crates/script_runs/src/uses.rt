@@ -1,13 +1,15 @@
 //! What each step of a script has to do with the tasks that it names, and which steps are awaited.
+ghost use Rattle.std.specs.Prelude.{◌≤◌, length};
+ghost use Rattle.ompt_events.specs.Limits.{max_records};
+
 use scripts::Step;
 use std::alloc::{AllocError, Global};
-use std::collections::BTreeMap;
 use task_states::row;
 
 /// What a step has to do with a task that it names.
 #[derive(Clone, Copy)]
 pub(crate) struct Use {
-    /// The number of the task, in the order in which the script makes them.
+    /// The number of the task, in the order of their ids.
     pub task: usize,
     /// How many earlier steps name it.
     pub before: u32,
@@ -24,26 +26,30 @@ pub(crate) struct Uses {
     pub is_awaited: bool,
 }
 
-/// The last step that names a task.
+impl Uses {
+    /// A step that names no task, and that no step awaits.
+    const NONE: Uses = Uses {
+        first: None,
+        second: None,
+        is_awaited: false,
+    };
+}
+
+/// A task that the step at a place names, as its first or its second one.
 #[derive(Clone, Copy)]
-struct Last {
-    /// The number of the task.
-    task: usize,
-    /// How many steps name it.
-    count: u32,
-    /// The place of the step.
-    at: usize,
-    /// Whether its call names another task first.
+struct Name {
+    task: u64,
+    at: u32,
+    thread: u8,
     is_second: bool,
 }
 
-/// The uses of the steps so far.
+/// The uses of the steps.
 #[derive(Drop)]
 pub(crate) struct UseTable {
     /// By place of the step.
     uses: Vec<Uses>,
-    /// By id of the task.
-    tasks: BTreeMap<u64, Last>,
+    tasks: usize,
 }
 
 impl UseTable {
@@ -52,39 +58,45 @@ impl UseTable {
         alloc: Global,
         steps: &[Step],
         threads: &[Vec<u32>],
-    ) -> Result<UseTable, AllocError> {
+    ) -> Result<UseTable, AllocError>
+        requires { length steps.now ≤ max_records }
+    {
         let mut table = UseTable {
-            uses: Vec::with_capacity(alloc, steps.len())?,
-            tasks: BTreeMap::new(alloc),
+            uses: vec![in alloc; Uses::NONE; steps.len()]?,
+            tasks: 0,
         };
-        for at in 0..steps.len() {
-            table.add(&steps[at])?;
-            if let Some((thread, number)) = steps[at].after {
-                table.await_step(row(threads, usize::from(thread)).get(number as usize));
-            }
-        }
+        table.note_awaited(steps, threads);
+        // The sort keeps the order of the steps among the names of one task.
+        let mut names = names_of(alloc, steps)?;
+        names.sort_by_key(|name| name.task)?;
+        table.note_uses(names.as_slice());
         Ok(table)
     }
 
     /// How many tasks the steps name.
     pub(crate) fn tasks(&self) -> usize {
-        self.tasks.len()
+        self.tasks
     }
 
     /// What the step at this place has to do with its tasks.
     pub(crate) fn at(&self, at: usize) -> Uses {
         match self.uses.get(at) {
             Some(uses) => *uses,
-            None => Uses {
-                first: None,
-                second: None,
-                is_awaited: false,
-            },
+            None => Uses::NONE,
+        }
+    }
+
+    /// Notes which steps are named by an `after`.
+    fn note_awaited(&mut self, steps: &[Step], threads: &[Vec<u32>]) {
+        for at in 0..steps.len() {
+            if let Some((thread, number)) = steps[at].after {
+                self.note_awaited_one(row(threads, usize::from(thread)).get(number as usize));
+            }
         }
     }
 
     /// Notes that the step at this place is awaited.
-    fn await_step(&mut self, at: Option<&u32>) {
+    fn note_awaited_one(&mut self, at: Option<&u32>) {
         if let Some(at) = at
             && let Some(uses) = self.uses.get_mut(*at as usize)
         {
@@ -92,70 +104,63 @@ impl UseTable {
         }
     }
 
-    /// Adds the next step. A call of a script names at most two tasks, since it makes no claim.
-    fn add(&mut self, step: &Step) -> Result<(), AllocError> {
+    /// Notes what each step has to do with its tasks. The names of one task stand side by side, in the order of
+    /// the steps.
+    fn note_uses(&mut self, names: &[Name]) {
+        let mut last = None;
+        let mut before: u32 = 0;
+        for index in 0..names.len() {
+            let name = names[index];
+            if last == Some(name.task) {
+                before = before.saturating_add(1);
+            } else {
+                last = Some(name.task);
+                before = 0;
+                self.tasks = self.tasks.saturating_add(1);
+            }
+            let next = match names.get(index + 1) {
+                Some(next) if next.task == name.task => Some(next.thread),
+                _ => None,
+            };
+            let used = Use {
+                task: self.tasks.saturating_sub(1),
+                before,
+                next,
+            };
+            self.put(name, used);
+        }
+    }
+
+    /// Notes what a step has to do with a task that it names.
+    fn put(&mut self, name: Name, used: Use) {
+        if let Some(uses) = self.uses.get_mut(name.at as usize) {
+            if name.is_second {
+                uses.second = Some(used);
+            } else {
+                uses.first = Some(used);
+            }
+        }
+    }
+}
+
+/// The tasks that the steps name. A call of a script names at most two, since it makes no claim.
+fn names_of(alloc: Global, steps: &[Step]) -> Result<Vec<Name>, AllocError>
+    requires { length steps.now ≤ max_records }
+{
+    let mut names = Vec::with_capacity(alloc, steps.len())?;
+    for at in 0..steps.len() {
+        let step = &steps[at];
+        let place = at as u32;
         let named = step.body.named();
         let tasks = named.as_slice();
-        let first = self.name(tasks.first(), step.thread, false)?;
-        let second = self.name(tasks.get(1), step.thread, true)?;
-        self.uses.push(Uses {
-            first,
-            second,
-            is_awaited: false,
-        })?;
-        Ok(())
-    }
-
-    /// Notes that the next step names the task, and that it is the one after the last that did.
-    fn name(
-        &mut self,
-        task: Option<&u64>,
-        thread: u8,
-        is_second: bool,
-    ) -> Result<Option<Use>, AllocError> {
-        let Some(task) = task else {
-            return Ok(None);
-        };
-        let at = self.uses.len();
-        if let Some(last) = self.tasks.get_mut(task) {
-            let found = *last;
-            last.count = found.count.saturating_add(1);
-            last.at = at;
-            last.is_second = is_second;
-            self.pass_on(found, thread);
-            return Ok(Some(Use {
-                task: found.task,
-                before: found.count,
-                next: None,
-            }));
-        }
-        let number = self.tasks.len();
-        let last = Last {
-            task: number,
-            count: 1,
-            at,
-            is_second,
-        };
-        self.tasks.insert(*task, last)?;
-        Ok(Some(Use {
-            task: number,
-            before: 0,
-            next: None,
-        }))
-    }
-
-    /// The next step that names the task is one of this thread.
-    fn pass_on(&mut self, last: Last, thread: u8) {
-        let Some(uses) = self.uses.get_mut(last.at) else {
-            return;
-        };
-        let used = if last.is_second {
-            &mut uses.second
-        } else {
-            &mut uses.first
-        };
-        if let Some(used) = used {
-            used.next = Some(thread);
+        for second in 0..tasks.len() {
+            names.push(Name {
+                task: tasks[second],
+                at: place,
+                thread: step.thread,
+                is_second: second > 0,
+            })?;
         }
     }
+    Ok(names)
 }
