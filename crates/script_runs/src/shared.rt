@@ -36,8 +36,7 @@ pub(crate) struct Shared<C: Context> {
 }
 
 impl<C: Context> Shared<C> {
-    /// What the threads of a run share before it begins. The ledger and the script come back where there is no
-    /// memory for it.
+    /// What the threads of a run share before it begins. The script comes back where there is no memory for it.
     pub(crate) fn new(
         alloc: Global,
         ledger: SharedLedger,
@@ -233,8 +232,8 @@ impl<C: Context> Shared<C> {
     }
 }
 
-/// The places of the steps of each thread, the uses of the steps, the board at the start, and a condition for each
-/// thread.
+/// The places of the steps of each thread, the uses of the steps, the board at the start, and for each thread a
+/// condition to wait for.
 fn tables<C: Context>(
     alloc: Global,
     steps: &[Step],
