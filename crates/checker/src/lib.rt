@@ -11,6 +11,7 @@ mod claims;
 mod counter;
 mod earliest;
 mod front;
+mod gate;
 mod in_order;
 pub mod laws;
 mod lengths;
@@ -27,7 +28,10 @@ mod starts;
 mod suspensions;
 mod verdict;
 mod waiting;
+mod workers;
 
 pub use checking::check;
 pub use counter::{check_with_counter, counter_order};
+pub use gate::{Gate, OpenGate};
 pub use verdict::{CheckFault, Order, Verdict, Why};
+pub use workers::{MAX_WORKERS, check_on};
