@@ -1,4 +1,5 @@
 pub mod CommandLemmas
+mod WorkersLemmas
 mod CountLemmas
 mod PlaceLemmas
 mod HeadlineLemmas
