@@ -18,8 +18,6 @@ pub trait Gate {
 pub struct OpenGate;
 
 impl Gate for OpenGate {
-    ghost use Rattle.std.specs.Prelude.{⊥};
-
     ghost may_refuse = { λ gate worker. ⊥ };
 
     fn pass(&self, worker: u32) -> bool {
