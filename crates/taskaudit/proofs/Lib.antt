@@ -3,5 +3,6 @@ mod WorkersLemmas
 mod CountLemmas
 mod PlaceLemmas
 mod HeadlineLemmas
+mod AuditLemmas
 mod OrderLemmas
 mod RecordingLemmas

@@ -5,6 +5,7 @@ ghost use Rattle.clap.specs.declared.builder.command.Command.TheViews.{out-Comma
 ghost use Rattle.taskaudit.specs.Commands.{command_line, check_app, workers_rule, check_by, job_named, AsksFor, HasFewWorkers};
 
 use crate::work::Job;
+use checker::MAX_WORKERS;
 use clap::error::ErrorKind;
 use clap::{Arg, ArgAction, ArgMatches, Command, Error, value_parser};
 use std::alloc::{AllocError, Global};
@@ -206,7 +207,7 @@ fn workers<'a>(alloc: Global) -> Arg<'a>
         .value_name("N")
         .help(WORKERS_HELP)
         .action(ArgAction::Set)
-        .value_parser(value_parser!(u32).range(1..=256))
+        .value_parser(value_parser!(u32).range(1..=i64::from(MAX_WORKERS)))
 }
 
 /// A subcommand without arguments.
