@@ -1,4 +1,7 @@
 mod WindowLemmas
+mod BlockLemmas
+mod RoomLemmas
+mod PieceLemmas
 mod MemoryLemmas
 mod MemberLemmas
 mod MeaningLemmas

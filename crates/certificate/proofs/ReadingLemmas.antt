@@ -34,11 +34,11 @@ line_feeds-one xs ys all =
 -- ---- between two lines
 
 -- all bytes begin with line 1
-from_first : (bytes : List ℕ) → IsFromLine 1 bytes bytes
+pub from_first : (bytes : List ℕ) → IsFromLine 1 bytes bytes
 from_first bytes = record { before = []; lines = record { count = refl; ended = inl refl }; parts = refl }
 
 -- one line more is done with
-from_next : (n : ℕ) (bytes line rest : List ℕ) → IsUnbroken line → IsFromLine n bytes (line ++ (10 ∷ rest)) → IsFromLine (n + 1) bytes rest
+pub from_next : (n : ℕ) (bytes line rest : List ℕ) → IsUnbroken line → IsFromLine n bytes (line ++ (10 ∷ rest)) → IsFromLine (n + 1) bytes rest
 from_next n bytes line rest all from =
     let front = from.before ++ line in
     let one : line_feeds (front ++ (10 ∷ [])) ≡ line_feeds from.before + 1 =
@@ -50,7 +50,7 @@ from_next n bytes line rest all from =
     }
 
 -- so many line feeds are left
-from_feeds : (n : ℕ) (bytes rest : List ℕ) → IsFromLine n bytes rest → n + line_feeds rest ≡ line_feeds bytes + 1
+pub from_feeds : (n : ℕ) (bytes rest : List ℕ) → IsFromLine n bytes rest → n + line_feeds rest ≡ line_feeds bytes + 1
 from_feeds n bytes rest from = omega (arith, ap line_feeds from.parts, line_feeds-append from.before rest, from.lines.count)
 
 -- a line that is reached is one of the file, and no line before it has a fault

@@ -19,6 +19,9 @@ pub mod Files
 pub mod Keeping
 pub mod ScriptFiles
 pub mod Reading
+pub mod Pieces
+pub mod Blocks
+pub mod ReadingOn
 pub mod MemoryDevices
 pub mod Answers
 pub mod Streams

@@ -5,6 +5,7 @@
 //! how it is written, and `callbacks` has the tables.
 #![tactic(auto)]
 
+mod blocks;
 mod callbacks;
 mod canonical;
 mod device;
@@ -17,7 +18,9 @@ mod making;
 mod members;
 mod memory;
 mod parts;
+mod pieces;
 mod reading;
+mod reading_on;
 mod script_reading;
 mod step_lines;
 mod streams;
@@ -31,6 +34,7 @@ pub use device::{DeviceFault, Sink, Source};
 pub use faults::{ReadCause, ReadFault, WriteFault};
 pub use memory::{MemSink, MemSource};
 pub use reading::{NEWEST_VERSION, read, read_to};
+pub use reading_on::{read_blocks, read_on};
 pub use script_reading::read_script;
 pub use scripts::{Script, Step};
 pub use streams::{FromRead, StdRead, StdWrite, ToWrite};

@@ -1,0 +1,152 @@
+-- What follows of pieces, line by line.
+use Rattle.std.proofs.Common.{◌≡◌, ◌≢◌, ℕ, ◌+◌, ◌-◌, ◌<◌, ◌≤◌, ◌⊎◌, ◌==◌, Bool, List, [], ◌∷◌, ◌++◌, length, take, drop, get_or, Option, Some, None, Result, Ok, Err, true, false, cond, arith, refl, sym, ap, ◌∙◌, subst, inl, inr, append_assoc, append-nil, length-append}
+use Rattle.std.specs.Prelude.{IfSome, All}
+use Rattle.std.proofs.lemmas.List.Elements.{All-cons}
+use Rattle.ompt_events.specs.declared.records.Record.{Record}
+use Rattle.ompt_events.specs.Traces.{TraceView, IsSoundIn}
+use Rattle.certificate.specs.declared.faults.ReadCause.{ReadCause}
+use Rattle.certificate.specs.declared.faults.ReadCause.TheVariants.{Device, Memory, Header, LineTooLong, NotJson, Field, Limit, Unended, TurnsSpent}
+use Rattle.certificate.specs.Limits.{max_line, newest_version}
+use Rattle.certificate.specs.RecordLines.{line_says}
+use Rattle.certificate.specs.Formats.{Format, go_on, rest_says, said, fault_in, line_feeds}
+use Rattle.certificate.specs.Files.{has_room, text_adds, traces, with_record}
+use Rattle.certificate.specs.Reading.{IsFromLine, IsTextCause}
+use Rattle.certificate.specs.Keeping.{HaveRoom}
+use Rattle.certificate.specs.Pieces.{BeginsWith, BeginsWithRecord, BeginsWithRecords, BeginsTooLong, BeginsWithFault, IsFaultOf}
+use Rattle.certificate.specs.ReadingOn.{IsBetweenLines, IsToldWithin}
+use Rattle.certificate.proofs.FileLemmas.{rest_says-line, rest_says-long}
+use Rattle.certificate.proofs.ReadingLemmas.{from_next, line_feeds-one, line_feeds-append}
+use Rattle.certificate.proofs.TraceLemmas.{traces-text_causes}
+use Rattle.certificate.proofs.SoundLemmas.{line_says-sound}
+
+-- ---- one line
+
+-- the first line of what waits, before all that follows it
+begins_parts : (line later bytes more : List ℕ) → BeginsWith line later bytes → bytes ++ more ≡ line ++ (10 ∷ (later ++ more))
+begins_parts line later bytes more begins = ap (λ (xs : List ℕ). xs ++ more) begins.parts ∙ append_assoc line (10 ∷ later) more
+
+says_line : (n : ℕ) (kept : TraceView) (line later bytes more left : List ℕ) → BeginsWith line later bytes → rest_says (traces newest_version) n kept ((bytes ++ more) ++ left) ≡ go_on n ((traces newest_version).adds n kept line) (λ after. rest_says (traces newest_version) (n + 1) after ((later ++ more) ++ left))
+says_line n kept line later bytes more left begins =
+    ap (rest_says (traces newest_version) n kept) (ap (λ (xs : List ℕ). xs ++ left) (begins_parts line later bytes more begins) ∙ append_assoc line (10 ∷ (later ++ more)) left)
+    ∙ rest_says-line (traces newest_version) n kept line ((later ++ more) ++ left) begins.unbroken begins.short
+
+-- what the text of a line behind the header adds
+adds_record : (n : ℕ) (kept : TraceView) (line : List ℕ) → n ≢ 1 → text_adds newest_version n kept line ≡ with_record kept (line_says kept.version line)
+adds_record n kept line other = let is : (n == 1) ≡ false = grind arith in rw is refl
+
+pub IsBetween-record : (known : Option (List ℕ)) (n : ℕ) (kept : TraceView) (r : Record) (later bytes more : List ℕ) (left : Option (List ℕ)) → n ≢ 1 → BeginsWithRecord kept.version r later bytes → has_room kept.records r ≡ true
+    → IsBetweenLines known n kept (bytes ++ more) left → IsBetweenLines known (n + 1) (record { version = kept.version; records = kept.records ++ r ∷ [] }) (later ++ more) left
+IsBetween-record None n kept r later bytes more left other begins room now = tt
+IsBetween-record (Some all) n kept r later bytes more None other begins room now = absurd now
+IsBetween-record (Some all) n kept r later bytes more (Some l) other begins room now =
+    let after : TraceView = record { version = kept.version; records = kept.records ++ r ∷ [] } in
+    let adds : text_adds newest_version n kept begins.line ≡ Ok after = adds_record n kept begins.line other ∙ ap (with_record kept) begins.says ∙ rw room refl in
+    let whole : (bytes ++ more) ++ l ≡ begins.line ++ (10 ∷ ((later ++ more) ++ l)) = ap (λ (xs : List ℕ). xs ++ l) (begins_parts begins.line later bytes more begins.begins) ∙ append_assoc begins.line (10 ∷ (later ++ more)) l in (
+      now.0 ∙ says_line n kept begins.line later bytes more l begins.begins ∙ ap (λ r. go_on n r (λ after. rest_says (traces newest_version) (n + 1) after ((later ++ more) ++ l))) adds,
+      from_next n all begins.line ((later ++ more) ++ l) begins.begins.unbroken (subst (λ (rest : List ℕ). IsFromLine n all rest) whole now.1),
+    )
+
+-- the line has a fault of its text
+fault_line : (known : Option (List ℕ)) (n : ℕ) (kept : TraceView) (cause : ReadCause) (line later bytes more : List ℕ) (left : Option (List ℕ)) → BeginsWith line later bytes → text_adds newest_version n kept line ≡ Err cause
+    → IsBetweenLines known n kept (bytes ++ more) left → IfSome known (λ all. said (traces newest_version) all ≡ Err (fault_in n cause))
+fault_line None n kept cause line later bytes more left begins adds now = tt
+fault_line (Some all) n kept cause line later bytes more None begins adds now = absurd now
+fault_line (Some all) n kept cause line later bytes more (Some l) begins adds now =
+    now.0 ∙ says_line n kept line later bytes more l begins ∙ ap (λ r. go_on n r (λ after. rest_says (traces newest_version) (n + 1) after ((later ++ more) ++ l))) adds
+
+-- there is no room for the record of the line
+pub no_room_line : (known : Option (List ℕ)) (n : ℕ) (kept : TraceView) (r : Record) (later bytes more : List ℕ) (left : Option (List ℕ)) → n ≢ 1 → BeginsWithRecord kept.version r later bytes → has_room kept.records r ≡ false
+    → IsBetweenLines known n kept (bytes ++ more) left → IfSome known (λ all. said (traces newest_version) all ≡ Err (fault_in n Limit))
+no_room_line known n kept r later bytes more left other begins full now =
+    fault_line known n kept Limit begins.line later bytes more left begins.begins (adds_record n kept begins.line other ∙ ap (with_record kept) begins.says ∙ rw full refl) now
+
+-- the line stands for no record
+pub faulty_line : (known : Option (List ℕ)) (n : ℕ) (kept : TraceView) (cause : ReadCause) (bytes more : List ℕ) (left : Option (List ℕ)) → n ≢ 1 → BeginsWithFault kept.version cause bytes
+    → IsBetweenLines known n kept (bytes ++ more) left → IfSome known (λ all. said (traces newest_version) all ≡ Err (fault_in n cause))
+faulty_line known n kept cause bytes more left other begins now =
+    fault_line known n kept cause begins.line begins.later bytes more left begins.begins (adds_record n kept begins.line other ∙ ap (with_record kept) begins.says) now
+
+-- the line is too long
+pub long_line : (known : Option (List ℕ)) (n : ℕ) (kept : TraceView) (bytes more : List ℕ) (left : Option (List ℕ)) → BeginsTooLong bytes
+    → IsBetweenLines known n kept (bytes ++ more) left → IfSome known (λ all. said (traces newest_version) all ≡ Err (fault_in n LineTooLong))
+long_line None n kept bytes more left begins now = tt
+long_line (Some all) n kept bytes more None begins now = absurd now
+long_line (Some all) n kept bytes more (Some l) begins now =
+    let whole : (bytes ++ more) ++ l ≡ begins.front ++ ((begins.later ++ more) ++ l) =
+    ap (λ (xs : List ℕ). xs ++ l) (ap (λ (xs : List ℕ). xs ++ more) begins.parts ∙ append_assoc begins.front begins.later more) ∙ append_assoc begins.front (begins.later ++ more) l in
+    now.0 ∙ ap (rest_says (traces newest_version) n kept) whole ∙ rest_says-long (traces newest_version) n kept begins.front ((begins.later ++ more) ++ l) begins.unbroken begins.long
+
+-- no memory was found for what waits from a line on
+pub no_memory : (known : Option (List ℕ)) (n room : ℕ) (kept : TraceView) (waiting : List ℕ) (left : Option (List ℕ)) → length waiting ≤ room → IsBetweenLines known n kept waiting left → IfSome known (λ all. IsToldWithin room Memory n all left)
+no_memory None n room kept waiting left few now = tt
+no_memory (Some all) n room kept waiting None few now = absurd now
+no_memory (Some all) n room kept waiting (Some l) few now = (
+  record { waiting = waiting; begins = now.1; few = few },
+  record { before = kept; rest = waiting ++ l; begins = now.1; says = now.0 },
+)
+
+-- a line has no other causes
+no_text_cause : (n : ℕ) (kept : TraceView) (cause : ReadCause) (bytes : List ℕ) → n ≢ 1 → BeginsWithFault kept.version cause bytes → IsTextCause cause
+no_text_cause n kept cause bytes other begins =
+    traces-text_causes newest_version n kept begins.line cause (sym (adds_record n kept begins.line other ∙ ap (with_record kept) begins.says))
+
+-- the fault that a piece has
+pub piece_fault : (known : Option (List ℕ)) (n room : ℕ) (kept : TraceView) (cause : ReadCause) (bytes more : List ℕ) (left : Option (List ℕ)) → n ≢ 1 → length (bytes ++ more) ≤ room → IsFaultOf kept.version cause bytes
+    → IsBetweenLines known n kept (bytes ++ more) left → IfSome known (λ all. IsToldWithin room cause n all left)
+piece_fault known n room kept Memory bytes more left other few is now = no_memory known n room kept (bytes ++ more) left few now
+piece_fault known n room kept LineTooLong bytes more left other few is now = long_line known n kept bytes more left is now
+piece_fault known n room kept Header bytes more left other few is now = faulty_line known n kept Header bytes more left other is now
+piece_fault known n room kept NotJson bytes more left other few is now = faulty_line known n kept NotJson bytes more left other is now
+piece_fault known n room kept Field bytes more left other few is now = faulty_line known n kept Field bytes more left other is now
+piece_fault known n room kept Limit bytes more left other few is now = faulty_line known n kept Limit bytes more left other is now
+piece_fault known n room kept Unended bytes more left other few is now = faulty_line known n kept Unended bytes more left other is now
+piece_fault known n room kept Device bytes more left other few is now = absurd (no_text_cause n kept Device bytes other is)
+piece_fault known n room kept TurnsSpent bytes more left other few is now = absurd (no_text_cause n kept TurnsSpent bytes other is)
+
+-- ---- lines one after another
+
+-- the lines of some records, and then of others
+pub BeginsWithRecords-append : (version : ℕ) (first rest : List Record) (bytes middle later : List ℕ) → BeginsWithRecords version first middle bytes → BeginsWithRecords version rest later middle → BeginsWithRecords version (first ++ rest) later bytes
+BeginsWithRecords-append version [] rest bytes middle later same more = rw same more
+BeginsWithRecords-append version (r ∷ first) rest bytes middle later now more =
+    (now.0, now.1, BeginsWithRecords-append version first rest now.0 middle later now.2 more)
+
+pub BeginsWithRecords-split : (version : ℕ) (first rest : List Record) (bytes later : List ℕ) → BeginsWithRecords version (first ++ rest) later bytes → (middle : List ℕ) × BeginsWithRecords version first middle bytes × BeginsWithRecords version rest later middle
+BeginsWithRecords-split version [] rest bytes later now = (bytes, refl, now)
+BeginsWithRecords-split version (r ∷ first) rest bytes later now =
+    let more = BeginsWithRecords-split version first rest now.0 later now.2 in
+    (more.0, (now.0, now.1, more.1), more.2)
+
+-- each line has one line feed
+pub BeginsWithRecords-line_feeds : (version : ℕ) (rs : List Record) (bytes later : List ℕ) → BeginsWithRecords version rs later bytes → line_feeds bytes ≡ length rs + line_feeds later
+BeginsWithRecords-line_feeds version [] bytes later same = omega (arith, ap line_feeds same)
+BeginsWithRecords-line_feeds version (r ∷ rs) bytes later now =
+    let begins = now.1.begins in
+    let one : line_feeds bytes ≡ line_feeds now.0 + 1 = ap line_feeds begins.parts ∙ line_feeds-one now.1.line now.0 begins.unbroken in
+    omega (arith, one, BeginsWithRecords-line_feeds version rs now.0 later now.2)
+
+-- what is left is no longer
+pub BeginsWithRecords-length : (version : ℕ) (rs : List Record) (bytes later : List ℕ) → BeginsWithRecords version rs later bytes → length later ≤ length bytes
+BeginsWithRecords-length version [] bytes later same = omega (arith, ap length same)
+BeginsWithRecords-length version (r ∷ rs) bytes later now =
+    let begins = now.1.begins in
+    omega (arith, ap length begins.parts, length-append now.1.line (10 ∷ now.0), BeginsWithRecords-length version rs now.0 later now.2)
+
+-- the records that lines stand for are sound
+pub BeginsWithRecords-sound : (version : ℕ) (rs : List Record) (bytes later : List ℕ) → BeginsWithRecords version rs later bytes → All (λ r. IsSoundIn version r.body) rs
+BeginsWithRecords-sound version [] bytes later same = λ k d h. absurd (omega arith)
+BeginsWithRecords-sound version (r ∷ rs) bytes later now =
+    All-cons (λ (x : Record). IsSoundIn version x.body) r rs (line_says-sound version now.1.line r (sym now.1.says)) (BeginsWithRecords-sound version rs now.0 later now.2)
+
+-- lines whose records have room are read
+pub IsBetween-records : (known : Option (List ℕ)) (n : ℕ) (kept : TraceView) (rs : List Record) (later bytes more : List ℕ) (left : Option (List ℕ)) → 2 ≤ n → BeginsWithRecords kept.version rs later bytes → HaveRoom kept.records rs
+    → IsBetweenLines known n kept (bytes ++ more) left → IsBetweenLines known (n + length rs) (record { version = kept.version; records = kept.records ++ rs }) (later ++ more) left
+IsBetween-records known n kept [] later bytes more left low same room now =
+    let none : n + 0 ≡ n = omega arith in
+    rw (none, append-nil kept.records) (rw same at now)
+IsBetween-records known n kept (r ∷ rs) later bytes more left low begins room now =
+    let after : TraceView = record { version = kept.version; records = kept.records ++ r ∷ [] } in
+    let one = IsBetween-record known n kept r begins.0 bytes more left (λ same. absurd (omega arith)) begins.1 room.0 now in
+    let all = IsBetween-records known (n + 1) after rs later begins.0 more left (omega arith) begins.2 room.1 one in
+    let count : n + (1 + length rs) ≡ n + 1 + length rs = omega arith in
+    rw (count, ← append_assoc kept.records (r ∷ []) rs) all
