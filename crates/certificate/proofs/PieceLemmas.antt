@@ -1,9 +1,12 @@
 -- What follows of pieces, line by line.
-use Rattle.std.proofs.Common.{◌≡◌, ◌≢◌, ℕ, ◌+◌, ◌-◌, ◌<◌, ◌≤◌, ◌⊎◌, ◌==◌, Bool, List, [], ◌∷◌, ◌++◌, length, take, drop, get_or, Option, Some, None, Result, Ok, Err, true, false, cond, arith, refl, sym, ap, ◌∙◌, subst, inl, inr, append_assoc, append-nil, length-append}
-use Rattle.std.specs.Prelude.{IfSome, All}
+use Rattle.std.proofs.Common.{◌≡◌, ◌≢◌, ℕ, ◌+◌, ◌-◌, ◌<◌, ◌≤◌, ◌⊎◌, ◌==◌, zero, suc, Bool, List, [], ◌∷◌, ◌++◌, length, take, drop, get_or, Option, Some, None, Result, Ok, Err, true, false, cond, arith, refl, sym, ap, ◌∙◌, subst, inl, inr, append_assoc, append-nil, length-append, length-take, eq-eqb, add-one}
+use Rattle.std.specs.Prelude.{IfSome, All, is_some, slice_range}
+use Rattle.std.proofs.lemmas.List.{take-append-drop, drop-drop, drop_all}
+use Rattle.std.proofs.lemmas.List.Sums.{sum_by_push}
 use Rattle.std.proofs.lemmas.List.Elements.{All-cons}
 use Rattle.ompt_events.specs.declared.records.Record.{Record}
-use Rattle.ompt_events.specs.Traces.{TraceView, IsSoundIn}
+use Rattle.ompt_events.specs.Records.{made}
+use Rattle.ompt_events.specs.Traces.{TraceView, IsSoundIn, tasks_in}
 use Rattle.certificate.specs.declared.faults.ReadCause.{ReadCause}
 use Rattle.certificate.specs.declared.faults.ReadCause.TheVariants.{Device, Memory, Header, LineTooLong, NotJson, Field, Limit, Unended, TurnsSpent}
 use Rattle.certificate.specs.Limits.{max_line, newest_version}
@@ -12,9 +15,12 @@ use Rattle.certificate.specs.Formats.{Format, go_on, rest_says, said, fault_in, 
 use Rattle.certificate.specs.Files.{has_room, text_adds, traces, with_record}
 use Rattle.certificate.specs.Reading.{IsFromLine, IsTextCause}
 use Rattle.certificate.specs.Keeping.{HaveRoom}
-use Rattle.certificate.specs.Pieces.{BeginsWith, BeginsWithRecord, BeginsWithRecords, BeginsTooLong, BeginsWithFault, IsFaultOf}
+use Rattle.certificate.specs.Pieces.{BeginsWith, BeginsWithRecord, BeginsWithRecords, BeginsTooLong, BeginsWithFault, IsFaultOf, IsJudged, AreJudged}
+use Rattle.certificate.specs.declared.pieces.Piece.{Piece}
+use Rattle.certificate.specs.Blocks.{ArePieces, AreCuts}
+use Rattle.certificate.specs.Windows.{LineFeedAt}
 use Rattle.certificate.specs.ReadingOn.{IsBetweenLines, IsToldWithin}
-use Rattle.certificate.proofs.FileLemmas.{rest_says-line, rest_says-long}
+use Rattle.certificate.proofs.FileLemmas.{rest_says-line, rest_says-long, unbroken-before, unbroken-front, window-parts}
 use Rattle.certificate.proofs.ReadingLemmas.{from_next, line_feeds-one, line_feeds-append}
 use Rattle.certificate.proofs.TraceLemmas.{traces-text_causes}
 use Rattle.certificate.proofs.SoundLemmas.{line_says-sound}
@@ -148,5 +154,69 @@ IsBetween-records known n kept (r ∷ rs) later bytes more left low begins room 
     let after : TraceView = record { version = kept.version; records = kept.records ++ r ∷ [] } in
     let one = IsBetween-record known n kept r begins.0 bytes more left (λ same. absurd (omega arith)) begins.1 room.0 now in
     let all = IsBetween-records known (n + 1) after rs later begins.0 more left (omega arith) begins.2 room.1 one in
-    let count : n + (1 + length rs) ≡ n + 1 + length rs = omega arith in
+    let count : n + length (r ∷ rs) ≡ n + 1 + length rs = omega arith in
     rw (count, ← append_assoc kept.records (r ∷ []) rs) all
+
+-- ---- the first line of a piece
+
+-- the first line and what follows it
+pub begins_line : (rest : List ℕ) (len : ℕ) → LineFeedAt rest (Some len) → len ≤ max_line → BeginsWith (take len rest) (drop (len + 1) rest) rest
+begins_line rest len at short = record { unbroken = unbroken-before rest len at; short = omega (arith, length-take len rest); parts = window-parts rest len at }
+
+pub begins_long : (rest : List ℕ) (len : ℕ) → LineFeedAt rest (Some len) → max_line < len → BeginsTooLong rest
+begins_long rest len at long =
+    let within : max_line + 1 ≤ length rest = omega (arith, at.0.high) in
+    record {
+      front = take (max_line + 1) rest;
+      later = drop (max_line + 1) rest;
+      unbroken = unbroken-front rest (max_line + 1) within (λ i h is. at.0.before i (omega arith) (omega arith) (eq-eqb _ _ is));
+      long = omega (arith, length-take (max_line + 1) rest);
+      parts = sym (take-append-drop (max_line + 1) rest);
+    }
+
+-- why the text of a line gives no record
+pub fault_of_text : (version : ℕ) (cause : ReadCause) (rest : List ℕ) (len : ℕ) → LineFeedAt rest (Some len) → len ≤ max_line → (cause ≢ Memory → line_says version (take len rest) ≡ Err cause) → IsFaultOf version cause rest
+fault_of_text version Memory rest len at short says = tt
+fault_of_text version LineTooLong rest len at short says =
+    absurd (no_text_cause 2 (record { version = version; records = [] }) LineTooLong rest (λ same. absurd (omega arith)) (record { line = take len rest; later = drop (len + 1) rest; begins = begins_line rest len at short; says = says (λ same. cc) }))
+fault_of_text version Device rest len at short says = record { line = take len rest; later = drop (len + 1) rest; begins = begins_line rest len at short; says = says (λ same. cc) }
+fault_of_text version Header rest len at short says = record { line = take len rest; later = drop (len + 1) rest; begins = begins_line rest len at short; says = says (λ same. cc) }
+fault_of_text version NotJson rest len at short says = record { line = take len rest; later = drop (len + 1) rest; begins = begins_line rest len at short; says = says (λ same. cc) }
+fault_of_text version Field rest len at short says = record { line = take len rest; later = drop (len + 1) rest; begins = begins_line rest len at short; says = says (λ same. cc) }
+fault_of_text version Limit rest len at short says = record { line = take len rest; later = drop (len + 1) rest; begins = begins_line rest len at short; says = says (λ same. cc) }
+fault_of_text version Unended rest len at short says = record { line = take len rest; later = drop (len + 1) rest; begins = begins_line rest len at short; says = says (λ same. cc) }
+fault_of_text version TurnsSpent rest len at short says = record { line = take len rest; later = drop (len + 1) rest; begins = begins_line rest len at short; says = says (λ same. cc) }
+
+-- a line more of a piece
+pub BeginsWithRecords-more : (version : ℕ) (text : List ℕ) (start len : ℕ) (rs : List Record) (r : Record) → BeginsWithRecords version rs (drop start text) text → BeginsWithRecord version r (drop len (drop start text)) (drop start text) → BeginsWithRecords version (rs ++ r ∷ []) (drop (start + len) text) text
+BeginsWithRecords-more version text start len rs r read begins =
+    BeginsWithRecords-append version rs (r ∷ []) text (drop start text) (drop (start + len) text) read (drop len (drop start text), begins, drop-drop len start text)
+
+pub tasks_more : (rs : List Record) (r : Record) → tasks_in (rs ++ r ∷ []) ≡ tasks_in rs + cond (is_some (made r.body)) 1 0
+tasks_more rs r = sum_by_push (λ (x : Record). cond (is_some (made x.body)) 1 0) rs r
+
+-- ---- all pieces
+
+pub AreJudged-from : (version : ℕ) (bytes : List ℕ) (start : ℕ) (cuts : List ℕ) (pieces : List Piece) → ArePieces bytes start cuts (length bytes) → length pieces ≡ length cuts
+    → ((i : ℕ) (d : Piece) → i < length cuts → IsJudged version (slice_range bytes (get_or (start ∷ cuts) i 0) (get_or cuts i 0)) (get_or pieces i d)) → AreJudged version pieces (drop start bytes)
+AreJudged-from version bytes start [] [] cut same each = drop_all start bytes (omega arith)
+AreJudged-from version bytes start [] (p ∷ pieces) cut same each = absurd (omega arith)
+AreJudged-from version bytes start (c ∷ cuts) [] cut same each = absurd (omega arith)
+AreJudged-from version bytes start (c ∷ cuts) (p ∷ pieces) cut same each =
+    let there : start + (c - start) ≡ c = omega (arith, cut.0.low) in (
+      slice_range bytes start c,
+      drop c bytes,
+      sym (take-append-drop (c - start) (drop start bytes)) ∙ ap (λ (xs : List ℕ). slice_range bytes start c ++ xs) (drop-drop (c - start) start bytes ∙ ap (λ n. drop n bytes) there),
+      each 0 p (omega arith),
+      AreJudged-from version bytes c cuts pieces cut.1 (omega arith) (λ i d h. each (suc i) d (omega arith)),
+    )
+
+-- the same of all pieces that cuts make
+pub AreJudged-cuts : (version : ℕ) (bytes cuts : List ℕ) (pieces : List Piece) → AreCuts bytes cuts → length pieces ≡ length cuts - 1
+    → ((i : ℕ) (d : Piece) → i < length cuts - 1 → IsJudged version (slice_range bytes (get_or cuts i 0) (get_or cuts (i + 1) 0)) (get_or pieces i d)) → AreJudged version pieces bytes
+AreJudged-cuts version bytes [] pieces cut same each = absurd cut
+AreJudged-cuts version bytes (start ∷ cuts) pieces cut same each =
+    let begin : start ≡ 0 = cut.0 in
+    let each_one : (i : ℕ) (d : Piece) → i < length cuts → IsJudged version (slice_range bytes (get_or (start ∷ cuts) i 0) (get_or cuts i 0)) (get_or pieces i d) = λ i d h. (rw add-one at (each i d (omega arith))) in
+    let all : AreJudged version pieces (drop start bytes) = AreJudged-from version bytes start cuts pieces cut.1 (omega arith) each_one in
+    rw begin at all

@@ -1,5 +1,5 @@
 -- What holds of a block of bytes, and of the bytes of its whole lines.
-use Rattle.std.specs.Prelude.{◌≡◌, ℕ, ◌+◌, ◌≤◌, ◌<◌, List, [], length, take, drop, slice_range, slice_index, Option, Some, None, Result, Ok, Err}
+use Rattle.std.specs.Prelude.{◌≡◌, ℕ, ◌≤◌, List, [], ◌∷◌, length, take, drop, slice_range, None}
 use Rattle.certificate.specs.declared.faults.ReadCause.{ReadCause}
 use Rattle.certificate.specs.declared.faults.ReadCause.TheVariants.{Device, Memory, TurnsSpent}
 use Rattle.certificate.specs.Windows.{LineFeedAt}
@@ -29,11 +29,18 @@ pub record AreWholeLines (count : ℕ) (bytes : List ℕ) : Type 0 where
   pub whole : IsWholeLines (take count bytes)
   pub none : LineFeedAt (drop count bytes) None
 
--- where the bytes, whole lines, are cut into so many pieces of whole lines
-pub record AreCuts (bytes : List ℕ) (cuts : List ℕ) : Type 0 where
-  pub some : 1 ≤ length cuts
-  pub first : slice_index cuts 0 ≡ 0
-  pub last : (k : ℕ) → k + 1 ≡ length cuts → slice_index cuts k ≡ length bytes
-  pub rising : (k : ℕ) → k + 1 < length cuts → slice_index cuts k ≤ slice_index cuts (k + 1)
-  pub within : (k : ℕ) → k < length cuts → slice_index cuts k ≤ length bytes
-  pub whole : (k : ℕ) → k + 1 < length cuts → IsWholeLines (slice_range bytes (slice_index cuts k) (slice_index cuts (k + 1)))
+-- whole lines of the bytes, from here to there
+pub record IsPiece (bytes : List ℕ) (start end : ℕ) : Type 0 where
+  pub low : start ≤ end
+  pub high : end ≤ length bytes
+  pub whole : IsWholeLines (slice_range bytes start end)
+
+-- one piece behind another, each from where the one before it ends
+abbrev pub ArePieces : List ℕ → ℕ → List ℕ → ℕ → Type 0
+ArePieces bytes start [] end = start ≡ end
+ArePieces bytes start (cut ∷ cuts) end = IsPiece bytes start cut × ArePieces bytes cut cuts end
+
+-- all bytes are cut into pieces: here the first begins, and each ends where the next one begins
+abbrev pub AreCuts : List ℕ → List ℕ → Type 0
+AreCuts bytes [] = ⊥
+AreCuts bytes (start ∷ cuts) = (start ≡ 0) × ArePieces bytes start cuts (length bytes)

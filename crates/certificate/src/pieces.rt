@@ -2,7 +2,7 @@
 //! them.
 ghost use Rattle.std.specs.Prelude.{◌≡◌, ◌≤◌, ◌<◌, ◌+◌, ◌-◌, ◌^◌, length, drop, slice_range, slice_index, IfOk, OnOk, OnErr, IfErr};
 ghost use Rattle.certificate.specs.Pieces.{IsWholeLines, IsJudged, AreJudged, TakesLine, TakesText, WithRecord, SameRecords};
-ghost use Rattle.certificate.specs.Blocks.{AreCuts};
+ghost use Rattle.certificate.specs.Blocks.{AreCuts, IsPiece};
 
 use crate::faults::ReadCause;
 use crate::lines::{other, sound};
@@ -52,7 +52,7 @@ pub(crate) fn judge_all<R: Threads + Sync>(
     requires { AreCuts text.now cuts.now }
     ensures { IfOk result (λ pieces. AreJudged version pieces.items text.now) }
 {
-    thread::map_indices(
+    let pieces = thread::map_indices(
         rt,
         alloc,
         cuts.len() - 1,
@@ -61,8 +61,27 @@ pub(crate) fn judge_all<R: Threads + Sync>(
             ensures { IsJudged version
                 (slice_range text.entry.now (slice_index cuts.entry.now i) (slice_index cuts.entry.now (i + 1)))
                 result }
-        { judge(alloc, version, &text[cuts[i]..cuts[i + 1]]) },
-    )
+        { judge_piece(alloc, version, text, cuts, i) },
+    )?;
+    Ok(pieces)
+}
+
+/// Judges the piece of this number, from 0.
+fn judge_piece(alloc: Global, version: u32, text: &[u8], cuts: &[usize], number: usize) -> Piece
+    requires cuts { AreCuts text.now cuts.now }
+    requires number { number + 1 < length cuts.now }
+    ensures { IsJudged version
+        (slice_range text.now (slice_index cuts.now number) (slice_index cuts.now (number + 1))) result }
+{
+    judge(alloc, version, piece_of(text, cuts[number], cuts[number + 1]))
+}
+
+/// Whole lines of the bytes.
+fn piece_of(text: &[u8], start: usize, end: usize) -> &[u8]
+    requires { IsPiece text.now start end }
+    ensures { result.now ≡ slice_range text.now start end }
+{
+    &text[start..end]
 }
 
 /// Judges the lines of a piece of a file of this version, up to the first faulty one.
@@ -154,12 +173,12 @@ pub(crate) fn cuts(alloc: Global, text: &[u8], count: u32) -> Result<Vec<usize>,
 {
     let size = text.len() / count as usize;
     let mut cuts = Vec::with_capacity(alloc, count as usize + 1)?;
+    cuts.push(0)?;
     let mut start = 0;
     'pieces: for _ in 1..count {
-        cuts.push(start)?;
         start = next_cut(text, start, size);
+        cuts.push(start)?;
     }
-    cuts.push(start)?;
     cuts.push(text.len())?;
     Ok(cuts)
 }
@@ -167,9 +186,7 @@ pub(crate) fn cuts(alloc: Global, text: &[u8], count: u32) -> Result<Vec<usize>,
 /// Behind the first line that ends at least so many bytes after the start, or the end.
 fn next_cut(text: &[u8], start: usize, size: usize) -> usize
     requires { start ≤ length text.now }
-    ensures low { start ≤ result }
-    ensures high { result ≤ length text.now }
-    ensures whole { IsWholeLines text.now → IsWholeLines (slice_range text.now start result) }
+    ensures { IsWholeLines text.now → IsPiece text.now start result }
 {
     let least = start + size.min(text.len() - start);
     match memchr(b'\n', &text[least..]) {
