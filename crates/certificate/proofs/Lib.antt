@@ -2,6 +2,7 @@ mod WindowLemmas
 mod BlockLemmas
 mod RoomLemmas
 mod PieceLemmas
+mod JoinLemmas
 mod MemoryLemmas
 mod MemberLemmas
 mod MeaningLemmas

@@ -10,9 +10,9 @@ use Rattle.ompt_events.specs.Traces.{TraceView, IsSoundIn, tasks_in}
 use Rattle.certificate.specs.declared.faults.ReadCause.{ReadCause}
 use Rattle.certificate.specs.declared.faults.ReadCause.TheVariants.{Device, Memory, Header, LineTooLong, NotJson, Field, Limit, Unended, TurnsSpent}
 use Rattle.certificate.specs.Limits.{max_line, newest_version}
-use Rattle.certificate.specs.RecordLines.{line_says}
+use Rattle.certificate.specs.RecordLines.{line_says, header_says}
 use Rattle.certificate.specs.Formats.{Format, go_on, rest_says, said, fault_in, line_feeds}
-use Rattle.certificate.specs.Files.{has_room, text_adds, traces, with_record}
+use Rattle.certificate.specs.Files.{has_room, text_adds, traces, with_header, with_record}
 use Rattle.certificate.specs.Reading.{IsFromLine, IsTextCause}
 use Rattle.certificate.specs.Keeping.{HaveRoom}
 use Rattle.certificate.specs.Pieces.{BeginsWith, BeginsWithRecord, BeginsWithRecords, BeginsTooLong, BeginsWithFault, IsFaultOf, IsJudged, AreJudged}
@@ -40,17 +40,23 @@ says_line n kept line later bytes more left begins =
 adds_record : (n : ℕ) (kept : TraceView) (line : List ℕ) → n ≢ 1 → text_adds newest_version n kept line ≡ with_record kept (line_says kept.version line)
 adds_record n kept line other = let is : (n == 1) ≡ false = grind arith in rw is refl
 
-pub IsBetween-record : (known : Option (List ℕ)) (n : ℕ) (kept : TraceView) (r : Record) (later bytes more : List ℕ) (left : Option (List ℕ)) → n ≢ 1 → BeginsWithRecord kept.version r later bytes → has_room kept.records r ≡ true
+-- a line adds to what is kept
+pub IsBetween-text : (known : Option (List ℕ)) (n : ℕ) (kept after : TraceView) (line later bytes more : List ℕ) (left : Option (List ℕ)) → BeginsWith line later bytes → text_adds newest_version n kept line ≡ Ok after
+    → IsBetweenLines known n kept (bytes ++ more) left → IsBetweenLines known (n + 1) after (later ++ more) left
+IsBetween-text None n kept after line later bytes more left begins adds now = tt
+IsBetween-text (Some all) n kept after line later bytes more None begins adds now = absurd now
+IsBetween-text (Some all) n kept after line later bytes more (Some l) begins adds now =
+    let whole : (bytes ++ more) ++ l ≡ line ++ (10 ∷ ((later ++ more) ++ l)) = ap (λ (xs : List ℕ). xs ++ l) (begins_parts line later bytes more begins) ∙ append_assoc line (10 ∷ (later ++ more)) l in (
+      now.0 ∙ says_line n kept line later bytes more l begins ∙ ap (λ r. go_on n r (λ after. rest_says (traces newest_version) (n + 1) after ((later ++ more) ++ l))) adds,
+      from_next n all line ((later ++ more) ++ l) begins.unbroken (subst (λ (rest : List ℕ). IsFromLine n all rest) whole now.1),
+    )
+
+IsBetween-record : (known : Option (List ℕ)) (n : ℕ) (kept : TraceView) (r : Record) (later bytes more : List ℕ) (left : Option (List ℕ)) → n ≢ 1 → BeginsWithRecord kept.version r later bytes → has_room kept.records r ≡ true
     → IsBetweenLines known n kept (bytes ++ more) left → IsBetweenLines known (n + 1) (record { version = kept.version; records = kept.records ++ r ∷ [] }) (later ++ more) left
-IsBetween-record None n kept r later bytes more left other begins room now = tt
-IsBetween-record (Some all) n kept r later bytes more None other begins room now = absurd now
-IsBetween-record (Some all) n kept r later bytes more (Some l) other begins room now =
+IsBetween-record known n kept r later bytes more left other begins room now =
     let after : TraceView = record { version = kept.version; records = kept.records ++ r ∷ [] } in
     let adds : text_adds newest_version n kept begins.line ≡ Ok after = adds_record n kept begins.line other ∙ ap (with_record kept) begins.says ∙ rw room refl in
-    let whole : (bytes ++ more) ++ l ≡ begins.line ++ (10 ∷ ((later ++ more) ++ l)) = ap (λ (xs : List ℕ). xs ++ l) (begins_parts begins.line later bytes more begins.begins) ∙ append_assoc begins.line (10 ∷ (later ++ more)) l in (
-      now.0 ∙ says_line n kept begins.line later bytes more l begins.begins ∙ ap (λ r. go_on n r (λ after. rest_says (traces newest_version) (n + 1) after ((later ++ more) ++ l))) adds,
-      from_next n all begins.line ((later ++ more) ++ l) begins.begins.unbroken (subst (λ (rest : List ℕ). IsFromLine n all rest) whole now.1),
-    )
+    IsBetween-text known n kept after begins.line later bytes more left begins.begins adds now
 
 -- the line has a fault of its text
 fault_line : (known : Option (List ℕ)) (n : ℕ) (kept : TraceView) (cause : ReadCause) (line later bytes more : List ℕ) (left : Option (List ℕ)) → BeginsWith line later bytes → text_adds newest_version n kept line ≡ Err cause
@@ -92,7 +98,7 @@ no_memory (Some all) n room kept waiting (Some l) few now = (
 )
 
 -- a line has no other causes
-no_text_cause : (n : ℕ) (kept : TraceView) (cause : ReadCause) (bytes : List ℕ) → n ≢ 1 → BeginsWithFault kept.version cause bytes → IsTextCause cause
+pub no_text_cause : (n : ℕ) (kept : TraceView) (cause : ReadCause) (bytes : List ℕ) → n ≢ 1 → BeginsWithFault kept.version cause bytes → IsTextCause cause
 no_text_cause n kept cause bytes other begins =
     traces-text_causes newest_version n kept begins.line cause (sym (adds_record n kept begins.line other ∙ ap (with_record kept) begins.says))
 
@@ -220,3 +226,53 @@ AreJudged-cuts version bytes (start ∷ cuts) pieces cut same each =
     let each_one : (i : ℕ) (d : Piece) → i < length cuts → IsJudged version (slice_range bytes (get_or (start ∷ cuts) i 0) (get_or cuts i 0)) (get_or pieces i d) = λ i d h. (rw add-one at (each i d (omega arith))) in
     let all : AreJudged version pieces (drop start bytes) = AreJudged-from version bytes start cuts pieces cut.1 (omega arith) each_one in
     rw begin at all
+
+-- ---- the header
+
+adds_header : (n : ℕ) (kept : TraceView) (line : List ℕ) → n ≡ 1 → text_adds newest_version n kept line ≡ with_header (header_says newest_version line)
+adds_header n kept line first = let is : (n == 1) ≡ true = eq-eqb n 1 first in rw is refl
+
+pub header_taken : (known : Option (List ℕ)) (n : ℕ) (kept after : TraceView) (text more : List ℕ) (len : ℕ) (left : Option (List ℕ)) → n ≡ 1 → LineFeedAt text (Some len) → len ≤ max_line → Ok after ≡ with_header (header_says newest_version (take len text))
+    → IsBetweenLines known n kept (text ++ more) left → IsBetweenLines known 2 after (drop (len + 1) text ++ more) left
+header_taken known n kept after text more len left first at short says now =
+    let next : n + 1 ≡ 2 = omega arith in
+    let there = IsBetween-text known n kept after (take len text) (drop (len + 1) text) text more left (begins_line text len at short) (adds_header n kept (take len text) first ∙ sym says) now in
+    rw next at there
+
+-- a fault that a text has is told
+told_text : (known : Option (List ℕ)) (n room : ℕ) (cause : ReadCause) (left : Option (List ℕ)) → IsTextCause cause → IfSome known (λ all. said (traces newest_version) all ≡ Err (fault_in n cause)) → IfSome known (λ all. IsToldWithin room cause n all left)
+told_text known n room Header left is told = told
+told_text known n room NotJson left is told = told
+told_text known n room Field left is told = told
+told_text known n room Limit left is told = told
+told_text known n room Device left is told = absurd is
+told_text known n room Memory left is told = absurd is
+told_text known n room LineTooLong left is told = absurd is
+told_text known n room Unended left is told = absurd is
+told_text known n room TurnsSpent left is told = absurd is
+
+pub header_fault : (known : Option (List ℕ)) (n room : ℕ) (kept : TraceView) (cause : ReadCause) (text more : List ℕ) (len : ℕ) (left : Option (List ℕ)) → n ≡ 1 → LineFeedAt text (Some len) → len ≤ max_line → length (text ++ more) ≤ room → (◌≢◌ {A = Result TraceView ReadCause} (Err cause) (Err Memory) → Err cause ≡ with_header (header_says newest_version (take len text)))
+    → IsBetweenLines known n kept (text ++ more) left → IfSome known (λ all. IsToldWithin room cause n all left)
+header_fault known n room kept cause text more len left first at short few says now = by cause refl
+  where
+    told : (e : ReadCause) → cause ≡ e → (e ≡ Memory → ⊥) → IfSome known (λ all. IsToldWithin room cause n all left)
+    told e same other =
+        let says_so = says (λ memory. other (let h : e ≡ Memory = cc in h)) in
+        let adds : text_adds newest_version n kept (take len text) ≡ Err cause = adds_header n kept (take len text) first ∙ sym says_so in
+        told_text known n room cause left (traces-text_causes newest_version n kept (take len text) cause (sym adds)) (fault_line known n kept cause (take len text) (drop (len + 1) text) text more left (begins_line text len at short) adds now)
+
+    by : (e : ReadCause) → cause ≡ e → IfSome known (λ all. IsToldWithin room cause n all left)
+    by Memory same = subst (λ (e : ReadCause). IfSome known (λ all. IsToldWithin room e n all left)) (sym same) (no_memory known n room kept (text ++ more) left few now)
+    by Device same = told Device same (λ is. cc)
+    by Header same = told Header same (λ is. cc)
+    by LineTooLong same = told LineTooLong same (λ is. cc)
+    by NotJson same = told NotJson same (λ is. cc)
+    by Field same = told Field same (λ is. cc)
+    by Limit same = told Limit same (λ is. cc)
+    by Unended same = told Unended same (λ is. cc)
+    by TurnsSpent same = told TurnsSpent same (λ is. cc)
+
+pub header_lines : (text : List ℕ) (n len : ℕ) → n ≡ 1 → LineFeedAt text (Some len) → 2 + line_feeds (drop (len + 1) text) ≡ n + line_feeds text
+header_lines text n len first at =
+    let one : line_feeds text ≡ line_feeds (drop (len + 1) text) + 1 = ap line_feeds (window-parts text len at) ∙ line_feeds-one (take len text) (drop (len + 1) text) (unbroken-before text len at) in
+    omega arith

@@ -1,6 +1,5 @@
 -- What a reader on several workers answers, which takes the bytes of its source by blocks.
 use Rattle.std.specs.Prelude.{ℕ, Bool, true, false, ◌≡◌, ◌+◌, ◌-◌, ◌*◌, ◌≤◌, ◌^◌, List, length, drop, ◌++◌, Option, Some, None, Result, Ok, Err, IfSome}
-use Rattle.ompt_events.specs.Limits.{max_records}
 use Rattle.ompt_events.specs.Traces.{TraceView}
 use Rattle.certificate.specs.declared.faults.ReadCause.{ReadCause}
 use Rattle.certificate.specs.declared.faults.ReadCause.TheVariants.{Device, Memory, TurnsSpent}
@@ -89,13 +88,6 @@ IsJudgedUpTo (Err cause) known n kept waiting room left =
 -- one record is kept for each line before number n, but for the header
 abbrev pub IsCounted : ℕ → TraceView → Type 0
 IsCounted n kept = length kept.records ≡ n - 2
-
--- from line n and what is kept before it to line n', which is one that can be read, in the same version
-pub record GoesOn (n : ℕ) (kept : TraceView) (n' : ℕ) (kept' : TraceView) : Type 0 where
-  pub later : n ≤ n'
-  pub last : n' ≤ max_records + 2
-  pub counted : IsCounted n' kept'
-  pub version : kept'.version ≡ kept.version
 
 -- after a round: more may come, all is read, or the line of number n has a fault
 abbrev pub IsAfterRound : Result Bool ReadCause → Option (List ℕ) → ℕ → TraceView → List ℕ → ℕ

@@ -101,7 +101,8 @@ impl Block {
 
     /// How many bytes the whole lines have that wait, each with its line feed.
     pub(crate) fn whole_lines(&self) -> usize
-        ensures { AreWholeLines result self.now.waiting }
+        ensures lines { AreWholeLines result self.now.waiting }
+        ensures few { length self.now.waiting ≤ self.now.limit }
     {
         match memrchr(b'\n', &self.bytes[..self.end]) {
             Some(at) => at + 1,

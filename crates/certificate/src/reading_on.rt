@@ -1,6 +1,6 @@
 //! The reader of trace files on several workers. It takes the bytes by blocks, cuts the whole lines of each
 //! into pieces that are judged side by side, and puts the pieces together in their order.
-ghost use Rattle.std.specs.Prelude.{◌≡◌, ◌≢◌, ◌≤◌, ◌<◌, ◌+◌, ◌-◌, ◌*◌, ◌^◌, ◌++◌, ℕ, List, Option, Ok, Err, length, drop, IfOk, IfErr, IfSome, OnOk, OnErr, max};
+ghost use Rattle.std.specs.Prelude.{◌≡◌, ◌≢◌, ◌≤◌, ◌<◌, ◌+◌, ◌-◌, ◌*◌, ◌^◌, ◌++◌, ℕ, List, Option, Ok, Err, true, false, length, drop, IfOk, IfErr, IfSome, OnOk, OnErr, max};
 ghost use Rattle.std.specs.Result.{result_err};
 ghost use Rattle.std.specs.Io.KnownBytes.{IsAtEnd};
 ghost use Rattle.ompt_events.specs.Traces.{TraceView};
@@ -9,7 +9,7 @@ ghost use Rattle.certificate.specs.Formats.{line_feeds};
 ghost use Rattle.certificate.specs.Pieces.{IsWholeLines, IsJudged, AreJudged};
 ghost use Rattle.certificate.specs.Windows.{LineFeedAt};
 ghost use Rattle.certificate.specs.Blocks.{IsFillFault};
-ghost use Rattle.certificate.specs.ReadingOn.{IsAnswerOn, IsAnswerInBlocks, ReadsAhead, IsToldAfter, IsBetweenLines, IsJudgedUpTo, IsCounted, GoesOn, IsAfterRound, IsBegun, IsLineFault, room_of};
+ghost use Rattle.certificate.specs.ReadingOn.{IsAnswerOn, IsAnswerInBlocks, ReadsAhead, IsToldAfter, IsBetweenLines, IsJudgedUpTo, IsCounted, IsAfterRound, IsBegun, IsLineFault, room_of};
 
 use crate::blocks::{Block, fill};
 use crate::device::{MAX_TURNS, Source};
@@ -294,7 +294,9 @@ fn judge_records<R: Threads + Sync>(
         length (text.now ++ more) ≤ room → IsBetweenLines known line.old kept.old (text.now ++ more) left
         → IsJudgedUpTo result known line.new kept.new more room left }
     ensures lines { OnOk result (line.new ≡ line.old + line_feeds text.now) }
-    ensures goes { GoesOn line.old kept.old line.new kept.new }
+    ensures line { (line.old ≤ line.new) × (line.new ≤ LAST_LINE) }
+    ensures counted { OnOk result (IsCounted line.new kept.new) }
+    ensures version { OnOk result (kept.new.version ≡ kept.old.version) }
     ensures fault { IfErr result IsLineFault }
 {
     let Ok(cuts) = cuts(alloc, text, count) else {
@@ -317,10 +319,13 @@ fn join(pieces: Vec<Piece>, line: &mut u32, kept: &mut Kept) -> Result<(), ReadC
         → IsJudgedUpTo result known line.new kept.new more room left }
     ensures lines { OnOk result ((bytes : List ℕ) → AreJudged kept.old.version pieces.items bytes
         → line.new ≡ line.old + line_feeds bytes) }
-    ensures goes { GoesOn line.old kept.old line.new kept.new }
+    ensures line { (line.old ≤ line.new) × (line.new ≤ LAST_LINE) }
+    ensures counted { OnOk result (IsCounted line.new kept.new) }
+    ensures version { OnOk result (kept.new.version ≡ kept.old.version) }
     ensures fault { IfErr result IsLineFault }
 {
-    'pieces: for piece in pieces {
+    let mut rest = pieces.into_iter();
+    'pieces: while let Some(piece) = rest.next() {
         add(piece, line, kept)?;
     }
     Ok(())
@@ -337,7 +342,9 @@ fn add(piece: Piece, line: &mut u32, kept: &mut Kept) -> Result<(), ReadCause>
         → IsJudgedUpTo result known line.new kept.new more room left }
     ensures lines { OnOk result ((bytes : List ℕ) → IsJudged kept.old.version bytes piece
         → line.new ≡ line.old + line_feeds bytes) }
-    ensures goes { GoesOn line.old kept.old line.new kept.new }
+    ensures line { (line.old ≤ line.new) × (line.new ≤ LAST_LINE) }
+    ensures counted { OnOk result (IsCounted line.new kept.new) }
+    ensures version { OnOk result (kept.new.version ≡ kept.old.version) }
     ensures fault { IfErr result IsLineFault }
 {
     let (count, why) = kept.keep_all(piece.records, piece.tasks);
