@@ -3,6 +3,7 @@ mod BlockLemmas
 mod RoomLemmas
 mod PieceLemmas
 mod JoinLemmas
+mod EndLemmas
 mod MemoryLemmas
 mod MemberLemmas
 mod MeaningLemmas
