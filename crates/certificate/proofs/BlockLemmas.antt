@@ -1,8 +1,8 @@
 -- Blocks of bytes, and how their whole lines are cut into pieces.
-use Rattle.std.proofs.Common.{◌≡◌, ◌≢◌, ℕ, zero, suc, ◌+◌, ◌-◌, ◌<◌, ◌≤◌, ◌==◌, ◌⊎◌, Bool, true, false, List, [], ◌∷◌, ◌++◌, length, take, drop, get_or, Option, Some, None, arith, refl, sym, ap, ◌∙◌, subst, inl, inr, eq-eqb, eqb-true, length-append, length-drop, add-one}
+use Rattle.std.proofs.Common.{◌≡◌, ◌≢◌, ℕ, zero, suc, ◌+◌, ◌-◌, ◌<◌, ◌≤◌, ◌==◌, Bool, true, false, List, [], ◌∷◌, ◌++◌, length, take, drop, get_or, Some, arith, refl, sym, ap, ◌∙◌, subst, inl, inr, eq-eqb, eqb-true, length-append, length-drop, add-one}
 use Rattle.std.specs.Prelude.{slice_range}
 use Rattle.std.proofs.lemmas.Bool.{cases_lt}
-use Rattle.std.proofs.lemmas.List.{take_all, drop-drop, drop-append-le, drop_all, drop_more, get_or-drop}
+use Rattle.std.proofs.lemmas.List.{take_all, drop-append-le, drop_all, drop_more, get_or-drop}
 use Rattle.certificate.specs.Windows.{LineFeedAt}
 use Rattle.certificate.specs.Pieces.{IsWholeLines}
 use Rattle.certificate.specs.Blocks.{IsPiece, ArePieces, AreCuts}

@@ -1,7 +1,6 @@
 -- How a round ends, and what is told of the source.
-use Rattle.std.proofs.Common.{◌≡◌, ◌≢◌, ℕ, ◌+◌, ◌<◌, ◌≤◌, List, [], ◌∷◌, length, get_or, Option, Some, None, Result, Ok, Err, arith, refl, ap, ◌∙◌, subst, eq-eqb}
+use Rattle.std.proofs.Common.{◌≡◌, ◌≢◌, ℕ, ◌<◌, ◌≤◌, List, [], ◌∷◌, length, Option, Some, None, Ok, Err, arith, refl, ap, ◌∙◌, subst, eq-eqb}
 use Rattle.std.specs.Prelude.{IfSome}
-use Rattle.std.specs.Result.{result_err}
 use Rattle.std.specs.Io.KnownBytes.{IsAtEnd}
 use Rattle.ompt_events.specs.Traces.{TraceView}
 use Rattle.certificate.specs.declared.faults.ReadCause.{ReadCause}
@@ -13,7 +12,7 @@ use Rattle.certificate.specs.Formats.{said, fault_in}
 use Rattle.certificate.specs.Files.{traces, file_says_to}
 use Rattle.certificate.specs.Windows.{LineFeedAt}
 use Rattle.certificate.specs.Blocks.{IsFillFault}
-use Rattle.certificate.specs.ReadingOn.{IsBetweenLines, IsToldWithin, IsToldInRoom, IsAnswerInRoom, IsToldAfter, IsLineFault, ReadsAhead}
+use Rattle.certificate.specs.ReadingOn.{IsBetweenLines, IsToldWithin, IsToldInRoom, IsAnswerInRoom, ReadsAhead}
 use Rattle.certificate.proofs.CountLemmas.{TakesTurns-more}
 use Rattle.certificate.proofs.LawLemmas.{faultless-before}
 use Rattle.certificate.proofs.ReadingLemmas.{IsAfter-long, IsAfter-device, IsAfter-unended, IsAfter-none_first, IsAfter-none}

@@ -1,5 +1,5 @@
 -- What follows of pieces, line by line.
-use Rattle.std.proofs.Common.{◌≡◌, ◌≢◌, ℕ, ◌+◌, ◌-◌, ◌<◌, ◌≤◌, ◌⊎◌, ◌==◌, zero, suc, Bool, List, [], ◌∷◌, ◌++◌, length, take, drop, get_or, Option, Some, None, Result, Ok, Err, true, false, cond, arith, refl, sym, ap, ◌∙◌, subst, inl, inr, append_assoc, append-nil, length-append, length-take, eq-eqb, add-one}
+use Rattle.std.proofs.Common.{◌≡◌, ◌≢◌, ℕ, ◌+◌, ◌-◌, ◌<◌, ◌≤◌, ◌==◌, suc, List, [], ◌∷◌, ◌++◌, length, take, drop, get_or, Option, Some, None, Result, Ok, Err, true, false, cond, arith, refl, sym, ap, ◌∙◌, subst, append_assoc, append-nil, length-append, length-take, eq-eqb, add-one}
 use Rattle.std.specs.Prelude.{IfSome, All, is_some, slice_range}
 use Rattle.std.proofs.lemmas.List.{take-append-drop, drop-drop, drop_all}
 use Rattle.std.proofs.lemmas.List.Sums.{sum_by_push}
@@ -11,7 +11,7 @@ use Rattle.certificate.specs.declared.faults.ReadCause.{ReadCause}
 use Rattle.certificate.specs.declared.faults.ReadCause.TheVariants.{Device, Memory, Header, LineTooLong, NotJson, Field, Limit, Unended, TurnsSpent}
 use Rattle.certificate.specs.Limits.{max_line, newest_version}
 use Rattle.certificate.specs.RecordLines.{line_says, header_says}
-use Rattle.certificate.specs.Formats.{Format, go_on, rest_says, said, fault_in, line_feeds}
+use Rattle.certificate.specs.Formats.{go_on, rest_says, said, fault_in, line_feeds}
 use Rattle.certificate.specs.Files.{has_room, text_adds, traces, with_header, with_record}
 use Rattle.certificate.specs.Reading.{IsFromLine, IsTextCause}
 use Rattle.certificate.specs.Keeping.{HaveRoom}
@@ -21,7 +21,7 @@ use Rattle.certificate.specs.Blocks.{ArePieces, AreCuts}
 use Rattle.certificate.specs.Windows.{LineFeedAt}
 use Rattle.certificate.specs.ReadingOn.{IsBetweenLines, IsToldWithin}
 use Rattle.certificate.proofs.FileLemmas.{rest_says-line, rest_says-long, unbroken-before, unbroken-front, window-parts}
-use Rattle.certificate.proofs.ReadingLemmas.{from_next, line_feeds-one, line_feeds-append}
+use Rattle.certificate.proofs.ReadingLemmas.{from_next, line_feeds-one}
 use Rattle.certificate.proofs.TraceLemmas.{traces-text_causes}
 use Rattle.certificate.proofs.SoundLemmas.{line_says-sound}
 

@@ -1,5 +1,5 @@
 -- Room for records behind others.
-use Rattle.std.proofs.Common.{◌≡◌, ℕ, ◌+◌, ◌<◌, ◌≤◌, ◌&&◌, Bool, List, [], ◌∷◌, ◌++◌, length, Option, Some, None, Result, Ok, Err, true, false, cond, arith, refl, sym, ap, ◌∙◌, append_assoc, append-nil, length-append}
+use Rattle.std.proofs.Common.{◌≡◌, ℕ, ◌+◌, ◌<◌, ◌≤◌, Bool, List, [], ◌∷◌, ◌++◌, length, Result, Ok, Err, true, false, cond, arith, refl, sym, ap, append_assoc, append-nil, length-append}
 use Rattle.std.specs.Prelude.{All, is_some}
 use Rattle.std.proofs.lemmas.Bool.{ltb-true}
 use Rattle.std.proofs.lemmas.Bool.Decides.{nat_tests}
@@ -8,20 +8,19 @@ use Rattle.std.proofs.lemmas.List.Elements.{All-append}
 use Rattle.ompt_events.specs.declared.records.Record.{Record}
 use Rattle.ompt_events.specs.Records.{made}
 use Rattle.ompt_events.specs.Limits.{max_records, max_tasks}
-use Rattle.ompt_events.specs.Traces.{TraceView, IsSoundIn, HasItsTurns, IsInRange, IsSound, IsTrace, IsTraceOf, tasks_in}
+use Rattle.ompt_events.specs.Traces.{TraceView, IsSoundIn, HasItsTurns, IsInRange, IsSound, tasks_in}
 use Rattle.certificate.specs.declared.faults.ReadCause.{ReadCause}
-use Rattle.certificate.specs.declared.faults.ReadCause.TheVariants.{Limit, Memory}
+use Rattle.certificate.specs.declared.faults.ReadCause.TheVariants.{Limit}
 use Rattle.certificate.specs.Files.{has_room, with_record}
-use Rattle.certificate.specs.Keeping.{IsKept, HaveRoom, IsWhyNot}
+use Rattle.certificate.specs.Keeping.{IsKept, HaveRoom}
 use Rattle.certificate.proofs.RecordLemmas.{ok_not_err, both-first}
 
 -- one record more, where all are few enough
 has_room-few : (before rs : List Record) (r : Record) → length (before ++ (r ∷ rs)) ≤ max_records → tasks_in (before ++ (r ∷ rs)) ≤ max_tasks → has_room before r ≡ true
 has_room-few before rs r few tasks =
     let long : length (before ++ (r ∷ rs)) ≡ length before + (1 + length rs) = omega (arith, length-append before (r ∷ rs)) in
-    let made_of = λ (x : Record). cond (is_some (made x.body)) 1 0 in
-    let all : tasks_in (before ++ (r ∷ rs)) ≡ tasks_in before + tasks_in (r ∷ rs) = sum_by-append made_of before (r ∷ rs) in
-    let more : tasks_in (r ∷ rs) ≡ cond (is_some (made r.body)) 1 0 + tasks_in rs = sum_by-cons made_of r rs in
+    let all : tasks_in (before ++ (r ∷ rs)) ≡ tasks_in before + tasks_in (r ∷ rs) = sum_by-append (λ (x : Record). cond (is_some (made x.body)) 1 0) before (r ∷ rs) in
+    let more : tasks_in (r ∷ rs) ≡ cond (is_some (made r.body)) 1 0 + tasks_in rs = sum_by-cons (λ (x : Record). cond (is_some (made x.body)) 1 0) r rs in
     grind (arith, nat_tests)
 
 pub HaveRoom-few : (before rs : List Record) → length (before ++ rs) ≤ max_records → tasks_in (before ++ rs) ≤ max_tasks → HaveRoom before rs

@@ -1,6 +1,6 @@
 //! How a piece of a trace file is judged: whole lines behind the header, with no count of what stands before
 //! them.
-ghost use Rattle.std.specs.Prelude.{◌≡◌, ◌≤◌, ◌<◌, ◌+◌, ◌-◌, ◌^◌, length, drop, slice_range, slice_index, IfOk, OnOk, OnErr, IfErr};
+ghost use Rattle.std.specs.Prelude.{◌≡◌, ◌≤◌, ◌<◌, ◌+◌, ◌-◌, ◌^◌, [], length, drop, slice_range, slice_index, IfOk, OnOk, OnErr, IfErr};
 ghost use Rattle.certificate.specs.Pieces.{IsWholeLines, IsJudged, AreJudged, TakesLine, TakesText, WithRecord, SameRecords};
 ghost use Rattle.certificate.specs.Blocks.{AreCuts, IsPiece};
 
@@ -13,6 +13,9 @@ use ompt_events::Record;
 use std::alloc::{AllocError, Global};
 use std::thread;
 use std::thread::Threads;
+
+/// A line of a record is rarely shorter. Where many are, the room that is taken for a piece grows.
+const LINE: usize = 96;
 
 /// The records of a piece's lines up to its first faulty one, how many of them make a task, and what that
 /// line has.
@@ -73,7 +76,11 @@ fn judge_piece(alloc: Global, version: u32, text: &[u8], cuts: &[usize], number:
     ensures { IsJudged version
         (slice_range text.now (slice_index cuts.now number) (slice_index cuts.now (number + 1))) result }
 {
-    judge(alloc, version, piece_of(text, cuts[number], cuts[number + 1]))
+    judge(
+        alloc,
+        version,
+        piece_of(text, cuts[number], cuts[number + 1]),
+    )
 }
 
 /// Whole lines of the bytes.
@@ -91,7 +98,7 @@ fn judge(alloc: Global, version: u32, text: &[u8]) -> Piece
 {
     let mut scratch = Scratch::new(alloc);
     let mut piece = Piece {
-        records: Vec::new(alloc),
+        records: reserved(alloc, text.len() / LINE),
         tasks: 0,
         fault: None,
     };
@@ -106,6 +113,16 @@ fn judge(alloc: Global, version: u32, text: &[u8]) -> Piece
         }
     }
     piece
+}
+
+/// No record, with room for so many, if memory is found for them now.
+fn reserved(alloc: Global, count: usize) -> Vec<Record>
+    ensures { result.items ≡ [] }
+{
+    match Vec::with_capacity(alloc, count) {
+        Ok(records) => records,
+        Err(_) => Vec::new(alloc),
+    }
 }
 
 /// Judges the first line, and says how long it is with its line feed.

@@ -132,7 +132,7 @@ fn round<R: Threads + Sync, S: Source>(
     ensures after { (known : Option (List ℕ)) →
         IsBetweenLines known line.old kept.old waiting.old.waiting (S.remaining source.old)
         → IsAfterRound result known line.new kept.new waiting.new.waiting waiting.old.limit
-            (S.remaining source.new) }
+        (S.remaining source.new) }
     ensures limit { waiting.new.limit ≡ waiting.old.limit }
     ensures grows { result ≡ Ok true → line.old < line.new }
     ensures line { (1 ≤ line.new) × (line.new ≤ LAST_LINE) }

@@ -1,4 +1,4 @@
-use Rattle.std.proofs.Common.{◌≡◌, ◌∷◌, ◌++◌, [], List, ℕ, length, refl, arith, sym, ap, ◌∙◌, length-append}
+use Rattle.std.proofs.Common.{◌≡◌, ◌∷◌, ◌++◌, [], List, ℕ, length, refl, arith, ap, ◌∙◌, length-append}
 use Rattle.certificate.proofs.BlockLemmas.{ArePieces-push, IsPiece-rest}
 use Rattle.certificate.proofs.pieces.cuts.Goals as goal
 

@@ -1,9 +1,9 @@
-use Rattle.std.proofs.Common.{◌≡◌, ◌+◌, ◌≤◌, ◌++◌, [], ◌∷◌, Bool, true, false, cond, length, drop, arith, sym, ap, ◌∙◌, length-drop}
+use Rattle.std.proofs.Common.{◌+◌, ◌≤◌, Bool, true, false, cond, arith, sym, ap, ◌∙◌, length-drop}
 use Rattle.std.specs.Prelude.{is_some}
 use Rattle.std.proofs.lemmas.List.{take_rest}
 use Rattle.std.proofs.lemmas.List.Elements.{All-push}
 use Rattle.ompt_events.specs.Records.{made}
-use Rattle.ompt_events.specs.Traces.{IsInRange, tasks_in}
+use Rattle.ompt_events.specs.Traces.{IsInRange}
 use Rattle.certificate.proofs.PieceLemmas.{BeginsWithRecords-more, tasks_more}
 use Rattle.certificate.proofs.pieces.judge.Goals as goal
 

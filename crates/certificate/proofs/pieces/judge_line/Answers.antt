@@ -1,6 +1,5 @@
-use Rattle.std.proofs.Common.{◌≡◌, ◌<◌, ◌≤◌, ◌+◌, take, length, refl, arith, ap, ◌∙◌}
+use Rattle.std.proofs.Common.{take, refl, arith}
 use Rattle.std.proofs.lemmas.Result.{err_from_is_err_and}
-use Rattle.certificate.specs.Limits.{max_line}
 use Rattle.certificate.proofs.PieceLemmas.{begins_line, begins_long, fault_of_text}
 use Rattle.certificate.proofs.pieces.judge_line.Goals as goal
 

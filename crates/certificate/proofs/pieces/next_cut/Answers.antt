@@ -1,6 +1,6 @@
 use Rattle.std.proofs.Common.{◌+◌, arith}
 use Rattle.std.proofs.lemmas.List.{take_rest}
-use Rattle.certificate.proofs.BlockLemmas.{IsPiece-line, IsPiece-rest}
+use Rattle.certificate.proofs.BlockLemmas.{IsPiece-line}
 use Rattle.certificate.proofs.pieces.next_cut.Goals as goal
 
 pub returns-in-Some : goal.returns-in-Some

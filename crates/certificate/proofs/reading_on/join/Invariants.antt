@@ -1,9 +1,8 @@
-use Rattle.std.proofs.Common.{◌≡◌, ◌≤◌, ◌+◌, ◌++◌, ℕ, List, Option, length}
+use Rattle.std.proofs.Common.{◌≡◌, ◌≤◌, ◌+◌, ℕ, List}
 use Rattle.std.specs.Vec.Iter.{into_iter_items, into_iter_len}
 use Rattle.ompt_events.specs.Limits.{max_records}
-use Rattle.certificate.specs.Formats.{line_feeds}
 use Rattle.certificate.specs.Pieces.{AreJudged}
-use Rattle.certificate.specs.ReadingOn.{IsBetweenLines, IsCounted}
+use Rattle.certificate.specs.ReadingOn.{IsCounted}
 use Rattle.certificate.proofs.JoinLemmas.{Joins}
 use Rattle.certificate.proofs.reading_on.join.Given as goal
 

@@ -1,6 +1,5 @@
-use Rattle.std.proofs.Common.{◌≡◌, ◌≤◌, length, refl, arith, sym, ap, ◌∙◌, Some, None, Ok, Err}
+use Rattle.std.proofs.Common.{◌≡◌, length, refl, arith, ap, ◌∙◌, None}
 use Rattle.ompt_events.specs.Traces.{TraceView}
-use Rattle.certificate.specs.declared.faults.ReadCause.TheVariants.{Memory}
 use Rattle.certificate.specs.Formats.{fault_in}
 use Rattle.certificate.specs.Files.{traces}
 use Rattle.certificate.specs.Limits.{newest_version}

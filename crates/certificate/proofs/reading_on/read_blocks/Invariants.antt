@@ -1,6 +1,6 @@
-use Rattle.std.proofs.Common.{◌≡◌, ◌≤◌, ◌<◌, ◌-◌, ◌+◌, ℕ, List, Option}
+use Rattle.std.proofs.Common.{◌≡◌, ◌≤◌, ◌-◌}
 use Rattle.std.specs.Prelude.{None}
-use Rattle.certificate.specs.Limits.{max_line, max_turns, newest_version}
+use Rattle.certificate.specs.Limits.{max_turns, newest_version}
 use Rattle.certificate.specs.Counts.{TakesTurns}
 use Rattle.certificate.specs.ReadingOn.{IsBetweenLines, IsCounted, room_of}
 use Rattle.certificate.proofs.reading_on.read_blocks.Given as goal

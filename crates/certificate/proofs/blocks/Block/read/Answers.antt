@@ -1,4 +1,4 @@
-use Rattle.std.proofs.Common.{ap, ◌∙◌, arith}
+use Rattle.std.proofs.Common.{ap, arith}
 use Rattle.certificate.specs.Blocks.{BlockView}
 use Rattle.certificate.proofs.WindowLemmas.{Keeps-filled}
 use Rattle.certificate.proofs.blocks.Block.read.Goals as goal

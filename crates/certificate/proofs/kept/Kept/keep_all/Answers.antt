@@ -1,7 +1,6 @@
-use Rattle.std.proofs.Common.{◌≡◌, ◌≤◌, ◌+◌, List, [], ◌++◌, true, length, not, refl, arith, sym, ap, ◌∙◌, append-nil}
+use Rattle.std.proofs.Common.{◌≡◌, ◌≤◌, ◌+◌, [], ◌++◌, true, length, not, refl, arith, sym, ap, ◌∙◌, append-nil}
 use Rattle.std.specs.Prelude.{All}
 use Rattle.std.specs.Result.{is_ok}
-use Rattle.ompt_events.specs.declared.records.Record.{Record}
 use Rattle.ompt_events.specs.Limits.{max_records, max_tasks}
 use Rattle.ompt_events.specs.Traces.{TraceView, IsSoundIn, tasks_in}
 use Rattle.certificate.specs.Keeping.{IsKept}

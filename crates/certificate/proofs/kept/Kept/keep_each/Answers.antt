@@ -1,4 +1,4 @@
-use Rattle.std.proofs.Common.{◌≡◌, List, length, [], ◌∷◌, ◌++◌, refl, arith, sym, ap, ◌∙◌, append_assoc, append-nil, length-append}
+use Rattle.std.proofs.Common.{List, length, [], ◌∷◌, ◌++◌, refl, arith, sym, ap, ◌∙◌, append_assoc, length-append}
 use Rattle.std.specs.Vec.Iter.{into_iter_items}
 use Rattle.std.proofs.lemmas.List.Elements.{All-head, All-tail, All-same}
 use Rattle.ompt_events.specs.declared.records.Record.{Record}
