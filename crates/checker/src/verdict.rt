@@ -104,13 +104,19 @@ pub enum Verdict {
     Malformed { at: usize, cause: Cause },
 }
 
-/// Why there is no answer. As a `u8` it is the fault's number.
+/// Why there is no answer.
 #[derive(Clone, Copy, Debug, PartialEq, Eq, Error)]
 pub enum CheckFault {
     /// Out of memory.
     #[error("out of memory")]
-    Memory = 1,
+    Memory,
+    /// No workers, or more than [`MAX_WORKERS`].
+    #[error("the number of workers is not 1 to 256")]
+    Workers,
+    /// The gate does not let this worker pass.
+    #[error("worker {0} may not pass the gate")]
+    Gate(u32),
     /// A thread could not be started.
     #[error("no thread")]
-    Thread = 4,
+    Thread,
 }
