@@ -1,8 +1,7 @@
 -- The first created predecessor that is unfinished where a task starts, and whether a given one is.
-use Rattle.std.proofs.Common.{◌≡◌, ◌∙◌, ℕ, ◌<◌, ◌≤◌, ◌+◌, ◌^◌, List, length, get_or, replicate, Option, Some, None, refl, sym, ap, subst, arith, inl, inr, ◌⊎◌, false}
+use Rattle.std.proofs.Common.{◌≡◌, ◌∙◌, ℕ, ◌<◌, ◌≤◌, ◌+◌, ◌^◌, List, length, get_or, Option, Some, None, refl, sym, ap, subst, arith, inl, inr, ◌⊎◌, false}
 use Rattle.std.proofs.lemmas.Bool.{cases_lt, false≢true}
 use Rattle.std.proofs.lemmas.Option.{none-some, same_Some, slice_get_within, slice_get-get_or}
-use Rattle.std.proofs.lemmas.List.{length-replicate, get_or-replicate}
 use Rattle.std.specs.Prelude.{◌↔◌, Contains, IsTrue, IfOk, MatchOption, Bool, Result, Ok, Err, option_and_then, is_some, slice_get, slice_index, slice_index_or}
 use Rattle.ompt_events.specs.declared.records.Record.{Record}
 use Rattle.ompt_events.specs.declared.records.Body.{Body}
@@ -33,8 +32,9 @@ use Rattle.depend_edges.specs.Edges.{ArePredecessors, AreLatest}
 use Rattle.wait_coverage.specs.Done.{AreOwn}
 use Rattle.trace_ledger.specs.Entries.{IsDone}
 use Rattle.checker.specs.declared.starts.Late.{Late}
+use Rattle.checker.specs.declared.starts.Dependent.{Dependent}
 use Rattle.checker.specs.Readings.{by_task, IsPrecededBy}
-use Rattle.checker.specs.Starts.{IsLate, AreReady, IsFirstLateAt, IsDependentAt, IsPrecededByNone, IsBound, AreStarted, StartsAt, StartsNoneAt, IsBehind, AreDoneBefore, IsFirstBehind, IsAmongFirst, IsBehindAt, IsFirstOf, IsEarlierOf, the_only, the_first, the_other}
+use Rattle.checker.specs.Starts.{IsLate, AreReady, IsFirstLateAt, IsDependentAt, IsPrecededByNone, IsBound, AreNoLengths, AreStarts, StartsAt, StartsNoneAt, PrecedenceView, IsPrecedence, IsBehind, AreDoneBefore, IsFirstBehind, IsAmongFirst, IsBehindAt, IsFirstOf, IsEarlierOf, the_only, the_first, the_other}
 use Rattle.wait_coverage.proofs.ShownLemmas.{own_done}
 use Rattle.checker.proofs.StartLemmas.{done_from, bound_still, complete_from_start}
 
@@ -182,6 +182,12 @@ none_late file own lengths latest i of is_own are_own are none predecessor prece
         let done = done_by_latest rs tasks lengths latest index.0 dependent 0 noted are_own are index.1 (omega arith) low predecessor is in
         complete_from_start file i predecessor ((own_done file own 0 predecessor of is_own).0 done)
 
+-- so where nothing is noted of where tasks start
+pub none_waits : (of_edges : RunView) (known : PrecedenceView) (i : ℕ) → IsPrecedence of_edges known → known.starts ≡ None → AreReady known.file.records i
+none_waits of_edges known i is none =
+    let P : Option (List ℕ) → Type 0 = λ o. MatchOption o (AreNoLengths known.latest) (AreStarts known.file.records known.file.family.tasks) in
+    none_late known.file.records known.own known.lengths known.latest i is.of_file is.is_own is.lengths is.latest (subst P none is.starts)
+
 -- ---- what it says of the record
 
 -- what is found for the task that starts there, or for the taskwait that is complete there
@@ -323,17 +329,7 @@ ready_past rs i past task preceded = absurd (preceded_by_none rs i
     (λ other completes. let inside = at_within wait_completed rs i other completes in omega (arith, inside, past))
     task preceded)
 
-pub ready_whole : (rs : List Record) (n i : ℕ) → ((k : ℕ) → k < n → AreReady rs k) → length rs ≤ n → AreReady rs i
-ready_whole rs n i below past = elim (cases_lt i n) [
-  | inl less ↦ below i less
-  | inr more ↦ ready_past rs i (omega (arith, more, past))
-]
-
-pub none_started : (rs : List Record) (tasks : List ℕ) (marks : List Bool) → marks ≡ replicate (length tasks) false → AreStarted rs 0 tasks marks
-none_started rs tasks marks is = record {
-  all = ap length is ∙ length-replicate (length tasks) false;
-  each = λ index task there. (
-    (λ marked. absurd (false≢true (sym (ap (λ l. slice_index_or l index false) is ∙ get_or-replicate (length tasks) index false false (slice_get_within tasks index task there)) ∙ marked))),
-    (λ (k, below, starts). absurd (omega (arith, below))),
-  );
-}
+-- where nothing is there whose predecessors must be complete
+pub ready_unless : (rs : List Record) (i : ℕ) (found : Option Dependent) (IsThere : Dependent → Type 0) → MatchOption found (IsPrecededByNone rs i) IsThere → is_some found ≡ false → AreReady rs i
+ready_unless rs i None IsThere none is = λ task preceded. absurd (none task preceded)
+ready_unless rs i (Some dependent) IsThere there is = absurd (false≢true (sym is))

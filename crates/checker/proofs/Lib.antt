@@ -21,3 +21,5 @@ mod PhaseLemmas
 mod VerdictLemmas
 pub mod ReadingLemmas
 mod BeforeLemmas
+mod DecidingLemmas
+mod ShareLemmas

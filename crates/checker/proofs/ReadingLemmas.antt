@@ -1,7 +1,7 @@
 -- Two readings of the same records that say the same have the same verdicts; where no task's turns fall along
 -- the file, each task's own order and the order of the file are such readings.
 use Rattle.std.proofs.Common.{◌≡◌, ℕ, ◌<◌, List, length, Option, Some, None, refl, sym, subst, arith, inl, inr}
-use Rattle.std.specs.Prelude.{◌↔◌, Bool, IsTrue, option_and_then, slice_get, MatchOption}
+use Rattle.std.specs.Prelude.{◌↔◌, Bool, IsTrue, option_and_then, slice_get}
 use Rattle.ompt_events.specs.declared.records.Record.{Record}
 use Rattle.ompt_events.specs.declared.cause.Cause.{Cause}
 use Rattle.ompt_events.specs.CauseNames.{all_causes}
@@ -32,18 +32,15 @@ use Rattle.checker.specs.declared.verdict.Why.TheVariants.{Unfinished, Predecess
 use Rattle.checker.specs.Readings.{Reading, by_task, by_file, IsPrecededBy, IsRequiredBy}
 use Rattle.checker.specs.Verdicts.{ShowsNone, IsLeastShown, IsOpenBy, IsUnfinished, IsMissed, IsFirstSo, IsApproved, IsRejected, IsReason, IsVerdictBy, task_of}
 use Rattle.checker.specs.Counter.{IsEarliestOrder, IsCounterOrderBy, IsCounterBy}
-use Rattle.checker.specs.Search.{IsClear, ClearView, IsClearView, IsOfRecords, AreAllCovered, AreAllReady, IsFirstOpenBy, IsFirstLateBy}
-use Rattle.checker.specs.Starts.{AreReady, IsFirstLateStart}
+use Rattle.checker.specs.Search.{IsClear, ClearView, IsClearView, IsOfRecords}
 use Rattle.task_tree.specs.Own.{OwnView, IsOwn, of_claims}
 use Rattle.task_tree.specs.Families.{IsOwnOf}
 use Rattle.task_tree.proofs.OwnRunLemmas.{place_of_number}
 use Rattle.task_tree.proofs.ShownLemmas.{shown_there}
 use Rattle.trace_ledger.specs.Entries.{HasRightEntries}
 use Rattle.trace_ledger.proofs.RightLemmas.{own_entries}
-use Rattle.wait_coverage.specs.Spans.{IsCoverComplete}
-use Rattle.wait_coverage.specs.Waits.{IsOpen, IsFirstOpenPlace}
-use Rattle.wait_coverage.specs.Shown.{IsCompleteShown, IsFirstOpenShown}
-use Rattle.wait_coverage.proofs.ShownLemmas.{own_open, open_shown}
+use Rattle.wait_coverage.specs.Waits.{IsOpen}
+use Rattle.wait_coverage.proofs.ShownLemmas.{own_open}
 use Rattle.checker.proofs.VerdictLemmas.{cover_ends, preceded_starts, at_cases, listed}
 
 -- ---- readings that say the same
@@ -267,28 +264,3 @@ pub open_told : (view : ClearView) (number place task : ℕ) (told : Bool) → I
 open_told view number place task told clear stands tells =
     let there = open_there view.run.records view.own number place task clear.one.of_file clear.one.is_own stands in
     (λ yes. there.0 (tells.0 yes), λ opened. tells.1 (there.1 opened))
-
--- what the search for an open end finds
-pub open_by_task : (rs : List Record) (own : OwnView) (found : Option (ℕ × ℕ)) → IsOwnOf rs own → IsOwn own → MatchOption found ((i : ℕ) → IsCoverComplete own.run.records i) (λ (f : ℕ × ℕ). IsFirstOpenPlace own f.0 f.1) → MatchOption found (AreAllCovered (by_task rs)) (λ (f : ℕ × ℕ). IsFirstOpenBy (by_task rs) f.0 f.1)
-open_by_task rs own found of is_own is = told found (open_shown rs own found of is_own is)
-  where
-    told : (o : Option (ℕ × ℕ)) → MatchOption o ((place : ℕ) → IsCompleteShown rs place) (λ (f : ℕ × ℕ). IsFirstOpenShown rs f.0 f.1) → MatchOption o (AreAllCovered (by_task rs)) (λ (f : ℕ × ℕ). IsFirstOpenBy (by_task rs) f.0 f.1)
-    told None all = all
-    told (Some (place, task)) first = record {
-      so = (first.open_there.covered, first.open_there.incomplete);
-      first = λ k other below opened. first.before k other below (record { covered = opened.0; incomplete = opened.1 });
-      creation = first.creation;
-      is_created = first.is_created;
-      created_first = λ k other below creates opened. first.created_first k other below creates (record { covered = opened.0; incomplete = opened.1 });
-    }
-
--- and what that for a late start finds
-pub late_by_task : (rs : List Record) (found : Option (ℕ × ℕ)) → MatchOption found ((i : ℕ) → AreReady rs i) (λ (f : ℕ × ℕ). IsFirstLateStart rs f.0 f.1) → MatchOption found (AreAllReady (by_task rs)) (λ (f : ℕ × ℕ). IsFirstLateBy (by_task rs) f.0 f.1)
-late_by_task rs None all = all
-late_by_task rs (Some (i, task)) is = record {
-  so = is.first_late.late;
-  first = λ k other below late. late.1 (is.before k below other late.0);
-  creation = is.first_late.creation;
-  is_created = is.first_late.is_created;
-  created_first = is.first_late.created_first;
-}

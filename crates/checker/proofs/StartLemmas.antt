@@ -1,11 +1,11 @@
 -- Which predecessors are finished where a task starts.
-use Rattle.std.proofs.Common.{cond, ◌≡◌, ◌∙◌, ℕ, ◌<◌, ◌≤◌, ◌+◌, ◌^◌, Bool, List, length, get_or, Option, Some, None, refl, sym, ap, subst, arith, inl, inr, true, false}
+use Rattle.std.proofs.Common.{cond, ◌≡◌, ◌∙◌, ℕ, ◌<◌, ◌≤◌, ◌+◌, ◌^◌, Bool, List, length, get_or, replicate, Option, Some, None, refl, sym, ap, subst, arith, inl, inr, true, false}
 use Rattle.std.proofs.lemmas.Bool.{false≢true, cases_eq, cases_lt, ltb-true, lt-ltb}
 use Rattle.std.proofs.lemmas.Option.{none-some, same_Some, some_pair_parts, slice_get_within, slice_get-get_or}
-use Rattle.std.proofs.lemmas.List.{length-set, get_or-set_same, get_or-set_other}
+use Rattle.std.proofs.lemmas.List.{length-set, get_or-set_same, get_or-set_other, length-replicate, get_or-replicate}
 use Rattle.std.proofs.lemmas.List.Sums.{count_by-le-length}
 use Rattle.std.proofs.Math.ListN.{set}
-use Rattle.std.specs.Prelude.{◌↔◌, IsTrue, slice_get, slice_index, slice_index_or, nat_lt, is_some}
+use Rattle.std.specs.Prelude.{◌↔◌, IsTrue, slice_get, slice_index, nat_lt, is_some}
 use Rattle.std.specs.Option.{option_map_or}
 use Rattle.ompt_events.specs.declared.records.Record.{Record}
 use Rattle.ompt_events.specs.declared.records.Part.{Part}
@@ -14,7 +14,7 @@ use Rattle.ompt_events.specs.Records.{begun_turn, finish}
 use Rattle.ompt_events.specs.declared.cause.Cause.TheVariants.{EntryTwice, LengthAhead}
 use Rattle.ompt_events.specs.Causes.{IsFreeOf, entries_in, entry_twice, length_ahead, entry, ledger_length, known_after}
 use Rattle.ompt_events.specs.Places.{at, seen_at}
-use Rattle.ompt_events.specs.HappensBefore.{IsFinishing}
+use Rattle.ompt_events.specs.HappensBefore.{IsFinishing, IsStart}
 use Rattle.ompt_events.specs.Completion.{IsPartFinished, IsFinished, IsCompleteAt, CountsAt, StartsTask}
 use Rattle.task_tree.specs.Subjects.{Calls}
 use Rattle.task_tree.specs.Numbering.{AreApart}
@@ -22,7 +22,7 @@ use Rattle.trace_ledger.specs.Entries.{IsDone}
 use Rattle.wait_coverage.specs.Done.{IsDoneFrom, AreOwn}
 use Rattle.checker.specs.Schedule.{first_started}
 use Rattle.checker.proofs.ScheduleLemmas.{first_begun_starts}
-use Rattle.checker.specs.Starts.{IsBound, AreStarted, StartsAt}
+use Rattle.checker.specs.Starts.{IsBound, AreStarts, AreStartsBelow, StartsAt}
 
 pub called : (tasks : List ℕ) (found slot : Option ℕ) (index task : ℕ) → Calls tasks found slot → slot ≡ Some index → found ≡ Some task → slice_get tasks index ≡ Some task
 called tasks found slot index task calls is says =
@@ -117,46 +117,107 @@ entry_small rs i reached here few = elim (cases_lt (seen_at rs i) (entries_in rs
   | inr more ↦ absurd (reached i (length_ahead (entry here more)))
 ]
 
--- ---- which tasks were started
+-- ---- where tasks start
 
 pub called_task : (tasks : List ℕ) (found slot : Option ℕ) (index : ℕ) → Calls tasks found slot → slot ≡ Some index → (task : ℕ) × (found ≡ Some task) × (slice_get tasks index ≡ Some task)
 called_task tasks None slot index calls is = absurd (none-some index (sym calls ∙ is))
 called_task tasks (Some task) slot index calls is = (task, refl, ap (slice_get tasks) (same_Some index calls.0 (sym is ∙ calls.1)) ∙ calls.2)
 
-pub started_more : (rs : List Record) (n index own : ℕ) (tasks : List ℕ) (marks : List Bool) → AreApart tasks → slice_get tasks index ≡ Some own → at begun_turn rs n ≡ Some (own, 0) → AreStarted rs n tasks marks → AreStarted rs (n + 1) tasks (set marks index true)
-started_more rs n index own tasks marks once is says are = record {
-  all = length-set marks index true ∙ are.all;
-  each = λ other task there. elim (cases_eq other index) [
+pub no_starts_yet : (rs : List Record) (tasks starts : List ℕ) → starts ≡ replicate (length tasks) (length rs) → AreStartsBelow rs 0 tasks starts
+no_starts_yet rs tasks starts is = record {
+  all = ap length is ∙ length-replicate (length tasks) (length rs);
+  low = λ index inside. inr (unset index (rw (ap length is ∙ length-replicate (length tasks) (length rs)) at inside));
+  begins = λ index task there below. absurd (omega (arith, below));
+  first = λ index task k there below begins. absurd (omega (arith, below));
+}
+  where
+    unset : (index : ℕ) → index < length tasks → slice_index starts index ≡ length rs
+    unset index inside = ap (λ l. slice_index l index) is ∙ get_or-replicate (length tasks) index (length rs) 0 inside
+
+-- a task that first begins there starts there
+pub starts_more : (rs : List Record) (n index own : ℕ) (tasks starts : List ℕ) → n < length rs → AreApart tasks → slice_get tasks index ≡ Some own → at begun_turn rs n ≡ Some (own, 0) → slice_index starts index ≡ length rs → AreStartsBelow rs n tasks starts → AreStartsBelow rs (n + 1) tasks (set starts index n)
+starts_more rs n index own tasks starts within once is says unset are = record {
+  all = length-set starts index n ∙ are.all;
+  low = λ other inside. elim (cases_eq other index) [
+    | inl same ↦ let here = set_here other same in inl (omega (arith, here))
+    | inr apart ↦ let kept = set_apart other apart in elim (are.low other (rw (length-set starts index n) at inside)) [
+      | inl less ↦ inl (omega (arith, kept, less))
+      | inr none ↦ inr (kept ∙ none)
+    ]
+  ];
+  begins = λ other task there below. elim (cases_eq other index) [
     | inl same ↦
+        let task_is = same_Some own task (sym is ∙ ap (slice_get tasks) (sym same) ∙ there) in
+        ap (at begun_turn rs) (set_here other same) ∙ says ∙ ap (λ t. Some (t, 0)) task_is
+    | inr apart ↦
+        let kept = set_apart other apart in
+        ap (at begun_turn rs) kept ∙ are.begins other task there (low_or_unset other task there (omega (arith, below, kept)))
+  ];
+  first = λ other task k there below begins. elim (cases_eq other index) [
+    | inl same ↦ elim (cases_eq k n) [
+      | inl last ↦ let here = set_here other same in omega (arith, here, last)
+      | inr differ ↦
+          let low = are.first other task k there (omega (arith, below, differ)) begins in
+          let none = ap (slice_index starts) same ∙ unset in
+          omega (arith, low, none, below, within)
+    ]
+    | inr apart ↦ elim (cases_eq k n) [
+      | inl last ↦ absurd (apart (once other index task there (is ∙ ap Some (some_pair_parts own task 0 0 (sym says ∙ ap (at begun_turn rs) (sym last) ∙ begins)).0)))
+      | inr differ ↦ let kept = set_apart other apart in let low = are.first other task k there (omega (arith, below, differ)) begins in omega (arith, kept, low)
+    ]
+  ];
+}
+  where
+    set_here : (other : ℕ) → other ≡ index → slice_index (set starts index n) other ≡ n
+    set_here other same =
         let inside = slice_get_within tasks index own is in
         let all = are.all in
-        let there_is : slice_index_or (set marks index true) other false ≡ true = ap (λ k. get_or (set marks index true) k false) same ∙ get_or-set_same marks index true false (omega (arith, inside, all)) in
-        let task_is = same_Some own task (sym is ∙ ap (slice_get tasks) (sym same) ∙ there) in
-        ((λ marked. (n, omega arith, says ∙ ap (λ t. Some (t, 0)) task_is)), (λ known. there_is))
-    | inr apart ↦
-        let kept : slice_index_or (set marks index true) other false ≡ slice_index_or marks other false = get_or-set_other marks index other true false apart in
-        let known = are.each other task there in (
-          (λ marked. let found = known.0 (sym kept ∙ marked) in let less = found.1 in (found.0, omega (arith, less), found.2)),
-          (λ (k, below, starts). elim (cases_eq k n) [
-            | inl last ↦ absurd (apart (once other index task there (is ∙ ap Some (some_pair_parts own task 0 0 (sym says ∙ ap (at begun_turn rs) (sym last) ∙ starts)).0)))
-            | inr earlier ↦ kept ∙ known.1 (k, omega (arith, below, earlier), starts)
-          ]),
-        )
+        ap (λ k. get_or (set starts index n) k 0) same ∙ get_or-set_same starts index n 0 (omega (arith, inside, all))
+
+    set_apart : (other : ℕ) → (other ≡ index → ⊥) → slice_index (set starts index n) other ≡ slice_index starts other
+    set_apart other apart = get_or-set_other starts index other n 0 apart
+
+    low_or_unset : (other task : ℕ) → slice_get tasks other ≡ Some task → slice_index starts other < n + 1 → slice_index starts other < n
+    low_or_unset other task there below =
+        let inside = slice_get_within tasks other task there in
+        let all = are.all in
+        elim (are.low other (omega (arith, inside, all))) [
+          | inl less ↦ less
+          | inr none ↦ absurd (omega (arith, none, below, within))
+        ]
+
+starts_kept : (rs : List Record) (n : ℕ) (tasks starts : List ℕ) → n < length rs → AreStartsBelow rs n tasks starts → ((index task : ℕ) → slice_get tasks index ≡ Some task → at begun_turn rs n ≡ Some (task, 0) → slice_index starts index ≤ n) → AreStartsBelow rs (n + 1) tasks starts
+starts_kept rs n tasks starts within are here = record {
+  all = are.all;
+  low = λ index inside. elim (are.low index inside) [ inl less ↦ inl (omega (arith, less)) | inr none ↦ inr none ];
+  begins = λ index task there below.
+      let inside = slice_get_within tasks index task there in
+      let all = are.all in
+      elim (are.low index (omega (arith, inside, all))) [
+        | inl less ↦ are.begins index task there less
+        | inr none ↦ absurd (omega (arith, none, below, within))
+      ];
+  first = λ index task k there below begins. elim (cases_eq k n) [
+    | inl last ↦ let low = here index task there (ap (at begun_turn rs) (sym last) ∙ begins) in omega (arith, low, last)
+    | inr differ ↦ are.first index task k there (omega (arith, below, differ)) begins
   ];
 }
 
-pub started_other : (rs : List Record) (n : ℕ) (tasks : List ℕ) (marks : List Bool) → at first_started rs n ≡ None → AreStarted rs n tasks marks → AreStarted rs (n + 1) tasks marks
-started_other rs n tasks marks none are = record {
-  all = are.all;
-  each = λ index task there.
-      let known = are.each index task there in (
-        (λ marked. let found = known.0 marked in let less = found.1 in (found.0, omega (arith, less), found.2)),
-        (λ (k, below, starts). elim (cases_eq k n) [
-          | inl last ↦ absurd (none-some task (sym none ∙ first_begun_starts rs n task (ap (at begun_turn rs) (sym last) ∙ starts)))
-          | inr earlier ↦ known.1 (k, omega (arith, below, earlier), starts)
-        ]),
-      );
-}
+-- one that has begun already does not
+pub starts_still : (rs : List Record) (n index own : ℕ) (tasks starts : List ℕ) → n < length rs → AreApart tasks → slice_get tasks index ≡ Some own → at begun_turn rs n ≡ Some (own, 0) → (slice_index starts index ≡ length rs → ⊥) → AreStartsBelow rs n tasks starts → AreStartsBelow rs (n + 1) tasks starts
+starts_still rs n index own tasks starts within once is says noted are = starts_kept rs n tasks starts within are (λ other task there begins.
+    let same = once other index task there (is ∙ ap Some (some_pair_parts own task 0 0 (sym says ∙ begins)).0) in
+    let inside = slice_get_within tasks index own is in
+    let all = are.all in
+    elim (are.low index (omega (arith, inside, all))) [
+      | inl less ↦ let equal = ap (slice_index starts) same in omega (arith, less, equal)
+      | inr none ↦ absurd (noted none)
+    ])
+
+-- where no task begins turn 0 nothing changes
+pub starts_other : (rs : List Record) (n : ℕ) (tasks starts : List ℕ) → n < length rs → at first_started rs n ≡ None → AreStartsBelow rs n tasks starts → AreStartsBelow rs (n + 1) tasks starts
+starts_other rs n tasks starts within none are = starts_kept rs n tasks starts within are
+    (λ other task there begins. absurd (none-some task (sym none ∙ first_begun_starts rs n task begins)))
 
 -- the length that a record names, where it was read in place
 pub seen_here : (rs : List Record) (i : ℕ) (r : Record) → i < length rs → seen_at rs i ≡ (get_or rs i r).seen
@@ -185,3 +246,19 @@ known_small rs i reached few = of (is_some (at finish rs i)) refl
       | inl more ↦ absurd (reached i (length_ahead (ledger_length more)))
       | inr low ↦ let most : entries_in rs ≤ length rs = count_by-le-length (λ (r : Record). is_some (finish r.body)) rs in omega (arith, low, most, few)
     ])
+
+-- a task starts at the place that is noted for it
+pub noted_starts : (rs : List Record) (tasks starts : List ℕ) (index task i : ℕ) → AreStarts rs tasks starts → slice_get tasks index ≡ Some task → i < length rs → slice_index starts index ≡ i → IsStart rs i task
+noted_starts rs tasks starts index task i are there within noted = record {
+  starts = ap (at begun_turn rs) (sym noted) ∙ are.begins index task there (omega (arith, noted, within));
+  first = λ k below begins. let low = are.first index task k there (omega (arith, below, within)) begins in omega (arith, low, noted, below);
+}
+
+-- and at no other
+pub start_is_noted : (rs : List Record) (tasks starts : List ℕ) (index task i : ℕ) → AreStarts rs tasks starts → slice_get tasks index ≡ Some task → i < length rs → IsStart rs i task → slice_index starts index ≡ i
+start_is_noted rs tasks starts index task i are there within start =
+    let low = are.first index task i there within start.starts in
+    elim (cases_lt (slice_index starts index) i) [
+      | inl less ↦ absurd (start.first (slice_index starts index) less (are.begins index task there (omega (arith, less, within))))
+      | inr more ↦ omega (arith, low, more)
+    ]

@@ -1,8 +1,7 @@
 -- From what the searches find to the verdict.
-use Rattle.std.proofs.Common.{zero-add, ◌≡◌, ◌∙◌, ℕ, ◌<◌, ◌≤◌, ◌⊎◌, List, length, take, Option, Some, None, refl, sym, ap, subst, arith, inl, inr}
+use Rattle.std.proofs.Common.{zero-add, ◌≡◌, ◌∙◌, ℕ, ◌<◌, ◌⊎◌, List, length, take, Option, Some, None, refl, sym, ap, subst, arith, inl, inr}
 use Rattle.std.specs.Prelude.{is_some, Contains, ⊤, slice_get, option_and_then}
 use Rattle.std.proofs.lemmas.Option.{none-some}
-use Rattle.std.proofs.lemmas.Bool.{cases_eq}
 use Rattle.ompt_events.specs.declared.records.Record.{Record}
 use Rattle.ompt_events.specs.declared.records.Part.{Part}
 use Rattle.ompt_events.specs.declared.records.Part.TheVariants as part
@@ -26,8 +25,6 @@ use Rattle.ompt_events.specs.Causes.{IsFreeOf, no_order}
 use Rattle.ompt_events.specs.CauseNames.{all_causes}
 use Rattle.checker.specs.Readings.{Reading, IsPrecededBy}
 use Rattle.checker.specs.Verdicts.{ShowsNone, AreComplete, IsAlwaysComplete, IsUnfinished, IsOpenBy, IsLateBy, IsApproved}
-use Rattle.checker.specs.Search.{IsOfRecords, AreAllCovered, AreAllReady, IsFirstOpenBy, IsFirstLateBy, IsFirstViolation}
-use Rattle.checker.specs.declared.verdict.Why.TheVariants.{Unfinished, Predecessor}
 use Rattle.std.proofs.lemmas.List.{length-take, get_or-take}
 use Rattle.std.proofs.lemmas.List.FromFn.{length-range_with_len, get_or-range_with_len}
 use Rattle.std.proofs.lemmas.List.Sorted.{IsPermutation-refl}
@@ -50,11 +47,7 @@ pub complete_in : (rs : List Record) (order : List ℕ) (i task : ℕ) → IsLin
 complete_in rs order i task linear (inl whole) = inl (part_in rs order i task part.Whole linear whole)
 complete_in rs order i task linear (inr (body, event)) = inr (part_in rs order i task part.Body linear body, part_in rs order i task part.Event linear event)
 
--- ---- the first violation
-
-pub all_complete : (reading : Reading) → AreAllCovered reading → AreAllReady reading → (i : ℕ) → AreComplete reading i
-all_complete reading ends starts i task (inl covers) = ends i task covers
-all_complete reading ends starts i task (inr precedes) = starts i task precedes
+-- ---- what is unfinished
 
 -- what is unfinished is open where a wait ends, or late where a task starts or a taskwait is complete
 pub open_unfinished : (reading : Reading) (i task : ℕ) → IsOpenBy reading i task → IsUnfinished reading i task
@@ -68,44 +61,6 @@ unfinished_cases reading i task is = elim is.required [
   | inl covers ↦ inl (covers, is.incomplete)
   | inr precedes ↦ inr (precedes, is.incomplete)
 ]
-
--- an end before which all is ready
-pub open_before : (reading : Reading) (i task : ℕ) → IsFirstOpenBy reading i task → ((k other : ℕ) → k ≤ i → IsLateBy reading k other → ⊥) → IsFirstViolation reading i (Unfinished task)
-open_before reading i task is ready = record {
-  unfinished = record {
-    so = open_unfinished reading i task is.so;
-    first = λ k other below unfinished. elim (unfinished_cases reading k other unfinished) [
-      | inl opened ↦ is.first k other below opened
-      | inr late ↦ ready k other (omega (arith, below)) late
-    ];
-    creation = is.creation;
-    is_created = is.is_created;
-    created_first = λ k other below creates unfinished. elim (unfinished_cases reading i other unfinished) [
-      | inl opened ↦ is.created_first k other below creates opened
-      | inr late ↦ ready i other (omega arith) late
-    ];
-  };
-  reason = is.so.0;
-}
-
--- a start before which all that ends cover is complete
-pub late_before : (reading : Reading) (i task : ℕ) → IsFirstLateBy reading i task → ((k other : ℕ) → k ≤ i → IsOpenBy reading k other → ⊥) → IsFirstViolation reading i (Predecessor task)
-late_before reading i task is complete = record {
-  unfinished = record {
-    so = late_unfinished reading i task is.so;
-    first = λ k other below unfinished. elim (unfinished_cases reading k other unfinished) [
-      | inl opened ↦ complete k other (omega (arith, below)) opened
-      | inr late ↦ is.first k other below late
-    ];
-    creation = is.creation;
-    is_created = is.is_created;
-    created_first = λ k other below creates unfinished. elim (unfinished_cases reading i other unfinished) [
-      | inl opened ↦ complete i other (omega arith) opened
-      | inr late ↦ is.created_first k other below creates late
-    ];
-  };
-  reason = is.so.0;
-}
 
 -- a record that ends a region starts nothing
 region_or_schedule : (b : Body) (own : ℕ × SyncKind × Endpoint) (task : ℕ) → region b ≡ Some own → (started b ≡ Some task) ⊎ (wait_completed b ≡ Some task) → ⊥
@@ -192,19 +147,6 @@ file_greedy rs steps k below =
 -- then every record has an order
 pub file_orders : (rs : List Record) → ((a b : ℕ) → IsStep rs a b → a < b) → IsFreeOf rs NoOrder
 file_orders rs steps i (no_order h) = h.never (places rs) (greedy_grounded rs (places rs) (file_greedy rs steps)) (contains_place rs i h.within)
-
--- ---- which of the two is first
-
-pub start_first : (reading : Reading) (end start task predecessor : ℕ) → IsFirstOpenBy reading end task → IsFirstLateBy reading start predecessor → start < end → IsFirstViolation reading start (Predecessor predecessor)
-start_first reading end start task predecessor unfinished late less = late_before reading start predecessor late (λ k other low. unfinished.first k other (omega (arith, low, less)))
-
-pub end_first : (reading : Reading) (end start task predecessor : ℕ) → IsOfRecords reading → IsFirstOpenBy reading end task → IsFirstLateBy reading start predecessor → end ≤ start → IsFirstViolation reading end (Unfinished task)
-end_first reading end start task predecessor of unfinished late most = elim (cases_eq end start) [
-  | inl same ↦
-      let P : ℕ → Type 0 = λ k. IsPrecededBy reading k predecessor in
-      absurd (of.apart end task predecessor unfinished.so.0 (subst P (sym same) late.so.0))
-  | inr differ ↦ open_before reading end task unfinished (λ k other low. late.first k other (omega (arith, low, most, differ)))
-]
 
 -- ---- causes by their numbers
 

@@ -16,3 +16,4 @@ pub mod Merge
 pub mod InOrder
 pub mod Starts
 pub mod Counter
+pub mod Deciding

@@ -8,12 +8,11 @@ use Rattle.ompt_events.specs.CauseNames.{all_causes, before}
 use Rattle.ompt_events.specs.Causes.{ShowsNowhere}
 use Rattle.ompt_events.specs.Faults.{IsShownFault}
 use Rattle.ompt_events.specs.Linearization.{IsLinearization, IsGreedy}
-use Rattle.ompt_events.specs.Completion.{IsCompleteAt}
 use Rattle.task_tree.specs.Runs.{RunView, IsRun}
 use Rattle.task_tree.specs.Own.{OwnView, IsOwn}
 use Rattle.task_tree.specs.Families.{IsOwnOf}
 use Rattle.checker.specs.Readings.{Reading, IsPrecededBy}
-use Rattle.checker.specs.Verdicts.{task_of, IsReason, IsOpenBy, IsLateBy, IsFirstSo, IsFirstUnfinished}
+use Rattle.checker.specs.Verdicts.{task_of, IsReason, IsFirstUnfinished}
 use Rattle.checker.specs.declared.verdict.Why.{Why}
 
 -- the trace shows none of these causes
@@ -50,22 +49,6 @@ pub record IsSoundView (view : SoundView) : Type 0 where
 pub record IsOfRecords (reading : Reading) : Type 0 where
   pub within : (i task : ℕ) → reading.covers i task → i < length reading.records
   pub apart : (i task other : ℕ) → reading.covers i task → IsPrecededBy reading i other → ⊥
-
--- what each wait covers that ends is complete there
-abbrev pub AreAllCovered : Reading → Type 0
-AreAllCovered reading = (i task : ℕ) → reading.covers i task → IsCompleteAt reading.records task i
-
--- each task that starts, and each taskwait that is complete, has complete predecessors there
-abbrev pub AreAllReady : Reading → Type 0
-AreAllReady reading = (i task : ℕ) → IsPrecededBy reading i task → IsCompleteAt reading.records task i
-
--- the first open end, with its task
-abbrev pub IsFirstOpenBy : Reading → ℕ → ℕ → Type 0
-IsFirstOpenBy reading = IsFirstSo reading.records (IsOpenBy reading)
-
--- the first late start, with the predecessor that is late
-abbrev pub IsFirstLateBy : Reading → ℕ → ℕ → Type 0
-IsFirstLateBy reading = IsFirstSo reading.records (IsLateBy reading)
 
 -- the first record at which a required task is unfinished, with that task and the reason
 pub record IsFirstViolation (reading : Reading) (i : ℕ) (why : Why) : Type 0 where

@@ -1,5 +1,5 @@
 -- Which tasks start, and which taskwaits are complete, before one of their predecessors is finished.
-use Rattle.std.specs.Prelude.{ℕ, ◌≡◌, ◌<◌, ◌≤◌, ◌↔◌, Bool, false, IsTrue, List, length, Option, Some, None, slice_get, slice_index_or}
+use Rattle.std.specs.Prelude.{ℕ, ◌≡◌, ◌<◌, ◌≤◌, ◌↔◌, ◌⊎◌, List, length, Option, Some, None, MatchOption, slice_get, slice_index}
 use Rattle.ompt_events.specs.declared.records.Record.{Record}
 use Rattle.ompt_events.specs.Records.{created, begun_turn}
 use Rattle.ompt_events.specs.Places.{at}
@@ -34,23 +34,30 @@ pub record IsFirstLateAt (rs : List Record) (i task : ℕ) : Type 0 where
   pub is_created : at created rs creation ≡ Some task
   pub created_first : (k other : ℕ) → k < creation → at created rs k ≡ Some other → IsLate rs i other → ⊥
 
--- at the first record with a late task the one of them that was created first
-pub record IsFirstLateStart (rs : List Record) (i task : ℕ) : Type 0 where
-  pub first_late : IsFirstLateAt rs i task
-  pub before : (k : ℕ) → k < i → AreReady rs k
-
 -- ---- what the search knows
 
 -- by the entries below this length it is decided which tasks are complete at i
 abbrev pub IsBound : List Record → ℕ → ℕ → Type 0
 IsBound rs i bound = (task : ℕ) → IsCompleteAt rs task i ↔ IsDone rs bound task
 
--- by index of the task whether one of the first n records begins its turn 0
-pub record AreStarted (rs : List Record) (n : ℕ) (tasks : List ℕ) (marks : List Bool) : Type 0 where
-  pub all : length marks ≡ length tasks
-  pub each : (index task : ℕ) → slice_get tasks index ≡ Some task
-      → IsTrue (slice_index_or marks index false)
-      ↔ ((k : ℕ) × (k < n) × (at begun_turn rs k ≡ Some (task, 0)))
+-- at the index of each task stands the first of the first n places at which its turn 0 begins, or the number of
+-- records
+pub record AreStartsBelow (rs : List Record) (n : ℕ) (tasks starts : List ℕ) : Type 0 where
+  pub all : length starts ≡ length tasks
+  pub low : (index : ℕ) → index < length starts
+      → (slice_index starts index < n) ⊎ (slice_index starts index ≡ length rs)
+  pub begins : (index task : ℕ) → slice_get tasks index ≡ Some task → slice_index starts index < n
+      → at begun_turn rs (slice_index starts index) ≡ Some (task, 0)
+  pub first : (index task k : ℕ) → slice_get tasks index ≡ Some task → k < n
+      → at begun_turn rs k ≡ Some (task, 0) → slice_index starts index ≤ k
+
+-- of all places
+abbrev pub AreStarts : List Record → List ℕ → List ℕ → Type 0
+AreStarts rs tasks starts = AreStartsBelow rs (length rs) tasks starts
+
+-- no length is above 0
+abbrev pub AreNoLengths : List ℕ → Type 0
+AreNoLengths lengths = (index : ℕ) → index < length lengths → slice_index lengths index ≡ 0
 
 -- an explicit task starts at i, which stands at the index
 abbrev pub StartsAt : List Record → List ℕ → ℕ → ℕ → Type 0
@@ -114,12 +121,14 @@ pub data IsEarlierOf (other late : Late) : Option Late → Type 0 where
 -- ---- what decides it
 
 -- what clauses see of that: the run of the file, and that in the tasks' own order; by index of the task in its own
--- order the length from which on it is finished, and the greatest of the lengths of its predecessors
+-- order the length from which on it is finished, and the greatest of the lengths of its predecessors; and by index
+-- in the file where it starts, unless no task has a predecessor that an entry finishes
 pub record PrecedenceView : Type 0 where
   pub file : RunView
   pub own : OwnView
   pub lengths : List ℕ
   pub latest : List ℕ
+  pub starts : Option (List ℕ)
 
 -- all is that of the run, whose edges are at hand
 pub record IsPrecedence (of_edges : RunView) (known : PrecedenceView) : Type 0 where
@@ -129,5 +138,7 @@ pub record IsPrecedence (of_edges : RunView) (known : PrecedenceView) : Type 0 w
   pub of_file : IsOwnOf known.file.records known.own
   pub lengths : AreOwn known.own.run.records known.own.run.family.tasks known.lengths
   pub latest : AreLatest known.own.run.records known.own.run.family.tasks known.lengths known.latest
+  pub starts : MatchOption known.starts (AreNoLengths known.latest)
+      (AreStarts known.file.records known.file.family.tasks)
   pub once : IsFreeOf known.file.records EntryTwice
   pub reached : IsFreeOf known.file.records LengthAhead

@@ -7,11 +7,11 @@ ghost use Rattle.checker.specs.Verdicts.{IsUnfinished, IsVerdict};
 ghost use Rattle.checker.specs.Counter.{IsEarliestOrder, IsCounterBy, IsShownBy};
 
 use crate::checking::violation_of;
+use crate::clear::Clear;
 use crate::earliest::earliest_order;
 use crate::makers::Makers;
 use crate::ordered::Ordered;
 use crate::phases::ask;
-use crate::question::{Clear, Question};
 use crate::starts::Precedence;
 use crate::verdict::{CheckFault, Order, Verdict};
 use ompt_events::{Fault, Trace};
@@ -33,7 +33,14 @@ pub fn counter_order(
     ensures counter { IfOk result (IsCounterBy (by_task trace.now.records) at task) }
     ensures memory { IsOkUnless result CheckFault.Memory }
 {
-    match ask(alloc, trace, &ForCounter { at, task }) {
+    match ask(
+        alloc,
+        trace,
+        &|clear: Clear| -> Result<Option<Order>, Fault>
+            ensures counter { IfOk result (IsCounterBy (by_task clear.entry.run.records) at task) }
+            ensures memory_alone { IfErr result (λ fault. fault ≡ Memory) }
+        { counter_in(alloc, &clear, at, task) },
+    ) {
         Ok(found) => Ok(found),
         Err(Fault::Memory) => Err(CheckFault::Memory),
         Err(Fault::Malformed { .. }) => Ok(None),
@@ -50,53 +57,48 @@ pub fn check_with_counter(
     ensures counter { IfOk result (λ answer. IsShownBy (by_task trace.now.records) answer.0 answer.1) }
     ensures memory { IsOkUnless result CheckFault.Memory }
 {
-    match ask(alloc, trace, &ForVerdictAndCounter) {
+    match ask(
+        alloc,
+        trace,
+        &|clear: Clear| -> Result<(Verdict, Option<Order>), Fault>
+            ensures verdict { IfOk result (λ answer. IsVerdict clear.entry.run.records answer.0) }
+            ensures counter { IfOk result
+                (λ answer. IsShownBy (by_task clear.entry.run.records) answer.0 answer.1) }
+            ensures memory_alone { IfErr result (λ fault. fault ≡ Memory) }
+        { verdict_with_counter(alloc, clear) },
+    ) {
         Ok(answer) => Ok(answer),
         Err(Fault::Memory) => Err(CheckFault::Memory),
         Err(Fault::Malformed { at, cause }) => Ok((Verdict::Malformed { at, cause }, None)),
     }
 }
 
-/// Asks for an order that leaves the task incomplete at the place.
-#[derive(Drop)]
-struct ForCounter {
-    at: usize,
-    task: u64,
-}
-
-impl Question for ForCounter {
-    type Answer = Option<Order>;
-
-    ghost is_right = { λ question records. IsCounterBy (by_task records) question.at question.task };
-
-    fn answer(&self, alloc: Global, clear: Clear) -> Result<Option<Order>, Fault> {
-        if self.at >= clear.sound().run().len() {
-            return Ok(None);
-        }
-        if !is_unfinished(alloc, &clear, self.at, self.task)? {
-            return Ok(None);
-        }
-        Ok(Some(counter_of(alloc, &clear, self.at)?))
+/// An order that leaves the task incomplete at the place, in a trace without a cause; none where there is none.
+fn counter_in(alloc: Global, clear: &Clear, at: usize, task: u64) -> Result<Option<Order>, Fault>
+    ensures counter { IfOk result (IsCounterBy (by_task clear.now.run.records) at task) }
+    ensures memory_alone { IfErr result (λ fault. fault ≡ Memory) }
+{
+    if at >= clear.sound().run().len() {
+        return Ok(None);
     }
+    if !is_unfinished(alloc, clear, at, task)? {
+        return Ok(None);
+    }
+    Ok(Some(counter_of(alloc, clear, at)?))
 }
 
-/// Asks whether the trace is a yes or a no, and for the order of a no.
-struct ForVerdictAndCounter;
-
-impl Question for ForVerdictAndCounter {
-    type Answer = (Verdict, Option<Order>);
-
-    ghost is_right = { λ question records answer. IsVerdict records answer.0
-        × IsShownBy (by_task records) answer.0 answer.1 };
-
-    fn answer(&self, alloc: Global, clear: Clear) -> Result<(Verdict, Option<Order>), Fault> {
-        match violation_of(alloc, &clear)? {
-            Some((at, why)) => {
-                let counter = counter_of(alloc, &clear, at)?;
-                Ok((Verdict::No { at, why }, Some(counter)))
-            }
-            None => Ok((Verdict::Yes { order: clear.order }, None)),
+/// The verdict on a trace without a cause, and the order of a no.
+fn verdict_with_counter(alloc: Global, clear: Clear) -> Result<(Verdict, Option<Order>), Fault>
+    ensures verdict { IfOk result (λ answer. IsVerdict clear.entry.run.records answer.0) }
+    ensures counter { IfOk result (λ answer. IsShownBy (by_task clear.entry.run.records) answer.0 answer.1) }
+    ensures memory_alone { IfErr result (λ fault. fault ≡ Memory) }
+{
+    match violation_of(alloc, &clear)? {
+        Some((at, why)) => {
+            let counter = counter_of(alloc, &clear, at)?;
+            Ok((Verdict::No { at, why }, Some(counter)))
         }
+        None => Ok((Verdict::Yes { order: clear.order }, None)),
     }
 }
 
@@ -112,8 +114,8 @@ fn is_unfinished(alloc: Global, clear: &Clear, at: usize, task: u64) -> Result<b
     if is_open(alloc, &known, sound.own().number(at), task)? {
         return Ok(true);
     }
-    let precedence = Precedence::of(sound, known.own())?;
-    precedence.is_late(alloc, at, task)
+    let precedence = Precedence::of(alloc, sound, known.own())?;
+    precedence.is_late(at, task)
 }
 
 /// The order in which the record at the place stands as early as it can.

@@ -8,7 +8,9 @@
 mod before;
 mod checking;
 mod claims;
+mod clear;
 mod counter;
+mod deciding;
 mod earliest;
 mod front;
 mod gate;
@@ -20,7 +22,6 @@ mod makers;
 mod merge;
 mod ordered;
 mod phases;
-mod question;
 mod queue;
 mod schedule;
 mod sound;

@@ -1,5 +1,6 @@
 //! The phases of a check, in the order of their causes.
-ghost use Rattle.std.specs.Prelude.{IfOk, IfErr, OnOk};
+ghost use Rattle.std.specs.Prelude.{◌≡◌, Ok, Err, IfOk, IfErr, OnOk};
+ghost use Rattle.ompt_events.specs.declared.fault.Fault.TheVariants.{Memory};
 ghost use Rattle.ompt_events.specs.declared.cause.Cause.TheVariants.{NotCurrent, TargetTask};
 ghost use Rattle.ompt_events.specs.CauseNames.{before};
 ghost use Rattle.ompt_events.specs.Linearization.{IsLinearization, IsGreedy};
@@ -7,11 +8,11 @@ ghost use Rattle.task_tree.specs.Families.{AreFamiliesOf};
 ghost use Rattle.checker.specs.Search.{IsClear, IsLeastFound};
 
 use crate::claims::exclude_wrong_claims;
+use crate::clear::Clear;
 use crate::in_order::is_in_order;
 use crate::lengths::find_back;
 use crate::makers::Makers;
 use crate::merge::find_order;
-use crate::question::{Clear, Question};
 use crate::sound::Sound;
 use crate::verdict::Order;
 use depend_edges::Edges;
@@ -21,32 +22,38 @@ use task_states::{States, find_nested, gap, target};
 use task_tree::Families;
 use teams::Teams;
 
-/// The answer to the question, or the fault of the first phase that finds a cause. Each phase needs that the
-/// causes before its own do not occur. The phases stand in four functions, since a fault lets go all that its
-/// function made, and a proof has to look at each way to do so.
-pub(crate) fn ask<Q: Question>(
+/// What the function answers about a trace without a cause, or the fault of the first phase that finds a cause. Each
+/// phase needs that the causes before its own do not occur. The phases stand in four functions, since a fault lets
+/// go all that its function made, and a proof has to look at each way to do so.
+pub(crate) fn ask<A: Drop, F: Fn(Clear) -> Result<A, Fault>>(
     alloc: Global,
     trace: &Trace,
-    question: &Q,
-) -> Result<Q::Answer, Fault>
-    ensures right { IfOk result (Q.is_right question.now trace.now.records) }
+    answer: &F,
+) -> Result<A, Fault>
+    requires accepts { (clear : _) → F.pre answer.now clear }
+    requires memory_alone { (clear : _) (fault : _) → F.post answer.now clear (Err fault) → fault ≡ Memory }
+    ensures right { IfOk result (λ a. (clear : _) × (clear.run.records ≡ trace.now.records)
+        × F.post answer.now clear (Ok a)) }
     ensures malformed { IfErr result (IsLeastFound trace.now.records) }
 {
     exclude(Cause::SeqGap, gap(trace))?;
     let families = Families::build(alloc, trace)?;
-    ask_run(alloc, trace, &families, question)
+    ask_run(alloc, trace, &families, answer)
 }
 
 /// The same where the tree of tasks is known.
-fn ask_run<Q: Question>(
+fn ask_run<A: Drop, F: Fn(Clear) -> Result<A, Fault>>(
     alloc: Global,
     trace: &Trace,
     families: &Families,
-    question: &Q,
-) -> Result<Q::Answer, Fault>
+    answer: &F,
+) -> Result<A, Fault>
+    requires accepts { (clear : _) → F.pre answer.now clear }
+    requires memory_alone { (clear : _) (fault : _) → F.post answer.now clear (Err fault) → fault ≡ Memory }
     requires families { AreFamiliesOf trace.now.records families.now }
     requires clear { IsClear trace.now.records (before NotCurrent) }
-    ensures right { IfOk result (Q.is_right question.now trace.now.records) }
+    ensures right { IfOk result (λ a. (clear : _) × (clear.run.records ≡ trace.now.records)
+        × F.post answer.now clear (Ok a)) }
     ensures malformed { IfErr result (IsLeastFound trace.now.records) }
 {
     let run = families.run(trace);
@@ -62,17 +69,24 @@ fn ask_run<Q: Question>(
         teams: &teams,
         edges: &edges,
     };
-    ask_sound(alloc, &sound, question)
+    ask_sound(alloc, &sound, answer)
 }
 
 /// The same where only order and ledger may still show a cause.
-fn ask_sound<Q: Question>(alloc: Global, sound: &Sound, question: &Q) -> Result<Q::Answer, Fault>
-    ensures right { IfOk result (Q.is_right question.now sound.now.run.records) }
+fn ask_sound<A: Drop, F: Fn(Clear) -> Result<A, Fault>>(
+    alloc: Global,
+    sound: &Sound,
+    answer: &F,
+) -> Result<A, Fault>
+    requires accepts { (clear : _) → F.pre answer.now clear }
+    requires memory_alone { (clear : _) (fault : _) → F.post answer.now clear (Err fault) → fault ≡ Memory }
+    ensures right { IfOk result (λ a. (clear : _) × (clear.run.records ≡ sound.now.run.records)
+        × F.post answer.now clear (Ok a)) }
     ensures malformed { IfErr result (IsLeastFound sound.now.run.records) }
 {
     let order = order_of(alloc, sound)?;
     exclude(Cause::TargetTask, target(sound.trace))?;
-    question.answer(alloc, Clear { sound, order })
+    answer(Clear { sound, order })
 }
 
 /// The greedy order of all records. Excludes EntryTwice, LengthAhead, LengthBack and NoOrder.

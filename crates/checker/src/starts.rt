@@ -1,5 +1,5 @@
-//! The first task that starts, or taskwait that is complete, before one of its predecessors is finished; and
-//! whether a given task is such a predecessor at a place.
+//! The unfinished predecessor of what starts or is complete at a place that was created first, and whether a given
+//! task is one.
 ghost use Rattle.std.specs.Prelude.{ℕ, ◌≡◌, ◌<◌, ◌+◌, ◌↔◌, List, IfOk, IfErr, IsTrue, MatchOption, Some, false, length, replicate, slice_get, slice_index, Contains};
 ghost use Rattle.ompt_events.specs.declared.fault.Fault.TheVariants.{Memory};
 ghost use Rattle.ompt_events.specs.declared.cause.Cause.TheVariants.{EntryTwice, LengthAhead};
@@ -8,7 +8,7 @@ ghost use Rattle.ompt_events.specs.Tree.{IsExplicit};
 ghost use Rattle.depend_edges.specs.Edges.{ArePredecessors};
 ghost use Rattle.wait_coverage.specs.Done.{AreOwn};
 ghost use Rattle.trace_ledger.specs.Entries.{IsDone};
-ghost use Rattle.checker.specs.Starts.{IsLate, AreReady, IsPrecededByNone, IsDependentAt, IsFirstLateAt, IsFirstLateStart, IsBound, AreStarted, StartsAt, StartsNoneAt, IsBehind, AreDoneBefore, IsFirstBehind, IsFirstOf, IsBehindAt, IsEarlierOf};
+ghost use Rattle.checker.specs.Starts.{IsLate, AreReady, IsPrecededByNone, IsDependentAt, IsFirstLateAt, IsBound, AreNoLengths, AreStarts, AreStartsBelow, StartsAt, StartsNoneAt, IsBehind, AreDoneBefore, IsFirstBehind, IsFirstOf, IsBehindAt, IsEarlierOf};
 
 use crate::schedule::first_started;
 use crate::sound::Sound;
@@ -30,9 +30,13 @@ pub(crate) struct Precedence<'a, 'r> {
     lengths: &'a [u64],
     /// The greatest of the lengths of its predecessors.
     latest: Vec<u64>,
+    /// By index of the task in the file the place at which it starts, or the number of records where it does not;
+    /// none where no task has a predecessor that an entry finishes.
+    starts: Option<Vec<u32>>,
 }
 
 impl<'a, 'r> Model for Precedence<'a, 'r> {
+    ghost use Rattle.std.specs.Prelude.{option_map};
     ghost use Rattle.checker.specs.Starts.{PrecedenceView, IsPrecedence};
 
     ghost Value = { PrecedenceView };
@@ -42,6 +46,7 @@ impl<'a, 'r> Model for Precedence<'a, 'r> {
       own = precedence.own.now;
       lengths = precedence.lengths.now;
       latest = precedence.latest.items;
+      starts = option_map (λ starts. starts.items) precedence.starts;
     } };
 
     ghost invariant = { λ precedence. IsPrecedence precedence.edges.now.run (record {
@@ -49,6 +54,7 @@ impl<'a, 'r> Model for Precedence<'a, 'r> {
       own = precedence.own.now;
       lengths = precedence.lengths.now;
       latest = precedence.latest.items;
+      starts = option_map (λ starts. starts.items) precedence.starts;
     }) };
 }
 
@@ -70,9 +76,13 @@ struct Late {
 
 impl<'a, 'r> Precedence<'a, 'r> {
     /// What decides it, by the edges of the run, and by the ledger length from which on each task is finished, by
-    /// its index in its own order. It takes n log n steps in the dependences, and memory linear in the tasks.
-    /// Fails only when out of memory.
-    pub(crate) fn of(sound: &'a Sound<'r>, lengths: &'a [u64]) -> Result<Precedence<'a, 'r>, Fault>
+    /// its index in its own order. It takes a few steps for each record, n log n in the dependences, and memory
+    /// linear in the tasks. Fails only when out of memory.
+    pub(crate) fn of(
+        alloc: Global,
+        sound: &'a Sound<'r>,
+        lengths: &'a [u64],
+    ) -> Result<Precedence<'a, 'r>, Fault>
         requires own { AreOwn sound.now.own.run.records sound.now.own.run.family.tasks lengths.now }
         requires once { IsFreeOf sound.now.run.records EntryTwice }
         requires reached { IsFreeOf sound.now.run.records LengthAhead }
@@ -81,57 +91,105 @@ impl<'a, 'r> Precedence<'a, 'r> {
     {
         let edges = sound.edges();
         let latest = edges.latest(lengths)?;
+        let starts = needed_starts(alloc, sound.run(), &latest)?;
         Ok(Precedence {
             file: sound.run(),
             own: sound.own(),
             edges,
             lengths,
             latest,
+            starts,
         })
     }
 
-    /// The first record in file order at which an explicit task starts, or a taskwait with dependences is
-    /// complete, before one of its predecessors is finished (OpenMP 5.2, 15.9.5 and 15.5), and of those the one
-    /// created first in file order. It takes n log n steps in the records and dependences, and memory linear in
-    /// the tasks; only memory can be refused.
-    pub(crate) fn find_late_start(&self, alloc: Global) -> Result<Option<(usize, u64)>, Fault>
-        ensures found { IfOk result (λ found. MatchOption found ((i : ℕ) → AreReady self.now.file.records i)
-            (λ f. IsFirstLateStart self.now.file.records f.0 f.1)) }
+    /// Whether a task starts or is complete at the place that may have unfinished predecessors there.
+    pub(crate) fn has_dependent(&self, at: usize) -> bool
+        requires { at < length self.now.file.records }
+        ensures { result ≡ false → AreReady self.now.file.records at }
+    {
+        match &self.starts {
+            Some(starts) => self.dependent_at(starts.as_slice(), at).is_some(),
+            None => false,
+        }
+    }
+
+    /// Of the predecessors of the explicit task that starts at the place, or of the taskwait with dependences that
+    /// is complete there, that are not finished there the one created first in file order (OpenMP 5.2, 15.9.5 and
+    /// 15.5). It takes a few steps where there is none, and else n log n in the dependences of the task's
+    /// siblings; only memory can be refused.
+    pub(crate) fn late_at(&self, at: usize) -> Result<Option<u64>, Fault>
+        requires { at < length self.now.file.records }
+        ensures found { IfOk result (λ found. MatchOption found (AreReady self.now.file.records at)
+            (IsFirstLateAt self.now.file.records at)) }
         ensures memory_alone { IfErr result (λ fault. fault ≡ Memory) }
     {
-        if self.needs_no_wait() {
-            return Ok(None);
+        match &self.starts {
+            Some(starts) => self.late_by(starts.as_slice(), at),
+            None => Ok(None),
         }
-        let file = self.file;
-        let mut started = no_starts(alloc, file.task_count())?;
-        for at in 0..file.len() {
-            if let Some(task) = self.late_at(&started, at)? {
-                return Ok(Some((at, task)));
-            }
-            self.note_start(&mut started, at);
-        }
-        Ok(None)
     }
 
     /// Whether the task is a predecessor of what starts or is complete at the place, and is not finished
-    /// there (OpenMP 5.2, 15.9.5 and 15.5). It takes a few steps for each earlier record, and n log n in the
-    /// dependences of one task's siblings; only memory can be refused.
-    pub(crate) fn is_late(&self, alloc: Global, at: usize, task: u64) -> Result<bool, Fault>
+    /// there (OpenMP 5.2, 15.9.5 and 15.5). It takes n log n steps in the dependences of one task's siblings;
+    /// only memory can be refused.
+    pub(crate) fn is_late(&self, at: usize, task: u64) -> Result<bool, Fault>
         requires { at < length self.now.file.records }
         ensures late { IfOk result (λ late. IsTrue late ↔ IsLate self.now.file.records at task) }
         ensures memory_alone { IfErr result (λ fault. fault ≡ Memory) }
     {
-        let started = self.find_started(alloc, at)?;
-        match self.dependent_at(&started, at) {
-            Some(dependent) => self.is_late_of(dependent.index, dependent.bound, task),
+        match &self.starts {
+            Some(starts) => self.is_late_by(starts.as_slice(), at, task),
             None => Ok(false),
+        }
+    }
+}
+
+/// The places at which the tasks start, where some task has a predecessor that an entry finishes.
+fn needed_starts(alloc: Global, run: &Run, latest: &[u64]) -> Result<Option<Vec<u32>>, AllocError>
+    ensures { IfOk result (λ starts. MatchOption starts (AreNoLengths latest.now)
+        (λ starts. AreStarts run.now.records run.now.family.tasks starts.items)) }
+{
+    if are_all_zero(latest) {
+        return Ok(None);
+    }
+    Ok(Some(find_starts(alloc, run)?))
+}
+
+/// By index of the task the place at which it starts, or the number of records.
+fn find_starts(alloc: Global, run: &Run) -> Result<Vec<u32>, AllocError>
+    ensures { IfOk result (λ starts. AreStarts run.now.records run.now.family.tasks starts.items) }
+{
+    let mut starts = no_starts(alloc, run)?;
+    for at in 0..run.len() {
+        note_start(run, &mut starts, at);
+    }
+    Ok(starts)
+}
+
+/// No task starts.
+fn no_starts(alloc: Global, run: &Run) -> Result<Vec<u32>, AllocError>
+    ensures { IfOk result (λ starts. starts.items
+        ≡ replicate (length run.now.family.tasks) (length run.now.records)) }
+{
+    vec![in alloc; run.len() as u32; run.task_count()]
+}
+
+/// Notes the task of which the record at the place is the first to begin turn 0.
+fn note_start(run: &Run, starts: &mut Vec<u32>, at: usize)
+    requires within { at < length run.now.records }
+    requires starts { AreStartsBelow run.now.records at run.now.family.tasks starts.old.items }
+    ensures { AreStartsBelow run.now.records (at + 1) run.now.family.tasks starts.new.items }
+{
+    if let Some(index) = first_started(run, at) {
+        if starts[index] as usize == run.len() {
+            starts[index] = at as u32;
         }
     }
 }
 
 /// Whether all lengths are 0.
 fn are_all_zero(latest: &[u64]) -> bool
-    ensures { IsTrue result → (index : ℕ) → index < length latest.now → slice_index latest.now index ≡ 0 }
+    ensures { IsTrue result → AreNoLengths latest.now }
 {
     for length in latest {
         if *length > 0 {
@@ -141,25 +199,15 @@ fn are_all_zero(latest: &[u64]) -> bool
     true
 }
 
-/// No task was started.
-fn no_starts(alloc: Global, tasks: usize) -> Result<Vec<bool>, AllocError>
-    ensures { IfOk result (λ started. started.items ≡ replicate tasks false) }
-{
-    vec![in alloc; false; tasks]
-}
-
 /// The index of the explicit task that starts at the place.
-fn start_at(run: &Run, started: &[bool], at: usize) -> Option<usize>
+fn start_at(run: &Run, starts: &[u32], at: usize) -> Option<usize>
     requires within { at < length run.now.records }
-    requires started { AreStarted run.now.records at run.now.family.tasks started.now }
+    requires starts { AreStarts run.now.records run.now.family.tasks starts.now }
     ensures { MatchOption result (StartsNoneAt run.now.records at)
         (StartsAt run.now.records run.now.family.tasks at) }
 {
     let index = first_started(run, at)?;
-    if started[index] {
-        return None;
-    }
-    if run.is_explicit(index) {
+    if starts[index] as usize == at && run.is_explicit(index) {
         Some(index)
     } else {
         None
@@ -175,47 +223,16 @@ fn is_among(tasks: &[u64], task: u64) -> bool
 
 // What must be complete at a place.
 impl Precedence<'_, '_> {
-    /// Whether no task has a predecessor that it might have to wait for.
-    fn needs_no_wait(&self) -> bool
-        ensures { IsTrue result → (i : ℕ) → AreReady self.now.file.records i }
-    {
-        are_all_zero(&self.latest)
-    }
-
-    /// By index of the task in the file whether a record before the place begins its turn 0.
-    fn find_started(&self, alloc: Global, at: usize) -> Result<Vec<bool>, AllocError>
-        requires { at < length self.now.file.records }
-        ensures { IfOk result (λ started.
-            AreStarted self.now.file.records at self.now.file.family.tasks started.items) }
-    {
-        let mut started = no_starts(alloc, self.file.task_count())?;
-        for earlier in 0..at {
-            self.note_start(&mut started, earlier);
-        }
-        Ok(started)
-    }
-
-    /// Notes the task of which the record at the place begins turn 0.
-    fn note_start(&self, started: &mut Vec<bool>, at: usize)
-        requires within { at < length self.now.file.records }
-        requires started { AreStarted self.now.file.records at self.now.file.family.tasks started.old.items }
-        ensures { AreStarted self.now.file.records (at + 1) self.now.file.family.tasks started.new.items }
-    {
-        if let Some(index) = first_started(self.file, at) {
-            started[index] = true;
-        }
-    }
-
     /// The task whose predecessors must be complete at the place: an explicit one that starts there, or a
     /// taskwait that is complete there.
-    fn dependent_at(&self, started: &[bool], at: usize) -> Option<Dependent>
+    fn dependent_at(&self, starts: &[u32], at: usize) -> Option<Dependent>
         requires within { at < length self.now.file.records }
-        requires started { AreStarted self.now.file.records at self.now.file.family.tasks started.now }
+        requires starts { AreStarts self.now.file.records self.now.file.family.tasks starts.now }
         ensures { MatchOption result (IsPrecededByNone self.now.file.records at) (λ dependent.
             IsDependentAt self.now.file.records self.now.own.run at dependent.index dependent.bound) }
     {
         let number = self.own.number(at);
-        match start_at(self.file, started, at) {
+        match start_at(self.file, starts, at) {
             Some(_first) => {
                 let index = self.own.run().started(number)?;
                 let bound = self.start_bound(at);
@@ -230,16 +247,29 @@ impl Precedence<'_, '_> {
     }
 
     /// Of the tasks that must be complete at the place as predecessors the first created one that isn't.
-    fn late_at(&self, started: &[bool], at: usize) -> Result<Option<u64>, Fault>
+    fn late_by(&self, starts: &[u32], at: usize) -> Result<Option<u64>, Fault>
         requires within { at < length self.now.file.records }
-        requires started { AreStarted self.now.file.records at self.now.file.family.tasks started.now }
+        requires starts { AreStarts self.now.file.records self.now.file.family.tasks starts.now }
         ensures found { IfOk result (λ found. MatchOption found (AreReady self.now.file.records at)
             (IsFirstLateAt self.now.file.records at)) }
         ensures memory_alone { IfErr result (λ fault. fault ≡ Memory) }
     {
-        match self.dependent_at(started, at) {
+        match self.dependent_at(starts, at) {
             Some(dependent) => self.late_of(dependent.index, dependent.bound),
             None => Ok(None),
+        }
+    }
+
+    /// Whether the task is one of them, and isn't complete there.
+    fn is_late_by(&self, starts: &[u32], at: usize, task: u64) -> Result<bool, Fault>
+        requires within { at < length self.now.file.records }
+        requires starts { AreStarts self.now.file.records self.now.file.family.tasks starts.now }
+        ensures late { IfOk result (λ late. IsTrue late ↔ IsLate self.now.file.records at task) }
+        ensures memory_alone { IfErr result (λ fault. fault ≡ Memory) }
+    {
+        match self.dependent_at(starts, at) {
+            Some(dependent) => self.is_late_of(dependent.index, dependent.bound, task),
+            None => Ok(false),
         }
     }
 

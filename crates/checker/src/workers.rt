@@ -1,18 +1,32 @@
 //! The check on several threads.
-ghost use Rattle.std.specs.Prelude.{ℕ, ◌≡◌, ◌≢◌, ◌≤◌, ◌<◌, ◌↔◌, Err, IfOk};
+ghost use Rattle.std.specs.Prelude.{ℕ, ◌≡◌, ◌≢◌, ◌≤◌, ◌<◌, ◌^◌, ◌↔◌, Err, Some, IfOk, IfErr, length, slice_get};
+ghost use denote.Param.Send.{IsSync};
+ghost use Rattle.ompt_events.specs.declared.fault.Fault.TheVariants.{Memory};
+ghost use Rattle.checker.specs.Readings.{by_task};
 ghost use Rattle.checker.specs.Verdicts.{IsVerdict};
+ghost use Rattle.checker.specs.Deciding.{IsFirstOrNone, IsFinding, IsOutcome, HaveAllDecided, IsLeastOf, IsLesserOf};
 
-use crate::checking::check;
+use crate::checking::verdict_of;
+use crate::clear::Clear;
+use crate::deciding::Deciding;
 use crate::gate::Gate;
-use crate::verdict::{CheckFault, Verdict};
-use ompt_events::Trace;
+use crate::phases::ask;
+use crate::starts::Precedence;
+use crate::verdict::{CheckFault, Verdict, Why};
+use ompt_events::{Fault, Trace};
 use std::alloc::Global;
-use std::thread::Threads;
+use std::marker::Model;
+use std::thread::{Threads, map_indices};
+use wait_coverage::find_known;
 
 /// The most workers of a check.
 pub const MAX_WORKERS: u32 = 256;
 
-/// The verdict of `check`, found by so many workers, at most [`MAX_WORKERS`].
+/// The verdict of `check`, with the ends of waits and the starts of tasks decided by so many workers, 1 to
+/// [`MAX_WORKERS`], side by side. Each worker passes the gate once, before it decides; where the trace is malformed no
+/// worker starts. A worker for which no thread can be made works on the caller's. Fails when out of memory, for
+/// another number of workers, which is looked at first, and where the gate refuses a worker: of those that it
+/// refuses the one with the least number is named, unless memory runs out.
 pub fn check_on<R: Threads + Sync, G: Gate + Sync>(
     rt: &R,
     alloc: Global,
@@ -21,7 +35,7 @@ pub fn check_on<R: Threads + Sync, G: Gate + Sync>(
     gate: &G,
 ) -> Result<Verdict, CheckFault>
     ensures verdict { IfOk result (IsVerdict trace.now.records) }
-    ensures workers { (result ≡ Err CheckFault.Workers) ↔ ((1 ≤ workers → 256 < workers)) }
+    ensures workers { (result ≡ Err CheckFault.Workers) ↔ (1 ≤ workers → 256 < workers) }
     ensures gate { (worker : ℕ) → result ≡ Err (CheckFault.Gate worker)
         → (worker < workers) × G.may_refuse gate.now worker }
     ensures thread { result ≢ Err CheckFault.Thread }
@@ -29,5 +43,211 @@ pub fn check_on<R: Threads + Sync, G: Gate + Sync>(
     if workers == 0 || workers > MAX_WORKERS {
         return Err(CheckFault::Workers);
     }
-    check(alloc, trace)
+    match ask(
+        alloc,
+        trace,
+        &|clear: Clear| -> Result<Result<Verdict, u32>, Fault>
+            requires { IsSync R.row × IsSync G.row × (1 ≤ workers) }
+            ensures verdict { IfOk result (λ answer. IfOk answer (IsVerdict clear.entry.run.records)) }
+            ensures refused { IfOk result (λ answer. IfErr answer (λ worker. (worker < workers)
+                × G.may_refuse gate.entry.now worker)) }
+            ensures memory_alone { IfErr result (λ fault. fault ≡ Memory) }
+        { verdict_on(rt, alloc, clear, workers, gate) },
+    ) {
+        Ok(Ok(verdict)) => Ok(verdict),
+        Ok(Err(worker)) => Err(CheckFault::Gate(worker)),
+        Err(Fault::Memory) => Err(CheckFault::Memory),
+        Err(Fault::Malformed { at, cause }) => Ok(Verdict::Malformed { at, cause }),
+    }
+}
+
+/// The verdict on a trace without a cause, or the worker that the gate refuses.
+fn verdict_on<R: Threads + Sync, G: Gate + Sync>(
+    rt: &R,
+    alloc: Global,
+    clear: Clear,
+    workers: u32,
+    gate: &G,
+) -> Result<Result<Verdict, u32>, Fault>
+    requires { 1 ≤ workers }
+    ensures verdict { IfOk result (λ answer. IfOk answer (IsVerdict clear.entry.run.records)) }
+    ensures refused { IfOk result (λ answer. IfErr answer (λ worker. (worker < workers)
+        × G.may_refuse gate.now worker)) }
+    ensures memory_alone { IfErr result (λ fault. fault ≡ Memory) }
+{
+    match violation_on(rt, alloc, &clear, workers, gate)? {
+        Ok(found) => Ok(Ok(verdict_of(clear, found))),
+        Err(worker) => Ok(Err(worker)),
+    }
+}
+
+/// The first record at which a task that must be finished is not, and why it must be; or the worker that the gate
+/// refuses.
+fn violation_on<R: Threads + Sync, G: Gate + Sync>(
+    rt: &R,
+    alloc: Global,
+    clear: &Clear,
+    workers: u32,
+    gate: &G,
+) -> Result<Result<Option<(usize, Why)>, u32>, Fault>
+    requires { 1 ≤ workers }
+    ensures found { IfOk result (λ answer. IfOk answer (IsFirstOrNone (by_task clear.now.run.records))) }
+    ensures refused { IfOk result (λ answer. IfErr answer (λ worker. (worker < workers)
+        × G.may_refuse gate.now worker)) }
+    ensures memory_alone { IfErr result (λ fault. fault ≡ Memory) }
+{
+    let known = find_known(alloc, clear.sound().teams())?;
+    let precedence = Precedence::of(alloc, clear.sound(), known.own())?;
+    let deciding = Deciding {
+        clear,
+        known: &known,
+        precedence: &precedence,
+    };
+    let stops = deciding.find_stops(alloc)?;
+    let work = Work {
+        deciding: &deciding,
+        stops: stops.as_slice(),
+        workers,
+    };
+    decide_all(rt, alloc, &work, gate)
+}
+
+/// What several workers decide, who share it out.
+#[derive(Drop)]
+struct Work<'a, 'r> {
+    deciding: &'a Deciding<'a, 'r>,
+    stops: &'a [u32],
+    workers: u32,
+}
+
+impl<'a, 'r> Model for Work<'a, 'r> {
+    ghost use Rattle.checker.specs.Deciding.{WorkView, IsWork};
+
+    ghost Value = { WorkView };
+
+    ghost view = { λ work. record {
+      records = work.deciding.now.run.records;
+      stops = work.stops.now;
+      workers = work.workers;
+    } };
+
+    ghost invariant = { λ work. IsWork (record {
+      records = work.deciding.now.run.records;
+      stops = work.stops.now;
+      workers = work.workers;
+    }) };
+}
+
+/// What a worker finds: a stop, by its index, and why it is a violation.
+#[derive(Clone, Copy)]
+struct Finding {
+    stop: usize,
+    why: Why,
+}
+
+/// Why a worker decides nothing.
+#[derive(Clone, Copy)]
+enum WorkerFault {
+    /// The gate refuses it.
+    Gate,
+    /// Out of memory.
+    Memory,
+}
+
+/// What all workers find together, each in a thread of its own.
+fn decide_all<R: Threads + Sync, G: Gate + Sync>(
+    rt: &R,
+    alloc: Global,
+    work: &Work,
+    gate: &G,
+) -> Result<Result<Option<(usize, Why)>, u32>, Fault>
+    ensures found { IfOk result (λ answer. IfOk answer (IsFirstOrNone (by_task work.now.records))) }
+    ensures refused { IfOk result (λ answer. IfErr answer (λ worker. (worker < work.now.workers)
+        × G.may_refuse gate.now worker)) }
+    ensures memory_alone { IfErr result (λ fault. fault ≡ Memory) }
+{
+    let findings = map_indices(
+        rt,
+        alloc,
+        work.workers as usize,
+        &|worker| -> Result<Option<Finding>, WorkerFault>
+            requires { (worker < work.now.workers) × (work.now.workers < 2 ^ 32) }
+            ensures { IsOutcome work.entry.now (G.may_refuse gate.entry.now) worker result }
+        { decide_share(alloc, work, gate, worker) },
+    )?;
+    match least_of(findings.as_slice()) {
+        Ok(None) => Ok(Ok(None)),
+        Ok(Some(finding)) => Ok(Ok(Some((work.stops[finding.stop] as usize, finding.why)))),
+        Err((worker, WorkerFault::Gate)) => Ok(Err(worker as u32)),
+        Err((_, WorkerFault::Memory)) => Err(Fault::Memory),
+    }
+}
+
+/// What the worker with this number finds, if the gate lets it pass.
+fn decide_share<G: Gate>(
+    alloc: Global,
+    work: &Work,
+    gate: &G,
+    worker: usize,
+) -> Result<Option<Finding>, WorkerFault>
+    requires { (worker < work.now.workers) × (work.now.workers < 2 ^ 32) }
+    ensures { IsOutcome work.now (G.may_refuse gate.now) worker result }
+{
+    if !gate.pass(worker as u32) {
+        return Err(WorkerFault::Gate);
+    }
+    match work.find_in_share(alloc, worker) {
+        Ok(found) => Ok(found),
+        Err(_) => Err(WorkerFault::Memory),
+    }
+}
+
+impl Work<'_, '_> {
+    /// The first stop of the worker with this number that is a violation. Its stops are those whose index leaves its
+    /// number when it is divided by the number of workers, so a trace that repeats itself is shared out evenly.
+    fn find_in_share(&self, alloc: Global, worker: usize) -> Result<Option<Finding>, Fault>
+        requires { worker < self.now.workers }
+        ensures found { IfOk result
+            (IsFinding (by_task self.now.records) self.now.stops self.now.workers worker) }
+        ensures memory_alone { IfErr result (λ fault. fault ≡ Memory) }
+    {
+        let mut stop = worker;
+        while stop < self.stops.len() {
+            let at = self.stops[stop] as usize;
+            if let Some(why) = self.deciding.violation_at(alloc, at)? {
+                return Ok(Some(Finding { stop, why }));
+            }
+            stop += self.workers as usize;
+        }
+        Ok(None)
+    }
+}
+
+/// The finding that comes first in the order of the stops; or the first worker that decided nothing, and why.
+fn least_of(
+    findings: &[Result<Option<Finding>, WorkerFault>],
+) -> Result<Option<Finding>, (usize, WorkerFault)>
+    ensures least { IfOk result (IsLeastOf findings.now (length findings.now)) }
+    ensures all { IfOk result (λ _. HaveAllDecided findings.now (length findings.now)) }
+    ensures failed { IfErr result (λ f. slice_get findings.now f.0 ≡ Some (Err f.1)) }
+{
+    let mut least = None;
+    for worker in 0..findings.len() {
+        match findings[worker] {
+            Ok(None) => {}
+            Ok(Some(finding)) => least = Some(lesser(least, finding)),
+            Err(fault) => return Err((worker, fault)),
+        }
+    }
+    Ok(least)
+}
+
+/// Of a finding, if there is one, and another the one that comes first.
+fn lesser(least: Option<Finding>, other: Finding) -> Finding
+    ensures { IsLesserOf least other result }
+{
+    match least {
+        Some(finding) if finding.stop <= other.stop => finding,
+        _ => other,
+    }
 }

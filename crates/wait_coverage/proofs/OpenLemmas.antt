@@ -1,6 +1,6 @@
 -- What of the tasks that an end covers is unfinished there.
-use Rattle.std.proofs.Common.{◌≡◌, ◌∙◌, ℕ, ◌<◌, ◌≤◌, ◌+◌, ◌^◌, true, false, List, length, Option, Some, None, refl, sym, ap, subst, arith, inl, inr}
-use Rattle.std.proofs.lemmas.Bool.{cases_eq, cases_lt, false≢true}
+use Rattle.std.proofs.Common.{◌≡◌, ◌∙◌, ℕ, ◌<◌, ◌≤◌, ◌^◌, true, false, List, length, Option, Some, None, refl, sym, ap, subst, arith, inl, inr}
+use Rattle.std.proofs.lemmas.Bool.{cases_lt, false≢true}
 use Rattle.std.proofs.lemmas.Option.{same_Some, slice_get_within, slice_get-get_or}
 use Rattle.std.specs.Prelude.{◌↔◌, IsTrue, MatchOption, Contains, slice_get}
 use Rattle.ompt_events.specs.declared.records.Record.{Record}
@@ -23,7 +23,7 @@ use Rattle.trace_ledger.specs.Entries.{IsDone}
 use Rattle.wait_coverage.specs.Spans.{IsCoverComplete}
 use Rattle.wait_coverage.specs.Done.{DoneView, records_of, tasks_of, IsDoneView, AreChildrenDone}
 use Rattle.wait_coverage.specs.Limits.{IsEndLimit}
-use Rattle.wait_coverage.specs.Waits.{EndsNoWaitAt, IsWaitAt, waits, groups, meets, IsWithin, before_begin, in_group, by_member, cover_of, IsAwaitedBy, IsAwaited, IsOpen, IsFirstOpen, AreCompleteBefore, IsFirstOpenPlace, IsLateTask, IsLateAt, IsFirstLate}
+use Rattle.wait_coverage.specs.Waits.{EndsNoWaitAt, IsWaitAt, waits, groups, meets, IsWithin, before_begin, in_group, by_member, cover_of, IsAwaitedBy, IsAwaited, IsOpen, IsFirstOpen, IsLateTask, IsLateAt, IsFirstLate}
 use Rattle.wait_coverage.specs.declared.waits.Wait.{Wait}
 use Rattle.wait_coverage.specs.declared.waits.Wait.TheVariants.{Taskwait as ForTaskwait, Taskgroup as ForTaskgroup, Barrier as ForBarrier}
 use Rattle.teams.proofs.BarrierLemmas.{one_number, barrier_is_other}
@@ -220,25 +220,3 @@ late_open done i seen wait (Some task) view exact small is names late = record {
 -- where all is complete no task is open
 pub none_open : (rs : List Record) (i task : ℕ) → IsCoverComplete rs i → IsTrue false ↔ IsOpen rs i task
 none_open rs i task complete = ((λ never. absurd (false≢true never)), (λ is_open. absurd (is_open.incomplete (complete task is_open.covered))))
-
--- ---- all ends
-
-pub first_open_place : (own : OwnView) (place number task : ℕ) → slice_get own.places number ≡ Some place → AreCompleteBefore own place → IsFirstOpen own number task → IsFirstOpenPlace own place task
-first_open_place own place number task stands before first = record { number = number; stands = stands; first_open = first; before = before }
-
-pub none_before : (own : OwnView) → AreCompleteBefore own 0
-none_before own earlier number less stands = absurd (omega (arith, less))
-
-pub complete_more : (own : OwnView) (place number : ℕ) → IsOwn own → slice_get own.places number ≡ Some place → AreCompleteBefore own place → IsCoverComplete own.run.records number → AreCompleteBefore own (place + 1)
-complete_more own place number is stands before here earlier other less stands_other = elim (cases_eq earlier place) [
-  | inl same ↦ let P : ℕ → Type 0 = IsCoverComplete own.run.records in subst P (is.places.apart number other place stands (stands_other ∙ ap Some same)) here
-  | inr apart ↦ before earlier other (omega (arith, less, apart)) stands_other
-]
-
--- past the last record nothing is covered
-pub complete_whole : (own : OwnView) (n : ℕ) → IsOwn own → AreCompleteBefore own n → length own.run.records ≤ n → (i : ℕ) → IsCoverComplete own.run.records i
-complete_whole own n is before all i task covers =
-    let one = covers_at own.run.records i task covers in
-    let inside = (ends_at own.run.records i one.task one.begin one.kind one.is_region).inside in
-    let there = place_there own is i inside in
-    before there.0 i (let below = is.places.below i there.0 there.1 in omega (arith, below, all)) there.1 task covers

@@ -1,5 +1,5 @@
 -- What is unfinished in the tasks' own order is what the trace shows to be unfinished.
-use Rattle.std.proofs.Common.{◌≡◌, ◌∙◌, ℕ, ◌<◌, length, List, Option, Some, None, sym, ap, subst, inl, inr}
+use Rattle.std.proofs.Common.{◌≡◌, ◌∙◌, ℕ, ◌<◌, List, Option, Some, None, sym, ap, subst, inl, inr}
 use Rattle.std.specs.Prelude.{◌↔◌, MatchOption, slice_get}
 use Rattle.std.specs.Option.{option_map_or}
 use Rattle.ompt_events.specs.declared.records.Record.{Record}
@@ -7,19 +7,17 @@ use Rattle.ompt_events.specs.declared.records.Part.{Part}
 use Rattle.ompt_events.specs.declared.records.Part.TheVariants.{Whole, Body, Event}
 use Rattle.ompt_events.specs.Records.{finish, created, region}
 use Rattle.ompt_events.specs.Places.{seen_at}
-use Rattle.ompt_events.specs.Turns.{in_own_order, own_place}
 use Rattle.ompt_events.specs.Coverage.{Covers}
 use Rattle.ompt_events.specs.Completion.{IsCompleteAt, IsPartFinished}
 use Rattle.ompt_events.proofs.PlaceLemmas.{at_within}
 use Rattle.task_tree.specs.Own.{OwnView, IsOwn}
 use Rattle.task_tree.specs.Families.{IsOwnOf}
-use Rattle.task_tree.proofs.OwnOrderLemmas.{own_place_iff, arranged_length}
 use Rattle.task_tree.proofs.ShownLemmas.{own_record}
 use Rattle.task_tree.proofs.OwnRunLemmas.{own_says, own_covers, place_of_number, number_of_place}
 use Rattle.teams.proofs.RegionEndLemmas.{EndsAt, ends_at}
 use Rattle.trace_ledger.specs.Entries.{IsDone}
 use Rattle.wait_coverage.specs.Spans.{IsCoverComplete}
-use Rattle.wait_coverage.specs.Waits.{IsOpen, IsFirstOpenPlace}
+use Rattle.wait_coverage.specs.Waits.{IsOpen, IsFirstOpen}
 use Rattle.wait_coverage.specs.Shown.{IsOpenShown, IsCompleteShown, IsFirstOpenShown}
 use Rattle.wait_coverage.proofs.CoverLemmas.{done_there, complete_there}
 use Rattle.wait_coverage.proofs.OpenLemmas.{EndsWaitAt, covers_at}
@@ -89,37 +87,23 @@ own_open rs own number place task of is stands = (
       },
 )
 
--- what is covered ends at a place of the file
-covered_within : (rs : List Record) (place task : ℕ) → Covers (in_own_order rs) (own_place rs place) task → place < length rs
-covered_within rs place task covers =
-    let ends = covers_at (in_own_order rs) (own_place rs place) task covers in
-    let inside = (ends_at (in_own_order rs) (own_place rs place) ends.task ends.begin ends.kind ends.is_region).inside in
-    (own_place_iff rs place).0 (rw (arranged_length rs) at inside)
+all_shown : (rs : List Record) (own : OwnView) (number place : ℕ) → IsOwnOf rs own → IsOwn own → slice_get own.places number ≡ Some place → IsCoverComplete own.run.records number → IsCompleteShown rs place
+all_shown rs own number place of is stands all task covers =
+    let covered = (own_covers rs own of number place stands task).1 covers in
+    (own_complete rs own number place task task of is stands covered).0 (all task covered)
 
-all_shown : (rs : List Record) (own : OwnView) → IsOwnOf rs own → IsOwn own → ((number : ℕ) → IsCoverComplete own.run.records number) → (place : ℕ) → IsCompleteShown rs place
-all_shown rs own of is all place task covers =
-    let there = number_of_place rs own of is.places place (covered_within rs place task covers) in
-    let covered = (own_covers rs own of there.0 place there.1 task).1 covers in
-    (own_complete rs own there.0 place task task of is there.1 covered).0 (all there.0 task covered)
-
-first_shown : (rs : List Record) (own : OwnView) (place task : ℕ) → IsOwnOf rs own → IsOwn own → IsFirstOpenPlace own place task → IsFirstOpenShown rs place task
-first_shown rs own place task of is first = record {
-  open_there = (own_open rs own first.number place task of is first.stands).0 first.first_open.is_open;
-  before = λ k other less opened.
-      let there = number_of_place rs own of is.places k (covered_within rs k other opened.covered) in
-      let back = (own_open rs own there.0 k other of is there.1).1 opened in
-      back.incomplete (first.before k there.0 less there.1 other back.covered);
-  creation = first.first_open.creation;
-  is_created =
-      let made = first.first_open.is_created in
-      sym (own_says created rs own of made.0 first.first_open.creation made.1) ∙ made.2;
+first_shown : (rs : List Record) (own : OwnView) (number place task : ℕ) → IsOwnOf rs own → IsOwn own → slice_get own.places number ≡ Some place → IsFirstOpen own number task → IsFirstOpenShown rs place task
+first_shown rs own number place task of is stands first = record {
+  open_there = (own_open rs own number place task of is stands).0 first.is_open;
+  creation = first.creation;
+  is_created = let made = first.is_created in sym (own_says created rs own of made.0 first.creation made.1) ∙ made.2;
   created_first = λ k other less makes opened.
       let there = number_of_place rs own of is.places k (at_within created rs k other makes) in
-      first.first_open.created_first k other less (there.0, there.1, own_says created rs own of there.0 k there.1 ∙ makes)
-      ((own_open rs own first.number place other of is first.stands).1 opened);
+      first.created_first k other less (there.0, there.1, own_says created rs own of there.0 k there.1 ∙ makes)
+      ((own_open rs own number place other of is stands).1 opened);
 }
 
 -- so what a search in the tasks' own order finds is what the trace shows
-pub open_shown : (rs : List Record) (own : OwnView) (found : Option (ℕ × ℕ)) → IsOwnOf rs own → IsOwn own → MatchOption found ((number : ℕ) → IsCoverComplete own.run.records number) (λ (f : ℕ × ℕ). IsFirstOpenPlace own f.0 f.1) → MatchOption found ((place : ℕ) → IsCompleteShown rs place) (λ (f : ℕ × ℕ). IsFirstOpenShown rs f.0 f.1)
-open_shown rs own None of is all = all_shown rs own of is all
-open_shown rs own (Some (place, task)) of is first = first_shown rs own place task of is first
+pub open_shown : (rs : List Record) (own : OwnView) (number place : ℕ) (found : Option ℕ) → IsOwnOf rs own → IsOwn own → slice_get own.places number ≡ Some place → MatchOption found (IsCoverComplete own.run.records number) (IsFirstOpen own number) → MatchOption found (IsCompleteShown rs place) (IsFirstOpenShown rs place)
+open_shown rs own number place None of is stands all = all_shown rs own number place of is stands all
+open_shown rs own number place (Some task) of is stands first = first_shown rs own number place task of is stands first

@@ -18,10 +18,9 @@ abbrev pub IsCompleteShown : List Record → ℕ → Type 0
 IsCompleteShown rs place =
     (task : ℕ) → Covers (in_own_order rs) (own_place rs place) task → IsCompleteAt rs task place
 
--- at the first such place: of the tasks that are unfinished there the one that was created first in the file
+-- of the tasks that are unfinished there this one was created first in the file
 pub record IsFirstOpenShown (rs : List Record) (place task : ℕ) : Type 0 where
   pub open_there : IsOpenShown rs place task
-  pub before : (k other : ℕ) → k < place → IsOpenShown rs k other → ⊥
   pub creation : ℕ
   pub is_created : at created rs creation ≡ Some task
   pub created_first : (k other : ℕ) → k < creation → at created rs k ≡ Some other

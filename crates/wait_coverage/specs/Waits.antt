@@ -15,7 +15,6 @@ use Rattle.teams.specs.Teams.{own_of}
 use Rattle.credit_ledger.specs.declared.entry.Cover.{Cover}
 use Rattle.credit_ledger.specs.declared.entry.Cover.TheVariants.{Children, Descendants}
 use Rattle.wait_coverage.specs.Done.{DoneView, records_of, tasks_of, IsEarly}
-use Rattle.wait_coverage.specs.Spans.{IsCoverComplete}
 use Rattle.wait_coverage.specs.declared.waits.Wait.{Wait}
 use Rattle.wait_coverage.specs.declared.waits.Wait.TheVariants.{Taskwait as ForTaskwait, Taskgroup as ForTaskgroup, Barrier as ForBarrier}
 
@@ -113,19 +112,6 @@ pub record IsFirstOpen (own : OwnView) (end task : ℕ) : Type 0 where
   pub is_created : CreatesAtPlace own creation task
   pub created_first : (place other : ℕ) → place < creation → CreatesAtPlace own place other
       → IsOpen own.run.records end other → ⊥
-
--- a record at an earlier place in the file ends no wait that covers an unfinished task
-abbrev pub AreCompleteBefore : OwnView → ℕ → Type 0
-AreCompleteBefore own place = (earlier number : ℕ) → earlier < place
-    → slice_get own.places number ≡ Some earlier → IsCoverComplete own.run.records number
-
--- at the first place in the file that ends a wait with an unfinished task: the one of them that was created
--- first
-pub record IsFirstOpenPlace (own : OwnView) (place task : ℕ) : Type 0 where
-  pub number : ℕ
-  pub stands : slice_get own.places number ≡ Some place
-  pub first_open : IsFirstOpen own number task
-  pub before : AreCompleteBefore own place
 
 -- the task is waited for, and its length is above the one seen
 abbrev pub IsLateTask : DoneView → Wait → ℕ → ℕ → Type 0

@@ -1,6 +1,6 @@
 //! What held credit tells of tasks, and what an answer in the tasks' own order tells of the file: laws over
 //! the definitions alone, proved for every trace. The functions do nothing.
-ghost use Rattle.std.specs.Prelude.{◌↔◌, ℕ, List, Option, MatchOption};
+ghost use Rattle.std.specs.Prelude.{◌≡◌, ◌↔◌, ℕ, List, Option, Some, MatchOption, slice_get};
 ghost use Rattle.ompt_events.specs.declared.records.Record.{Record};
 ghost use Rattle.ompt_events.specs.declared.cause.Cause.TheVariants.{TeamShort};
 ghost use Rattle.ompt_events.specs.Causes.{IsFreeOf};
@@ -12,7 +12,7 @@ ghost use Rattle.credit_ledger.specs.declared.entry.Span.{Span};
 ghost use Rattle.credit_ledger.specs.declared.entry.Cover.{Cover};
 ghost use Rattle.trace_ledger.specs.Entries.{IsLedgerOf, HasRightEntries};
 ghost use Rattle.wait_coverage.specs.Spans.{AreSpans, AreHeldAt, IsCoverComplete};
-ghost use Rattle.wait_coverage.specs.Waits.{IsFirstOpenPlace};
+ghost use Rattle.wait_coverage.specs.Waits.{IsFirstOpen};
 ghost use Rattle.wait_coverage.specs.Shown.{IsCompleteShown, IsFirstOpenShown};
 
 /// The entries below the ledger length that an end names finish each task that it covers exactly where they
@@ -27,12 +27,11 @@ pub fn held_is_complete()
         → IsCoverComplete rs i ↔ AreHeldAt rs entries i cover spans }
 {}
 
-/// What the records in the tasks' own order tell of open waits is what the trace shows. `find_open` answers by
-/// the run in that order (`IsFirstOpenPlace`); the same answer is right by the trace alone
-/// (`IsFirstOpenShown`).
+/// What the records in the tasks' own order tell of an open wait is what the trace shows. `find_open` answers by
+/// the run in that order (`IsFirstOpen`); the same answer is right by the trace alone (`IsFirstOpenShown`).
 pub fn open_is_shown()
-    ensures { (rs : List Record) (own : OwnView) (found : Option (ℕ × ℕ)) → IsOwnOf rs own → IsOwn own
-        → MatchOption found ((number : ℕ) → IsCoverComplete own.run.records number)
-        (λ f. IsFirstOpenPlace own f.0 f.1)
-        → MatchOption found ((place : ℕ) → IsCompleteShown rs place) (λ f. IsFirstOpenShown rs f.0 f.1) }
+    ensures { (rs : List Record) (own : OwnView) (number place : ℕ) (found : Option ℕ) → IsOwnOf rs own
+        → IsOwn own → slice_get own.places number ≡ Some place
+        → MatchOption found (IsCoverComplete own.run.records number) (IsFirstOpen own number)
+        → MatchOption found (IsCompleteShown rs place) (IsFirstOpenShown rs place) }
 {}

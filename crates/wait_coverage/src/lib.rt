@@ -1,8 +1,8 @@
 //! From which ledger length on each task is finished, and its credit is held; which tasks the end of a
 //! region waits for, and whether they are finished there.
 //!
-//! `Known` has the lengths, of the records (`find_known`) or of a ledger's entries. `find_open` looks at the
-//! ends of a whole trace and `is_open` at one end and one task, `Coverage` answers for single ends with their
+//! `Known` has the lengths, of the records (`find_known`) or of a ledger's entries. `find_open` tells of an
+//! end which task is unfinished there, `is_open` whether one is, `Coverage` answers for single ends with their
 //! credit, and `laws` says why held credit means finished tasks. Read `unfinished` first, then what it stands
 //! on: `order` (tasks behind their parents), `done` (after `lengths`: a length for each task, and one for it
 //! and its descendants), `limits` and `meetings` (a length for what each end covers; after `limit`, a length
@@ -22,4 +22,4 @@ mod unfinished;
 mod waits;
 
 pub use coverage::{CoverFault, Coverage};
-pub use unfinished::{Known, find_known, find_open, is_open};
+pub use unfinished::{Known, ends_wait, find_known, find_open, is_open};

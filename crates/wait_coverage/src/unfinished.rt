@@ -1,5 +1,5 @@
-//! The first end of a region that covers an unfinished task, and whether an end covers a given one.
-ghost use Rattle.std.specs.Prelude.{ℕ, ◌≡◌, ◌<◌, ◌↔◌, List, IfOk, IfErr, IsTrue, MatchOption, length};
+//! The unfinished task at the end of a region that was created first, and whether an end covers a given one.
+ghost use Rattle.std.specs.Prelude.{◌≡◌, ◌<◌, ◌↔◌, List, IfOk, IfErr, IsTrue, MatchOption, length};
 ghost use Rattle.ompt_events.specs.declared.fault.Fault.TheVariants.{Memory};
 ghost use Rattle.teams.specs.Teams.{own_of};
 ghost use Rattle.trace_ledger.specs.Entries.{HasRightEntries, IsLedgerOf};
@@ -7,7 +7,8 @@ ghost use Rattle.wait_coverage.specs.Done.{IsDoneView, AreDone, AreChildrenDone}
 ghost use Rattle.wait_coverage.specs.Known.{AreHeldFrom, AreCreditLengths};
 ghost use Rattle.wait_coverage.specs.Limits.{IsEndLimit};
 ghost use Rattle.wait_coverage.specs.Spans.{IsCoverComplete};
-ghost use Rattle.wait_coverage.specs.Waits.{IsWaitAt, AreAwaited, IsOpen, IsFirstOpen, IsFirstOpenPlace, waiting};
+ghost use Rattle.wait_coverage.specs.Coverage.{IsEnd};
+ghost use Rattle.wait_coverage.specs.Waits.{IsWaitAt, AreAwaited, IsOpen, IsFirstOpen, waiting};
 
 use crate::done::Done;
 use crate::limit::Limit;
@@ -123,38 +124,33 @@ pub fn find_known<'a>(alloc: Global, teams: &'a Teams<'a>) -> Result<Known<'a>, 
     Ok(known)
 }
 
-/// The first place in the file at which a region ends that waits for tasks, and that covers an unfinished one;
-/// and of the unfinished tasks that it covers the one created first in the file (OpenMP 5.2, 15.3 to 15.5).
-/// What it covers is read in the tasks' own order. The lengths that are known must be those from which on the
-/// tasks are finished, or those from which on their credit is held (F. Mattern, 1989). It takes a few steps
-/// for each record, and memory linear in the records. `Memory` is the only refusal.
-pub fn find_open(alloc: Global, known: &Known) -> Result<Option<(usize, u64)>, Fault>
+/// Of the tasks that the end with this number in the tasks' own order covers, and that are unfinished there, the
+/// one created first in the file (OpenMP 5.2, 15.3 to 15.5); none where all are finished, and where the record
+/// ends no wait. The lengths that are known must be those from which on the tasks are finished, or those from
+/// which on their credit is held (F. Mattern, 1989). It takes a few steps; where a task is unfinished a few for
+/// each record, and memory linear in the records. `Memory` is the only refusal.
+pub fn find_open(alloc: Global, known: &Known, number: usize) -> Result<Option<u64>, Fault>
+    requires { number < length known.now.done.teams.run.records }
     ensures first { AreDone known.now.done → IfOk result (λ found.
-        MatchOption found ((number : ℕ) → IsCoverComplete known.now.done.teams.run.records number)
-        (λ f. IsFirstOpenPlace (own_of known.now.done.teams) f.0 f.1)) }
+        MatchOption found (IsCoverComplete known.now.done.teams.run.records number)
+        (IsFirstOpen (own_of known.now.done.teams) number)) }
     ensures first_by_credit { HasRightEntries known.now.done.teams.run.records
         → AreCreditLengths known.now.done → IfOk result (λ found.
-        MatchOption found ((number : ℕ) → IsCoverComplete known.now.done.teams.run.records number)
-        (λ f. IsFirstOpenPlace (own_of known.now.done.teams) f.0 f.1)) }
+        MatchOption found (IsCoverComplete known.now.done.teams.run.records number)
+        (IsFirstOpen (own_of known.now.done.teams) number)) }
     ensures fault { IfErr result (λ fault. fault ≡ Memory) }
 {
     let _done = known.done();
-    Ok(first_open_end(alloc, known)?)
+    Ok(open_at(alloc, known, number)?)
 }
 
-/// The same, where the lengths are those from which on the tasks are finished.
-fn first_open_end(alloc: Global, known: &Known) -> Result<Option<(usize, u64)>, AllocError>
-    ensures { AreChildrenDone known.now.done → IfOk result (λ found.
-        MatchOption found ((number : ℕ) → IsCoverComplete known.now.done.teams.run.records number)
-        (λ f. IsFirstOpenPlace (own_of known.now.done.teams) f.0 f.1)) }
+/// Whether the record with this number in the tasks' own order ends a region that waits for tasks (OpenMP 5.2,
+/// 15.3 to 15.5).
+pub fn ends_wait(known: &Known, number: usize) -> bool
+    requires { number < length known.now.done.teams.run.records }
+    ensures { IsTrue result ↔ IsEnd known.now.done.teams.run.records number }
 {
-    for place in 0..known.done().run().len() {
-        let number = known.done().teams().own().number(place);
-        if let Some(task) = open_at(alloc, known, number)? {
-            return Ok(Some((place, task)));
-        }
-    }
-    Ok(None)
+    wait_at(known.done().teams(), number).is_some()
 }
 
 /// Of the tasks that the end with this number covers and that are unfinished there the one created first in

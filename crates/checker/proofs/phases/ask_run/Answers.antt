@@ -103,3 +103,7 @@ invariant_of-sound g c =
 pub returns-clause-malformed : goal.returns-clause-malformed
 returns-clause-malformed g c =
     rw c.run-run.ensures.records at c.ask_sound.ensures.malformed
+
+pub returns-clause-right : goal.returns-clause-right
+returns-clause-right g c =
+    rw c.run-run.ensures.records at c.ask_sound.ensures.right

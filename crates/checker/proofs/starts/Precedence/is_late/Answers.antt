@@ -1,15 +1,13 @@
-use Rattle.std.specs.Prelude.{◌↔◌, IsTrue}
-use Rattle.checker.specs.Starts.{IsLate}
-use Rattle.checker.proofs.LateLemmas.{TellsLate, if_ok, tells_late, none_to_tell}
+use Rattle.std.proofs.Common.{ℕ, ap, subst}
+use Rattle.std.proofs.lemmas.Bool.{false≢true}
+use Rattle.std.specs.Global.{Vec}
+use Rattle.std.specs.Prelude.{option_map}
+use Rattle.checker.specs.Starts.{PrecedenceView, AreReady}
+use Rattle.checker.proofs.LateLemmas.{none_waits}
 use Rattle.checker.proofs.starts.Precedence.is_late.Goals as goal
 
-pub returns-in-Some-clause-late : goal.returns-in-Some-clause-late
-returns-in-Some-clause-late c =
-    let rs = c.args.self.now.file.records in
-    let own = c.args.self.now.own.run in
-    let d = c.in-Some.dependent in
-    if_ok (TellsLate own d.index d.bound c.args.task) (λ late. IsTrue late ↔ IsLate rs c.args.at c.args.task) c.is_late_of.result
-    (λ answer. tells_late rs own c.args.at d.index d.bound c.args.task answer c.in-Some.ensures) c.is_late_of.ensures.late
-
-pub returns-clause-late : goal.returns-clause-late
-returns-clause-late c = none_to_tell c.args.self.now.file.records c.args.at c.args.task (c.in-None.ensures)
+pub returns-in-None-clause-late : goal.returns-in-None-clause-late
+returns-in-None-clause-late c =
+    let P : PrecedenceView → Type 0 = λ v. AreReady v.file.records c.args.at in
+    let ready = subst P c.self.view_is (none_waits _ _ c.args.at c.self.invariant (ap (option_map (λ (starts : Vec ℕ). starts.items)) c.in-None.is)) in
+    ((λ never. absurd (false≢true never)), (λ late. absurd (late.1 (ready c.args.task late.0))))

@@ -1,15 +1,11 @@
-use Rattle.std.specs.Prelude.{MatchOption}
-use Rattle.checker.specs.Starts.{AreReady, IsFirstLateAt}
-use Rattle.checker.proofs.LateLemmas.{FindsLate, if_ok, found_by}
+use Rattle.std.proofs.Common.{ℕ, ap, subst}
+use Rattle.std.specs.Global.{Vec}
+use Rattle.std.specs.Prelude.{option_map}
+use Rattle.checker.specs.Starts.{PrecedenceView, AreReady}
+use Rattle.checker.proofs.LateLemmas.{none_waits}
 use Rattle.checker.proofs.starts.Precedence.late_at.Goals as goal
 
-pub returns-in-Some-clause-found : goal.returns-in-Some-clause-found
-returns-in-Some-clause-found c =
-    let rs = c.args.self.now.file.records in
-    let own = c.args.self.now.own.run in
-    let d = c.in-Some.dependent in
-    if_ok (FindsLate rs own d.index d.bound) (λ found. MatchOption found (AreReady rs c.args.at) (IsFirstLateAt rs c.args.at)) c.late_of.result
-    (λ found. found_by rs own c.args.at d.index d.bound found c.in-Some.ensures) c.late_of.ensures.found
-
 pub returns-in-None-clause-found : goal.returns-in-None-clause-found
-returns-in-None-clause-found c = λ task preceded. absurd (c.in-None.ensures task preceded)
+returns-in-None-clause-found c =
+    let P : PrecedenceView → Type 0 = λ v. AreReady v.file.records c.args.at in
+    subst P c.self.view_is (none_waits _ _ c.args.at c.self.invariant (ap (option_map (λ (starts : Vec ℕ). starts.items)) c.in-None.is))

@@ -1,0 +1,93 @@
+//! Whether all that must be complete at a record is complete there.
+ghost use Rattle.std.specs.Prelude.{◌≡◌, ◌<◌, false, IfOk, IfErr, length};
+ghost use Rattle.ompt_events.specs.declared.fault.Fault.TheVariants.{Memory};
+ghost use Rattle.checker.specs.Readings.{by_task};
+ghost use Rattle.checker.specs.Verdicts.{AreComplete};
+ghost use Rattle.checker.specs.Deciding.{IsDecided, IsFirstOrNone, AreStops};
+
+use crate::clear::Clear;
+use crate::starts::Precedence;
+use crate::verdict::Why;
+use ompt_events::Fault;
+use std::alloc::{AllocError, Global};
+use std::marker::Model;
+use wait_coverage::{Known, ends_wait, find_open};
+
+/// What decides it: of a trace without a cause the ledger lengths from which on tasks are finished, and which tasks
+/// precede which.
+#[derive(Drop)]
+pub(crate) struct Deciding<'a, 'r> {
+    pub(crate) clear: &'a Clear<'r>,
+    pub(crate) known: &'a Known<'r>,
+    pub(crate) precedence: &'a Precedence<'a, 'r>,
+}
+
+impl<'a, 'r> Model for Deciding<'a, 'r> {
+    ghost use Rattle.std.specs.Prelude.{◌≡◌};
+    ghost use Rattle.teams.specs.Teams.{own_of};
+    ghost use Rattle.wait_coverage.specs.Known.{AreCreditLengths};
+    ghost use Rattle.checker.specs.Search.{ClearView};
+
+    ghost Value = { ClearView };
+
+    ghost view = { λ deciding. deciding.clear.now };
+
+    ghost invariant = { λ deciding. (own_of deciding.known.now.done.teams ≡ deciding.clear.now.own)
+        × AreCreditLengths deciding.known.now.done
+        × (deciding.precedence.now.file ≡ deciding.clear.now.run) };
+}
+
+impl Deciding<'_, '_> {
+    /// The first record at which a task that must be finished is not, and why it must be.
+    pub(crate) fn first_violation(&self, alloc: Global) -> Result<Option<(usize, Why)>, Fault>
+        ensures found { IfOk result (IsFirstOrNone (by_task self.now.run.records)) }
+        ensures memory_alone { IfErr result (λ fault. fault ≡ Memory) }
+    {
+        for at in 0..self.clear.sound().run().len() {
+            if let Some(why) = self.violation_at(alloc, at)? {
+                return Ok(Some((at, why)));
+            }
+        }
+        Ok(None)
+    }
+
+    /// Why the record at the place is a violation, if it is one.
+    pub(crate) fn violation_at(&self, alloc: Global, at: usize) -> Result<Option<Why>, Fault>
+        requires { at < length self.now.run.records }
+        ensures decided { IfOk result (IsDecided (by_task self.now.run.records) at) }
+        ensures memory_alone { IfErr result (λ fault. fault ≡ Memory) }
+    {
+        let own = self.clear.sound().own();
+        if let Some(task) = find_open(alloc, self.known, own.number(at))? {
+            return Ok(Some(Why::Unfinished(task)));
+        }
+        match self.precedence.late_at(at)? {
+            Some(task) => Ok(Some(Why::Predecessor(task))),
+            None => Ok(None),
+        }
+    }
+
+    /// The places, in file order, at which a wait ends, or a task starts or is complete that may have
+    /// predecessors.
+    pub(crate) fn find_stops(&self, alloc: Global) -> Result<Vec<u32>, AllocError>
+        ensures { IfOk result (λ stops. AreStops (by_task self.now.run.records)
+            (length self.now.run.records) stops.items) }
+    {
+        let mut stops = Vec::new(alloc);
+        for at in 0..self.clear.sound().run().len() {
+            if self.is_stop(at) {
+                stops.push(at as u32)?;
+            }
+        }
+        Ok(stops)
+    }
+
+    /// Whether something may be unfinished at the place.
+    fn is_stop(&self, at: usize) -> bool
+        requires { at < length self.now.run.records }
+        ensures { result ≡ false → AreComplete (by_task self.now.run.records) at }
+    {
+        let own = self.clear.sound().own();
+        ends_wait(self.known, own.number(at)) || self.precedence.has_dependent(at)
+    }
+}
