@@ -76,8 +76,9 @@ pub struct Crew<'a, R, G> {
     pub gate: &'a G,
 }
 
-/// Does the same as [`audit`] by the workers of the crew. Where there are none or more than 256 it does
-/// nothing: that is tried before anything is read.
+/// Does the same as [`audit`] by the workers of the crew, which read and check side by side. The source is read
+/// ahead of the lines that are judged. Fails as [`audit`] does, and where there are no workers or more than
+/// [`MAX_WORKERS`], which is tried before anything is read, or where the gate refuses a worker.
 pub fn audit_on<R: Threads + Sync, G: Gate + Sync, I: Source, O: Sink>(
     alloc: Global,
     crew: Crew<R, G>,
@@ -96,7 +97,8 @@ pub fn audit_on<R: Threads + Sync, G: Gate + Sync, I: Source, O: Sink>(
     ensures untouched { result ≡ Err (AuditFault.Check CheckFault.Workers)
         → (source.new ≡ source.old) × (sink.new ≡ sink.old) }
 
-    // A fault of the sink is told exactly where it occurs; one of the source too, where no line before has one.
+    // A fault of the sink is told exactly where it occurs, and so is one of the source where no line before
+    // it has a fault.
     ensures devices { TellsDevicesAhead result
         (record { turns = I.agains source.old; breaks = I.breaks source.old })
         (record { turns = I.agains source.new; breaks = I.breaks source.new })
