@@ -1,4 +1,9 @@
 mod WindowLemmas
+mod BlockLemmas
+mod RoomLemmas
+mod PieceLemmas
+mod JoinLemmas
+mod EndLemmas
 mod MemoryLemmas
 mod MemberLemmas
 mod MeaningLemmas

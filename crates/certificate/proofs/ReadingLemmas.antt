@@ -24,7 +24,7 @@ line_feeds-unbroken [] all = refl
 line_feeds-unbroken (x ∷ xs) all =
     sum_by-cons (λ (b : ℕ). cond (b == 10) 1 0) x xs ∙ rw (all.0) (zero-add _ ∙ line_feeds-unbroken xs all.1)
 
-line_feeds-one : (xs ys : List ℕ) → IsUnbroken xs → line_feeds (xs ++ (10 ∷ ys)) ≡ line_feeds ys + 1
+pub line_feeds-one : (xs ys : List ℕ) → IsUnbroken xs → line_feeds (xs ++ (10 ∷ ys)) ≡ line_feeds ys + 1
 line_feeds-one xs ys all =
     let whole = line_feeds-append xs (10 ∷ ys) in
     let first : line_feeds xs ≡ 0 = line_feeds-unbroken xs all in
@@ -34,11 +34,11 @@ line_feeds-one xs ys all =
 -- ---- between two lines
 
 -- all bytes begin with line 1
-from_first : (bytes : List ℕ) → IsFromLine 1 bytes bytes
+pub from_first : (bytes : List ℕ) → IsFromLine 1 bytes bytes
 from_first bytes = record { before = []; lines = record { count = refl; ended = inl refl }; parts = refl }
 
 -- one line more is done with
-from_next : (n : ℕ) (bytes line rest : List ℕ) → IsUnbroken line → IsFromLine n bytes (line ++ (10 ∷ rest)) → IsFromLine (n + 1) bytes rest
+pub from_next : (n : ℕ) (bytes line rest : List ℕ) → IsUnbroken line → IsFromLine n bytes (line ++ (10 ∷ rest)) → IsFromLine (n + 1) bytes rest
 from_next n bytes line rest all from =
     let front = from.before ++ line in
     let one : line_feeds (front ++ (10 ∷ [])) ≡ line_feeds from.before + 1 =
@@ -50,7 +50,7 @@ from_next n bytes line rest all from =
     }
 
 -- so many line feeds are left
-from_feeds : (n : ℕ) (bytes rest : List ℕ) → IsFromLine n bytes rest → n + line_feeds rest ≡ line_feeds bytes + 1
+pub from_feeds : (n : ℕ) (bytes rest : List ℕ) → IsFromLine n bytes rest → n + line_feeds rest ≡ line_feeds bytes + 1
 from_feeds n bytes rest from = omega (arith, ap line_feeds from.parts, line_feeds-append from.before rest, from.lines.count)
 
 -- a line that is reached is one of the file, and no line before it has a fault
@@ -147,7 +147,7 @@ IsAfter-long format (Some bytes) n kept w (Some l) each now =
     now.0 ∙ ap (rest_says format n kept) whole ∙ rest_says-long format n kept (take (max_line + 1) w) (drop (max_line + 1) w ++ l) (unbroken-front w (max_line + 1) size (λ i h. (each i (omega arith)).1)) (omega (arith, length-take (max_line + 1) w))
 
 -- the end of the input
-at_end : (left : Option (List ℕ)) (l w : List ℕ) → left ≡ Some l → IsAtEnd left → w ++ l ≡ w
+pub at_end : (left : Option (List ℕ)) (l w : List ℕ) → left ≡ Some l → IsAtEnd left → w ++ l ≡ w
 at_end None l w is end = absurd (let h : None ≡ Some l = is in cc)
 at_end (Some xs) l w is end = let same : l ≡ xs = cc in ap (λ ys. w ++ ys) (same ∙ end) ∙ append-nil w
 

@@ -1,6 +1,6 @@
 -- The trace file. Read first what a file stands for: `Files`, over `RecordLines` and `Members` for a line and
 -- `Formats` for line after line, and `Texts` for the text of a trace; then what a call of `read` and of
--- `write` answers: `Reading`, `Counts`, `Answers`.
+-- `write` answers: `Reading`, `Counts`, `Answers`; of `read_on`: `ReadingOn`, over `Pieces` and `Blocks`.
 pub mod Limits
 pub mod Counts
 pub mod Windows
@@ -19,6 +19,9 @@ pub mod Files
 pub mod Keeping
 pub mod ScriptFiles
 pub mod Reading
+pub mod Pieces
+pub mod Blocks
+pub mod ReadingOn
 pub mod MemoryDevices
 pub mod Answers
 pub mod Streams

@@ -1,12 +1,13 @@
 //! The trace that a file has given so far.
-ghost use Rattle.std.specs.Prelude.{◌≡◌, ◌≢◌, ◌⊎◌, [], ◌∷◌, ◌++◌, Ok, Err};
+ghost use Rattle.std.specs.Prelude.{◌≡◌, ◌≢◌, ◌+◌, ◌≤◌, ◌⊎◌, [], ◌∷◌, ◌++◌, length, take, vec_len, All, Ok, Err};
 ghost use Rattle.std.specs.Result.{result_map_both};
-ghost use Rattle.ompt_events.specs.Traces.{IsSoundIn, IsTraceOf};
+ghost use Rattle.ompt_events.specs.Traces.{IsInRange, IsSoundIn, IsTraceOf, tasks_in};
 ghost use Rattle.certificate.specs.RecordLines.{IsSaid};
 ghost use Rattle.certificate.specs.Files.{no_trace, with_record};
+ghost use Rattle.certificate.specs.Keeping.{KeepsFirst};
 
 use crate::faults::ReadCause;
-use ompt_events::{MAX_RECORDS, MAX_TASKS, Record, Trace};
+use ompt_events::{Body, MAX_RECORDS, MAX_TASKS, Record, Trace};
 use std::alloc::Global;
 use std::marker::Model;
 
@@ -83,6 +84,57 @@ impl Kept {
         Ok(())
     }
 
+    /// Adds the first of these records, of which so many make a task: all for which there is room. Says how
+    /// many they are, and why no more were added. Where there is room for all, no record is looked at.
+    pub(crate) fn keep_all(
+        &mut self,
+        mut records: Vec<Record>,
+        tasks: usize,
+    ) -> (usize, Option<ReadCause>)
+        requires sound { All (λ r. IsSoundIn self.old.version r.body) records.items }
+        requires in_range { All IsInRange records.items }
+        requires counted { tasks ≡ tasks_in records.items }
+        ensures first { KeepsFirst self.old records.items result.0 result.1 self.new }
+        ensures few { length self.old.records + result.0 ≤ MAX_RECORDS }
+    {
+        let count = records.len();
+        if count > MAX_RECORDS - self.records.len() || tasks > MAX_TASKS - self.tasks {
+            return self.keep_each(records);
+        }
+        if self.records.append(&mut records).is_err() {
+            return (0, Some(ReadCause::Memory));
+        }
+        self.tasks += tasks;
+        (count, None)
+    }
+
+    /// Touches the memory of so many more records, so that they are added the faster. Nothing is changed.
+    pub(crate) fn warm(&mut self, count: usize)
+        ensures { self.new ≡ self.old }
+    {
+        let len = self.records.len();
+        touch(&mut self.records, count);
+        self.records.truncate(len);
+    }
+
+    /// The same as `keep_all`, record by record.
+    fn keep_each(&mut self, records: Vec<Record>) -> (usize, Option<ReadCause>)
+        requires { All (λ r. IsSoundIn self.old.version r.body) records.items }
+        ensures first { KeepsFirst self.old records.items result.0 result.1 self.new }
+        ensures few { length self.old.records + result.0 ≤ MAX_RECORDS }
+    {
+        let _ = &self.version;
+        let mut count = 0;
+        let mut rest = records.into_iter();
+        'records: while let Some(event) = rest.next() {
+            match self.keep(event) {
+                Ok(()) => count += 1,
+                Err(cause) => return (count, Some(cause)),
+            }
+        }
+        (count, None)
+    }
+
     /// The trace of these records. Takes no memory.
     pub(crate) fn into_trace(self) -> Trace
         ensures { result ≡ self }
@@ -91,6 +143,23 @@ impl Kept {
             of_turns(self.records)
         } else {
             of_records(self.records)
+        }
+    }
+}
+
+/// Adds so many records of no meaning, as long as memory is found.
+fn touch(records: &mut Vec<Record>, count: usize)
+    ensures { take (vec_len records.old) records.new.items ≡ records.old.items }
+{
+    'records: for _ in 0..count {
+        let event = Record {
+            thread: 0,
+            seq: 0,
+            seen: 0,
+            body: Body::ThreadEnd,
+        };
+        if records.push(event).is_err() {
+            return;
         }
     }
 }

@@ -2,9 +2,11 @@
 //! source, and traces and plain bytes written to any sink. Read `device`, `faults`, `reading` and `writing`
 //! for what a caller sees, and `laws` for what follows of a file; `lines` is how a line is read (`canonical`
 //! as it is written, `unordered` and `making` with its members in another order, both by `parts`), `texts`
-//! how it is written, and `callbacks` has the tables.
+//! how it is written, and `callbacks` has the tables. `reading_on` reads on several workers: by `blocks`, cut
+//! into `pieces` that are judged side by side.
 #![tactic(auto)]
 
+mod blocks;
 mod callbacks;
 mod canonical;
 mod device;
@@ -17,7 +19,9 @@ mod making;
 mod members;
 mod memory;
 mod parts;
+mod pieces;
 mod reading;
+mod reading_on;
 mod script_reading;
 mod step_lines;
 mod streams;
@@ -31,6 +35,7 @@ pub use device::{DeviceFault, Sink, Source};
 pub use faults::{ReadCause, ReadFault, WriteFault};
 pub use memory::{MemSink, MemSource};
 pub use reading::{NEWEST_VERSION, read, read_to};
+pub use reading_on::{read_blocks, read_on};
 pub use script_reading::read_script;
 pub use scripts::{Script, Step};
 pub use streams::{FromRead, StdRead, StdWrite, ToWrite};

@@ -148,7 +148,7 @@ fn take_text(
 
 /// Takes the text of the header, which begins the trace.
 #[inline(never)]
-fn take_header(
+pub(crate) fn take_header(
     alloc: Global,
     newest: u32,
     text: &[u8],

@@ -138,7 +138,11 @@ fn make_room(
 }
 
 /// Reads into the bytes from a place on.
-fn read_at<S: Source>(bytes: &mut Vec<u8>, at: usize, source: &mut S) -> Result<usize, DeviceFault>
+pub(crate) fn read_at<S: Source>(
+    bytes: &mut Vec<u8>,
+    at: usize,
+    source: &mut S,
+) -> Result<usize, DeviceFault>
     requires { at < length bytes.old.items }
     ensures len { length bytes.new.items ≡ length bytes.old.items }
     ensures front { take at bytes.new.items ≡ take at bytes.old.items }

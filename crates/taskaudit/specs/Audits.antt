@@ -1,10 +1,12 @@
 -- What an audit makes of the bytes that it reads, and what it writes.
-use Rattle.std.specs.Prelude.{◌≡◌, ℕ, ◌++◌, List, take, Option, IfSome, Ok, ⊤}
+use Rattle.std.specs.Prelude.{◌≡◌, ◌<◌, ◌≤◌, ℕ, ◌++◌, List, take, Option, IfSome, Ok, ⊤}
 use Rattle.std.specs.Io.KnownBytes.{Appends, Keeps}
 use Rattle.ompt_events.specs.declared.records.Record.{Record}
 use Rattle.ompt_events.specs.Traces.{TraceView}
 use Rattle.certificate.specs.Files.{file_says}
 use Rattle.certificate.specs.Reading.{IsToldRightly}
+use Rattle.certificate.specs.ReadingOn.{IsToldInRoom, block_size, room_of}
+use Rattle.certificate.specs.declared.faults.WriteFault.TheVariants as write
 use Rattle.checker.specs.declared.verdict.CheckFault.TheVariants as check
 use Rattle.checker.specs.declared.verdict.Verdict.{Verdict}
 use Rattle.checker.specs.declared.verdict.Verdict.TheVariants as verdict
@@ -62,16 +64,47 @@ IsOutOfMemory (Check check.Memory) = ⊤
 IsOutOfMemory Memory = ⊤
 IsOutOfMemory _ = ⊥
 
--- what a fault leaves: a prefix of that text where the sink failed, and else nothing. An audit starts no thread
--- and makes no call of a script
+-- the text was written up to somewhere; memory is never the cause
+abbrev pub IsWriteFault : (ℕ → Type 0) → AuditFault → Type 0
+IsWriteFault part (Write write.Memory) = ⊥
+IsWriteFault part (Write f) = (count : ℕ) × part count
+IsWriteFault part _ = ⊥
+
+-- what a fault leaves: a prefix of that text where the sink failed, and else nothing. An audit on one thread
+-- starts no thread and makes no call of a script
 abbrev pub Leaves : Shown → Option (List ℕ) → Option (List ℕ) → Option (List ℕ) → AuditFault → Type 0
 Leaves shown bytes old new (Write f) = BreaksOff shown bytes old new
-Leaves shown bytes old new (Check check.Thread) = ⊥
+Leaves shown bytes old new (Check check.Memory) = Keeps old new
+Leaves shown bytes old new (Check f) = ⊥
 Leaves shown bytes old new (Call line f) = ⊥
 Leaves shown bytes old new _ = Keeps old new
+
+-- no workers, or more than 256
+abbrev pub IsNoCrew : ℕ → Type 0
+IsNoCrew workers = 1 ≤ workers → 256 < workers
+
+-- memory ran out, or the gate refused a worker that there is and that it may refuse
+abbrev pub IsOfCrew : ℕ → (ℕ → Type 0) → AuditFault → Type 0
+IsOfCrew workers may_refuse (Check (check.Gate worker)) = (worker < workers) × may_refuse worker
+IsOfCrew workers may_refuse fault = IsOutOfMemory fault
+
+-- the same of an audit by so many workers. Only here it may be no crew, or the gate may refuse a worker that it
+-- has, one of those that the gate may refuse; where no thread can be started the work is done all the same
+abbrev pub LeavesOn : ℕ → (ℕ → Type 0) → Option (List ℕ) → Option (List ℕ) → Option (List ℕ) → AuditFault → Type 0
+LeavesOn workers may_refuse bytes old new (Check check.Workers) = IsNoCrew workers × Keeps old new
+LeavesOn workers may_refuse bytes old new (Check (check.Gate worker)) =
+    (worker < workers) × may_refuse worker × Keeps old new
+LeavesOn workers may_refuse bytes old new fault = Leaves Report bytes old new fault
 
 -- a fault of the input is the file's first one, or one of the source or of memory while the line was read;
 -- left is what the source has left
 abbrev pub IsReadRightly : Option (List ℕ) → Option (List ℕ) → AuditFault → Type 0
 IsReadRightly bytes left (Read f) = IfSome bytes (λ known. IsToldRightly f.cause f.line known left)
 IsReadRightly bytes left _ = ⊤
+
+-- the same of so many workers: only where no memory was found for a line, more bytes behind the lines before it
+-- may have been taken, a block for each worker and one longest line
+abbrev pub IsReadRightlyOn : ℕ → Option (List ℕ) → Option (List ℕ) → AuditFault → Type 0
+IsReadRightlyOn workers bytes left (Read f) =
+    IfSome bytes (λ known. IsToldInRoom (room_of workers block_size) f.cause f.line known left)
+IsReadRightlyOn workers bytes left _ = ⊤

@@ -1,11 +1,29 @@
 -- The command line, in clap's terms.
-use Rattle.std.specs.Prelude.{◌≡◌, true, false, List, [], ◌∷◌, Option, Some, None, codes, option_and_then, if◌then◌else◌}
+use Rattle.std.specs.Prelude.{◌≡◌, ◌≤◌, ℕ, ⊤, true, false, pos, List, [], ◌∷◌, Option, Some, None, codes, option_and_then, if◌then◌else◌}
 use Rattle.std.specs.Str.{bytes_eq}
-use Rattle.clap.specs.Words.{App, Row, Text, new_app, subcommand_of}
+use Rattle.std.specs.Str.Parse.{digits_value, without_leading_plus}
+use Rattle.clap.specs.Words.{App, Row, Rule, Text, new_app, new_rule, one_of, subcommand_of, with_rule}
+use Rattle.clap.specs.ValueTests.{is_unsigned_in}
+use Rattle.clap.specs.declared.builder.action.ArgAction.TheVariants.{Set}
+use Rattle.clap.specs.declared.builder.value_parser.ValueParser.TheVariants.{Signed}
 use Rattle.taskaudit.specs.declared.work.Job.{Job}
 use Rattle.taskaudit.specs.declared.work.Job.TheVariants.{Check, Order, Record}
 
--- what clap reads of the command: it wants a subcommand, of which there are three, without arguments
+-- the option `--workers N`: a number from 1 to 256
+abbrev pub workers_rule : Rule
+workers_rule = record (new_rule (codes "workers")) {
+  long = Some (codes "workers");
+  action = Some Set;
+  value_names = 1;
+  parser = Some (Signed (pos 1) (pos 256));
+}
+
+-- the subcommand `check`
+abbrev pub check_app : App
+check_app = with_rule (new_app (codes "check")) workers_rule
+
+-- what clap reads of the command: it wants a subcommand, of which there are three, and `check` alone has an
+-- option
 unfoldable pub command_line : App
 command_line = record {
   top = record (new_app (codes "taskaudit")).top {
@@ -13,16 +31,30 @@ command_line = record {
     subcommand_required = true;
     disable_help_subcommand = true;
   };
-  subs = (new_app (codes "check")).top ∷ (new_app (codes "order")).top
+  subs = check_app.top ∷ (new_app (codes "order")).top
       ∷ (new_app (codes "record")).top ∷ [];
 }
 
+-- the number that the digits of a value write; a plus may stand before them
+abbrev pub number_of : Text → ℕ
+number_of value = digits_value 10 (without_leading_plus value)
+
+-- a check, by as many threads as the value says, where it is a number from 1 to 256
+abbrev pub check_by : Option Text → Option Job
+check_by None = Some (Check None)
+check_by (Some value) = if is_unsigned_in 1 256 value then Some (Check (Some (number_of value))) else None
+
 -- the job that a subcommand names, with the values that were found for its arguments
 abbrev pub job_named : Text × List Row → Option Job
-job_named (name, rows) = if bytes_eq name (codes "check") then Some (Check None)
+job_named (name, rows) = if bytes_eq name (codes "check") then check_by (one_of (codes "workers") rows)
     else (if bytes_eq name (codes "order") then Some Order
     else (if bytes_eq name (codes "record") then Some Record else None))
 
 -- the words ask for the job
 abbrev pub AsksFor : List Text → Job → Type 0
 AsksFor words job = option_and_then job_named (subcommand_of command_line words) ≡ Some job
+
+-- the threads of a check, where the job names their number, are 1 to 256
+abbrev pub HasFewWorkers : Job → Type 0
+HasFewWorkers (Check (Some workers)) = (1 ≤ workers) × (workers ≤ 256)
+HasFewWorkers _ = ⊤

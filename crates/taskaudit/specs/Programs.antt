@@ -23,7 +23,8 @@ Does Order bytes old new (Judged outcome) = Reports shown.Order bytes old new ou
 Does Record bytes old new Written = Records bytes old new
 Does _ bytes old new _ = ⊥
 
--- what the fault leaves of the job
+-- what the fault leaves of the job. A check by workers has as many as the words say, 1 to 256, and its gate is
+-- open: it has no other faults than a check on one thread
 abbrev pub LeavesOfJob : Job → Option (List ℕ) → Option (List ℕ) → Option (List ℕ) → AuditFault → Type 0
 LeavesOfJob (Check workers) bytes old new fault = Leaves shown.Report bytes old new fault
 LeavesOfJob Order bytes old new fault = Leaves shown.Order bytes old new fault

@@ -47,7 +47,8 @@ pub record IsRefusedAt (bytes : Option (List ℕ)) (line : ℕ) (fault : CallFau
 abbrev pub LeavesRecording : Option (List ℕ) → Option (List ℕ) → Option (List ℕ) → AuditFault → Type 0
 LeavesRecording bytes old new (Write f) = BreaksOffRecording bytes old new
 LeavesRecording bytes old new (Call line f) = IsRefusedAt bytes line f × Keeps old new
-LeavesRecording bytes old new (Check check.Memory) = ⊥
+LeavesRecording bytes old new (Check check.Thread) = Keeps old new
+LeavesRecording bytes old new (Check f) = ⊥
 LeavesRecording bytes old new _ = Keeps old new
 
 -- a fault of the input is the script's first one, or one of the source or of memory while the line was read;

@@ -126,7 +126,7 @@ abbrev pub fault_line : AuditFault → List ℕ
 fault_line (fault.Read f) = unreadable_line f.line f.cause
 fault_line (fault.Write f) = unwritten_line f
 fault_line (fault.Check check.Memory) = no_memory_line
-fault_line (fault.Check check.Thread) = codes "no thread"
+fault_line (fault.Check f) = codes "no thread"
 fault_line (fault.Call line f) = refused_line line f
 fault_line fault.Memory = no_memory_line
 

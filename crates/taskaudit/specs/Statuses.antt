@@ -4,7 +4,6 @@ use Rattle.certificate.specs.declared.faults.ReadCause.{ReadCause}
 use Rattle.certificate.specs.declared.faults.ReadCause.TheVariants as read
 use Rattle.certificate.specs.declared.faults.WriteFault.{WriteFault}
 use Rattle.certificate.specs.declared.faults.WriteFault.TheVariants as write
-use Rattle.checker.specs.declared.verdict.CheckFault.TheVariants as check
 use Rattle.clap.specs.declared.error.kind.ErrorKind.{ErrorKind}
 use Rattle.clap.specs.declared.error.kind.ErrorKind.TheVariants.{DisplayHelp, DisplayVersion, OutOfMemory}
 use Rattle.recorder.specs.declared.fault.CallFault.{CallFault}
@@ -49,8 +48,7 @@ refused_status _ = 2
 abbrev pub fault_status_of : AuditFault → ℕ
 fault_status_of (fault.Read f) = read_status f.cause
 fault_status_of (fault.Write f) = write_status f
-fault_status_of (fault.Check check.Memory) = 5
-fault_status_of (fault.Check check.Thread) = 5
+fault_status_of (fault.Check f) = 5
 fault_status_of (fault.Call line f) = refused_status f
 fault_status_of fault.Memory = 5
 

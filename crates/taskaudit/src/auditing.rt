@@ -1,16 +1,21 @@
-//! The audit of a file, with its report alone or with an order that shows the verdict.
-ghost use Rattle.std.specs.Prelude.{◌≢◌, Err, IfOk, IfErr};
+//! The audit of a file, with its report alone or with an order that shows the verdict, on one thread or on
+//! several.
+ghost use Rattle.std.specs.Prelude.{◌≡◌, ◌≢◌, ◌≤◌, ◌⊎◌, ◌↔◌, Err, IfOk, IfErr, OnOk, take};
+ghost use Rattle.std.specs.Io.KnownBytes.{Appends};
+ghost use Rattle.certificate.specs.Counts.{breaks_written};
 ghost use Rattle.checker.specs.Verdicts.{IsVerdict};
-ghost use Rattle.taskaudit.specs.Audits.{Prints, Reports, Leaves, IsOutOfMemory, IsReadRightly};
-ghost use Rattle.taskaudit.specs.Devices.{TellsDevices};
+ghost use Rattle.taskaudit.specs.Audits.{Prints, Reports, Leaves, LeavesOn, IsNoCrew, IsOutOfMemory, IsOfCrew, IsWriteFault, IsReadRightly, IsReadRightlyOn};
+ghost use Rattle.taskaudit.specs.Devices.{TellsDevices, TellsDevicesAhead, AsksForTurns, written_of};
+ghost use Rattle.taskaudit.specs.Reports.{outcome_of};
 
 use crate::order::shown_text;
 use crate::report::report_text;
 use crate::work::{AuditFault, Outcome, Shown};
-use certificate::{Sink, Source, WriteFault, read, write_bytes};
-use checker::{Verdict, check, check_with_counter};
+use certificate::{Sink, Source, WriteFault, read, read_on, write_bytes};
+use checker::{CheckFault, Gate, MAX_WORKERS, Verdict, check, check_on, check_with_counter};
 use ompt_events::Trace;
 use std::alloc::Global;
+use std::thread::Threads;
 
 /// Reads a trace file to its end, checks it and writes the report of its verdict.
 pub fn audit<I: Source, O: Sink>(
@@ -60,6 +65,55 @@ pub fn audit_order<I: Source, O: Sink>(
     audit_for(alloc, Shown::Order, source, sink)
 }
 
+/// Who does an audit on several threads.
+#[derive(Clone, Copy)]
+pub struct Crew<'a, R, G> {
+    /// What starts threads.
+    pub threads: &'a R,
+    /// How many workers there are, from 1 to 256.
+    pub workers: u32,
+    /// The gate that each worker passes once before it decides.
+    pub gate: &'a G,
+}
+
+/// Does the same as [`audit`] by the workers of the crew, which read and check side by side. The source is read
+/// ahead of the lines that are judged. Fails as [`audit`] does, and where there are no workers or more than
+/// [`MAX_WORKERS`], which is tried before anything is read, or where the gate refuses a worker.
+pub fn audit_on<R: Threads + Sync, G: Gate + Sync, I: Source, O: Sink>(
+    alloc: Global,
+    crew: Crew<R, G>,
+    source: &mut I,
+    sink: &mut O,
+) -> Result<Outcome, AuditFault>
+    ensures reports { IfOk result
+        (Reports Shown.Report (I.remaining source.old) (O.contents sink.old) (O.contents sink.new)) }
+    ensures leaves { IfErr result (LeavesOn crew.entry.workers (G.may_refuse crew.entry.gate.now)
+        (I.remaining source.old) (O.contents sink.old) (O.contents sink.new)) }
+    ensures unreadable { IfErr result (IsReadRightlyOn crew.entry.workers
+        (I.remaining source.old) (I.remaining source.new)) }
+
+    // Without workers, or with too many, nothing is read and nothing written.
+    ensures workers { (result ≡ Err (AuditFault.Check CheckFault.Workers)) ↔ IsNoCrew crew.entry.workers }
+    ensures untouched { result ≡ Err (AuditFault.Check CheckFault.Workers)
+        → (source.new ≡ source.old) × (sink.new ≡ sink.old) }
+
+    // A fault of the sink is told exactly where it occurs, and so is one of the source where no line before
+    // it has a fault.
+    ensures devices { TellsDevicesAhead result
+        (record { turns = I.agains source.old; breaks = I.breaks source.old })
+        (record { turns = I.agains source.new; breaks = I.breaks source.new })
+        (record { turns = O.stalls sink.old; breaks = O.breaks sink.old })
+        (record { turns = O.stalls sink.new; breaks = O.breaks sink.new }) }
+    ensures memory { result ≢ Err (AuditFault.Write WriteFault.Memory) }
+{
+    if crew.workers == 0 || crew.workers > MAX_WORKERS {
+        return Err(AuditFault::Check(CheckFault::Workers));
+    }
+    let recorded = read_on(crew.threads, alloc, source, crew.workers).map_err(AuditFault::Read)?;
+    let (verdict, text) = answer_on(alloc, crew, &recorded)?;
+    put(&verdict, text.as_slice(), sink)
+}
+
 /// Reads a trace file to its end, checks it and writes what is shown of its verdict.
 fn audit_for<I: Source, O: Sink>(
     alloc: Global,
@@ -81,8 +135,20 @@ fn audit_for<I: Source, O: Sink>(
 {
     let trace = read(alloc, source).map_err(AuditFault::Read)?;
     let (verdict, text) = answer(alloc, shown, &trace)?;
-    match write_bytes(text.as_slice(), sink) {
-        Ok(()) => Ok(Outcome::of(&verdict)),
+    put(&verdict, text.as_slice(), sink)
+}
+
+/// Writes what is shown of the verdict, and returns its kind.
+fn put<O: Sink>(verdict: &Verdict, text: &[u8], sink: &mut O) -> Result<Outcome, AuditFault>
+    ensures kind { IfOk result (λ outcome. outcome ≡ outcome_of verdict.now) }
+    ensures written { OnOk result (Appends (O.contents sink.old) (O.contents sink.new) text.now) }
+    ensures part { IfErr result (IsWriteFault (λ n.
+        Appends (O.contents sink.old) (O.contents sink.new) (take n text.now))) }
+    ensures breaks { O.breaks sink.new ≡ breaks_written (written_of result) (O.breaks sink.old) }
+    ensures turns { AsksForTurns result (O.stalls sink.old) (O.stalls sink.new) }
+{
+    match write_bytes(text, sink) {
+        Ok(()) => Ok(Outcome::of(verdict)),
         Err(fault) => Err(AuditFault::Write(fault)),
     }
 }
@@ -94,15 +160,43 @@ fn answer(alloc: Global, shown: Shown, trace: &Trace) -> Result<(Verdict, Vec<u8
     ensures memory { IfErr result IsOutOfMemory }
 {
     match shown {
-        Shown::Report => {
-            let verdict = check(alloc, trace).map_err(AuditFault::Check)?;
-            let text = report_text(alloc, &verdict, trace)?;
-            Ok((verdict, text.into_bytes()))
-        }
+        Shown::Report => reported(alloc, check(alloc, trace), trace),
         Shown::Order => {
             let (verdict, counter) = check_with_counter(alloc, trace).map_err(AuditFault::Check)?;
             let text = shown_text(alloc, trace, &verdict, &counter)?;
             Ok((verdict, text))
         }
     }
+}
+
+/// The verdict on the trace that the workers of the crew find, and its report.
+fn answer_on<R: Threads + Sync, G: Gate + Sync>(
+    alloc: Global,
+    crew: Crew<R, G>,
+    trace: &Trace,
+) -> Result<(Verdict, Vec<u8>), AuditFault>
+    requires { (1 ≤ crew.workers) × (crew.workers ≤ 256) }
+    ensures verdict { IfOk result (λ answer. IsVerdict trace.now.records answer.0) }
+    ensures text { IfOk result (λ answer. Prints Shown.Report trace.now.records answer.0 answer.1.items) }
+    ensures fault { IfErr result (IsOfCrew crew.entry.workers (G.may_refuse crew.entry.gate.now)) }
+{
+    let found = check_on(crew.threads, alloc, trace, crew.workers, crew.gate);
+    reported(alloc, found, trace)
+}
+
+/// The verdict that was found, and its report.
+fn reported(
+    alloc: Global,
+    found: Result<Verdict, CheckFault>,
+    trace: &Trace,
+) -> Result<(Verdict, Vec<u8>), AuditFault>
+    requires { IfOk found (IsVerdict trace.now.records) }
+    ensures verdict { IfOk result (λ answer. IsVerdict trace.now.records answer.0) }
+    ensures text { IfOk result (λ answer. Prints Shown.Report trace.now.records answer.0 answer.1.items) }
+    ensures fault { IfErr result (λ fault. (fault ≡ AuditFault.Memory)
+        ⊎ ((f : CheckFault) × (found ≡ Err f) × (fault ≡ AuditFault.Check f))) }
+{
+    let verdict = found.map_err(AuditFault::Check)?;
+    let text = report_text(alloc, &verdict, trace)?;
+    Ok((verdict, text.into_bytes()))
 }

@@ -1,16 +1,18 @@
 //! The program from the words of its command line to its exit status.
-ghost use Rattle.std.specs.Prelude.{◌≡◌, map, IfOk, IfErr};
+ghost use Rattle.std.specs.Prelude.{◌≡◌, ◌≤◌, map, IfOk, IfErr};
 ghost use Rattle.std.specs.Result.{result_map_both};
+ghost use Rattle.taskaudit.specs.Audits.{Reports, Leaves};
 ghost use Rattle.taskaudit.specs.Programs.{DoesAsked, IsRefused, Ends, Runs};
 ghost use Rattle.taskaudit.specs.Statuses.{exit_status_of};
 
-use crate::auditing::{audit, audit_order};
+use crate::auditing::{Crew, audit, audit_on, audit_order};
 use crate::record::record;
 use crate::report::{WRONG_WORDS, fault_status, usage_status};
 use crate::telling::{Console, tell};
 use crate::words::job;
-use crate::work::{Done, Job, Refusal};
+use crate::work::{AuditFault, Done, Job, Outcome, Refusal, Shown};
 use certificate::{Sink, Source};
+use checker::OpenGate;
 use std::alloc::Global;
 use std::convert::AsStr;
 use std::sync::Wait;
@@ -61,7 +63,10 @@ pub fn serve<S: AsStr, R: Threads + Wait + Sync, I: Source, O: Sink>(
         (I.remaining source.old) (O.contents sink.old) (O.contents sink.new)) }
 {
     match job(alloc, words) {
-        Ok(Job::Check(_)) => audit(alloc, source, sink)
+        Ok(Job::Check(None)) => audit(alloc, source, sink)
+            .map(Done::Judged)
+            .map_err(Refusal::Audit),
+        Ok(Job::Check(Some(workers))) => audit_by(alloc, rt, workers, source, sink)
             .map(Done::Judged)
             .map_err(Refusal::Audit),
         Ok(Job::Order) => audit_order(alloc, source, sink)
@@ -72,6 +77,29 @@ pub fn serve<S: AsStr, R: Threads + Wait + Sync, I: Source, O: Sink>(
             .map_err(Refusal::Audit),
         Err(error) => Err(Refusal::Words(error)),
     }
+}
+
+/// Audits by so many workers, at a gate that lets each of them pass: so the check has no other fault than lack
+/// of memory.
+fn audit_by<R: Threads + Sync, I: Source, O: Sink>(
+    alloc: Global,
+    rt: &R,
+    workers: u32,
+    source: &mut I,
+    sink: &mut O,
+) -> Result<Outcome, AuditFault>
+    requires { (1 ≤ workers) × (workers ≤ 256) }
+    ensures reports { IfOk result
+        (Reports Shown.Report (I.remaining source.old) (O.contents sink.old) (O.contents sink.new)) }
+    ensures leaves { IfErr result
+        (Leaves Shown.Report (I.remaining source.old) (O.contents sink.old) (O.contents sink.new)) }
+{
+    let crew = Crew {
+        threads: rt,
+        workers,
+        gate: &OpenGate,
+    };
+    audit_on(alloc, crew, source, sink)
 }
 
 /// The exit status of a run of the program that ended so.

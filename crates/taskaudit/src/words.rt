@@ -1,12 +1,13 @@
 //! The command line.
-ghost use Rattle.std.specs.Prelude.{◌≡◌, true, false, map, IfOk, IfErr, Some, is_some, option_and_then};
-ghost use Rattle.clap.specs.Words.{app_of, shape_of, new_app, fault_of, kind_of, takes, subcommand_rows_of, FailsBy};
+ghost use Rattle.std.specs.Prelude.{◌≡◌, true, false, codes, map, IfOk, IfErr, Some, is_some, option_and_then};
+ghost use Rattle.clap.specs.Words.{app_of, rule_of, rows_of, found_of, one_of, shape_of, new_app, fault_of, kind_of, takes, subcommand_rows_of, FailsBy};
 ghost use Rattle.clap.specs.declared.builder.command.Command.TheViews.{out-Command};
-ghost use Rattle.taskaudit.specs.Commands.{command_line, job_named, AsksFor};
+ghost use Rattle.taskaudit.specs.Commands.{command_line, check_app, workers_rule, check_by, job_named, AsksFor, HasFewWorkers};
 
 use crate::work::Job;
+use checker::MAX_WORKERS;
 use clap::error::ErrorKind;
-use clap::{ArgMatches, Command, Error};
+use clap::{Arg, ArgAction, ArgMatches, Command, Error, value_parser};
 use std::alloc::{AllocError, Global};
 use std::convert::AsStr;
 
@@ -25,6 +26,9 @@ const ORDER_ABOUT: &str =
 /// What `record` is for.
 const RECORD_ABOUT: &str =
     "Runs the script on standard input with recorders, and writes the trace that they record";
+
+/// What the option `--workers` of `check` is for.
+const WORKERS_HELP: &str = "Reads and checks on N threads (1 to 256); without it, on one";
 
 /// What stands below the options in the help, and in that of `check`.
 const EXPLANATION: &str = r#"Answers of check, one line on standard output:
@@ -123,6 +127,9 @@ taskaudit check --help says what the members of an event are."#;
 pub fn job<'a, S: AsStr>(alloc: Global, words: &'a [S]) -> Result<Job, Error>
     ensures asked { IfOk result (AsksFor (map S.text words.entry.now)) }
 
+    // A check that names the number of its threads has 1 to 256.
+    ensures workers { IfOk result HasFewWorkers }
+
     // Words that clap accepts are refused only where memory runs out.
     ensures passes { IfErr result (λ e. takes command_line (map S.text words.entry.now) ≡ true
         → kind_of e ≡ ErrorKind.OutOfMemory) }
@@ -140,11 +147,30 @@ fn job_met(matches: &ArgMatches) -> Job
     requires { is_some (option_and_then job_named (subcommand_rows_of matches.now)) ≡ true }
     ensures { option_and_then job_named (subcommand_rows_of matches.now) ≡ Some result }
 {
-    match matches.subcommand_name() {
-        Some("order") => Job::Order,
-        Some("record") => Job::Record,
-        _ => Job::Check(None),
+    match matches.subcommand() {
+        Some((name, found)) => job_of(name, found),
+        None => Job::Check(None),
     }
+}
+
+/// The job that the name of a subcommand stands for, with what was found for its arguments.
+fn job_of(name: &str, found: &ArgMatches) -> Job
+    requires { is_some (job_named (name.now, rows_of (found_of found.now))) ≡ true }
+    ensures { job_named (name.now, rows_of (found_of found.now)) ≡ Some result }
+{
+    match name {
+        "order" => Job::Order,
+        "record" => Job::Record,
+        _ => Job::Check(workers_found(found)),
+    }
+}
+
+/// The value of `--workers`, if there is one.
+fn workers_found(found: &ArgMatches) -> Option<u32>
+    requires { is_some (check_by (one_of (codes "workers") (rows_of (found_of found.now)))) ≡ true }
+    ensures { check_by (one_of (codes "workers") (rows_of (found_of found.now))) ≡ Some (Job.Check result) }
+{
+    found.get_one::<u32>("workers")
 }
 
 /// The command line that the program takes.
@@ -152,7 +178,7 @@ fn command<'a>(alloc: Global) -> Result<Command<'a>, AllocError>
     ensures app { IfOk result (λ c. app_of c ≡ command_line) }
     ensures local { IfOk result (λ c. (out-Command c).has_globals ≡ false) }
 {
-    let check = plain(alloc, "check", CHECK_ABOUT, EXPLANATION);
+    let check = checking(alloc)?;
     let order = plain(alloc, "order", ORDER_ABOUT, ORDER_EXPLANATION);
     let recording = plain(alloc, "record", RECORD_ABOUT, RECORD_EXPLANATION);
     Command::new(alloc, "taskaudit")
@@ -163,6 +189,27 @@ fn command<'a>(alloc: Global) -> Result<Command<'a>, AllocError>
         .subcommand(check)?
         .subcommand(order)?
         .subcommand(recording)
+}
+
+/// The subcommand `check`, with its option.
+fn checking<'a>(alloc: Global) -> Result<Command<'a>, AllocError>
+    ensures shape { IfOk result (λ c. shape_of c ≡ check_app.top) }
+    ensures local { IfOk result (λ c. (out-Command c).has_globals ≡ false) }
+{
+    plain(alloc, "check", CHECK_ABOUT, EXPLANATION).arg(workers(alloc))
+}
+
+/// The option `--workers` of `check`.
+fn workers<'a>(alloc: Global) -> Arg<'a>
+    ensures rule { rule_of result ≡ workers_rule }
+    ensures local { result.global ≡ false }
+{
+    Arg::new(alloc, "workers")
+        .long("workers")
+        .value_name("N")
+        .help(WORKERS_HELP)
+        .action(ArgAction::Set)
+        .value_parser(value_parser!(u32).range(1..=i64::from(MAX_WORKERS)))
 }
 
 /// A subcommand without arguments.

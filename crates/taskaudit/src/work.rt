@@ -127,7 +127,7 @@ impl fmt::Display for AuditFault {
                 let name = call_fault_name(*fault);
                 write!(f, "refused: line {line}: {number} {name}")
             }
-            AuditFault::Check(CheckFault::Thread) => write!(f, "no thread"),
+            AuditFault::Check(fault) if *fault != CheckFault::Memory => write!(f, "no thread"),
             _ => write!(f, "out of memory"),
         }
     }

@@ -19,6 +19,6 @@ returns-clause-app c =
     ap app_of_fields c.after_help.ensures ∙ ap app_of_fields c.about.ensures ∙ c.new.ensures.app in
     let top_is : app_of c.subcommand_required.result ≡ requiring (without_help (new_app (codes "taskaudit"))) =
     ap app_of_fields c.subcommand_required.ensures ∙ ap requiring (ap app_of_fields c.disable_help_subcommand.ensures ∙ ap without_help plain_is) in
-    let with_check = c.in_ok-subcommand.ensures.shape c.plain-check.ensures.local ∙ ap₂ with_subcommand top_is c.plain-check.ensures.shape in
+    let with_check = c.in_ok-subcommand.ensures.shape c.in_ok-check.ensures.local ∙ ap₂ with_subcommand top_is c.in_ok-check.ensures.shape in
     let with_order = c.in_ok-subcommand-2.ensures.shape c.plain-order.ensures.local ∙ ap₂ with_subcommand with_check c.plain-order.ensures.shape in
     IfOk-weaker c.subcommand-3.result _ _ (λ r h. h.shape c.plain-recording.ensures.local ∙ ap₂ with_subcommand with_order c.plain-recording.ensures.shape) c.subcommand-3.ensures

@@ -1,0 +1,213 @@
+//! How a piece of a trace file is judged: whole lines behind the header, with no count of what stands before
+//! them.
+ghost use Rattle.std.specs.Prelude.{◌≡◌, ◌≤◌, ◌<◌, ◌+◌, ◌-◌, ◌^◌, [], length, drop, slice_range, slice_index, IfOk, OnOk, OnErr, IfErr};
+ghost use Rattle.certificate.specs.Pieces.{IsWholeLines, IsJudged, AreJudged, TakesLine, TakesText, WithRecord, SameRecords};
+ghost use Rattle.certificate.specs.Blocks.{AreCuts, IsPiece};
+
+use crate::faults::ReadCause;
+use crate::lines::{other, sound};
+use crate::window::MAX_LINE;
+use json::Scratch;
+use memchr::memchr;
+use ompt_events::Record;
+use std::alloc::{AllocError, Global};
+use std::thread;
+use std::thread::Threads;
+
+/// A line of a record is rarely shorter. Where many are, the room that is taken for a piece grows.
+pub(crate) const LINE: usize = 96;
+
+/// The records of a piece's lines up to its first faulty one, how many of them make a task, and what that
+/// line has.
+#[derive(Drop)]
+pub(crate) struct Piece {
+    pub(crate) records: Vec<Record>,
+    pub(crate) tasks: usize,
+    pub(crate) fault: Option<ReadCause>,
+}
+
+impl Piece {
+    /// Adds the record.
+    #[inline(always)]
+    fn add(&mut self, event: Record) -> Result<(), ReadCause>
+        requires { self.old.tasks + 1 < 2 ^ 64 }
+        ensures ok { OnOk result (WithRecord event self.old self.new) }
+        ensures err { IfErr result (λ cause. (cause ≡ ReadCause.Memory) × SameRecords self.old self.new) }
+    {
+        event.read_numbers();
+        let makes = event.body.made().is_some();
+        if self.records.push(event).is_err() {
+            return Err(ReadCause::Memory);
+        }
+        self.tasks += usize::from(makes);
+        Ok(())
+    }
+}
+
+/// Judges the lines of each piece of a file of this version, which end where the cuts say, side by side.
+pub(crate) fn judge_all<R: Threads + Sync>(
+    rt: &R,
+    alloc: Global,
+    version: u32,
+    text: &[u8],
+    cuts: &[usize],
+) -> Result<Vec<Piece>, AllocError>
+    requires { AreCuts text.now cuts.now }
+    ensures { IfOk result (λ pieces. AreJudged version pieces.items text.now) }
+{
+    let pieces = thread::map_indices(
+        rt,
+        alloc,
+        cuts.len() - 1,
+        &|i: usize| -> Piece
+            requires { AreCuts text.now cuts.now × (i + 1 < length cuts.now) }
+            ensures { IsJudged version
+                (slice_range text.entry.now (slice_index cuts.entry.now i) (slice_index cuts.entry.now (i + 1)))
+                result }
+        { judge_piece(alloc, version, text, cuts, i) },
+    )?;
+    Ok(pieces)
+}
+
+/// Judges the piece of this number, from 0.
+fn judge_piece(alloc: Global, version: u32, text: &[u8], cuts: &[usize], number: usize) -> Piece
+    requires cuts { AreCuts text.now cuts.now }
+    requires number { number + 1 < length cuts.now }
+    ensures { IsJudged version
+        (slice_range text.now (slice_index cuts.now number) (slice_index cuts.now (number + 1))) result }
+{
+    judge(
+        alloc,
+        version,
+        piece_of(text, cuts[number], cuts[number + 1]),
+    )
+}
+
+/// Whole lines of the bytes.
+fn piece_of(text: &[u8], start: usize, end: usize) -> &[u8]
+    requires { IsPiece text.now start end }
+    ensures { result.now ≡ slice_range text.now start end }
+{
+    &text[start..end]
+}
+
+/// Judges the lines of a piece of a file of this version, up to the first faulty one.
+fn judge(alloc: Global, version: u32, text: &[u8]) -> Piece
+    requires { IsWholeLines text.now }
+    ensures { IsJudged version text.now result }
+{
+    let mut scratch = Scratch::new(alloc);
+    let mut piece = Piece {
+        records: reserved(alloc, text.len() / LINE),
+        tasks: 0,
+        fault: None,
+    };
+    let mut start = 0;
+    'lines: while start < text.len() {
+        match judge_line(alloc, version, &text[start..], &mut piece, &mut scratch) {
+            Ok(len) => start += len,
+            Err(cause) => {
+                piece.fault = Some(cause);
+                return piece;
+            }
+        }
+    }
+    piece
+}
+
+/// No record, with room for so many, if memory is found for them now.
+fn reserved(alloc: Global, count: usize) -> Vec<Record>
+    ensures { result.items ≡ [] }
+{
+    match Vec::with_capacity(alloc, count) {
+        Ok(records) => records,
+        Err(_) => Vec::new(alloc),
+    }
+}
+
+/// Judges the first line, and says how long it is with its line feed.
+fn judge_line(
+    alloc: Global,
+    version: u32,
+    rest: &[u8],
+    piece: &mut Piece,
+    scratch: &mut Scratch,
+) -> Result<usize, ReadCause>
+    requires whole { IsWholeLines rest.now }
+    requires some { 0 < length rest.now }
+    requires room { piece.old.tasks + 1 < 2 ^ 64 }
+    ensures { TakesLine version rest.now piece.old result piece.new }
+{
+    match memchr(b'\n', rest) {
+        Some(len) if len <= MAX_LINE => {
+            judge_text(alloc, version, &rest[..len], piece, scratch)?;
+            Ok(len + 1)
+        }
+        Some(_) => Err(ReadCause::LineTooLong),
+        None => unreachable!(),
+    }
+}
+
+/// Judges the text of a line. Compiled, a line as it is written has this function to itself.
+#[inline(never)]
+fn judge_text(
+    alloc: Global,
+    version: u32,
+    text: &[u8],
+    piece: &mut Piece,
+    scratch: &mut Scratch,
+) -> Result<(), ReadCause>
+    requires { piece.old.tasks + 1 < 2 ^ 64 }
+    ensures { TakesText version text.now piece.old result piece.new }
+{
+    match sound(alloc, version, text) {
+        Some(event) => piece.add(event),
+        None => judge_other(alloc, version, text, piece, scratch),
+    }
+}
+
+/// Judges the text of a line in any form.
+#[inline(never)]
+fn judge_other(
+    alloc: Global,
+    version: u32,
+    text: &[u8],
+    piece: &mut Piece,
+    scratch: &mut Scratch,
+) -> Result<(), ReadCause>
+    requires { piece.old.tasks + 1 < 2 ^ 64 }
+    ensures { TakesText version text.now piece.old result piece.new }
+{
+    piece.add(other(alloc, version, text, scratch)?)
+}
+
+/// Where whole lines are cut into at most `count` pieces of about the same size.
+pub(crate) fn cuts(alloc: Global, text: &[u8], count: u32) -> Result<Vec<usize>, AllocError>
+    requires whole { IsWholeLines text.now }
+    requires count { 1 ≤ count }
+    ensures cuts { IfOk result (λ cuts. AreCuts text.now cuts.items) }
+    ensures few { IfOk result (λ cuts. length cuts.items ≡ count + 1) }
+{
+    let size = text.len() / count as usize;
+    let mut cuts = Vec::with_capacity(alloc, count as usize + 1)?;
+    cuts.push(0)?;
+    let mut start = 0;
+    'pieces: for _ in 1..count {
+        start = next_cut(text, start, size);
+        cuts.push(start)?;
+    }
+    cuts.push(text.len())?;
+    Ok(cuts)
+}
+
+/// Behind the first line that ends at least so many bytes after the start, or the end.
+fn next_cut(text: &[u8], start: usize, size: usize) -> usize
+    requires { start ≤ length text.now }
+    ensures { IsWholeLines text.now → IsPiece text.now start result }
+{
+    let least = start + size.min(text.len() - start);
+    match memchr(b'\n', &text[least..]) {
+        Some(at) => least + at + 1,
+        None => text.len(),
+    }
+}
