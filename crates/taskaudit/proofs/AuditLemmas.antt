@@ -3,7 +3,8 @@ use Rattle.std.proofs.Common.{◌≡◌, ◌∙◌, ℕ, None, arith, List, Opti
 use Rattle.std.specs.Io.KnownBytes.{Appends}
 use Rattle.ompt_events.specs.Traces.{TraceView}
 use Rattle.certificate.specs.declared.faults.WriteFault.TheVariants as write
-use Rattle.certificate.specs.Counts.{TakesTurns, count_more}
+use Rattle.certificate.specs.Counts.{count_more}
+use Rattle.certificate.specs.ReadingOn.{ReadsAhead}
 use Rattle.checker.specs.declared.verdict.Verdict.{Verdict}
 use Rattle.taskaudit.specs.declared.work.AuditFault.{AuditFault}
 use Rattle.taskaudit.specs.declared.work.AuditFault.TheVariants.{Read, Write, Check, Call, Memory}
@@ -65,15 +66,20 @@ leaves_on workers may_refuse part bytes old new (Err (Check f)) wrong h = absurd
 leaves_on workers may_refuse part bytes old new (Err (Call line f)) wrong h = absurd wrong
 leaves_on workers may_refuse part bytes old new (Err Memory) wrong h = absurd wrong
 
--- a source that is not read takes no turn
-pub no_turns : (agains : ℕ) → (turns : ℕ) × TakesTurns None 0 turns agains agains
+-- at a source that is not read nothing is met
+pub nothing_met : (agains breaks : ℕ) → (turns : ℕ) × ReadsAhead None 0 turns agains agains breaks breaks
 unfolding count_more
-no_turns agains = (
+nothing_met agains breaks = (
   0,
   record {
-    later = omega arith;
-    within = omega arith;
-    counted = refl;
-    spent = (λ told. cc, λ last. absurd (omega arith));
+    met = None;
+    taken = record {
+      later = omega arith;
+      within = omega arith;
+      counted = refl;
+      spent = (λ told. cc, λ last. absurd (omega arith));
+    };
+    broken = refl;
+    told_after = refl;
   },
 )

@@ -5,6 +5,7 @@ use Rattle.ompt_events.specs.declared.records.Record.{Record}
 use Rattle.ompt_events.specs.Traces.{TraceView}
 use Rattle.certificate.specs.Files.{file_says}
 use Rattle.certificate.specs.Reading.{IsToldRightly}
+use Rattle.certificate.specs.ReadingOn.{IsToldInRoom, block_size, room_of}
 use Rattle.certificate.specs.declared.faults.WriteFault.TheVariants as write
 use Rattle.checker.specs.declared.verdict.CheckFault.TheVariants as check
 use Rattle.checker.specs.declared.verdict.Verdict.{Verdict}
@@ -100,3 +101,10 @@ LeavesOn workers may_refuse bytes old new fault = Leaves Report bytes old new fa
 abbrev pub IsReadRightly : Option (List ℕ) → Option (List ℕ) → AuditFault → Type 0
 IsReadRightly bytes left (Read f) = IfSome bytes (λ known. IsToldRightly f.cause f.line known left)
 IsReadRightly bytes left _ = ⊤
+
+-- the same of so many workers: only where no memory was found for a line, more bytes behind the lines before it
+-- may have been taken, a block for each worker and one longest line
+abbrev pub IsReadRightlyOn : ℕ → Option (List ℕ) → Option (List ℕ) → AuditFault → Type 0
+IsReadRightlyOn workers bytes left (Read f) =
+    IfSome bytes (λ known. IsToldInRoom (room_of workers block_size) f.cause f.line known left)
+IsReadRightlyOn workers bytes left _ = ⊤

@@ -3,6 +3,7 @@ use Rattle.std.specs.Prelude.{◌≡◌, ℕ, Option, Some, None, Result, Ok, Er
 use Rattle.certificate.specs.declared.faults.ReadCause.{ReadCause}
 use Rattle.certificate.specs.declared.faults.WriteFault.{WriteFault}
 use Rattle.certificate.specs.Counts.{TakesTurns, TakesStalls, breaks_told, breaks_written}
+use Rattle.certificate.specs.ReadingOn.{ReadsAhead}
 use Rattle.taskaudit.specs.declared.work.AuditFault.{AuditFault}
 use Rattle.taskaudit.specs.declared.work.AuditFault.TheVariants.{Read, Write}
 
@@ -35,6 +36,18 @@ pub record TellsDevices {X : Type 0} (result : Result X AuditFault) (source sour
   pub source_breaks : source'.breaks ≡ breaks_told (read_cause_of result) source.breaks
   -- and with `TurnsSpent` exactly where it asks for its 10,001st turn
   pub source_turns : (turns : ℕ) × TakesTurns (read_cause_of result) 0 turns source.turns source'.turns
+  -- the writing ends with `Device` exactly where the sink breaks
+  pub sink_breaks : sink'.breaks ≡ breaks_written (written_of result) sink.breaks
+  -- and with `TurnsSpent` exactly where it asks for its 10,001st turn
+  pub sink_turns : AsksForTurns result sink.turns sink'.turns
+
+-- the same of an audit that reads ahead of the lines that it judges
+pub record TellsDevicesAhead {X : Type 0} (result : Result X AuditFault) (source source' sink sink' : Counters)
+    : Type 0 where
+  -- the reading ends where the source breaks or asks for its 10,001st turn, and tells it, except where a line
+  -- that the source gave before has a fault: then it tells that one, and with an answer there was neither
+  pub source_met : (turns : ℕ)
+      × ReadsAhead (read_cause_of result) 0 turns source.turns source'.turns source.breaks source'.breaks
   -- the writing ends with `Device` exactly where the sink breaks
   pub sink_breaks : sink'.breaks ≡ breaks_written (written_of result) sink.breaks
   -- and with `TurnsSpent` exactly where it asks for its 10,001st turn

@@ -4,14 +4,14 @@ ghost use Rattle.std.specs.Prelude.{◌≡◌, ◌≢◌, ◌≤◌, ◌⊎◌, 
 ghost use Rattle.std.specs.Io.KnownBytes.{Appends};
 ghost use Rattle.certificate.specs.Counts.{breaks_written};
 ghost use Rattle.checker.specs.Verdicts.{IsVerdict};
-ghost use Rattle.taskaudit.specs.Audits.{Prints, Reports, Leaves, LeavesOn, IsNoCrew, IsOutOfMemory, IsOfCrew, IsWriteFault, IsReadRightly};
-ghost use Rattle.taskaudit.specs.Devices.{TellsDevices, AsksForTurns, written_of};
+ghost use Rattle.taskaudit.specs.Audits.{Prints, Reports, Leaves, LeavesOn, IsNoCrew, IsOutOfMemory, IsOfCrew, IsWriteFault, IsReadRightly, IsReadRightlyOn};
+ghost use Rattle.taskaudit.specs.Devices.{TellsDevices, TellsDevicesAhead, AsksForTurns, written_of};
 ghost use Rattle.taskaudit.specs.Reports.{outcome_of};
 
 use crate::order::shown_text;
 use crate::report::report_text;
 use crate::work::{AuditFault, Outcome, Shown};
-use certificate::{Sink, Source, WriteFault, read, write_bytes};
+use certificate::{Sink, Source, WriteFault, read, read_on, write_bytes};
 use checker::{CheckFault, Gate, MAX_WORKERS, Verdict, check, check_on, check_with_counter};
 use ompt_events::Trace;
 use std::alloc::Global;
@@ -76,8 +76,9 @@ pub struct Crew<'a, R, G> {
     pub gate: &'a G,
 }
 
-/// Does the same as [`audit`] by the workers of the crew. Where there are none or more than 256 it does
-/// nothing: that is tried before anything is read.
+/// Does the same as [`audit`] by the workers of the crew, which read and check side by side. The source is read
+/// ahead of the lines that are judged. Fails as [`audit`] does, and where there are no workers or more than
+/// [`MAX_WORKERS`], which is tried before anything is read, or where the gate refuses a worker.
 pub fn audit_on<R: Threads + Sync, G: Gate + Sync, I: Source, O: Sink>(
     alloc: Global,
     crew: Crew<R, G>,
@@ -88,15 +89,17 @@ pub fn audit_on<R: Threads + Sync, G: Gate + Sync, I: Source, O: Sink>(
         (Reports Shown.Report (I.remaining source.old) (O.contents sink.old) (O.contents sink.new)) }
     ensures leaves { IfErr result (LeavesOn crew.entry.workers (G.may_refuse crew.entry.gate.now)
         (I.remaining source.old) (O.contents sink.old) (O.contents sink.new)) }
-    ensures unreadable { IfErr result (IsReadRightly (I.remaining source.old) (I.remaining source.new)) }
+    ensures unreadable { IfErr result (IsReadRightlyOn crew.entry.workers
+        (I.remaining source.old) (I.remaining source.new)) }
 
     // Without workers, or with too many, nothing is read and nothing written.
     ensures workers { (result ≡ Err (AuditFault.Check CheckFault.Workers)) ↔ IsNoCrew crew.entry.workers }
     ensures untouched { result ≡ Err (AuditFault.Check CheckFault.Workers)
         → (source.new ≡ source.old) × (sink.new ≡ sink.old) }
 
-    // A fault of the source or of the sink is told exactly where it occurs.
-    ensures devices { TellsDevices result
+    // A fault of the sink is told exactly where it occurs, and so is one of the source where no line before
+    // it has a fault.
+    ensures devices { TellsDevicesAhead result
         (record { turns = I.agains source.old; breaks = I.breaks source.old })
         (record { turns = I.agains source.new; breaks = I.breaks source.new })
         (record { turns = O.stalls sink.old; breaks = O.breaks sink.old })
@@ -106,7 +109,7 @@ pub fn audit_on<R: Threads + Sync, G: Gate + Sync, I: Source, O: Sink>(
     if crew.workers == 0 || crew.workers > MAX_WORKERS {
         return Err(AuditFault::Check(CheckFault::Workers));
     }
-    let recorded = read(alloc, source).map_err(AuditFault::Read)?;
+    let recorded = read_on(crew.threads, alloc, source, crew.workers).map_err(AuditFault::Read)?;
     let (verdict, text) = answer_on(alloc, crew, &recorded)?;
     put(&verdict, text.as_slice(), sink)
 }

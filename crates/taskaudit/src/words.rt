@@ -126,6 +126,8 @@ taskaudit check --help says what the members of an event are."#;
 /// What the command line asks for; its first word is the program's name.
 pub fn job<'a, S: AsStr>(alloc: Global, words: &'a [S]) -> Result<Job, Error>
     ensures asked { IfOk result (AsksFor (map S.text words.entry.now)) }
+
+    // A check that names the number of its threads has 1 to 256.
     ensures workers { IfOk result HasFewWorkers }
 
     // Words that clap accepts are refused only where memory runs out.

@@ -2,13 +2,12 @@ use Rattle.std.proofs.Common.{rules, ◌≡◌, List, ℕ, Ok, OnOk, IfErr, refl
 use Rattle.std.specs.Io.KnownBytes.{Appends}
 use Rattle.taskaudit.specs.declared.work.Shown.TheVariants.{Report}
 use Rattle.taskaudit.specs.Audits.{IsWriteFault}
-use Rattle.taskaudit.proofs.AuditLemmas.{reports_of, leaves_of, leaves_on, no_turns}
+use Rattle.taskaudit.proofs.AuditLemmas.{reports_of, leaves_of, leaves_on, nothing_met}
 use Rattle.taskaudit.proofs.auditing.audit_on.Goals as goal
 
 pub returns-then-crew-eq0-clause-devices : goal.returns-then-crew-eq0-clause-devices
 returns-then-crew-eq0-clause-devices g c = record {
-  source_breaks = refl;
-  source_turns = no_turns (g.I.Source.agains c.args.source.now);
+  source_met = nothing_met (g.I.Source.agains c.args.source.now) (g.I.Source.breaks c.args.source.now);
   sink_breaks = refl;
   sink_turns = refl;
 }
@@ -16,18 +15,18 @@ returns-then-crew-eq0-clause-devices g c = record {
 pub returns-clause-reports : goal.returns-clause-reports
 returns-clause-reports g c =
     let trace = c.in_ok-recorded.recorded in
-    let read : c.read.result ≡ Ok trace = search rules in
+    let read : c.read_on.result ≡ Ok trace = search rules in
     let old = g.O.Sink.contents c.args.sink.now in
     let new = g.O.Sink.contents c.put.new.sink in
     let P : List ℕ → Type 0 = λ text. OnOk c.put.result (Appends old new text) in
     reports_of Report (g.I.Source.remaining c.args.source.now) old new trace c.in_ok-verdict.verdict c.in_ok-verdict.text.items
-    (record { file = rw read at c.read.ensures.file; right = c.in_ok-verdict.ensures.verdict }) c.in_ok-verdict.ensures.text
+    (record { file = rw read at c.read_on.ensures.file; right = c.in_ok-verdict.ensures.verdict }) c.in_ok-verdict.ensures.text
     c.put.result c.put.ensures.kind (subst P c.as_slice.ensures.value c.put.ensures.written)
 
 pub returns-clause-leaves : goal.returns-clause-leaves
 returns-clause-leaves g c =
     let trace = c.in_ok-recorded.recorded in
-    let read : c.read.result ≡ Ok trace = search rules in
+    let read : c.read_on.result ≡ Ok trace = search rules in
     let bytes = g.I.Source.remaining c.args.source.now in
     let old = g.O.Sink.contents c.args.sink.now in
     let new = g.O.Sink.contents c.put.new.sink in
@@ -35,5 +34,5 @@ returns-clause-leaves g c =
     let part : P c.in_ok-verdict.text.items = subst P c.as_slice.ensures.value c.put.ensures.part in
     leaves_on c.args.crew.workers (g.G.Gate.may_refuse c.args.crew.gate.now) (λ n. Appends old new (take n c.in_ok-verdict.text.items)) bytes old new c.put.result part
     (leaves_of Report bytes old new trace c.in_ok-verdict.verdict c.in_ok-verdict.text.items
-    (record { file = rw read at c.read.ensures.file; right = c.in_ok-verdict.ensures.verdict }) c.in_ok-verdict.ensures.text
+    (record { file = rw read at c.read_on.ensures.file; right = c.in_ok-verdict.ensures.verdict }) c.in_ok-verdict.ensures.text
     c.put.result part)
