@@ -9,6 +9,7 @@ slower at times. The load of the machine before and after is told. All answers m
 import os
 import sys
 import tempfile
+from concurrent.futures import ProcessPoolExecutor
 
 from bench import PROGRAM, timed
 from full import records_of, write
@@ -18,25 +19,26 @@ WORKERS = (1, 2, 4)
 COMMANDS = [[PROGRAM, "check"], *([PROGRAM, "check", "--workers", str(workers)] for workers in WORKERS)]
 
 
-def told_load():
-    """The load of the last minute, as text."""
-    return f"{os.getloadavg()[0]:.1f}"
+def make(paths):
+    """Makes the files by their sizes, in a process of its own, since it takes far more memory than the program."""
+    records = records_of(max(paths))
+    for size, path in paths.items():
+        write(path, (line for _, line in records[:size]))
 
 
 def round_of(path):
-    """The seconds and peak memory of each command on a file, which must all answer the same."""
+    """The seconds of each command on a file, which must all answer the same."""
     runs = [timed(command, path) for command in COMMANDS]
     if None in [seconds for seconds, _, _ in runs] or len({answer for _, _, answer in runs}) != 1:
         sys.exit(f"the answers are {[answer for _, _, answer in runs]}")
-    return [(seconds, memory) for seconds, memory, _ in runs]
+    return [seconds for seconds, _, _ in runs]
 
 
 def row(size, rounds):
-    """The least seconds at one size, those with workers as times those without, and the most memory."""
-    least = [min(it[0] for it in runs) for runs in zip(*rounds)]
-    memory = [max(it[1] for it in runs) for runs in zip(*rounds)]
-    times = " | ".join(f"{seconds:.2f} ({seconds / least[0]:.2f})" for seconds in least[1:])
-    print(f"| {size:,} | {least[0]:.2f} | {times} | {memory[0]:.0f} | {memory[-1]:.0f} |", flush=True)
+    """The least seconds of each command at one size, and how many times those of `check` they are."""
+    least = [min(seconds) for seconds in zip(*rounds)]
+    times = " | ".join(f"{seconds:.2f} | {seconds / least[0]:.2f}" for seconds in least[1:])
+    print(f"| {size:,} | {least[0]:.2f} | {times} |", flush=True)
 
 
 def main():
@@ -45,18 +47,15 @@ def main():
     powers = [int(word) for word in sys.argv[1:]] or [20, 22]
     with tempfile.TemporaryDirectory() as folder:
         paths = {2**power: os.path.join(folder, f"trace{power}") for power in powers}
-        records = records_of(max(paths))
-        for size, path in paths.items():
-            write(path, (line for _, line in records[:size]))
-        del records
-        before = told_load()
+        with ProcessPoolExecutor(1) as pool:
+            pool.submit(make, paths).result()
+        before = os.getloadavg()[0]
         rounds = [{size: round_of(path) for size, path in paths.items()} for _ in range(ROUNDS)]
-    titles = " | ".join(f"{workers} workers (times)" for workers in WORKERS).replace("1 workers", "1 worker")
-    print(f"| Records | `check`, s | {titles} | Peak MB | with {WORKERS[-1]} workers |")
-    print("|---|---|---|---|---|---|---|")
+    titles = " | ".join(f"{workers} workers, s | times" for workers in WORKERS).replace("1 workers", "1 worker")
+    print(f"| Records | `check`, s | {titles} |\n|---|---|{'---|---|' * len(WORKERS)}")
     for size in paths:
         row(size, [it[size] for it in rounds])
-    print(f"\nLoad before and after: {before}, {told_load()}.")
+    print(f"\nLoad of the last minute before and after: {before:.1f}, {os.getloadavg()[0]:.1f}.")
 
 
 if __name__ == "__main__":
