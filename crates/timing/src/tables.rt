@@ -83,9 +83,13 @@ fn faults(rt: &HostRuntime) -> Result<()> {
     ] {
         println!(rt; "{fault:?}: {fault}")?;
     }
-    for fault in [CheckFault::Memory, CheckFault::Thread] {
-        let number = fault as u8;
-        println!(rt; "{number} {fault:?}: {fault}")?;
+    for fault in [
+        CheckFault::Memory,
+        CheckFault::Workers,
+        CheckFault::Gate(255),
+        CheckFault::Thread,
+    ] {
+        println!(rt; "{fault:?}: {fault}")?;
     }
     for fault in [
         CreditFault::Memory,
