@@ -14,8 +14,8 @@ use std::alloc::{AllocError, Global};
 use std::thread;
 use std::thread::Threads;
 
-/// About how long a line of a record is: for as many records memory is made ready before they are read.
-pub(crate) const LINE: usize = 112;
+/// A line of a record is rarely shorter. Where many are, the room that is taken for a piece grows.
+const LINE: usize = 96;
 
 /// The records of a piece's lines up to its first faulty one, how many of them make a task, and what that
 /// line has.
