@@ -1,5 +1,5 @@
 //! The trace that a file has given so far.
-ghost use Rattle.std.specs.Prelude.{◌≡◌, ◌≢◌, ◌+◌, ◌≤◌, ◌⊎◌, [], ◌∷◌, ◌++◌, length, take, vec_len, All, Ok, Err};
+ghost use Rattle.std.specs.Prelude.{◌≡◌, ◌≢◌, ◌+◌, ◌≤◌, ◌⊎◌, [], ◌∷◌, ◌++◌, length, All, Ok, Err};
 ghost use Rattle.std.specs.Result.{result_map_both};
 ghost use Rattle.ompt_events.specs.Traces.{IsInRange, IsSoundIn, IsTraceOf, tasks_in};
 ghost use Rattle.certificate.specs.RecordLines.{IsSaid};
@@ -7,7 +7,7 @@ ghost use Rattle.certificate.specs.Files.{no_trace, with_record};
 ghost use Rattle.certificate.specs.Keeping.{KeepsFirst};
 
 use crate::faults::ReadCause;
-use ompt_events::{Body, MAX_RECORDS, MAX_TASKS, Record, Trace};
+use ompt_events::{MAX_RECORDS, MAX_TASKS, Record, Trace};
 use std::alloc::Global;
 use std::marker::Model;
 
@@ -108,15 +108,6 @@ impl Kept {
         (count, None)
     }
 
-    /// Touches the memory of so many more records, so that they are added the faster. Nothing is changed.
-    pub(crate) fn warm(&mut self, count: usize)
-        ensures { self.new ≡ self.old }
-    {
-        let len = self.records.len();
-        touch(&mut self.records, count);
-        self.records.truncate(len);
-    }
-
     /// The same as `keep_all`, record by record.
     fn keep_each(&mut self, records: Vec<Record>) -> (usize, Option<ReadCause>)
         requires { All (λ r. IsSoundIn self.old.version r.body) records.items }
@@ -143,23 +134,6 @@ impl Kept {
             of_turns(self.records)
         } else {
             of_records(self.records)
-        }
-    }
-}
-
-/// Adds so many records of no meaning, as long as memory is found.
-fn touch(records: &mut Vec<Record>, count: usize)
-    ensures { take (vec_len records.old) records.new.items ≡ records.old.items }
-{
-    'records: for _ in 0..count {
-        let event = Record {
-            thread: 0,
-            seq: 0,
-            seen: 0,
-            body: Body::ThreadEnd,
-        };
-        if records.push(event).is_err() {
-            return;
         }
     }
 }

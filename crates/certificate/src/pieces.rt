@@ -15,7 +15,7 @@ use std::thread;
 use std::thread::Threads;
 
 /// A line of a record is rarely shorter. Where many are, the room that is taken for a piece grows.
-pub(crate) const LINE: usize = 96;
+const LINE: usize = 96;
 
 /// The records of a piece's lines up to its first faulty one, how many of them make a task, and what that
 /// line has.

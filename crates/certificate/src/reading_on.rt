@@ -2,28 +2,27 @@
 //! into pieces that are judged side by side, and puts the pieces together in their order.
 ghost use Rattle.std.specs.Prelude.{◌≡◌, ◌≢◌, ◌≤◌, ◌<◌, ◌+◌, ◌-◌, ◌*◌, ◌^◌, ◌++◌, ℕ, List, Option, Ok, Err, true, false, length, drop, IfOk, IfErr, IfSome, OnOk, OnErr, max};
 ghost use Rattle.std.specs.Result.{result_err};
-ghost use Rattle.std.specs.Thread.{IsSync};
 ghost use Rattle.std.specs.Io.KnownBytes.{IsAtEnd};
 ghost use Rattle.ompt_events.specs.Traces.{TraceView};
 ghost use Rattle.certificate.specs.Counts.{cause_told};
 ghost use Rattle.certificate.specs.Formats.{line_feeds};
 ghost use Rattle.certificate.specs.Pieces.{IsWholeLines, IsJudged, AreJudged};
 ghost use Rattle.certificate.specs.Windows.{LineFeedAt};
-ghost use Rattle.certificate.specs.Blocks.{AreCuts, IsFillFault};
+ghost use Rattle.certificate.specs.Blocks.{IsFillFault};
 ghost use Rattle.certificate.specs.ReadingOn.{IsAnswerOn, IsAnswerInBlocks, ReadsAhead, IsToldAfter, IsBetweenLines, IsJudgedUpTo, IsCounted, IsAfterRound, IsBegun, IsLineFault, room_of};
 
 use crate::blocks::{Block, fill};
 use crate::device::{MAX_TURNS, Source};
 use crate::faults::{ReadCause, ReadFault};
 use crate::kept::Kept;
-use crate::pieces::{LINE, Piece, cuts, judge_all};
+use crate::pieces::{Piece, cuts, judge_all};
 use crate::reading::{LAST_LINE, NEWEST_VERSION, take_header};
 use crate::window::MAX_LINE;
 use json::Scratch;
 use memchr::memchr;
 use ompt_events::Trace;
-use std::alloc::{AllocError, Global};
-use std::thread::{Threads, join_mut};
+use std::alloc::Global;
+use std::thread::Threads;
 
 /// The bytes of a block that [`read_on`] takes.
 const BLOCK: usize = 1 << 20;
@@ -303,35 +302,10 @@ fn judge_records<R: Threads + Sync>(
     let Ok(cuts) = cuts(alloc, text, count) else {
         return Err(ReadCause::Memory);
     };
-    let Ok(pieces) = judge_and_warm(rt, alloc, text, &cuts, kept) else {
+    let Ok(pieces) = judge_all(rt, alloc, kept.version(), text, &cuts) else {
         return Err(ReadCause::Memory);
     };
     join(pieces, line, kept)
-}
-
-/// Judges the pieces, and meanwhile touches the memory of the records that they may have.
-fn judge_and_warm<R: Threads + Sync>(
-    rt: &R,
-    alloc: Global,
-    text: &[u8],
-    cuts: &[usize],
-    kept: &mut Kept,
-) -> Result<Vec<Piece>, AllocError>
-    requires { AreCuts text.now cuts.now }
-    ensures same { kept.new ≡ kept.old }
-    ensures judged { IfOk result (λ pieces. AreJudged kept.old.version pieces.items text.now) }
-{
-    let version = kept.version();
-    let count = text.len() / LINE;
-    let (pieces, ()) = join_mut(
-        rt,
-        &mut || -> Result<Vec<Piece>, AllocError>
-            requires { IsSync R.row × AreCuts text.now cuts.now }
-            ensures { IfOk result (λ pieces. AreJudged version pieces.items text.entry.now) }
-        { judge_all(rt, alloc, version, text, cuts) },
-        &mut || kept.warm(count),
-    );
-    pieces
 }
 
 /// Adds what these pieces stand for, up to the first fault.
