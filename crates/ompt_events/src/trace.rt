@@ -76,6 +76,14 @@ impl Trace {
     {
         self.records.as_slice()
     }
+
+    /// The records in file order, for a trace of other records to be made of them. Takes no memory.
+    pub fn into_records(self) -> Vec<Record>
+        ensures value { result.items ≡ self.records }
+        ensures is_trace { IsTraceOf self.version result.items }
+    {
+        self.records
+    }
 }
 
 /// The trace of this version of the records, or the place of the first one that cannot stand there.
