@@ -16,6 +16,7 @@ pub mod LookupLemmas
 pub mod OwnLemmas
 pub mod NamedLemmas
 pub mod RisingListLemmas
+pub mod BlindLemmas
 pub mod RenamedPlaceLemmas
 pub mod RenamedTreeLemmas
 pub mod RenamedRegionLemmas

@@ -1,7 +1,7 @@
 -- Records in another order: what stands at a place, each task's own records and the members of teams.
 use Rattle.std.proofs.Common.{◌≡◌, ◌∙◌, ℕ, ◌<◌, ◌≤◌, List, length, Option, Some, None, true, false, Bool, refl, sym, ap, arith, inl, inr, map}
 use Rattle.std.proofs.lemmas.Bool.{cases_eq, cases_lt, false≢true}
-use Rattle.std.specs.Prelude.{◌==◌, slice_get, option_and_then, is_some}
+use Rattle.std.specs.Prelude.{◌==◌, is_some}
 use Rattle.std.specs.List.{range_with_len}
 use Rattle.std.specs.Option.{option_map_or}
 use Rattle.ompt_events.specs.declared.records.Record.{Record}
@@ -9,7 +9,8 @@ use Rattle.ompt_events.specs.declared.records.Body.{Body}
 use Rattle.ompt_events.specs.Records.{running, joined}
 use Rattle.ompt_events.specs.Places.{at, is_own, own_before}
 use Rattle.ompt_events.proofs.PlaceLemmas.{at_within}
-use Rattle.task_tree.specs.Renaming.{IsRenaming}
+use Rattle.task_tree.specs.Renaming.{IsRenaming, SayAlike, untold}
+use Rattle.task_tree.proofs.BlindLemmas.{IsBlind, blind_at, blind_running, blind_joined}
 use Rattle.task_tree.proofs.RisingListLemmas.{IsIn, filter_in, IsCut, IsSameTest, cut_at, cut_places}
 
 -- what a renaming says of the places of records alone; it holds the other way round too
@@ -18,7 +19,7 @@ pub record IsReordered (rs ss : List Record) (to back : ℕ → ℕ) : Type 0 wh
   pub back_within : (j : ℕ) → j < length ss → back j < length rs
   pub back_to : (i : ℕ) → i < length rs → back (to i) ≡ i
   pub to_back : (j : ℕ) → j < length ss → to (back j) ≡ j
-  pub alike : (i : ℕ) → i < length rs → slice_get ss (to i) ≡ slice_get rs i
+  pub alike : (i : ℕ) → i < length rs → SayAlike ss (to i) rs i
   pub own_rise : (task i k : ℕ) → is_own rs task i ≡ true → is_own rs task k ≡ true → i < k → to i < to k
   pub members_rise : (i k : ℕ) → is_some (at joined rs i) ≡ true → is_some (at joined rs k) ≡ true → i < k → to i < to k
 
@@ -35,15 +36,15 @@ reordered r = record {
 
 -- ---- what is said at a place
 
-pub same_at : {X : Type 0} (f : Body → Option X) {rs ss : List Record} {to back : ℕ → ℕ} → IsReordered rs ss to back → (i : ℕ) → i < length rs → at f ss (to i) ≡ at f rs i
-same_at f r i within = ap (option_and_then (λ (q : Record). f q.body)) (r.alike i within)
+pub same_at : {X : Type 0} (f : Body → Option X) → IsBlind f → {rs ss : List Record} {to back : ℕ → ℕ} → IsReordered rs ss to back → (i : ℕ) → i < length rs → at f ss (to i) ≡ at f rs i
+same_at f blind {rs} {ss} {to} r i within = blind_at f blind ss (to i) rs i (r.alike i within)
 
 -- what is said at a place is said where its record stands in the other order
-pub moved_at : {X : Type 0} (f : Body → Option X) (x : X) {rs ss : List Record} {to back : ℕ → ℕ} → IsReordered rs ss to back → (i : ℕ) → at f rs i ≡ Some x → at f ss (to i) ≡ Some x
-moved_at f x {rs} r i says = same_at f r i (at_within f rs i x says) ∙ says
+pub moved_at : {X : Type 0} (f : Body → Option X) → IsBlind f → (x : X) {rs ss : List Record} {to back : ℕ → ℕ} → IsReordered rs ss to back → (i : ℕ) → at f rs i ≡ Some x → at f ss (to i) ≡ Some x
+moved_at f blind x {rs} r i says = same_at f blind r i (at_within f rs i x says) ∙ says
 
 pub same_own : {rs ss : List Record} {to back : ℕ → ℕ} → IsReordered rs ss to back → (task i : ℕ) → i < length rs → is_own ss task (to i) ≡ is_own rs task i
-same_own r task i within = ap (λ (o : Option ℕ). option_map_or (λ t. t == task) o false) (same_at running r i within)
+same_own r task i within = ap (λ (o : Option ℕ). option_map_or (λ t. t == task) o false) (same_at running blind_running r i within)
 
 pub own_within : (rs : List Record) (task i : ℕ) → is_own rs task i ≡ true → i < length rs
 own_within rs task i own = there (at running rs i) refl own
@@ -71,11 +72,11 @@ rises_back p q to back rises passes to_back j l j_is l_is below = elim (cases_lt
   ]
 ]
 
-same_back : {X : Type 0} (f : Body → Option X) {rs ss : List Record} {to back : ℕ → ℕ} → IsReordered rs ss to back → (j : ℕ) → j < length ss → at f rs (back j) ≡ at f ss j
-same_back f {ss = ss} {back = back} r j within = sym (same_at f r (back j) (r.back_within j within)) ∙ ap (at f ss) (r.to_back j within)
+same_back : {X : Type 0} (f : Body → Option X) → IsBlind f → {rs ss : List Record} {to back : ℕ → ℕ} → IsReordered rs ss to back → (j : ℕ) → j < length ss → at f rs (back j) ≡ at f ss j
+same_back f blind {ss = ss} {back = back} r j within = sym (same_at f blind r (back j) (r.back_within j within)) ∙ ap (at f ss) (r.to_back j within)
 
 own_back : {rs ss : List Record} {to back : ℕ → ℕ} → IsReordered rs ss to back → (task j : ℕ) → is_own ss task j ≡ true → is_own rs task (back j) ≡ true
-own_back {ss = ss} r task j own = ap (λ (o : Option ℕ). option_map_or (λ t. t == task) o false) (same_back running r j (own_within ss task j own)) ∙ own
+own_back {ss = ss} r task j own = ap (λ (o : Option ℕ). option_map_or (λ t. t == task) o false) (same_back running blind_running r j (own_within ss task j own)) ∙ own
 
 pub reordered_back : {rs ss : List Record} {to back : ℕ → ℕ} → IsReordered rs ss to back → IsReordered ss rs back to
 reordered_back {rs} {ss} {to} {back} r = record {
@@ -83,9 +84,9 @@ reordered_back {rs} {ss} {to} {back} r = record {
   back_within = r.to_within;
   back_to = r.to_back;
   to_back = r.back_to;
-  alike = λ j within. sym (r.alike (back j) (r.back_within j within)) ∙ ap (slice_get ss) (r.to_back j within);
+  alike = λ j within. sym (r.alike (back j) (r.back_within j within)) ∙ ap (at (λ body. Some (untold body)) ss) (r.to_back j within);
   own_rise = λ task. rises_back (is_own rs task) (is_own ss task) to back (r.own_rise task) (own_back r task) (λ j own. r.to_back j (own_within ss task j own));
-  members_rise = rises_back (λ i. is_some (at joined rs i)) (λ j. is_some (at joined ss j)) to back r.members_rise (λ j joins. ap is_some (same_back joined r j (some_within joined ss j joins)) ∙ joins) (λ j joins. r.to_back j (some_within joined ss j joins));
+  members_rise = rises_back (λ i. is_some (at joined rs i)) (λ j. is_some (at joined ss j)) to back r.members_rise (λ j joins. ap is_some (same_back joined blind_joined r j (some_within joined ss j joins)) ∙ joins) (λ j joins. r.to_back j (some_within joined ss j joins));
 }
 
 -- ---- a task's own records

@@ -18,6 +18,7 @@ use Rattle.ompt_events.proofs.RecordLemmas.{at_through, region_running}
 use Rattle.ompt_events.proofs.PlaceLemmas.{at_within}
 use Rattle.ompt_events.proofs.ListLemmas.{get_contains}
 use Rattle.task_tree.proofs.RisingListLemmas.{IsIn, filter_in, filter-map, IsCut}
+use Rattle.task_tree.proofs.BlindLemmas.{blind_region}
 use Rattle.task_tree.proofs.RenamedPlaceLemmas.{IsReordered, same_at, moved_at, own_within, own_cut, past_cut, own_before_cut, own_in, reordered_back}
 use Rattle.task_tree.proofs.RenamedTreeLemmas.{children_cut, moved_family, moved_teammate}
 
@@ -39,7 +40,7 @@ opened_mapped to g h opened (x ∷ xs) same =
 pub open_cut : {rs ss : List Record} {to back : ℕ → ℕ} → IsReordered rs ss to back → (task n m : ℕ) → IsCut (is_own rs task) to n m → open_regions ss task m ≡ map to (open_regions rs task n)
 open_cut {rs} {ss} {to} r task n m cut =
     ap (fold (λ opened k. after_region opened k (at region ss k)) []) (own_before_cut r task n m cut)
-    ∙ opened_mapped to (at region ss) (at region rs) [] (own_before rs task n) (λ k is. same_at region r k (own_within rs task k (own_in rs task n k is)))
+    ∙ opened_mapped to (at region ss) (at region rs) [] (own_before rs task n) (λ k is. same_at region blind_region r k (own_within rs task k (own_in rs task n k is)))
 
 -- an open region began at one of the places
 after_in : (z k : ℕ) (opened : List ℕ) (o : Option (ℕ × SyncKind × Endpoint)) → IsIn z (after_region opened k o) → IsIn z opened ⊎ (z ≡ k)
@@ -89,11 +90,11 @@ end_of_region rs i task kind begin (at_once says) = region_own rs i task kind Be
 -- ---- regions
 
 same_kind_at : {rs ss : List Record} {to back : ℕ → ℕ} → IsReordered rs ss to back → (i : ℕ) → i < length rs → kind_at ss (to i) ≡ kind_at rs i
-same_kind_at r i within = ap (option_map (λ (r : ℕ × SyncKind × Endpoint). r.1)) (same_at region r i within)
+same_kind_at r i within = ap (option_map (λ (r : ℕ × SyncKind × Endpoint). r.1)) (same_at region blind_region r i within)
 
 pub moved_end : {rs ss : List Record} {to back : ℕ → ℕ} → IsReordered rs ss to back → (i task : ℕ) (kind : SyncKind) (begin : ℕ) → EndsRegion rs i task kind begin → EndsRegion ss (to i) task kind (to begin)
 moved_end {rs} {ss} {to} r i task kind begin is_end = record {
-  ends = moved_at region (task, kind, End) r i is_end.ends;
+  ends = moved_at region blind_region (task, kind, End) r i is_end.ends;
   innermost =
       ap (λ l. slice_get l 0) (open_cut r task i (to i) (own_cut r task i (region_own rs i task kind End is_end.ends)))
       ∙ slice_get-map to (open_regions rs task i) 0
@@ -103,14 +104,14 @@ moved_end {rs} {ss} {to} r i task kind begin is_end = record {
 
 pub moved_region : {rs ss : List Record} {to back : ℕ → ℕ} → IsReordered rs ss to back → (i task : ℕ) (kind : SyncKind) (begin : ℕ) → IsRegion rs i task kind begin → IsRegion ss (to i) task kind (to begin)
 moved_region r i task kind begin (ended is) = ended (moved_end r i task kind begin is)
-moved_region r i task kind begin (at_once says) = at_once (moved_at region (task, kind, BeginEnd) r i says)
+moved_region r i task kind begin (at_once says) = at_once (moved_at region blind_region (task, kind, BeginEnd) r i says)
 
 -- the same of a place in the other order
 pub moved_no_region : {rs ss : List Record} {to back : ℕ → ℕ} → IsReordered rs ss to back → (i task : ℕ) (kind : SyncKind) → EndsNoRegion rs i task kind → EndsNoRegion ss (to i) task kind
 moved_no_region {rs} {ss} {to} {back} r i task kind is = record { ends = ends; none = none }
   where
     ends : at region ss (to i) ≡ Some (task, kind, End)
-    ends = moved_at region (task, kind, End) r i is.ends
+    ends = moved_at region blind_region (task, kind, End) r i is.ends
 
     none : (begin : ℕ) → slice_get (open_regions ss task (to i)) 0 ≡ Some begin → kind_at ss begin ≡ Some kind → ⊥
     none begin innermost same =
@@ -126,7 +127,7 @@ pub same_barriers : {rs ss : List Record} {to back : ℕ → ℕ} → IsReordere
 same_barriers {rs} {ss} {to} r task =
     ap (filter (begins_barrier ss task)) (own_before_cut r task (length rs) (length ss) (past_cut r task (length rs) (length ss) (omega arith) (omega arith)))
     ∙ filter-map to (begins_barrier rs task) (begins_barrier ss task) (own_before rs task (length rs)) (λ k is.
-    ap (λ (o : Option (ℕ × SyncKind × Endpoint)). option_map_or (λ t. t == task) (barrier_begun o) false) (same_at region r k (own_within rs task k (own_in rs task (length rs) k is))))
+    ap (λ (o : Option (ℕ × SyncKind × Endpoint)). option_map_or (λ t. t == task) (barrier_begun o) false) (same_at region blind_region r k (own_within rs task k (own_in rs task (length rs) k is))))
 
 pub moved_barrier_begin : {rs ss : List Record} {to back : ℕ → ℕ} → IsReordered rs ss to back → (task number start : ℕ) → IsBarrierBegin rs task number start → IsBarrierBegin ss task number (to start)
 moved_barrier_begin {rs} {ss} {to} r task number start is =

@@ -12,12 +12,13 @@ use Rattle.ompt_events.specs.Dependences.{DependsOn, IsPredecessor}
 use Rattle.ompt_events.specs.Teams.{members_before, members, IsMember, IsInitial, IsTeammate, alone, together}
 use Rattle.ompt_events.specs.Coverage.{IsFamily}
 use Rattle.task_tree.proofs.RisingListLemmas.{filter_in, IsCut, IsSameTest, cut_at, cut_places, filter_map-map, filter_map-filter}
+use Rattle.task_tree.proofs.BlindLemmas.{blind_begun_initial, blind_begun_root, blind_created, blind_creation, blind_dependences, blind_joined}
 use Rattle.task_tree.proofs.RenamedPlaceLemmas.{IsReordered, same_at, moved_at, own_within, some_within, past_cut, own_before_cut, own_in, reordered_back}
 
 -- ---- the tree
 
 same_child : {rs ss : List Record} {to back : ℕ → ℕ} → IsReordered rs ss to back → (parent i : ℕ) → is_own rs parent i ≡ true → child_at ss parent (to i) ≡ child_at rs parent i
-same_child {rs} r parent i own = ap (option_and_then (λ (p : ℕ × ℕ). if p.0 == parent then Some p.1 else None)) (same_at creation r i (own_within rs parent i own))
+same_child {rs} r parent i own = ap (option_and_then (λ (p : ℕ × ℕ). if p.0 == parent then Some p.1 else None)) (same_at creation blind_creation r i (own_within rs parent i own))
 
 pub children_cut : {rs ss : List Record} {to back : ℕ → ℕ} → IsReordered rs ss to back → (parent n m : ℕ) → IsCut (is_own rs parent) to n m → children_before ss parent m ≡ children_before rs parent n
 children_cut {rs} {ss} {to} r parent n m cut =
@@ -28,13 +29,13 @@ pub same_children : {rs ss : List Record} {to back : ℕ → ℕ} → IsReordere
 same_children {rs} {ss} r parent = children_cut r parent (length rs) (length ss) (past_cut r parent (length rs) (length ss) (omega arith) (omega arith))
 
 pub moved_root : {rs ss : List Record} {to back : ℕ → ℕ} → IsReordered rs ss to back → (task : ℕ) → IsRoot rs task → IsRoot ss task
-moved_root {to = to} r task (i, says) = (to i, moved_at begun_root task r i says)
+moved_root {to = to} r task (i, says) = (to i, moved_at begun_root blind_begun_root task r i says)
 
 pub moved_explicit : {rs ss : List Record} {to back : ℕ → ℕ} → IsReordered rs ss to back → (task : ℕ) → IsExplicit rs task → IsExplicit ss task
-moved_explicit {to = to} r task (i, says) = (to i, moved_at created task r i says)
+moved_explicit {to = to} r task (i, says) = (to i, moved_at created blind_created task r i says)
 
 pub moved_creation : {rs ss : List Record} {to back : ℕ → ℕ} → IsReordered rs ss to back → (i parent task : ℕ) → IsCreatedAt rs i parent task → IsCreatedAt ss (to i) parent task
-moved_creation r i parent task says = moved_at creation (parent, task) r i says
+moved_creation r i parent task says = moved_at creation blind_creation (parent, task) r i says
 
 pub moved_rooted : {rs ss : List Record} {to back : ℕ → ℕ} → IsReordered rs ss to back → (task : ℕ) → IsRooted rs task → IsRooted ss task
 moved_rooted r task (root is) = root (moved_root r task is)
@@ -58,7 +59,7 @@ moved_path r first task path (below number {parent = parent} {path = above} stan
 -- ---- dependences
 
 pub moved_depends : {rs ss : List Record} {to back : ℕ → ℕ} → IsReordered rs ss to back → (task : ℕ) (dep : Dep) → DependsOn rs task dep → DependsOn ss task dep
-moved_depends {to = to} r task dep (i, list, says, has) = (to i, list, moved_at dependences (task, list) r i says, has)
+moved_depends {to = to} r task dep (i, list, says, has) = (to i, list, moved_at dependences blind_dependences (task, list) r i says, has)
 
 pub moved_predecessor : {rs ss : List Record} {to back : ℕ → ℕ} → IsReordered rs ss to back → (task predecessor : ℕ) → IsPredecessor rs task predecessor → IsPredecessor ss task predecessor
 moved_predecessor r task predecessor is = record {
@@ -80,8 +81,8 @@ moved_predecessor r task predecessor is = record {
 
 member_test : {rs ss : List Record} {to back : ℕ → ℕ} → IsReordered rs ss to back → IsSameTest (λ i. is_some (at joined rs i)) (λ j. is_some (at joined ss j)) to back
 member_test {rs} {ss} r = record {
-  kept = λ k says. ap is_some (same_at joined r k (some_within joined rs k says)) ∙ says;
-  given = λ j says. ap is_some (same_at joined (reordered_back r) j (some_within joined ss j says)) ∙ says;
+  kept = λ k says. ap is_some (same_at joined blind_joined r k (some_within joined rs k says)) ∙ says;
+  given = λ j says. ap is_some (same_at joined blind_joined (reordered_back r) j (some_within joined ss j says)) ∙ says;
   to_back = λ j says. r.to_back j (some_within joined ss j says);
   rises = r.members_rise;
 }
@@ -90,7 +91,7 @@ members_cut : {rs ss : List Record} {to back : ℕ → ℕ} → IsReordered rs s
 members_cut {rs} {ss} {to} r parallel n m cut = ap (filter (λ (m : Membership). m.parallel == parallel)) (
     sym (filter_map-filter (at joined ss) (range_with_len 0 m))
     ∙ ap (filter_map (at joined ss)) (cut_places (member_test r) n m cut)
-    ∙ filter_map-map to (at joined ss) (at joined rs) (filter (λ i. is_some (at joined rs i)) (range_with_len 0 n)) (λ i is. same_at joined r i (some_within joined rs i (filter_in (λ i. is_some (at joined rs i)) i (range_with_len 0 n) is).1))
+    ∙ filter_map-map to (at joined ss) (at joined rs) (filter (λ i. is_some (at joined rs i)) (range_with_len 0 n)) (λ i is. same_at joined blind_joined r i (some_within joined rs i (filter_in (λ i. is_some (at joined rs i)) i (range_with_len 0 n) is).1))
     ∙ filter_map-filter (at joined rs) (range_with_len 0 n)
     )
 
@@ -105,10 +106,10 @@ same_members {rs} {ss} r parallel = members_cut r parallel (length rs) (length s
 })
 
 pub moved_member : {rs ss : List Record} {to back : ℕ → ℕ} → IsReordered rs ss to back → (task : ℕ) → IsMember rs task → IsMember ss task
-moved_member {to = to} r task (i, m, says, same) = (to i, m, moved_at joined m r i says, same)
+moved_member {to = to} r task (i, m, says, same) = (to i, m, moved_at joined blind_joined m r i says, same)
 
 pub moved_initial : {rs ss : List Record} {to back : ℕ → ℕ} → IsReordered rs ss to back → (task : ℕ) → IsInitial rs task → IsInitial ss task
-moved_initial {to = to} r task (i, says) = (to i, moved_at begun_initial task r i says)
+moved_initial {to = to} r task (i, says) = (to i, moved_at begun_initial blind_begun_initial task r i says)
 
 pub moved_teammate : {rs ss : List Record} {to back : ℕ → ℕ} → IsReordered rs ss to back → (task other : ℕ) → IsTeammate rs task other → IsTeammate ss task other
 moved_teammate r task other (alone is) = alone (moved_initial r task is)

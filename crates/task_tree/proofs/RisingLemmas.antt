@@ -14,6 +14,7 @@ use Rattle.ompt_events.specs.Places.{at, is_own}
 use Rattle.ompt_events.specs.Turns.{TellsNoTurns, turn_in, turn_of, turn_at, own_places, in_own_order, own_place}
 use Rattle.ompt_events.proofs.PlaceLemmas.{at_within}
 use Rattle.task_tree.specs.Renaming.{IsRenaming}
+use Rattle.task_tree.proofs.BlindLemmas.{alike_same}
 use Rattle.task_tree.specs.Rising.{TurnsRise}
 use Rattle.task_tree.proofs.RankedLemmas.{Every}
 use Rattle.task_tree.proofs.OwnOrderLemmas.{new_turn, turn_most, own_length, own_within, own_place_within, own_place_past, own_get, own_place_of, own_order, arranged_length, arranged_get}
@@ -60,7 +61,7 @@ own_renaming rs rise = record {
   back_within = λ j within. own_within rs j (slice_index (own_places rs) j) (item j within);
   back_to = λ i within. get_or_from_slice_get (own_places rs) (own_place rs i) i 0 (own_get rs i within);
   to_back = λ j within. own_place_of rs j (slice_index (own_places rs) j) (item j within);
-  alike = λ i within. arranged_get rs i within;
+  alike = λ i within. alike_same (in_own_order rs) (own_place rs i) rs i (arranged_get rs i within);
   own_rise = λ task i k one other less. up i k (some_own task i one) (some_own task k other) less (rise task i k one other less);
   members_rise = λ i k one other less. up i k (some_within joined rs i one) (some_within joined rs k other) less (let first = joined_zero rs i one in omega arith);
 }

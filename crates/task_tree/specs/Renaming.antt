@@ -1,8 +1,20 @@
--- The same records in another order of lines, in which nothing changes that a task can tell.
-use Rattle.std.specs.Prelude.{ℕ, ◌≡◌, ◌<◌, ◌≤◌, true, List, length, slice_get, is_some}
+-- The same records in another order of lines, in which nothing changes that a task can tell; they may tell
+-- other turns.
+use Rattle.std.specs.Prelude.{ℕ, ◌≡◌, ◌<◌, ◌≤◌, true, List, length, Some, None, is_some}
 use Rattle.ompt_events.specs.declared.records.Record.{Record}
+use Rattle.ompt_events.specs.declared.records.Body.{Body}
+use Rattle.ompt_events.specs.declared.records.Body.TheVariants.{TaskSchedule}
 use Rattle.ompt_events.specs.Records.{joined}
 use Rattle.ompt_events.specs.Places.{at, is_own}
+
+-- what a record says, but for turns
+abbrev pub untold : Body → Body
+untold (TaskSchedule status turns prior next share) = TaskSchedule status None prior next share
+untold body = body
+
+-- the records at the places say the same, but for turns
+abbrev pub SayAlike : List Record → ℕ → List Record → ℕ → Type 0
+SayAlike rs i ss j = at (λ body. Some (untold body)) rs i ≡ at (λ body. Some (untold body)) ss j
 
 -- the record at each place i of rs stands at the place `to i` of ss, and that at j of ss at `back j` of rs;
 -- the records of each task stand in the same order, and so do those at which members of teams begin
@@ -12,7 +24,7 @@ pub record IsRenaming (rs ss : List Record) (to back : ℕ → ℕ) : Type 0 whe
   pub back_within : (j : ℕ) → j < length ss → back j < length rs
   pub back_to : (i : ℕ) → i < length rs → back (to i) ≡ i
   pub to_back : (j : ℕ) → j < length ss → to (back j) ≡ j
-  pub alike : (i : ℕ) → i < length rs → slice_get ss (to i) ≡ slice_get rs i
+  pub alike : (i : ℕ) → i < length rs → SayAlike ss (to i) rs i
   pub own_rise : (task i k : ℕ) → is_own rs task i ≡ true → is_own rs task k ≡ true → i < k → to i < to k
   pub members_rise : (i k : ℕ) → is_some (at joined rs i) ≡ true → is_some (at joined rs k) ≡ true → i < k
       → to i < to k

@@ -38,7 +38,7 @@ pub fn own_order_is_by_turn()
 {}
 
 /// Records in another order, in which each task's own records keep their order, and so do those at which
-/// members of teams begin, say the same: each task has the same children, stands at the same paths and waits
+/// members of teams begin, say the same, whatever turns they tell: each task has the same children, stands at the same paths and waits
 /// for the same earlier siblings; the end of each region waits for the same tasks; and the causes of
 /// regions, of teams and of claims are at the same records.
 pub fn renamed_records_say_the_same()
