@@ -76,6 +76,14 @@ impl Trace {
     {
         self.records.as_slice()
     }
+
+    /// The records in file order, which are the caller's from here on. Takes no memory.
+    pub fn into_records(self) -> Vec<Record>
+        ensures value { result.items ≡ self.records }
+        ensures is_trace { IsTraceOf self.version result.items }
+    {
+        self.records
+    }
 }
 
 /// The trace of this version of the records, or the place of the first one that cannot stand there.
