@@ -25,3 +25,5 @@ pub mod ReadingOn
 pub mod MemoryDevices
 pub mod Answers
 pub mod Streams
+pub mod Upgrading
+pub mod TaskTurns

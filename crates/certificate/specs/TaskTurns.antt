@@ -1,0 +1,85 @@
+-- What is noted of each task while a trace is upgraded.
+use Rattle.std.specs.Prelude.{ℕ, ◌≡◌, ◌≢◌, ◌<◌, ◌+◌, ◌-◌, ◌==◌, ◌⊎◌, false, List, take, Option, Some, None, if◌then◌else◌}
+use Rattle.std.specs.Option.{unwrap_or, option_map_or}
+use Rattle.std.specs.Ordering.{nat_cmp}
+use Rattle.std.specs.BTreeMap.{BTreeMap, get}
+use Rattle.ompt_events.specs.declared.records.Record.{Record}
+use Rattle.ompt_events.specs.declared.records.Body.{Body}
+use Rattle.ompt_events.specs.declared.records.Body.TheVariants.{TaskSchedule}
+use Rattle.ompt_events.specs.declared.records.Turns.{Turns}
+use Rattle.ompt_events.specs.Records.{begun_root, started}
+use Rattle.ompt_events.specs.Places.{at, thread_at}
+use Rattle.ompt_events.specs.States.{is_task}
+use Rattle.certificate.specs.declared.task_turns.TaskTurns.{TaskTurns}
+use Rattle.certificate.specs.Upgrading.{first_turn, turn_begun}
+
+-- nothing is noted: no record begins the task or runs it
+abbrev pub no_turns : TaskTurns
+no_turns = record { home = None; next = 0 }
+
+-- what is noted of the task
+abbrev pub noted : BTreeMap ℕ TaskTurns → ℕ → TaskTurns
+noted table task = unwrap_or (get nat_cmp table task) no_turns
+
+-- with what the record at which a root begins says
+abbrev pub with_begin : ℕ → Record → TaskTurns → TaskTurns
+with_begin task r t = if is_task task (begun_root r.body) then record { home = t.home; next = 1 } else t
+
+-- with what the record after which a task runs says
+abbrev pub with_start : ℕ → Record → TaskTurns → TaskTurns
+with_start task r t = if is_task task (started r.body) then record { home = Some r.thread; next = t.next } else t
+
+-- the task that runs next is noted to run on another thread
+pub record IsElsewhere (table : BTreeMap ℕ TaskTurns) (r : Record) : Type 0 where
+  pub task : ℕ
+  pub home : ℕ
+  pub runs : started r.body ≡ Some task
+  pub lives : (noted table task).home ≡ Some home
+  pub apart : home ≢ r.thread
+
+-- the task that runs next is noted to run on this thread, or on none
+abbrev pub IsAtHome : BTreeMap ℕ TaskTurns → Record → Type 0
+IsAtHome table r = (task : ℕ) → started r.body ≡ Some task
+    → ((noted table task).home ≡ None) ⊎ ((noted table task).home ≡ Some r.thread)
+
+-- of the first n records: the thread of each task that ran, and its first turn
+pub record AreHomes (rs : List Record) (n : ℕ) (table : BTreeMap ℕ TaskTurns) : Type 0 where
+  pub at_home : (task k : ℕ) → k < n → at started rs k ≡ Some task → thread_at rs k ≡ (noted table task).home
+  pub ran : (task home : ℕ) → (noted table task).home ≡ Some home
+      → (k : ℕ) × (k < n) × (at started rs k ≡ Some task) × (thread_at rs k ≡ Some home)
+  pub first : (task : ℕ) → (noted table task).next ≡ first_turn (take n rs) task
+
+-- of all records: the thread of each task that ran; and the turn that it begins where it runs next at the
+-- record at n
+pub record AreTurns (rs : List Record) (n : ℕ) (table : BTreeMap ℕ TaskTurns) : Type 0 where
+  pub at_home : (task k : ℕ) → at started rs k ≡ Some task → thread_at rs k ≡ (noted table task).home
+  pub next : (task : ℕ) → (noted table task).next ≡ turn_begun rs task n
+
+-- the turn that a task ends which stops running on the thread
+abbrev pub turn_ended : TaskTurns → ℕ → ℕ
+turn_ended t thread = if option_map_or (λ home. home == thread) t.home false then t.next - 1 else 0
+
+-- what is noted once the task has begun its next turn
+abbrev pub one_later : TaskTurns → TaskTurns
+one_later t = record { home = t.home; next = t.next + 1 }
+
+abbrev pub with_turn : ℕ → Record → TaskTurns → TaskTurns
+with_turn task r t = if is_task task (started r.body) then one_later t else t
+
+-- the turns that are noted of the tasks of a record, if one runs next
+abbrev pub turns_told : BTreeMap ℕ TaskTurns → ℕ → Body → Option Turns
+turns_told table thread (TaskSchedule status before prior (Some next) share) =
+    Some (record { prior = turn_ended (noted table prior) thread; next = (noted table next).next })
+turns_told table thread body = None
+
+-- a schedule event with these turns
+abbrev pub with_turns : Turns → Body → Body
+with_turns turns (TaskSchedule status before prior next share) = TaskSchedule status (Some turns) prior next share
+with_turns turns body = body
+
+-- the record with the turns that are noted of its tasks
+abbrev pub told_by : BTreeMap ℕ TaskTurns → Record → Record
+told_by table r =
+    option_map_or
+        (λ turns. record { thread = r.thread; seq = r.seq; seen = r.seen; body = with_turns turns r.body })
+        (turns_told table r.thread r.body) r
