@@ -1,5 +1,5 @@
 -- What is noted of each task while a trace is upgraded.
-use Rattle.std.specs.Prelude.{ℕ, ◌≡◌, ◌≢◌, ◌<◌, ◌+◌, ◌-◌, ◌==◌, ◌⊎◌, false, List, take, Option, Some, None, if◌then◌else◌}
+use Rattle.std.specs.Prelude.{ℕ, ◌≡◌, ◌≢◌, ◌<◌, ◌≤◌, ◌+◌, ◌-◌, ◌==◌, ◌⊎◌, false, List, length, take, slice_get, Option, Some, None, if◌then◌else◌}
 use Rattle.std.specs.Option.{unwrap_or, option_map_or}
 use Rattle.std.specs.Ordering.{nat_cmp}
 use Rattle.std.specs.BTreeMap.{BTreeMap, get}
@@ -11,7 +11,7 @@ use Rattle.ompt_events.specs.Records.{begun_root, started}
 use Rattle.ompt_events.specs.Places.{at, thread_at}
 use Rattle.ompt_events.specs.States.{is_task}
 use Rattle.certificate.specs.declared.task_turns.TaskTurns.{TaskTurns}
-use Rattle.certificate.specs.Upgrading.{first_turn, turn_begun}
+use Rattle.certificate.specs.Upgrading.{first_turn, turn_begun, IsUpgradedRecord}
 
 -- nothing is noted: no record begins the task or runs it
 abbrev pub no_turns : TaskTurns
@@ -83,3 +83,10 @@ told_by table r =
     option_map_or
         (λ turns. record { thread = r.thread; seq = r.seq; seen = r.seen; body = with_turns turns r.body })
         (turns_told table r.thread r.body) r
+
+-- the first n records are upgraded, and the others are as they were
+pub record IsUpgradedUpTo (old : List Record) (n : ℕ) (now : List Record) : Type 0 where
+  pub as_many : length now ≡ length old
+  pub upgraded : (i : ℕ) (r : Record) → i < n → slice_get old i ≡ Some r
+      → (s : Record) × (slice_get now i ≡ Some s) × IsUpgradedRecord old i r s
+  pub rest : (i : ℕ) → n ≤ i → slice_get now i ≡ slice_get old i

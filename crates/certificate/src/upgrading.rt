@@ -43,8 +43,9 @@ fn find_homes(
     let mut table = BTreeMap::new(alloc);
     for at in 0..records.len() {
         let event = &records[at];
-        if note_begin(&mut table, event).is_err() {
-            return Err(UpgradeFault::Memory);
+        match note_begin(&mut table, event) {
+            Ok(()) => {}
+            Err(_) => return Err(UpgradeFault::Memory),
         }
         match note_start(&mut table, event) {
             Ok(true) => {}
