@@ -241,12 +241,15 @@ last_more rs task n r stands before = by (is_task task (started r.body)) refl be
     not_here k is same ran = true≢false (sym (the_task task (started r.body) (sym (says started rs n r stands) ∙ ap (at started rs) (sym same) ∙ ran)) ∙ is)
 
     by : (b : Bool) → is_task task (started r.body) ≡ b → IsNoneOf rs task n ⊎ ((k : ℕ) × IsLastOf rs task n k) → IsNoneOf rs task (n + 1) ⊎ ((k : ℕ) × IsLastOf rs task (n + 1) k)
-    by true is _ = inr (n, record {
-      below = omega arith;
-      ran = says started rs n r stands ∙ is_the_task task (started r.body) is;
-      last = λ j less below ran. absurd (omega (arith, less, below));
-      counted = more true is;
-    })
+    by true is _ = inr (
+      n,
+      record {
+        below = omega arith;
+        ran = says started rs n r stands ∙ is_the_task task (started r.body) is;
+        last = λ j less below ran. absurd (omega (arith, less, below));
+        counted = more true is;
+      },
+    )
     by false is (inl nothing) = inl (record {
       never = λ k below ran. elim (cases_eq k n) [
         | inl same ↦ not_here k is same ran
@@ -254,15 +257,18 @@ last_more rs task n r stands before = by (is_task task (started r.body)) refl be
       ];
       counted = let same = more false is in let before = nothing.counted in omega (arith, same, before);
     })
-    by false is (inr (k, last)) = inr (k, record {
-      below = omega (arith, last.below);
-      ran = last.ran;
-      last = λ j less below ran. elim (cases_eq j n) [
-        | inl same ↦ not_here j is same ran
-        | inr apart ↦ last.last j less (omega (arith, below, apart)) ran
-      ];
-      counted = let same = more false is in let before = last.counted in omega (arith, same, before);
-    })
+    by false is (inr (k, last)) = inr (
+      k,
+      record {
+        below = omega (arith, last.below);
+        ran = last.ran;
+        last = λ j less below ran. elim (cases_eq j n) [
+          | inl same ↦ not_here j is same ran
+          | inr apart ↦ last.last j less (omega (arith, below, apart)) ran
+        ];
+        counted = let same = more false is in let before = last.counted in omega (arith, same, before);
+      },
+    )
 
 last_start : (rs : List Record) (task n : ℕ) → n ≤ length rs → IsNoneOf rs task n ⊎ ((k : ℕ) × IsLastOf rs task n k)
 last_start rs task zero short = inl (record { never = λ k below ran. absurd (omega (arith, below)); counted = refl })

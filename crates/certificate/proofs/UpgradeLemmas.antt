@@ -157,10 +157,10 @@ trace_of_two old new trace upgrade = record {
         let is = upgrade.upgraded i r stands in
         let same : is.0 ≡ s = same_Some is.0 s (sym is.1 ∙ now) in
         kept_as old i r s stands trace.is_trace.few_records
-          (subst (λ (q : Record). IsSound q.body) here (trace.is_trace.sound i r within))
-          (subst IsInRange here (trace.is_trace.in_range i r within))
-          (subst (λ (q : Record). HasItsTurns 1 q.body) here (trace.turns i r within))
-          (subst (λ (x : Record). IsUpgradedRecord old i r x) same is.2)
+        (subst (λ (q : Record). IsSound q.body) here (trace.is_trace.sound i r within))
+        (subst IsInRange here (trace.is_trace.in_range i r within))
+        (subst (λ (q : Record). HasItsTurns 1 q.body) here (trace.turns i r within))
+        (subst (λ (x : Record). IsUpgradedRecord old i r x) same is.2)
 
     of : (i : ℕ) (d : Record) → i < length new → (r : Record) × (slice_get old i ≡ Some r) × IsKeptAs r (get_or new i d)
     of i d within =

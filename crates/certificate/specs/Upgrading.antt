@@ -70,8 +70,12 @@ pub data IsUpgradedRecord (rs : List Record) (i : ℕ) (r : Record) : Record →
   told : (status : Status) (before : Option Turns) (prior next : ℕ) (share : Option Claim) (turns : Turns)
       → r.body ≡ TaskSchedule status before prior (Some next) share
       → EndsTurn rs i prior turns.prior → turns.next ≡ turn_begun rs next i
-      → IsUpgradedRecord rs i r (record { thread = r.thread; seq = r.seq; seen = r.seen;
-          body = TaskSchedule status (Some turns) prior (Some next) share })
+      → IsUpgradedRecord rs i r (record {
+        thread = r.thread;
+        seq = r.seq;
+        seen = r.seen;
+        body = TaskSchedule status (Some turns) prior (Some next) share;
+      })
 
 -- the old records, each with its turns
 pub record IsUpgradeOf (old new : List Record) : Type 0 where

@@ -32,10 +32,7 @@ pub fn upgrade(alloc: Global, trace: Trace) -> Result<Trace, (Trace, UpgradeFaul
 }
 
 /// On which thread each task runs, and its first turn.
-fn find_homes(
-    alloc: Global,
-    records: &[Record],
-) -> Result<BTreeMap<u64, TaskTurns>, UpgradeFault>
+fn find_homes(alloc: Global, records: &[Record]) -> Result<BTreeMap<u64, TaskTurns>, UpgradeFault>
     ensures stay { IfOk result (λ table. StayAtHome records.now) }
     ensures homes { IfOk result (AreHomes records.now (length records.now)) }
     ensures refused { IfErr result (IsRefusal records.now) }

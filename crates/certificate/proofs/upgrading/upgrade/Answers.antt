@@ -12,5 +12,5 @@ returns-in-Ok-clause-upgraded c =
       | inr is ↦ absurd (c.if-version-eq2.false (c.version.ensures ∙ is))
     ] in
     upgraded one c.tell_all.ensures.version
-      (subst (λ (rs : List Record). StayAtHome rs) c.records.ensures.value c.in-Ok.ensures.stay)
-      (subst (λ (rs : List Record). IsUpgradeOf rs new) c.into_records.ensures.value c.tell_all.ensures.upgrade)
+    (subst (λ (rs : List Record). StayAtHome rs) c.records.ensures.value c.in-Ok.ensures.stay)
+    (subst (λ (rs : List Record). IsUpgradeOf rs new) c.into_records.ensures.value c.tell_all.ensures.upgrade)
