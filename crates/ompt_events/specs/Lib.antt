@@ -22,4 +22,5 @@ pub mod Dependences
 pub mod Violations
 pub mod CauseNames
 pub mod Causes
+pub mod Upgrades
 pub mod Faults

@@ -77,7 +77,7 @@ impl Trace {
         self.records.as_slice()
     }
 
-    /// The records in file order, which are the caller's from here on. Takes no memory.
+    /// The records in file order, for a trace of other records to be made of them. Takes no memory.
     pub fn into_records(self) -> Vec<Record>
         ensures value { result.items ≡ self.records }
         ensures is_trace { IsTraceOf self.version result.items }
