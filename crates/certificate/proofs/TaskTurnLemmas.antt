@@ -1,25 +1,29 @@
 -- What is noted of the tasks, by the records so far.
-use Rattle.std.proofs.Common.{◌≡◌, ◌≢◌, ◌∙◌, ℕ, ◌<◌, ◌≤◌, ◌+◌, ◌-◌, ◌⊎◌, zero, suc, List, length, take, Option, Some, None, Bool, true, false, cond, refl, sym, ap, arith, inl, inr, add-one}
-use Rattle.std.specs.Prelude.{slice_get, option_and_then, option_map, ◌||◌, ◌==◌, count_by, IsSome}
+use Rattle.std.proofs.Common.{◌≡◌, ◌≢◌, ◌∙◌, ℕ, ◌<◌, ◌≤◌, ◌+◌, ◌-◌, ◌⊎◌, List, [], ◌∷◌, ◌++◌, length, take, Option, Some, None, Bool, true, false, cond, refl, sym, ap, arith, inl, inr, add-one}
+use Rattle.std.specs.Prelude.{slice_get, option_and_then, option_map, ◌||◌, ◌==◌, count_by, find, filter, fold, slice_set, is_some, IsSome, if◌then◌else◌}
 use Rattle.std.specs.List.{list_any}
 use Rattle.std.specs.Option.{option_map_or, unwrap_or}
 use Rattle.std.specs.Ordering.{nat_cmp}
 use Rattle.std.specs.BTreeMap.{BTreeMap, get}
-use Rattle.std.proofs.lemmas.Bool.{cases_Bool, cases_eq, eqb-true, eq-eqb, true≢false, false≢true}
+use Rattle.std.proofs.lemmas.Bool.{cases_Bool, cases_eq, eqb-true, eq-eqb, ne_eqb, true≢false, false≢true}
 use Rattle.std.proofs.lemmas.List.{length-take-le}
 use Rattle.std.proofs.lemmas.List.Folds.{list_any_more}
-use Rattle.std.proofs.lemmas.List.Sums.{count_by_more_yes, count_by_more_no, count_by-le-length}
-use Rattle.std.proofs.lemmas.Option.{none-some, same_Some, slice_get_within, get_or_from_slice_get, slice_get_cases}
-use Rattle.std.proofs.Math.Seq.{take-length}
+use Rattle.std.proofs.lemmas.List.Sums.{count_by_more_yes, count_by_more_no, count_by-le-length, fold-append}
+use Rattle.std.proofs.lemmas.List.Elements.{filter-append}
+use Rattle.std.proofs.lemmas.Option.{none-some, same_Some, slice_get_within, get_or_from_slice_get}
+use Rattle.std.proofs.Math.Seq.{take-length, take-suc-set}
 use Rattle.ompt_events.specs.declared.records.Record.{Record}
 use Rattle.ompt_events.specs.declared.records.Body.{Body}
-use Rattle.ompt_events.specs.Records.{begun_root, started}
+use Rattle.ompt_events.specs.declared.records.Body.TheVariants.{TaskSchedule}
+use Rattle.ompt_events.specs.declared.records.Turns.{Turns}
+use Rattle.ompt_events.specs.Records.{begun_root, started, begun_turn}
+use Rattle.ompt_events.specs.Turns.{turn_in, turn_after}
 use Rattle.ompt_events.specs.Places.{at, thread_at}
-use Rattle.ompt_events.specs.States.{is_task}
+use Rattle.ompt_events.specs.States.{is_task, is_made_so}
 use Rattle.ompt_events.proofs.PlaceLemmas.{at_within}
 use Rattle.certificate.specs.declared.task_turns.TaskTurns.{TaskTurns}
-use Rattle.certificate.specs.Upgrading.{IsMove, first_turn, starts_in, turn_begun, RanBefore, EndsTurn, begun, never_ran}
-use Rattle.certificate.specs.TaskTurns.{no_turns, noted, with_begin, with_start, with_turn, one_later, turn_ended, IsElsewhere, IsAtHome, AreHomes, AreTurns}
+use Rattle.ompt_events.specs.Upgrades.{Moves, turn_counted, telling}
+use Rattle.certificate.specs.TaskTurns.{no_turns, first_turn, noted, with_begin, with_start, with_turn, one_later, turn_ended, IsElsewhere, IsAtHome, AreHomes, AreTurns, AreEnded, turns_told, told_by}
 
 -- ---- single records
 
@@ -74,6 +78,15 @@ start_home task r t = by (is_task task (started r.body))
     by true = refl
     by false = refl
 
+-- whether one is found, as a test of all
+finds : (p : Record → Bool) (rs : List Record) → is_some (find p rs) ≡ list_any p rs
+finds p [] = refl
+finds p (r ∷ rs) = by (p r) (finds p rs)
+  where
+    by : (b : Bool) → is_some (find p rs) ≡ list_any p rs → is_some (cond b (Some r) (find p rs)) ≡ (b || list_any p rs)
+    by true is = refl
+    by false is = is
+
 or_first : (x y : Bool) (n : ℕ) → n ≡ cond x 1 0 → cond y 1 n ≡ cond {A = ℕ} (x || y) 1 0
 or_first true true n is = refl
 or_first true false n is = is
@@ -105,10 +118,11 @@ homes_more rs i r old mid new stands are begins stays starts = record {
   first = λ task.
       let test : Record → Bool = λ q. is_task task (begun_root q.body) in
       let more : list_any test (take (i + 1) rs) ≡ (list_any test (take i rs) || test r) = list_any_more test rs i r (slice_get_within rs i r stands) ∙ ap (λ (q : Record). list_any test (take i rs) || test q) (get_or_from_slice_get rs i r r stands) in
+      let before : (noted old task).next ≡ cond {A = ℕ} (list_any test (take i rs)) 1 0 = are.first task ∙ ap (λ b. cond {A = ℕ} b 1 0) (finds test (take i rs)) in
       ap (λ (t : TaskTurns). t.next) (starts task) ∙ start_next task r (noted mid task)
       ∙ ap (λ (t : TaskTurns). t.next) (begins task) ∙ begin_next task r (noted old task)
-      ∙ or_first (list_any test (take i rs)) (test r) (noted old task).next (are.first task)
-      ∙ ap (λ b. cond {A = ℕ} b 1 0) (sym more);
+      ∙ or_first (list_any test (take i rs)) (test r) (noted old task).next before
+      ∙ ap (λ b. cond {A = ℕ} b 1 0) (sym (finds test (take (i + 1) rs) ∙ more));
 }
   where
     mid_home : (task : ℕ) → (noted mid task).home ≡ (noted old task).home
@@ -121,39 +135,39 @@ homes_more rs i r old mid new stands are begins stays starts = record {
     home_there task never = ap (λ (t : TaskTurns). t.home) (starts task) ∙ start_home task r (noted mid task) ∙ ap (λ b. cond b (Some r.thread) (noted mid task).home) never ∙ mid_home task
 
 -- the task that is noted to run on another thread moves
-pub moves : (rs : List Record) (i : ℕ) (r : Record) (old mid : BTreeMap ℕ TaskTurns) → slice_get rs i ≡ Some r → AreHomes rs i old → ((task : ℕ) → noted mid task ≡ with_begin task r (noted old task)) → IsElsewhere mid r → IsMove rs i
+pub moves : (rs : List Record) (i : ℕ) (r : Record) (old mid : BTreeMap ℕ TaskTurns) → slice_get rs i ≡ Some r → AreHomes rs i old → ((task : ℕ) → noted mid task ≡ with_begin task r (noted old task)) → IsElsewhere mid r → Moves rs i
 moves rs i r old mid stands are begins elsewhere =
     let task = elsewhere.task in
     let before = are.ran task elsewhere.home (sym (begin_home task r (noted old task)) ∙ ap (λ (t : TaskTurns). t.home) (sym (begins task)) ∙ elsewhere.lives) in
     record {
       task = task;
+      next = says started rs i r stands ∙ elsewhere.runs;
       earlier = before.0;
-      below = before.1;
-      ran = before.2;
-      runs = says started rs i r stands ∙ elsewhere.runs;
+      before = before.1;
+      next_before = before.2;
       elsewhere = λ same. elsewhere.apart (same_Some elsewhere.home r.thread (sym before.3 ∙ same ∙ thread_is rs i r stands));
     }
 
 -- and one that is noted to run on this thread, or on none, does not
-pub stays_home : (rs : List Record) (i : ℕ) (r : Record) (old mid : BTreeMap ℕ TaskTurns) → slice_get rs i ≡ Some r → AreHomes rs i old → ((task : ℕ) → noted mid task ≡ with_begin task r (noted old task)) → IsAtHome mid r → IsMove rs i → ⊥
+pub stays_home : (rs : List Record) (i : ℕ) (r : Record) (old mid : BTreeMap ℕ TaskTurns) → slice_get rs i ≡ Some r → AreHomes rs i old → ((task : ℕ) → noted mid task ≡ with_begin task r (noted old task)) → IsAtHome mid r → Moves rs i → ⊥
 stays_home rs i r old mid stands are begins stays move =
     let task = move.task in
-    let home : thread_at rs move.earlier ≡ (noted mid task).home = are.at_home task move.earlier move.below move.ran ∙ sym (ap (λ (t : TaskTurns). t.home) (begins task) ∙ begin_home task r (noted old task)) in
-    elim (stays task (sym (says started rs i r stands) ∙ move.runs)) [
-      | inl nowhere ↦ no_thread rs move.earlier task move.ran (home ∙ nowhere)
+    let home : thread_at rs move.earlier ≡ (noted mid task).home = are.at_home task move.earlier move.before move.next_before ∙ sym (ap (λ (t : TaskTurns). t.home) (begins task) ∙ begin_home task r (noted old task)) in
+    elim (stays task (sym (says started rs i r stands) ∙ move.next)) [
+      | inl nowhere ↦ no_thread rs move.earlier task move.next_before (home ∙ nowhere)
       | inr here ↦ move.elsewhere (home ∙ here ∙ sym (thread_is rs i r stands))
     ]
 
 -- ---- the second pass
 
-first_few : (rs : List Record) (task : ℕ) → first_turn rs task ≤ 1
-first_few rs task = by (list_any (λ (r : Record). is_task task (begun_root r.body)) rs)
+pub first_few : (rs : List Record) (task : ℕ) → first_turn rs task ≤ 1
+first_few rs task = by (is_made_so (λ b. is_task task (begun_root b)) rs)
   where
     by : (b : Bool) → cond {A = ℕ} b 1 0 ≤ 1
     by true = omega arith
     by false = omega arith
 
-pub turn_few : (rs : List Record) (task i : ℕ) → i ≤ length rs → turn_begun rs task i ≤ i + 1
+pub turn_few : (rs : List Record) (task i : ℕ) → i ≤ length rs → turn_counted rs i task ≤ i + 1
 turn_few rs task i short =
     let first = first_few rs task in
     let starts = count_by-le-length (λ (r : Record). is_task task (started r.body)) (take i rs) in
@@ -163,16 +177,22 @@ turn_few rs task i short =
 pub turns_begin : (rs : List Record) (table : BTreeMap ℕ TaskTurns) → AreHomes rs (length rs) table → AreTurns rs 0 table
 turns_begin rs table are = record {
   at_home = λ task k ran. are.at_home task k (at_within started rs k task ran) ran;
-  next = λ task. are.first task ∙ ap (λ (xs : List Record). first_turn xs task) (take-length rs) ∙ omega arith;
+  next = λ task.
+      let first : (noted table task).next ≡ first_turn rs task = are.first task ∙ ap (λ (xs : List Record). first_turn xs task) (take-length rs) in
+      omega (arith, first);
 }
 
-starts_more : (rs : List Record) (i : ℕ) (r : Record) (task : ℕ) → slice_get rs i ≡ Some r → starts_in (take (i + 1) rs) task ≡ starts_in (take i rs) task + cond (is_task task (started r.body)) 1 0
+-- after how many of these records the task runs next
+abbrev starts_in : ℕ → List Record → ℕ
+starts_in task rs = count_by (λ (r : Record). is_task task (started r.body)) rs
+
+starts_more : (rs : List Record) (i : ℕ) (r : Record) (task : ℕ) → slice_get rs i ≡ Some r → starts_in task (take (i + 1) rs) ≡ starts_in task (take i rs) + cond (is_task task (started r.body)) 1 0
 starts_more rs i r task stands = elim (cases_Bool (test r)) [
-  | inl is ↦ count_by_more_yes test rs i r (slice_get_within rs i r stands) (ap test (get_or_from_slice_get rs i r r stands) ∙ is) ∙ ap (λ b. starts_in (take i rs) task + cond b 1 0) (sym is)
+  | inl is ↦ count_by_more_yes test rs i r (slice_get_within rs i r stands) (ap test (get_or_from_slice_get rs i r r stands) ∙ is) ∙ ap (λ b. starts_in task (take i rs) + cond b 1 0) (sym is)
   | inr never ↦
       let one = count_by_more_no test rs i r (slice_get_within rs i r stands) (ap test (get_or_from_slice_get rs i r r stands) ∙ never) in
-      let zero_more : starts_in (take i rs) task ≡ starts_in (take i rs) task + 0 = omega arith in
-      one ∙ zero_more ∙ ap (λ b. starts_in (take i rs) task + cond b 1 0) (sym never)
+      let zero_more : starts_in task (take i rs) ≡ starts_in task (take i rs) + 0 = omega arith in
+      one ∙ zero_more ∙ ap (λ b. starts_in task (take i rs) + cond b 1 0) (sym never)
 ]
   where
     test : Record → Bool
@@ -211,95 +231,95 @@ is_noted rs i r table stands are task runs = by (get nat_cmp table task) refl
     by None e = absurd (no_thread rs i task (says started rs i r stands ∙ runs) (are.at_home task i (says started rs i r stands ∙ runs) ∙ ap (λ (o : Option TaskTurns). (unwrap_or o no_turns).home) e))
     by (Some t) e = refl
 
--- ---- the turn that ends
+-- ---- the turns that end
 
-record_at : (rs : List Record) (n : ℕ) → n < length rs → (r : Record) × (slice_get rs n ≡ Some r)
-record_at rs n within = elim (slice_get_cases rs n).1 [
-  | inl (r, _, stands, _) ↦ (r, stands)
-  | inr (past, _) ↦ absurd (omega (arith, within, past))
-]
-
--- the last of the first n records after which the task runs
-pub record IsLastOf (rs : List Record) (task n k : ℕ) : Type 0 where
-  pub below : k < n
-  pub ran : at started rs k ≡ Some task
-  pub last : (j : ℕ) → k < j → j < n → at started rs j ≡ Some task → ⊥
-  pub counted : starts_in (take n rs) task ≡ starts_in (take k rs) task + 1
-
--- there is none
-pub record IsNoneOf (rs : List Record) (task n : ℕ) : Type 0 where
-  pub never : (k : ℕ) → k < n → at started rs k ≡ Some task → ⊥
-  pub counted : starts_in (take n rs) task ≡ 0
-
-last_more : (rs : List Record) (task n : ℕ) (r : Record) → slice_get rs n ≡ Some r → IsNoneOf rs task n ⊎ ((k : ℕ) × IsLastOf rs task n k) → IsNoneOf rs task (n + 1) ⊎ ((k : ℕ) × IsLastOf rs task (n + 1) k)
-last_more rs task n r stands before = by (is_task task (started r.body)) refl before
+-- a record with its turns
+pub told_thread : (table : BTreeMap ℕ TaskTurns) (r : Record) → (told_by table r).thread ≡ r.thread
+told_thread table r = by (turns_told table r.thread r.body)
   where
-    more : (b : Bool) → is_task task (started r.body) ≡ b → starts_in (take (n + 1) rs) task ≡ starts_in (take n rs) task + cond b 1 0
-    more b is = starts_more rs n r task stands ∙ ap (λ c. starts_in (take n rs) task + cond c 1 0) is
+    by : (o : Option Turns) → (option_map_or (λ (turns : Turns). record { thread = r.thread; seq = r.seq; seen = r.seen; body = telling turns r.body }) o r).thread ≡ r.thread
+    by None = refl
+    by (Some turns) = refl
 
-    not_here : (k : ℕ) → is_task task (started r.body) ≡ false → k ≡ n → at started rs k ≡ Some task → ⊥
-    not_here k is same ran = true≢false (sym (the_task task (started r.body) (sym (says started rs n r stands) ∙ ap (at started rs) (sym same) ∙ ran)) ∙ is)
-
-    by : (b : Bool) → is_task task (started r.body) ≡ b → IsNoneOf rs task n ⊎ ((k : ℕ) × IsLastOf rs task n k) → IsNoneOf rs task (n + 1) ⊎ ((k : ℕ) × IsLastOf rs task (n + 1) k)
-    by true is _ = inr (
-      n,
-      record {
-        below = omega arith;
-        ran = says started rs n r stands ∙ is_the_task task (started r.body) is;
-        last = λ j less below ran. absurd (omega (arith, less, below));
-        counted = more true is;
-      },
-    )
-    by false is (inl nothing) = inl (record {
-      never = λ k below ran. elim (cases_eq k n) [
-        | inl same ↦ not_here k is same ran
-        | inr apart ↦ nothing.never k (omega (arith, below, apart)) ran
-      ];
-      counted = let same = more false is in let before = nothing.counted in omega (arith, same, before);
-    })
-    by false is (inr (k, last)) = inr (
-      k,
-      record {
-        below = omega (arith, last.below);
-        ran = last.ran;
-        last = λ j less below ran. elim (cases_eq j n) [
-          | inl same ↦ not_here j is same ran
-          | inr apart ↦ last.last j less (omega (arith, below, apart)) ran
-        ];
-        counted = let same = more false is in let before = last.counted in omega (arith, same, before);
-      },
-    )
-
-last_start : (rs : List Record) (task n : ℕ) → n ≤ length rs → IsNoneOf rs task n ⊎ ((k : ℕ) × IsLastOf rs task n k)
-last_start rs task zero short = inl (record { never = λ k below ran. absurd (omega (arith, below)); counted = refl })
-last_start rs task (suc n) short =
-    let here = record_at rs n (omega (arith, short)) in
-    let all = last_more rs task n here.0 here.1 (last_start rs task n (omega (arith, short))) in
-    rw (← add-one n) all
-
-pub ends : (rs : List Record) (i task : ℕ) (r : Record) (table : BTreeMap ℕ TaskTurns) → slice_get rs i ≡ Some r → AreTurns rs i table → EndsTurn rs i task (turn_ended (noted table task) r.thread)
-ends rs i task r table stands are = by (option_map_or (λ home. home == r.thread) (noted table task).home false) refl
+told_begins : (table : BTreeMap ℕ TaskTurns) (r : Record) → begun_turn (told_by table r).body ≡ option_map (λ next. (next, (noted table next).next)) (started r.body) ⊎ (started r.body ≡ None)
+told_begins table r = by r.body refl
   where
-    home_of : (k : ℕ) → at started rs k ≡ Some task → thread_at rs k ≡ thread_at rs i → (noted table task).home ≡ Some r.thread
-    home_of k ran same = sym (are.at_home task k ran) ∙ same ∙ thread_is rs i r stands
+    by : (body : Body) → r.body ≡ body → begun_turn (option_map_or (λ (turns : Turns). record { thread = r.thread; seq = r.seq; seen = r.seen; body = telling turns body }) (turns_told table r.thread body) r).body ≡ option_map (λ next. (next, (noted table next).next)) (started body) ⊎ (started body ≡ None)
+    by (TaskSchedule status before prior (Some next) share) is = inl refl
+    by (TaskSchedule status before prior None share) is = inr refl
+    by _ is = inr refl
 
-    is_home : (o : Option ℕ) → option_map_or (λ home. home == r.thread) o false ≡ true → o ≡ Some r.thread
-    is_home None is = absurd (false≢true is)
-    is_home (Some home) is = ap Some (eqb-true home r.thread is)
+told_not : (table : BTreeMap ℕ TaskTurns) (r : Record) → started r.body ≡ None → begun_turn (told_by table r).body ≡ None
+told_not table r still = by r.body refl still
+  where
+    by : (body : Body) → r.body ≡ body → started body ≡ None → begun_turn (option_map_or (λ (turns : Turns). record { thread = r.thread; seq = r.seq; seen = r.seen; body = telling turns body }) (turns_told table r.thread body) r).body ≡ None
+    by (TaskSchedule status before prior (Some next) share) is nothing = absurd (none-some next (sym nothing))
+    by (TaskSchedule status before prior None share) is nothing = ap begun_turn is
+    by _ is nothing = ap begun_turn is
 
-    ended : (noted table task).home ≡ Some r.thread → IsNoneOf rs task i ⊎ ((k : ℕ) × IsLastOf rs task i k) → EndsTurn rs i task ((noted table task).next - 1)
-    ended home (inl nothing) =
-        let now = are.next task in
-        let few = first_few rs task in
-        let counted = nothing.counted in
-        let same : (noted table task).next - 1 ≡ 0 = omega (arith, now, few, counted) in
-        rw same (never_ran (λ k ran. nothing.never k ran.below ran.starts))
-    ended home (inr (k, last)) =
-        let now = are.next task in
-        let counted = last.counted in
-        let same : (noted table task).next - 1 ≡ turn_begun rs task k = omega (arith, now, counted) in
-        rw same (begun k (record { below = last.below; starts = last.ran; thread = are.at_home task k last.ran ∙ home ∙ sym (thread_is rs i r stands) }) (λ j less ran. last.last j less ran.below ran.starts))
+end_at : (t : TaskTurns) (thread home : ℕ) → t.home ≡ Some home → turn_ended t thread ≡ cond (home == thread) (t.next - 1) 0
+end_at t thread home lives = ap (λ (o : Option ℕ). cond (option_map_or (λ h. h == thread) o false) (t.next - 1) 0) lives
 
-    by : (b : Bool) → option_map_or (λ home. home == r.thread) (noted table task).home false ≡ b → EndsTurn rs i task (cond b ((noted table task).next - 1) 0)
-    by true is = ended (is_home (noted table task).home is) (last_start rs task i (omega (arith, slice_get_within rs i r stands)))
-    by false is = never_ran (λ k ran. true≢false (sym (ap (λ (o : Option ℕ). option_map_or (λ home. home == r.thread) o false) (home_of k ran.starts ran.thread) ∙ eq-eqb r.thread r.thread refl) ∙ is))
+-- before the first record no turn has ended
+pub ended_none : (rs : List Record) (table : BTreeMap ℕ TaskTurns) → AreHomes rs (length rs) table → AreEnded rs 0 table
+ended_none rs table are = λ task thread. by task (option_map_or (λ home. home == thread) (noted table task).home false)
+  where
+    by : (task : ℕ) (b : Bool) → 0 ≡ cond b ((noted table task).next - 1) 0
+    by task true = let first = are.first task in let few = first_few (take (length rs) rs) task in omega (arith, first, few)
+    by task false = refl
+
+-- the turn in which the task is after the record at n, on a thread
+ended_by : (rs : List Record) (n : ℕ) (r : Record) (old new : BTreeMap ℕ TaskTurns) → slice_get rs n ≡ Some r → AreTurns rs n old → ((task : ℕ) → noted new task ≡ with_turn task r (noted old task)) → (task thread : ℕ) (b : Bool) → (r.thread == thread) ≡ b → fold (turn_after task) (turn_ended (noted old task) thread) (cond b (told_by old r ∷ []) []) ≡ turn_ended (noted new task) thread
+ended_by rs n r old new stands are begins task thread b at_thread = by (started r.body) refl
+  where
+    same : is_task task (started r.body) ≡ false → turn_ended (noted old task) thread ≡ turn_ended (noted new task) thread
+    same never = sym (ap (λ (t : TaskTurns). turn_ended t thread) (begins task ∙ ap (λ c. cond {A = TaskTurns} c (one_later (noted old task)) (noted old task)) never))
+
+    after : (o : Option (ℕ × ℕ)) → begun_turn (told_by old r).body ≡ o → (t : ℕ) → turn_after task t (told_by old r) ≡ option_map_or (λ (p : ℕ × ℕ). if p.0 == task then p.1 else t) o t
+    after o is t = ap (λ (x : Option (ℕ × ℕ)). option_map_or (λ (p : ℕ × ℕ). if p.0 == task then p.1 else t) x t) is
+
+    -- no turn of the task begins
+    other : (c : Bool) → ((t : ℕ) → turn_after task t (told_by old r) ≡ t) → (t : ℕ) → fold (turn_after task) t (cond c (told_by old r ∷ []) []) ≡ t
+    other true stays t = stays t
+    other false stays t = refl
+
+    told : (next : ℕ) → started r.body ≡ Some next → begun_turn (told_by old r).body ≡ Some (next, (noted old next).next)
+    told next runs = elim (told_begins old r) [
+      | inl is ↦ is ∙ ap (option_map (λ k. (k, (noted old k).next))) runs
+      | inr still ↦ absurd (none-some next (sym still ∙ runs))
+    ]
+
+    home : (next : ℕ) → started r.body ≡ Some next → next ≡ task → (noted old task).home ≡ Some r.thread
+    home next runs is = sym (are.at_home task n (says started rs n r stands ∙ runs ∙ ap Some is)) ∙ thread_is rs n r stands
+
+    here : (next : ℕ) → started r.body ≡ Some next → next ≡ task → (c : Bool) → (r.thread == thread) ≡ c → fold (turn_after task) (turn_ended (noted old task) thread) (cond c (told_by old r ∷ []) []) ≡ cond c ((noted old task).next + 1 - 1) 0
+    here next runs is true here_too =
+        let one_more : (noted old task).next ≡ (noted old task).next + 1 - 1 = omega arith in
+        after (Some (next, (noted old next).next)) (told next runs) (turn_ended (noted old task) thread)
+        ∙ ap (λ c. cond c (noted old next).next (turn_ended (noted old task) thread)) (eq-eqb next task is)
+        ∙ ap (λ k. (noted old k).next) is ∙ one_more
+    here next runs is false elsewhere = end_at (noted old task) thread r.thread (home next runs is) ∙ ap (λ c. cond c ((noted old task).next - 1) 0) elsewhere
+
+    by : (o : Option ℕ) → started r.body ≡ o → fold (turn_after task) (turn_ended (noted old task) thread) (cond b (told_by old r ∷ []) []) ≡ turn_ended (noted new task) thread
+    by None still = other b (after None (told_not old r still)) (turn_ended (noted old task) thread) ∙ same (ap (is_task task) still)
+    by (Some next) runs = elim (cases_eq next task) [
+      | inl is ↦
+          let later : noted new task ≡ one_later (noted old task) = begins task ∙ ap (λ c. cond {A = TaskTurns} c (one_later (noted old task)) (noted old task)) (ap (is_task task) runs ∙ eq-eqb next task is) in
+          here next runs is b at_thread
+          ∙ sym (ap (λ (t : TaskTurns). turn_ended t thread) later ∙ end_at (one_later (noted old task)) thread r.thread (home next runs is) ∙ ap (λ c. cond c ((noted old task).next + 1 - 1) 0) at_thread)
+      | inr apart ↦
+          other b (λ t. after (Some (next, (noted old next).next)) (told next runs) t ∙ ap (λ c. cond c (noted old next).next t) (ne_eqb next task apart)) (turn_ended (noted old task) thread)
+          ∙ same (ap (is_task task) runs ∙ ne_eqb next task apart)
+    ]
+
+-- one more record, with its turns
+pub ended_more : (rs now : List Record) (n : ℕ) (r : Record) (old new : BTreeMap ℕ TaskTurns) → slice_get rs n ≡ Some r → n < length now → AreTurns rs n old → AreEnded now n old → ((task : ℕ) → noted new task ≡ with_turn task r (noted old task)) → AreEnded (slice_set now n (told_by old r)) (n + 1) new
+ended_more rs now n r old new stands within are ended begins = λ task thread.
+    let p : Record → Bool = λ q. q.thread == thread in
+    let parts : take (n + 1) (slice_set now n (told_by old r)) ≡ take n now ++ told_by old r ∷ [] = ap (λ m. take m (slice_set now n (told_by old r))) (add-one n) ∙ take-suc-set now n (told_by old r) within in
+    ap (λ (xs : List Record). turn_in task (filter p xs)) parts
+    ∙ ap (turn_in task) (filter-append p (take n now) (told_by old r ∷ []))
+    ∙ fold-append (turn_after task) 0 (filter p (take n now)) (filter p (told_by old r ∷ []))
+    ∙ ap (λ t. fold (turn_after task) t (filter p (told_by old r ∷ []))) (ended task thread)
+    ∙ ap (λ m. fold (turn_after task) (turn_ended (noted old task) thread) (cond (m == thread) (told_by old r ∷ []) [])) (told_thread old r)
+    ∙ ended_by rs n r old new stands are begins task thread (r.thread == thread) refl

@@ -1,36 +1,25 @@
--- Records that are told their turns are a trace of version 2.
-use Rattle.std.proofs.Common.{◌≡◌, ◌≢◌, ◌∙◌, ℕ, ◌<◌, ◌≤◌, ◌+◌, ◌^◌, zero, suc, List, [], ◌∷◌, length, get_or, Option, Some, None, cond, refl, sym, ap, subst, arith, inl, inr, set}
-use Rattle.std.specs.Prelude.{slice_get, slice_set, is_some, IfSome, All, sum_by}
+-- Records that are told their turns are a trace of version 2, and an upgrade.
+use Rattle.std.proofs.Common.{◌≡◌, ◌≢◌, ◌∙◌, ℕ, ◌<◌, ◌≤◌, ◌+◌, ◌-◌, ◌^◌, zero, suc, List, [], ◌∷◌, length, take, get_or, Option, Some, None, Bool, true, false, cond, refl, sym, ap, subst, arith, inl, inr}
+use Rattle.std.specs.Prelude.{slice_get, slice_set, is_some, All, sum_by, filter, ◌==◌, if◌then◌else◌}
 use Rattle.std.specs.Option.{option_map_or}
 use Rattle.std.specs.BTreeMap.{BTreeMap}
 use Rattle.std.proofs.lemmas.Bool.{cases_eq, cases_lt}
-use Rattle.std.proofs.lemmas.List.{length-set, get_or-set_same, get_or-set_other}
+use Rattle.std.proofs.lemmas.List.{length-set, get_or-set_same, get_or-set_other, take-set, take-set-le}
 use Rattle.std.proofs.lemmas.List.Sums.{sum_by-cons}
 use Rattle.std.proofs.lemmas.Option.{same_Some, slice_get_within, slice_get-get_or, slice_get_past, get_or_from_slice_get}
 use Rattle.ompt_events.specs.declared.records.Record.{Record}
 use Rattle.ompt_events.specs.declared.records.Body.{Body}
 use Rattle.ompt_events.specs.declared.records.Body.TheVariants.{TaskSchedule}
-use Rattle.ompt_events.specs.declared.records.Claim.{Claim}
 use Rattle.ompt_events.specs.declared.records.Turns.{Turns}
-use Rattle.ompt_events.specs.declared.names.Status.{Status}
-use Rattle.ompt_events.specs.Records.{made, started, told_turns}
+use Rattle.ompt_events.specs.Names.{demands_next}
+use Rattle.ompt_events.specs.Records.{made, started, running, told_turns}
 use Rattle.ompt_events.specs.Limits.{max_records}
-use Rattle.ompt_events.specs.Traces.{IsSound, IsInRange, BodyInRange, IsTrace, IsTraceOf, HasItsTurns, TurnsInRange, tasks_in}
+use Rattle.ompt_events.specs.Traces.{IsSound, IsInRange, BodyInRange, TurnsInRange, IsTrace, IsTraceOf, HasItsTurns, tasks_in}
+use Rattle.ompt_events.specs.Turns.{turn_in, turn_at}
+use Rattle.ompt_events.specs.Upgrades.{IsUpgrade, turn_counted, telling, body_upgraded}
 use Rattle.certificate.specs.declared.task_turns.TaskTurns.{TaskTurns}
-use Rattle.certificate.specs.Upgrading.{turn_begun, RanBefore, EndsTurn, begun, never_ran, IsUpgradedRecord, unchanged, told, IsUpgradeOf}
-use Rattle.certificate.specs.TaskTurns.{noted, with_turns, turns_told, told_by, turn_ended, AreTurns, IsUpgradedUpTo}
-use Rattle.certificate.proofs.TaskTurnLemmas.{ends, turn_few}
-
--- ---- one record
-
-pub upgraded_by : (rs : List Record) (i : ℕ) (r : Record) (table : BTreeMap ℕ TaskTurns) → slice_get rs i ≡ Some r → AreTurns rs i table → IsUpgradedRecord rs i r (told_by table r)
-upgraded_by rs i r table stands are = by r.body refl
-  where
-    by : (body : Body) → r.body ≡ body → IsUpgradedRecord rs i r (option_map_or (λ (turns : Turns). record { thread = r.thread; seq = r.seq; seen = r.seen; body = with_turns turns body }) (turns_told table r.thread body) r)
-    by (TaskSchedule status before prior (Some next) share) is =
-        told status before prior next share (record { prior = turn_ended (noted table prior) r.thread; next = (noted table next).next }) is (ends rs i prior r table stands are) (are.next next)
-    by (TaskSchedule status before prior None share) is = unchanged (ap started is)
-    by _ is = unchanged (ap started is)
+use Rattle.certificate.specs.TaskTurns.{noted, turns_told, told_by, turn_ended, AreTurns, AreEnded, IsUpgradedUpTo}
+use Rattle.certificate.proofs.TaskTurnLemmas.{turn_few}
 
 -- ---- the list
 
@@ -47,84 +36,150 @@ get_there xs i j y apart =
       | inr past ↦ slice_get_past (slice_set xs i y) j (omega (arith, past, long)) ∙ sym (slice_get_past xs j past)
     ]
 
-pub upgraded_none : (rs : List Record) → IsUpgradedUpTo rs 0 rs
-upgraded_none rs = record {
-  as_many = refl;
-  upgraded = λ i r below stands. absurd (omega (arith, below));
+-- the turn of a record, by the records of its thread before it
+turn_by : List Record → Record → ℕ
+turn_by before r = option_map_or (λ task. turn_in task (filter (λ (q : Record). q.thread == r.thread) before)) (running r.body) 0
+
+-- a later record changes none
+same_turn : (now : List Record) (n i : ℕ) (s : Record) → i < n → turn_at (slice_set now n s) i ≡ turn_at now i
+unfolding turn_by
+same_turn now n i s below =
+    ap (λ (xs : List Record). option_map_or (λ (r : Record). turn_by xs r) (slice_get (slice_set now n s) i) 0) (take-set-le i now n s (omega (arith, below)))
+    ∙ ap (λ (o : Option Record). option_map_or (λ (r : Record). turn_by (take i now) r) o 0) (get_there now n i s (λ same. absurd (omega (arith, below, same))))
+
+-- the turn of a record after which a task runs is that which is noted
+turn_here : (now : List Record) (n prior : ℕ) (s : Record) (table : BTreeMap ℕ TaskTurns) → n < length now → AreEnded now n table → running s.body ≡ Some prior → turn_at (slice_set now n s) n ≡ turn_ended (noted table prior) s.thread
+unfolding turn_by
+turn_here now n prior s table within ended runs =
+    ap (λ (o : Option Record). option_map_or (λ (r : Record). turn_by (take n (slice_set now n s)) r) o 0) (get_here now n s within)
+    ∙ ap (λ (xs : List Record). turn_by xs s) (take-set now n s)
+    ∙ ap (λ (o : Option ℕ). option_map_or (λ task. turn_in task (filter (λ (q : Record). q.thread == s.thread) (take n now))) o 0) runs
+    ∙ ended prior s.thread
+
+-- ---- one record
+
+-- the record with this body in place of its own
+abbrev with_body : Record → Body → Record
+with_body r body = record { thread = r.thread; seq = r.seq; seen = r.seen; body = body }
+
+-- what is told is what the upgrade says
+told_is : (old now : List Record) (n : ℕ) (r : Record) (table : BTreeMap ℕ TaskTurns) → n < length now → AreTurns old n table → AreEnded now n table → IsSound r.body → told_by table r ≡ with_body r (body_upgraded old (slice_set now n (told_by table r)) n r.body)
+told_is old now n r table within are ended sound = by r.body refl
+  where
+    by : (body : Body) → r.body ≡ body → told_by table r ≡ with_body r (body_upgraded old (slice_set now n (told_by table r)) n body)
+    by (TaskSchedule status before prior (Some next) share) is =
+        let turns : Turns = record { prior = turn_ended (noted table prior) r.thread; next = (noted table next).next } in
+        let said : told_by table r ≡ with_body r (TaskSchedule status (Some turns) prior (Some next) share) = ap (λ (b : Body). option_map_or (λ (t : Turns). with_body r (telling t b)) (turns_told table r.thread b) r) is in
+        let was : IsSound (TaskSchedule status before prior (Some next) share) = subst IsSound is sound in
+        let runs : running (told_by table r).body ≡ Some prior = ap (λ (q : Record). running q.body) said ∙ ap (λ b. if b then Some prior else None) (sym was.next) in
+        let thread : (told_by table r).thread ≡ r.thread = ap (λ (q : Record). q.thread) said in
+        let ends : turn_at (slice_set now n (told_by table r)) n ≡ turn_ended (noted table prior) r.thread = turn_here now n prior (told_by table r) table within ended runs ∙ ap (turn_ended (noted table prior)) thread in
+        said
+        ∙ ap (λ t. with_body r (TaskSchedule status (Some (record { prior = t; next = (noted table next).next })) prior (Some next) share)) (sym ends)
+        ∙ ap (λ t. with_body r (TaskSchedule status (Some (record { prior = turn_at (slice_set now n (told_by table r)) n; next = t })) prior (Some next) share)) (are.next next)
+    by (TaskSchedule status before prior None share) is = ap (λ (b : Body). option_map_or (λ (t : Turns). with_body r (telling t b)) (turns_told table r.thread b) r) is ∙ ap (with_body r) is
+    by _ is = ap (λ (b : Body). option_map_or (λ (t : Turns). with_body r (telling t b)) (turns_told table r.thread b) r) is ∙ ap (with_body r) is
+
+ended_few : (t : TaskTurns) (thread : ℕ) → turn_ended t thread ≤ t.next
+ended_few t thread = by (option_map_or (λ home. home == thread) t.home false)
+  where
+    by : (b : Bool) → cond b (t.next - 1) 0 ≤ t.next
+    by true = omega arith
+    by false = omega arith
+
+-- each number of it is within the range of its type
+told_in_range : (old : List Record) (n : ℕ) (r : Record) (table : BTreeMap ℕ TaskTurns) → n ≤ length old → length old ≤ max_records → AreTurns old n table → IsInRange r → IsInRange (told_by table r)
+told_in_range old n r table short few are in_range = by r.body refl
+  where
+    small : (task : ℕ) → (noted table task).next < 2 ^ 32
+    small task =
+        let now = are.next task in
+        let most = turn_few old task n short in
+        omega (arith, now, most, short, few)
+
+    by : (body : Body) → r.body ≡ body → IsInRange (option_map_or (λ (turns : Turns). with_body r (telling turns body)) (turns_told table r.thread body) r)
+    by (TaskSchedule status before prior (Some next) share) is =
+        let range : BodyInRange (TaskSchedule status before prior (Some next) share) = subst BodyInRange is in_range.body in
+        let ended = ended_few (noted table prior) r.thread in
+        let last = small prior in
+        record {
+          thread = in_range.thread;
+          seq = in_range.seq;
+          seen = in_range.seen;
+          body = ((omega (arith, ended, last), small next), range.1, range.2, range.3);
+        }
+    by (TaskSchedule status before prior None share) is = in_range
+    by _ is = in_range
+
+-- ---- the records so far
+
+pub upgraded_none : (rs : List Record) → All IsInRange rs → IsUpgradedUpTo rs 0 rs
+upgraded_none rs in_range = record {
+  all = refl;
+  each = λ i r below stands. absurd (omega (arith, below));
   rest = λ i past. refl;
+  in_range = λ i s is. subst IsInRange (get_or_from_slice_get rs i s s is) (in_range i s (slice_get_within rs i s is));
 }
 
-pub upgraded_more : (old now : List Record) (n : ℕ) (r s : Record) → slice_get old n ≡ Some r → IsUpgradedUpTo old n now → IsUpgradedRecord old n r s → IsUpgradedUpTo old (n + 1) (slice_set now n s)
-upgraded_more old now n r s stands before here =
-    let within = slice_get_within old n r stands in
-    let many = before.as_many in
+pub upgraded_more : (old now : List Record) (n : ℕ) (r : Record) (table : BTreeMap ℕ TaskTurns) → slice_get old n ≡ Some r → length old ≤ max_records → IsSound r.body → AreTurns old n table → AreEnded now n table → IsUpgradedUpTo old n now → IsUpgradedUpTo old (n + 1) (slice_set now n (told_by table r))
+upgraded_more old now n r table stands few sound are ended before =
+    let s = told_by table r in
+    let there = slice_get_within old n r stands in
+    let many = before.all in
+    let within : n < length now = omega (arith, there, many) in
     record {
-      as_many = length-set now n s ∙ many;
-      upgraded = λ i q below is. elim (cases_eq i n) [
+      all = length-set now n s ∙ many;
+      each = λ i q below is. elim (cases_eq i n) [
         | inl same ↦
             let alike : r ≡ q = same_Some r q (sym stands ∙ ap (slice_get old) (sym same) ∙ is) in
-            (s, ap (slice_get (slice_set now n s)) same ∙ get_here now n s (omega (arith, within, many)), subst (λ (x : Record). IsUpgradedRecord old i x s) alike (subst (λ k. IsUpgradedRecord old k r s) (sym same) here))
+            let here : slice_get (slice_set now n s) n ≡ Some (with_body r (body_upgraded old (slice_set now n s) n r.body)) = get_here now n s within ∙ ap Some (told_is old now n r table within are ended sound) in
+            subst (λ (x : Record). slice_get (slice_set now n s) i ≡ Some (with_body x (body_upgraded old (slice_set now n s) i x.body))) alike
+              (subst (λ k. slice_get (slice_set now n s) k ≡ Some (with_body r (body_upgraded old (slice_set now n s) k r.body))) (sym same) here)
         | inr apart ↦
-            let was = before.upgraded i q (omega (arith, below, apart)) is in
-            (was.0, get_there now n i s apart ∙ was.1, was.2)
+            let earlier : i < n = omega (arith, below, apart) in
+            get_there now n i s apart
+            ∙ before.each i q earlier is
+            ∙ ap (λ t. Some (with_body q (option_map_or (λ task. telling (record { prior = t; next = turn_counted old i task }) q.body) (started q.body) q.body))) (sym (same_turn now n i s earlier))
       ];
       rest = λ i past. get_there now n i s (λ same. absurd (omega (arith, past, same))) ∙ before.rest i (omega (arith, past));
+      in_range = λ i q is. elim (cases_eq i n) [
+        | inl same ↦
+            let alike : s ≡ q = same_Some s q (sym (get_here now n s within) ∙ ap (slice_get (slice_set now n s)) (sym same) ∙ is) in
+            subst IsInRange alike (told_in_range old n r table (omega (arith, there)) few are (before.in_range n r (before.rest n (omega arith) ∙ stands)))
+        | inr apart ↦ before.in_range i q (sym (get_there now n i s apart) ∙ is)
+      ];
     }
 
-pub upgraded_all : (old now : List Record) (n : ℕ) → length now ≤ n → IsUpgradedUpTo old n now → IsUpgradeOf old now
-upgraded_all old now n past all = record {
-  as_many = all.as_many;
-  upgraded = λ i r stands. all.upgraded i r (let within = slice_get_within old i r stands in let many = all.as_many in omega (arith, within, many, past)) stands;
+pub upgraded_all : (old now : List Record) (n : ℕ) → length now ≤ n → IsUpgradedUpTo old n now → IsUpgrade old now
+upgraded_all old now n past up = record {
+  all = up.all;
+  each = λ i r stands. up.each i r (let within = slice_get_within old i r stands in let many = up.all in omega (arith, within, many, past)) stands;
 }
 
 -- ---- the trace
 
-ended_few : (rs : List Record) (i task turn : ℕ) → i ≤ length rs → EndsTurn rs i task turn → turn ≤ i + 1
-ended_few rs i task _ short (begun k ran last) =
-    let below = ran.below in
-    let few = turn_few rs task k (omega (arith, below, short)) in
-    omega (arith, below, few)
-ended_few rs i task _ short (never_ran never) = omega arith
+-- what a body keeps that is upgraded, and that it tells turns where a task runs next
+record IsKeptAs (body new : Body) : Type 0 where
+  sound : IsSound new
+  turns : HasItsTurns 2 new
+  makes : is_some (made new) ≡ is_some (made body)
 
--- what an upgraded record keeps, and that it tells turns where a task runs next
-record IsKeptAs (r s : Record) : Type 0 where
-  sound : IsSound s.body
-  in_range : IsInRange s
-  turns : HasItsTurns 2 s.body
-  makes : is_some (made s.body) ≡ is_some (made r.body)
-
-kept_as : (old : List Record) (i : ℕ) (r s : Record) → slice_get old i ≡ Some r → length old ≤ max_records → IsSound r.body → IsInRange r → HasItsTurns 1 r.body → IsUpgradedRecord old i r s → IsKeptAs r s
-kept_as old i r _ stands few sound in_range turns (unchanged still) = record {
-  sound = sound;
-  in_range = in_range;
-  turns = turns ∙ ap is_some (sym still);
+kept_as : (told : ℕ → Turns) (body : Body) → IsSound body → HasItsTurns 1 body → IsKeptAs body (option_map_or (λ task. telling (told task) body) (started body) body)
+kept_as told (TaskSchedule status before prior (Some next) share) sound turns = record {
+  sound = record {
+    named_flags = sound.named_flags;
+    named_cancellation = sound.named_cancellation;
+    begins_or_ends = sound.begins_or_ends;
+    claimed = sound.claimed;
+    short_path = sound.short_path;
+    few_dependences = sound.few_dependences;
+    next = sound.next;
+  };
+  turns = refl;
   makes = refl;
 }
-kept_as old i r _ stands few sound in_range turns (told status before prior next share new is ended begins) =
-    let within = slice_get_within old i r stands in
-    let was : IsSound (TaskSchedule status before prior (Some next) share) = subst IsSound is sound in
-    let range : BodyInRange (TaskSchedule status before prior (Some next) share) = subst BodyInRange is in_range.body in
-    let prior_few = ended_few old i prior new.prior (omega (arith, within)) ended in
-    let next_few = turn_few old next i (omega (arith, within)) in
-    record {
-      sound = record {
-        named_flags = was.named_flags;
-        named_cancellation = was.named_cancellation;
-        begins_or_ends = was.begins_or_ends;
-        claimed = was.claimed;
-        short_path = was.short_path;
-        few_dependences = was.few_dependences;
-        next = was.next;
-      };
-      in_range = record {
-        thread = in_range.thread;
-        seq = in_range.seq;
-        seen = in_range.seen;
-        body = ((omega (arith, within, few, prior_few), omega (arith, within, few, next_few, begins)), range.1, range.2, range.3);
-      };
-      turns = refl;
-      makes = ap (λ (b : Body). is_some (made b)) (sym is);
-    }
+kept_as told (TaskSchedule status before prior None share) sound turns = record { sound = sound; turns = turns; makes = refl }
+kept_as told _ sound turns = record { sound = sound; turns = turns; makes = refl }
 
 -- where the elements of two lists count alike, their sums are the same
 same_sum : (f : Record → ℕ) (xs ys : List Record) → length ys ≡ length xs → ((i : ℕ) (x y : Record) → slice_get xs i ≡ Some x → slice_get ys i ≡ Some y → f y ≡ f x) → sum_by f ys ≡ sum_by f xs
@@ -138,36 +193,35 @@ same_sum f (x ∷ xs) (y ∷ ys) many alike =
     let there = sum_by-cons f x xs in
     omega (arith, first, rest, here, there)
 
-pub trace_of_two : (old new : List Record) → IsTraceOf 1 old → IsUpgradeOf old new → IsTraceOf 2 new
-trace_of_two old new trace upgrade = record {
+pub trace_of_two : (old new : List Record) (n : ℕ) → IsTraceOf 1 old → length new ≤ n → IsUpgradedUpTo old n new → IsTraceOf 2 new
+trace_of_two old new n trace past up = record {
   known = inr refl;
   is_trace = record {
-    few_records = let many = upgrade.as_many in let few = trace.is_trace.few_records in omega (arith, many, few);
+    few_records = let many = up.all in let few = trace.is_trace.few_records in omega (arith, many, few);
     few_tasks = rw same_tasks trace.is_trace.few_tasks;
-    sound = λ i d within. (of i d within).2.sound;
-    in_range = λ i d within. (of i d within).2.in_range;
+    sound = λ i d within. (of i d within).sound;
+    in_range = λ i d within. up.in_range i (get_or new i d) (slice_get-get_or new i d within);
   };
-  turns = λ i d within. (of i d within).2.turns;
+  turns = λ i d within. (of i d within).turns;
 }
   where
-    kept : (i : ℕ) (r s : Record) → slice_get old i ≡ Some r → slice_get new i ≡ Some s → IsKeptAs r s
+    upgrade : IsUpgrade old new
+    upgrade = upgraded_all old new n past up
+
+    kept : (i : ℕ) (r s : Record) → slice_get old i ≡ Some r → slice_get new i ≡ Some s → IsKeptAs r.body s.body
     kept i r s stands now =
         let within = slice_get_within old i r stands in
         let here = get_or_from_slice_get old i r r stands in
-        let is = upgrade.upgraded i r stands in
-        let same : is.0 ≡ s = same_Some is.0 s (sym is.1 ∙ now) in
-        kept_as old i r s stands trace.is_trace.few_records
-        (subst (λ (q : Record). IsSound q.body) here (trace.is_trace.sound i r within))
-        (subst IsInRange here (trace.is_trace.in_range i r within))
-        (subst (λ (q : Record). HasItsTurns 1 q.body) here (trace.turns i r within))
-        (subst (λ (x : Record). IsUpgradedRecord old i r x) same is.2)
+        let same : body_upgraded old new i r.body ≡ s.body = ap (λ (q : Record). q.body) (same_Some (with_body r (body_upgraded old new i r.body)) s (sym (upgrade.each i r stands) ∙ now)) in
+        subst (IsKeptAs r.body) same
+          (kept_as (λ task. record { prior = turn_at new i; next = turn_counted old i task }) r.body
+            (subst (λ (q : Record). IsSound q.body) here (trace.is_trace.sound i r within))
+            (subst (λ (q : Record). HasItsTurns 1 q.body) here (trace.turns i r within)))
 
-    of : (i : ℕ) (d : Record) → i < length new → (r : Record) × (slice_get old i ≡ Some r) × IsKeptAs r (get_or new i d)
+    of : (i : ℕ) (d : Record) → (within : i < length new) → IsKeptAs (get_or old i d).body (get_or new i d).body
     of i d within =
-        let many = upgrade.as_many in
-        let short : i < length old = omega (arith, within, many) in
-        let stands = slice_get-get_or old i d short in
-        (get_or old i d, stands, kept i (get_or old i d) (get_or new i d) stands (slice_get-get_or new i d within))
+        let many = up.all in
+        kept i (get_or old i d) (get_or new i d) (slice_get-get_or old i d (omega (arith, within, many))) (slice_get-get_or new i d within)
 
     same_tasks : tasks_in new ≡ tasks_in old
-    same_tasks = same_sum (λ (r : Record). cond {A = ℕ} (is_some (made r.body)) 1 0) old new upgrade.as_many (λ i x y there now. ap (λ b. cond {A = ℕ} b 1 0) (kept i x y there now).makes)
+    same_tasks = same_sum (λ (r : Record). cond {A = ℕ} (is_some (made r.body)) 1 0) old new up.all (λ i x y there now. ap (λ b. cond {A = ℕ} b 1 0) (kept i x y there now).makes)

@@ -1,5 +1,5 @@
 -- What is noted of each task while a trace is upgraded.
-use Rattle.std.specs.Prelude.{ℕ, ◌≡◌, ◌≢◌, ◌<◌, ◌≤◌, ◌+◌, ◌-◌, ◌==◌, ◌⊎◌, false, List, length, take, slice_get, Option, Some, None, if◌then◌else◌}
+use Rattle.std.specs.Prelude.{ℕ, ◌≡◌, ◌≢◌, ◌<◌, ◌≤◌, ◌+◌, ◌-◌, ◌==◌, ◌⊎◌, false, List, length, take, filter, slice_get, Option, Some, None, if◌then◌else◌}
 use Rattle.std.specs.Option.{unwrap_or, option_map_or}
 use Rattle.std.specs.Ordering.{nat_cmp}
 use Rattle.std.specs.BTreeMap.{BTreeMap, get}
@@ -9,9 +9,16 @@ use Rattle.ompt_events.specs.declared.records.Body.TheVariants.{TaskSchedule}
 use Rattle.ompt_events.specs.declared.records.Turns.{Turns}
 use Rattle.ompt_events.specs.Records.{begun_root, started}
 use Rattle.ompt_events.specs.Places.{at, thread_at}
-use Rattle.ompt_events.specs.States.{is_task}
+use Rattle.ompt_events.specs.States.{is_task, is_made_so}
+use Rattle.ompt_events.specs.Turns.{turn_in}
+use Rattle.ompt_events.specs.Traces.{IsInRange}
+use Rattle.ompt_events.specs.Upgrades.{turn_counted, telling, body_upgraded}
 use Rattle.certificate.specs.declared.task_turns.TaskTurns.{TaskTurns}
-use Rattle.certificate.specs.Upgrading.{first_turn, turn_begun, IsUpgradedRecord}
+
+-- the turn that the task begins where it runs next for the first time: 1 where one of the records begins it as an
+-- initial or implicit task, since its turn 0 begins there
+abbrev pub first_turn : List Record → ℕ → ℕ
+first_turn rs task = if is_made_so (λ b. is_task task (begun_root b)) rs then 1 else 0
 
 -- nothing is noted: no record begins the task or runs it
 abbrev pub no_turns : TaskTurns
@@ -53,7 +60,7 @@ pub record AreHomes (rs : List Record) (n : ℕ) (table : BTreeMap ℕ TaskTurns
 -- record at n
 pub record AreTurns (rs : List Record) (n : ℕ) (table : BTreeMap ℕ TaskTurns) : Type 0 where
   pub at_home : (task k : ℕ) → at started rs k ≡ Some task → thread_at rs k ≡ (noted table task).home
-  pub next : (task : ℕ) → (noted table task).next ≡ turn_begun rs task n
+  pub next : (task : ℕ) → (noted table task).next ≡ turn_counted rs n task
 
 -- the turn that a task ends which stops running on the thread
 abbrev pub turn_ended : TaskTurns → ℕ → ℕ
@@ -72,21 +79,26 @@ turns_told table thread (TaskSchedule status before prior (Some next) share) =
     Some (record { prior = turn_ended (noted table prior) thread; next = (noted table next).next })
 turns_told table thread body = None
 
--- a schedule event with these turns
-abbrev pub with_turns : Turns → Body → Body
-with_turns turns (TaskSchedule status before prior next share) = TaskSchedule status (Some turns) prior next share
-with_turns turns body = body
-
 -- the record with the turns that are noted of its tasks
 abbrev pub told_by : BTreeMap ℕ TaskTurns → Record → Record
 told_by table r =
     option_map_or
-    (λ turns. record { thread = r.thread; seq = r.seq; seen = r.seen; body = with_turns turns r.body })
-    (turns_told table r.thread r.body) r
+        (λ turns. record { thread = r.thread; seq = r.seq; seen = r.seen; body = telling turns r.body })
+        (turns_told table r.thread r.body) r
 
 -- the first n records are upgraded, and the others are as they were
 pub record IsUpgradedUpTo (old : List Record) (n : ℕ) (now : List Record) : Type 0 where
-  pub as_many : length now ≡ length old
-  pub upgraded : (i : ℕ) (r : Record) → i < n → slice_get old i ≡ Some r
-      → (s : Record) × (slice_get now i ≡ Some s) × IsUpgradedRecord old i r s
+  pub all : length now ≡ length old
+  pub each : (i : ℕ) (r : Record) → i < n → slice_get old i ≡ Some r → slice_get now i ≡ Some (record {
+    thread = r.thread;
+    seq = r.seq;
+    seen = r.seen;
+    body = body_upgraded old now i r.body;
+  })
   pub rest : (i : ℕ) → n ≤ i → slice_get now i ≡ slice_get old i
+  pub in_range : (i : ℕ) (s : Record) → slice_get now i ≡ Some s → IsInRange s
+
+-- the turn that each task ends which stops running on a thread, by the first n records
+abbrev pub AreEnded : List Record → ℕ → BTreeMap ℕ TaskTurns → Type 0
+AreEnded now n table = (task thread : ℕ)
+    → turn_in task (filter (λ (q : Record). q.thread == thread) (take n now)) ≡ turn_ended (noted table task) thread

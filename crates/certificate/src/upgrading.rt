@@ -5,8 +5,9 @@ ghost use Rattle.std.specs.Ordering.{nat_cmp};
 ghost use Rattle.std.specs.BTreeMap.{get};
 ghost use Rattle.ompt_events.specs.Records.{started};
 ghost use Rattle.ompt_events.specs.Traces.{IsTraceOf};
-ghost use Rattle.certificate.specs.Upgrading.{StayAtHome, IsUpgraded, IsUpgradeOf, IsRefusal};
-ghost use Rattle.certificate.specs.TaskTurns.{noted, with_turn, turns_told, with_turns, told_by, AreHomes};
+ghost use Rattle.ompt_events.specs.Upgrades.{MovesNowhere, IsUpgrade, telling};
+ghost use Rattle.certificate.specs.Upgrading.{IsUpgraded, IsRefusal};
+ghost use Rattle.certificate.specs.TaskTurns.{noted, with_turn, turns_told, told_by, AreHomes};
 
 use crate::faults::UpgradeFault;
 use crate::task_turns::{TaskTurns, begin_turn, note_begin, note_start, turn_ended};
@@ -33,7 +34,7 @@ pub fn upgrade(alloc: Global, trace: Trace) -> Result<Trace, (Trace, UpgradeFaul
 
 /// On which thread each task runs, and its first turn.
 fn find_homes(alloc: Global, records: &[Record]) -> Result<BTreeMap<u64, TaskTurns>, UpgradeFault>
-    ensures stay { IfOk result (λ table. StayAtHome records.now) }
+    ensures stay { IfOk result (λ table. MovesNowhere records.now) }
     ensures homes { IfOk result (AreHomes records.now (length records.now)) }
     ensures refused { IfErr result (IsRefusal records.now) }
 {
@@ -58,7 +59,7 @@ fn tell_all(mut records: Vec<Record>, mut table: BTreeMap<u64, TaskTurns>) -> Tr
     requires trace { IsTraceOf 1 records.items }
     requires homes { AreHomes records.items (length records.items) table }
     ensures version { result.version ≡ 2 }
-    ensures upgrade { IsUpgradeOf records.items result.records }
+    ensures upgrade { IsUpgrade records.items result.records }
 {
     for at in 0..records.len() {
         tell(&mut records[at], &mut table);
@@ -103,7 +104,7 @@ fn turns_of(event: &Record, table: &mut BTreeMap<u64, TaskTurns>) -> Option<Turn
 
 /// Tells a schedule event these turns.
 fn set_turns(body: &mut Body, told: Turns)
-    ensures { body.new ≡ with_turns told body.old }
+    ensures { body.new ≡ telling told body.old }
 {
     if let Body::TaskSchedule { turns, .. } = body {
         *turns = Some(told);

@@ -26,7 +26,7 @@ loop-at-preserved c =
     }
 
 pub returns-clause-stay : goal.returns-clause-stay
-returns-clause-stay c = λ i move. c.loop-at.invariant.stay i (let within = at_within started c.args.records.now i move.task move.runs in omega (arith, within, c.loop-at-test.false)) move
+returns-clause-stay c = λ i move. c.loop-at.invariant.stay i (let within = at_within started c.args.records.now i move.task move.next in omega (arith, within, c.loop-at-test.false)) move
 
 pub returns-in-Err-clause-refused : goal.returns-in-Err-clause-refused
 returns-in-Err-clause-refused c = memory

@@ -1,5 +1,5 @@
 use Rattle.std.proofs.Common.{ℕ, ◌<◌}
-use Rattle.certificate.specs.Upgrading.{IsMove}
+use Rattle.ompt_events.specs.Upgrades.{Moves}
 use Rattle.certificate.specs.TaskTurns.{AreHomes}
 use Rattle.certificate.proofs.upgrading.find_homes.Given as goal
 
@@ -7,5 +7,5 @@ use Rattle.certificate.proofs.upgrading.find_homes.Given as goal
 abbrev pub invariant-loop-at : goal.invariant-loop-at
 invariant-loop-at l = record {
   homes : AreHomes l.records l.at l.table;
-  stay : (k : ℕ) → k < l.at → IsMove l.records k → ⊥;
+  stay : (k : ℕ) → k < l.at → Moves l.records k → ⊥;
 }

@@ -1,6 +1,7 @@
 use Rattle.std.proofs.Common.{◌≡◌, ◌∙◌, ◌⊎◌, ℕ, List, sym, subst, inl, inr}
 use Rattle.ompt_events.specs.declared.records.Record.{Record}
-use Rattle.certificate.specs.Upgrading.{StayAtHome, IsUpgradeOf, upgraded}
+use Rattle.ompt_events.specs.Upgrades.{MovesNowhere, IsUpgrade}
+use Rattle.certificate.specs.Upgrading.{upgraded}
 use Rattle.certificate.proofs.upgrading.upgrade.Goals as goal
 
 pub returns-in-Ok-clause-upgraded : goal.returns-in-Ok-clause-upgraded
@@ -12,5 +13,5 @@ returns-in-Ok-clause-upgraded c =
       | inr is ↦ absurd (c.if-version-eq2.false (c.version.ensures ∙ is))
     ] in
     upgraded one c.tell_all.ensures.version
-    (subst (λ (rs : List Record). StayAtHome rs) c.records.ensures.value c.in-Ok.ensures.stay)
-    (subst (λ (rs : List Record). IsUpgradeOf rs new) c.into_records.ensures.value c.tell_all.ensures.upgrade)
+    (subst (λ (rs : List Record). MovesNowhere rs) c.records.ensures.value c.in-Ok.ensures.stay)
+    (subst (λ (rs : List Record). IsUpgrade rs new) c.into_records.ensures.value c.tell_all.ensures.upgrade)
