@@ -1,5 +1,5 @@
 -- Records that are told their turns are a trace of version 2, and an upgrade.
-use Rattle.std.proofs.Common.{◌≡◌, ◌≢◌, ◌∙◌, ℕ, ◌<◌, ◌≤◌, ◌+◌, ◌-◌, ◌^◌, zero, suc, List, [], ◌∷◌, length, take, get_or, Option, Some, None, Bool, true, false, cond, refl, sym, ap, subst, arith, inl, inr}
+use Rattle.std.proofs.Common.{◌≡◌, ◌≢◌, ◌∙◌, ℕ, ◌<◌, ◌≤◌, ◌+◌, ◌-◌, ◌^◌, suc, List, [], ◌∷◌, length, take, get_or, Option, Some, None, Bool, true, false, cond, refl, sym, ap, subst, arith, inl, inr}
 use Rattle.std.specs.Prelude.{slice_get, slice_set, is_some, All, sum_by, filter, ◌==◌, if◌then◌else◌}
 use Rattle.std.specs.Option.{option_map_or}
 use Rattle.std.specs.BTreeMap.{BTreeMap}
@@ -11,10 +11,9 @@ use Rattle.ompt_events.specs.declared.records.Record.{Record}
 use Rattle.ompt_events.specs.declared.records.Body.{Body}
 use Rattle.ompt_events.specs.declared.records.Body.TheVariants.{TaskSchedule}
 use Rattle.ompt_events.specs.declared.records.Turns.{Turns}
-use Rattle.ompt_events.specs.Names.{demands_next}
-use Rattle.ompt_events.specs.Records.{made, started, running, told_turns}
+use Rattle.ompt_events.specs.Records.{made, started, running}
 use Rattle.ompt_events.specs.Limits.{max_records}
-use Rattle.ompt_events.specs.Traces.{IsSound, IsInRange, BodyInRange, TurnsInRange, IsTrace, IsTraceOf, HasItsTurns, tasks_in}
+use Rattle.ompt_events.specs.Traces.{IsSound, IsInRange, BodyInRange, IsTraceOf, HasItsTurns, tasks_in}
 use Rattle.ompt_events.specs.Turns.{turn_in, turn_at}
 use Rattle.ompt_events.specs.Upgrades.{IsUpgrade, turn_counted, telling, body_upgraded}
 use Rattle.certificate.specs.declared.task_turns.TaskTurns.{TaskTurns}
@@ -134,7 +133,7 @@ upgraded_more old now n r table stands few sound are ended before =
             let alike : r ≡ q = same_Some r q (sym stands ∙ ap (slice_get old) (sym same) ∙ is) in
             let here : slice_get (slice_set now n s) n ≡ Some (with_body r (body_upgraded old (slice_set now n s) n r.body)) = get_here now n s within ∙ ap Some (told_is old now n r table within are ended sound) in
             subst (λ (x : Record). slice_get (slice_set now n s) i ≡ Some (with_body x (body_upgraded old (slice_set now n s) i x.body))) alike
-              (subst (λ k. slice_get (slice_set now n s) k ≡ Some (with_body r (body_upgraded old (slice_set now n s) k r.body))) (sym same) here)
+            (subst (λ k. slice_get (slice_set now n s) k ≡ Some (with_body r (body_upgraded old (slice_set now n s) k r.body))) (sym same) here)
         | inr apart ↦
             let earlier : i < n = omega (arith, below, apart) in
             get_there now n i s apart
@@ -214,9 +213,9 @@ trace_of_two old new n trace past up = record {
         let here = get_or_from_slice_get old i r r stands in
         let same : body_upgraded old new i r.body ≡ s.body = ap (λ (q : Record). q.body) (same_Some (with_body r (body_upgraded old new i r.body)) s (sym (upgrade.each i r stands) ∙ now)) in
         subst (IsKeptAs r.body) same
-          (kept_as (λ task. record { prior = turn_at new i; next = turn_counted old i task }) r.body
-            (subst (λ (q : Record). IsSound q.body) here (trace.is_trace.sound i r within))
-            (subst (λ (q : Record). HasItsTurns 1 q.body) here (trace.turns i r within)))
+        (kept_as (λ task. record { prior = turn_at new i; next = turn_counted old i task }) r.body
+        (subst (λ (q : Record). IsSound q.body) here (trace.is_trace.sound i r within))
+        (subst (λ (q : Record). HasItsTurns 1 q.body) here (trace.turns i r within)))
 
     of : (i : ℕ) (d : Record) → (within : i < length new) → IsKeptAs (get_or old i d).body (get_or new i d).body
     of i d within =

@@ -83,8 +83,8 @@ turns_told table thread body = None
 abbrev pub told_by : BTreeMap ℕ TaskTurns → Record → Record
 told_by table r =
     option_map_or
-        (λ turns. record { thread = r.thread; seq = r.seq; seen = r.seen; body = telling turns r.body })
-        (turns_told table r.thread r.body) r
+    (λ turns. record { thread = r.thread; seq = r.seq; seen = r.seen; body = telling turns r.body })
+    (turns_told table r.thread r.body) r
 
 -- the first n records are upgraded, and the others are as they were
 pub record IsUpgradedUpTo (old : List Record) (n : ℕ) (now : List Record) : Type 0 where

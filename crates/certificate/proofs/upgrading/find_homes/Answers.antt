@@ -1,6 +1,5 @@
-use Rattle.std.proofs.Common.{◌≡◌, ◌∙◌, sym, below_more, arith, true, false}
+use Rattle.std.proofs.Common.{below_more, arith}
 use Rattle.ompt_events.specs.Records.{started}
-use Rattle.ompt_events.specs.Places.{at}
 use Rattle.ompt_events.proofs.PlaceLemmas.{read_get, at_within}
 use Rattle.certificate.specs.Upgrading.{memory, moved}
 use Rattle.certificate.proofs.TaskTurnLemmas.{homes_more, moves, stays_home}
