@@ -15,8 +15,8 @@ use Rattle.ompt_events.specs.Traces.{IsInRange}
 use Rattle.ompt_events.specs.Upgrades.{turn_counted, telling, body_upgraded}
 use Rattle.certificate.specs.declared.task_turns.TaskTurns.{TaskTurns}
 
--- the turn that the task begins where it runs next for the first time: 1 where one of the records begins it as an
--- initial or implicit task, since its turn 0 begins there
+-- the turn that the task begins where it runs next for the first time: 1 where one of the records begins it as
+-- an initial or implicit task, since its turn 0 begins there
 abbrev pub first_turn : List Record → ℕ → ℕ
 first_turn rs task = if is_made_so (λ b. is_task task (begun_root b)) rs then 1 else 0
 
@@ -28,13 +28,14 @@ no_turns = record { home = None; next = 0 }
 abbrev pub noted : BTreeMap ℕ TaskTurns → ℕ → TaskTurns
 noted table task = unwrap_or (get nat_cmp table task) no_turns
 
--- with what the record at which a root begins says
+-- with what the record says at which an initial or implicit task begins
 abbrev pub with_begin : ℕ → Record → TaskTurns → TaskTurns
 with_begin task r t = if is_task task (begun_root r.body) then record { home = t.home; next = 1 } else t
 
--- with what the record after which a task runs says
+-- with what the record says after which a task runs: on which thread
 abbrev pub with_start : ℕ → Record → TaskTurns → TaskTurns
-with_start task r t = if is_task task (started r.body) then record { home = Some r.thread; next = t.next } else t
+with_start task r t =
+    if is_task task (started r.body) then record { home = Some r.thread; next = t.next } else t
 
 -- the task that runs next is noted to run on another thread
 pub record IsElsewhere (table : BTreeMap ℕ TaskTurns) (r : Record) : Type 0 where
@@ -70,6 +71,7 @@ turn_ended t thread = if option_map_or (λ home. home == thread) t.home false th
 abbrev pub one_later : TaskTurns → TaskTurns
 one_later t = record { home = t.home; next = t.next + 1 }
 
+-- with what the record says after which a task runs: its next turn has begun
 abbrev pub with_turn : ℕ → Record → TaskTurns → TaskTurns
 with_turn task r t = if is_task task (started r.body) then one_later t else t
 
@@ -101,4 +103,5 @@ pub record IsUpgradedUpTo (old : List Record) (n : ℕ) (now : List Record) : Ty
 -- the turn that each task ends which stops running on a thread, by the first n records
 abbrev pub AreEnded : List Record → ℕ → BTreeMap ℕ TaskTurns → Type 0
 AreEnded now n table = (task thread : ℕ)
-    → turn_in task (filter (λ (q : Record). q.thread == thread) (take n now)) ≡ turn_ended (noted table task) thread
+    → turn_in task (filter (λ (q : Record). q.thread == thread) (take n now))
+    ≡ turn_ended (noted table task) thread

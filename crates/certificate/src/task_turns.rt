@@ -35,7 +35,8 @@ pub(crate) fn note_begin(
     table: &mut BTreeMap<u64, TaskTurns>,
     event: &Record,
 ) -> Result<(), AllocError>
-    ensures { OnOk result ((task : ℕ) → noted table.new task ≡ with_begin task event.now (noted table.old task)) }
+    ensures { OnOk result ((task : ℕ)
+        → noted table.new task ≡ with_begin task event.now (noted table.old task)) }
 {
     if let Some(task) = event.body.begun_root() {
         let turns = noted(table, task);
