@@ -15,8 +15,8 @@ use Rattle.ompt_events.specs.Traces.{IsInRange}
 use Rattle.ompt_events.specs.Upgrades.{turn_counted, telling, body_upgraded}
 use Rattle.certificate.specs.declared.task_turns.TaskTurns.{TaskTurns}
 
--- the turn that the task begins where it runs next for the first time: 1 where one of the records begins it as
--- an initial or implicit task, since its turn 0 begins there
+-- the turn that the task begins where it runs next for the first time: 1 where one of the records begins it
+-- as an initial or implicit task, since its turn 0 begins there
 abbrev pub first_turn : List Record → ℕ → ℕ
 first_turn rs task = if is_made_so (λ b. is_task task (begun_root b)) rs then 1 else 0
 

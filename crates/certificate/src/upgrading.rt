@@ -15,9 +15,9 @@ use ompt_events::{Body, Record, Trace, Turns};
 use std::alloc::Global;
 use std::collections::BTreeMap;
 
-/// The trace in version 2: the same records, but each record after which a task runs next tells turns. A trace
-/// of version 2 comes back as it is. A refused trace comes back as it was, with `Moved` and the place of the first
-/// record after which a task runs that ran on another thread before, or with `Memory`.
+/// The trace in version 2: the same records, but each record after which a task runs next tells turns. A
+/// trace of version 2 comes back as it is. A refused trace comes back as it was, with `Moved` and the place of
+/// the first record after which a task runs that ran on another thread before, or with `Memory`.
 pub fn upgrade(alloc: Global, trace: Trace) -> Result<Trace, (Trace, UpgradeFault)>
     ensures upgraded { IfOk result (IsUpgraded trace) }
     ensures back { IfErr result (λ refusal. refusal.0 ≡ trace) }
