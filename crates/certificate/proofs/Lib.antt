@@ -29,3 +29,5 @@ mod TextLemmas
 mod SaysLemmas
 mod LineLemmas
 mod UnorderedLemmas
+mod TaskTurnLemmas
+mod UpgradeLemmas

@@ -4,6 +4,8 @@ use Rattle.certificate.specs.declared.faults.ReadCause.{ReadCause}
 use Rattle.certificate.specs.declared.faults.ReadCause.TheVariants as read
 use Rattle.certificate.specs.declared.faults.WriteFault.{WriteFault}
 use Rattle.certificate.specs.declared.faults.WriteFault.TheVariants as write
+use Rattle.certificate.specs.declared.faults.UpgradeFault.{UpgradeFault}
+use Rattle.certificate.specs.declared.faults.UpgradeFault.TheVariants as upgrade
 
 abbrev pub read_cause_number : ReadCause → ℕ
 read_cause_number read.Device = 1
@@ -36,3 +38,11 @@ abbrev pub write_fault_name : WriteFault → List ℕ
 write_fault_name write.Device = codes "Device"
 write_fault_name write.Memory = codes "Memory"
 write_fault_name write.TurnsSpent = codes "TurnsSpent"
+
+abbrev pub upgrade_fault_number : UpgradeFault → ℕ
+upgrade_fault_number upgrade.Memory = 1
+upgrade_fault_number (upgrade.Moved at) = 2
+
+abbrev pub upgrade_fault_name : UpgradeFault → List ℕ
+upgrade_fault_name upgrade.Memory = codes "Memory"
+upgrade_fault_name (upgrade.Moved at) = codes "Moved"

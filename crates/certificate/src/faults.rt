@@ -1,6 +1,6 @@
 //! Why a file is not read, or bytes are not written.
 ghost use Rattle.std.specs.Prelude.{◌≡◌, ◌↔◌, Some};
-ghost use Rattle.certificate.specs.FaultNames.{read_cause_name, read_cause_number, write_fault_name, write_fault_number};
+ghost use Rattle.certificate.specs.FaultNames.{read_cause_name, read_cause_number, write_fault_name, write_fault_number, upgrade_fault_name, upgrade_fault_number};
 
 use thiserror::Error;
 
@@ -50,6 +50,17 @@ pub enum WriteFault {
     /// The sink has asked for another turn, or taken no byte of some, 10,001 times in one call.
     #[error("the sink took too many turns")]
     TurnsSpent,
+}
+
+/// Why a trace of version 1 has no version 2.
+#[derive(Clone, Copy, Debug, PartialEq, Eq, Error)]
+pub enum UpgradeFault {
+    /// Out of memory.
+    #[error("out of memory")]
+    Memory,
+    /// After the record at this place a task runs that ran on another thread before: its turns are not known.
+    #[error("a task moves to another thread at record {0}")]
+    Moved(usize),
 }
 
 // The tables of numbers and names; the first word names the shape that the rows are put into.
@@ -149,5 +160,27 @@ impl WriteFault {
         ensures { (fault : WriteFault) → (result ≡ Some fault) ↔ (write_fault_name fault ≡ name.now) }
     {
         write_faults!(value_of name)
+    }
+}
+
+impl UpgradeFault {
+    /// The number in a report: 1 or 2.
+    pub fn number(self) -> u8
+        ensures { result ≡ upgrade_fault_number self }
+    {
+        match self {
+            UpgradeFault::Memory => 1,
+            UpgradeFault::Moved(_) => 2,
+        }
+    }
+
+    /// The name in a report.
+    pub fn name(self) -> &'static str
+        ensures { result.now ≡ upgrade_fault_name self }
+    {
+        match self {
+            UpgradeFault::Memory => "Memory",
+            UpgradeFault::Moved(_) => "Moved",
+        }
     }
 }

@@ -3,7 +3,8 @@
 //! for what a caller sees, and `laws` for what follows of a file; `lines` is how a line is read (`canonical`
 //! as it is written, `unordered` and `making` with its members in another order, both by `parts`), `texts`
 //! how it is written, and `callbacks` has the tables. `reading_on` reads on several workers: by `blocks`, cut
-//! into `pieces` that are judged side by side.
+//! into `pieces` that are judged side by side. `upgrading` makes a trace of version 2 of one of version 1, by
+//! what `task_turns` notes of each task.
 #![tactic(auto)]
 
 mod blocks;
@@ -25,18 +26,21 @@ mod reading_on;
 mod script_reading;
 mod step_lines;
 mod streams;
+mod task_turns;
 mod texts;
 mod unordered;
+mod upgrading;
 mod values;
 mod window;
 mod writing;
 
 pub use device::{DeviceFault, Sink, Source};
-pub use faults::{ReadCause, ReadFault, WriteFault};
+pub use faults::{ReadCause, ReadFault, UpgradeFault, WriteFault};
 pub use memory::{MemSink, MemSource};
 pub use reading::{NEWEST_VERSION, read, read_to};
 pub use reading_on::{read_blocks, read_on};
 pub use script_reading::read_script;
 pub use scripts::{Script, Step};
 pub use streams::{FromRead, StdRead, StdWrite, ToWrite};
+pub use upgrading::upgrade;
 pub use writing::{write, write_bytes};

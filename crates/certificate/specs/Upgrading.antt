@@ -1,0 +1,18 @@
+-- What a call of `upgrade` answers.
+use Rattle.std.specs.Prelude.{ℕ, ◌≡◌, List}
+use Rattle.ompt_events.specs.declared.records.Record.{Record}
+use Rattle.ompt_events.specs.Traces.{TraceView}
+use Rattle.ompt_events.specs.Upgrades.{MovesFirst, MovesNowhere, IsUpgrade}
+use Rattle.certificate.specs.declared.faults.UpgradeFault.{UpgradeFault}
+use Rattle.certificate.specs.declared.faults.UpgradeFault.TheVariants.{Memory, Moved}
+
+-- a trace, and what it is in version 2
+pub data IsUpgraded (old new : TraceView) : Type 0 where
+  already : old.version ≡ 2 → new ≡ old → IsUpgraded old new
+  upgraded : old.version ≡ 1 → new.version ≡ 2 → MovesNowhere old.records → IsUpgrade old.records new.records
+      → IsUpgraded old new
+
+-- why the records of version 1 are not upgraded
+pub data IsRefusal (rs : List Record) : UpgradeFault → Type 0 where
+  memory : IsRefusal rs Memory
+  moved : (at : ℕ) → MovesFirst rs at → IsRefusal rs (Moved at)

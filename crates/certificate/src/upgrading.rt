@@ -1,0 +1,112 @@
+//! Version 2 of a trace of version 1. A first pass over the records notes on which thread each task runs, and
+//! which tasks are initial or implicit ones; a second one tells each record its turns, in place.
+ghost use Rattle.std.specs.Prelude.{ℕ, ◌≡◌, ◌<◌, ◌^◌, length, Some, IfOk, IfErr, IsSome};
+ghost use Rattle.std.specs.Ordering.{nat_cmp};
+ghost use Rattle.std.specs.BTreeMap.{get};
+ghost use Rattle.ompt_events.specs.Records.{started};
+ghost use Rattle.ompt_events.specs.Traces.{IsTraceOf};
+ghost use Rattle.ompt_events.specs.Upgrades.{MovesNowhere, IsUpgrade, telling};
+ghost use Rattle.certificate.specs.Upgrading.{IsUpgraded, IsRefusal};
+ghost use Rattle.certificate.specs.TaskTurns.{noted, with_turn, turns_told, told_by, AreHomes};
+
+use crate::faults::UpgradeFault;
+use crate::task_turns::{TaskTurns, begin_turn, note_begin, note_start, turn_ended};
+use ompt_events::{Body, Record, Trace, Turns};
+use std::alloc::Global;
+use std::collections::BTreeMap;
+
+/// The trace in version 2: the same records, but each record after which a task runs next tells turns. A
+/// trace of version 2 comes back as it is. A refused trace comes back as it was, with `Moved` and the place of
+/// the first record after which a task runs that ran on another thread before, or with `Memory`.
+pub fn upgrade(alloc: Global, trace: Trace) -> Result<Trace, (Trace, UpgradeFault)>
+    ensures upgraded { IfOk result (IsUpgraded trace) }
+    ensures back { IfErr result (λ refusal. refusal.0 ≡ trace) }
+    ensures refused { IfErr result (λ refusal. (trace.version ≡ 1) × IsRefusal trace.records refusal.1) }
+{
+    if trace.version() == 2 {
+        return Ok(trace);
+    }
+    match find_homes(alloc, trace.records()) {
+        Ok(table) => Ok(tell_all(trace.into_records(), table)),
+        Err(fault) => Err((trace, fault)),
+    }
+}
+
+/// On which thread each task runs, and its first turn.
+fn find_homes(alloc: Global, records: &[Record]) -> Result<BTreeMap<u64, TaskTurns>, UpgradeFault>
+    ensures stay { IfOk result (λ table. MovesNowhere records.now) }
+    ensures homes { IfOk result (AreHomes records.now (length records.now)) }
+    ensures refused { IfErr result (IsRefusal records.now) }
+{
+    let mut table = BTreeMap::new(alloc);
+    for at in 0..records.len() {
+        let event = &records[at];
+        match note_begin(&mut table, event) {
+            Ok(()) => {}
+            Err(_) => return Err(UpgradeFault::Memory),
+        }
+        match note_start(&mut table, event) {
+            Ok(true) => {}
+            Ok(false) => return Err(UpgradeFault::Moved(at)),
+            Err(_) => return Err(UpgradeFault::Memory),
+        }
+    }
+    Ok(table)
+}
+
+/// The trace of version 2 of these records, each told its turns.
+fn tell_all(mut records: Vec<Record>, mut table: BTreeMap<u64, TaskTurns>) -> Trace
+    requires trace { IsTraceOf 1 records.items }
+    requires homes { AreHomes records.items (length records.items) table }
+    ensures version { result.version ≡ 2 }
+    ensures upgrade { IsUpgrade records.items result.records }
+{
+    for at in 0..records.len() {
+        tell(&mut records[at], &mut table);
+    }
+    match Trace::from_turns(records) {
+        Ok(trace) => trace,
+        Err(_) => unreachable!(),
+    }
+}
+
+/// Tells the record its turns, if a task runs after it.
+fn tell(event: &mut Record, table: &mut BTreeMap<u64, TaskTurns>)
+    requires known { (task : ℕ) → started event.old.body ≡ Some task → IsSome (get nat_cmp table.old task) }
+    requires few { (task : ℕ) → (noted table.old task).next < 2 ^ 31 }
+    ensures told { event.new ≡ told_by table.old event.old }
+    ensures noted { (task : ℕ) → noted table.new task ≡ with_turn task event.old (noted table.old task) }
+{
+    if let Some(turns) = turns_of(event, table) {
+        set_turns(&mut event.body, turns);
+    }
+}
+
+/// The turns of the record, if a task runs after it: that task begins its next one.
+fn turns_of(event: &Record, table: &mut BTreeMap<u64, TaskTurns>) -> Option<Turns>
+    requires known { (task : ℕ) → started event.now.body ≡ Some task → IsSome (get nat_cmp table.old task) }
+    requires few { (task : ℕ) → (noted table.old task).next < 2 ^ 31 }
+    ensures told { result ≡ turns_told table.old event.now.thread event.now.body }
+    ensures noted { (task : ℕ) → noted table.new task ≡ with_turn task event.now (noted table.old task) }
+{
+    let Body::TaskSchedule {
+        prior,
+        next: Some(next),
+        ..
+    } = &event.body
+    else {
+        return None;
+    };
+    let prior = turn_ended(table, *prior, event.thread);
+    let next = begin_turn(table, *next);
+    Some(Turns { prior, next })
+}
+
+/// Tells a schedule event these turns.
+fn set_turns(body: &mut Body, told: Turns)
+    ensures { body.new ≡ telling told body.old }
+{
+    if let Body::TaskSchedule { turns, .. } = body {
+        *turns = Some(told);
+    }
+}
