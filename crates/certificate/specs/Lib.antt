@@ -22,6 +22,7 @@ pub mod Reading
 pub mod Pieces
 pub mod Blocks
 pub mod ReadingOn
+pub mod Ahead
 pub mod MemoryDevices
 pub mod Answers
 pub mod Streams

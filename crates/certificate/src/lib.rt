@@ -6,6 +6,7 @@
 //! into `pieces` that are judged side by side.
 #![tactic(auto)]
 
+mod ahead;
 mod blocks;
 mod callbacks;
 mod canonical;
