@@ -259,3 +259,6 @@ turned left left' front old new last u ready worked judged but none limit =
             but.filled ∙ none.0.filled ∙ same.filled,
           );
     }
+
+pub added_fault_known : (known left left' : Option (List ℕ)) (room : ℕ) (front : List ℕ) (old new : Ahead) (cause : ReadCause) → WorkedBeside (Err cause) old new left left' → Waits known left room front old → IsToldNext cause known left' room new
+added_fault_known known left left' room front old new cause worked waits = rw worked.2 (added_fault known left room front old new cause worked.0 waits)

@@ -192,10 +192,10 @@ impl Block {
 }
 
 /// Writes these bytes over the first ones.
-fn put_front(bytes: &mut Vec<u8>, front: &[u8])
-    requires { length front.now ≤ length bytes.old.items }
-    ensures len { length bytes.new.items ≡ length bytes.old.items }
-    ensures front { take (length front.now) bytes.new.items ≡ front.now }
+fn put_front(bytes: &mut [u8], front: &[u8])
+    requires { length front.now ≤ length bytes.old }
+    ensures len { length bytes.new ≡ length bytes.old }
+    ensures front { take (length front.now) bytes.new ≡ front.now }
 {
     bytes[..front.len()].copy_from_slice(front);
 }
