@@ -16,7 +16,7 @@ use Rattle.certificate.specs.Files.{no_trace, traces}
 use Rattle.certificate.specs.Pieces.{IsWholeLines, AreJudged}
 use Rattle.certificate.specs.Windows.{LineFeedAt}
 use Rattle.certificate.specs.Blocks.{BlockView, IsFillFault}
-use Rattle.certificate.specs.ReadingOn.{IsBetweenLines, IsToldAfter, IsLineFault, IsCounted, IsEnded}
+use Rattle.certificate.specs.ReadingOn.{IsBetweenLines, IsToldAfter, IsLineFault, IsCounted, IsEnded, ReadsAhead}
 use Rattle.certificate.specs.Ahead.{AreJudgedOf, IsInHand, CanAsk, IsReady, Waits, IsToldNext, IsAfterStep, SameSource, SameLines, IsAdded, IsRefilled, WorkedBeside, HasMet, MeetsMore, IsTurned, rounds_behind, rounds_left}
 use Rattle.certificate.proofs.CountLemmas.{TakesTurns-more}
 use Rattle.certificate.proofs.PieceLemmas.{no_memory}
@@ -262,3 +262,50 @@ turned left left' front old new last u ready worked judged but none limit =
 
 pub added_fault_known : (known left left' : Option (List ℕ)) (room : ℕ) (front : List ℕ) (old new : Ahead) (cause : ReadCause) → WorkedBeside (Err cause) old new left left' → Waits known left room front old → IsToldNext cause known left' room new
 added_fault_known known left left' room front old new cause worked waits = rw worked.2 (added_fault known left room front old new cause worked.0 waits)
+
+-- ---- between two rounds
+
+hand_same : (old new : Ahead) → SameLines old new → new.filled ≡ old.filled → IsInHand old → IsInHand new
+hand_same old new same filled hand = record {
+  low = rw same.line hand.low;
+  high = rw same.line hand.high;
+  counted = rw (same.line, same.kept) hand.counted;
+  version = rw same.kept hand.version;
+  pending = rw (same.kept, same.pieces) hand.pending;
+  met = rw filled hand.met;
+}
+
+-- the bytes behind the whole lines were moved
+pub record IsParted (front front' : BlockView) (old new : Ahead) : Type 0 where
+  pub whole : IsWholeLines front'.waiting
+  pub none : LineFeedAt new.block.waiting None
+  pub limit : (front'.limit ≡ front.limit) × (new.block.limit ≡ old.block.limit)
+  pub lines : SameLines old new
+  pub source : (new.turns ≡ old.turns) × (new.filled ≡ old.filled)
+  pub asks : new.asks ≡ true → (new.filled ≡ Ok true) × (0 < length front'.waiting)
+  pub rests : new.asks ≡ false → new.filled ≡ Ok true → max_line < length new.block.waiting
+
+pub ready_again : (first front front' : BlockView) (old middle new : Ahead) → old.asks ≡ true → max_line < first.limit → IsTurned first old front middle → IsParted front front' middle new → IsReady front' new
+ready_again first front front' old middle new asks long turned parted = record {
+  in_hand = hand_same middle new parted.lines parted.source.1 turned.in_hand;
+  can_ask = λ again.
+      let more = (parted.asks again).0 in
+      (more, rw parted.source.0 (turned.turns asks (sym parted.source.1 ∙ more)));
+  whole = parted.whole;
+  none = parted.none;
+  limit = parted.limit.0 ∙ turned.limit.0 ∙ sym turned.limit.1 ∙ sym parted.limit.1;
+  long = omega (arith, parted.limit.0, turned.limit.0);
+  rests = parted.rests;
+}
+
+pub fewer_again : (first front front' : BlockView) (old middle new : Ahead) → old.asks ≡ true → IsTurned first old front middle → IsParted front front' middle new → rounds_left front'.waiting new < rounds_left first.waiting old
+fewer_again first front front' old middle new asks turned parted =
+    let line : new.line ≡ middle.line = parted.lines.line in
+    fewer_rounds old.line new.line old.asks new.asks old.pieces.items new.pieces.items first.waiting front'.waiting asks (omega (arith, turned.line)) (omega (arith, turned.in_hand.high))
+    (λ some. omega (arith, turned.more some))
+    (λ some. (rw parted.lines.pieces (turned.some some)))
+    (λ again. (parted.asks again).1)
+
+-- what the source did, at the end of a reading
+pub reads_ahead : (told : Option ReadCause) (ahead : Ahead) (a b a' b' : ℕ) → HasMet ahead 0 a b a' b' → IsToldAfter (result_err ahead.filled) told → (turns : ℕ) × ReadsAhead told 0 turns a a' b b'
+reads_ahead told ahead a b a' b' met after = (ahead.turns, record { met = result_err ahead.filled; taken = met.taken; broken = met.broken; told_after = after })
