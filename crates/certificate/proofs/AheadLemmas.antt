@@ -74,44 +74,7 @@ next_waits known left left' room limit front old new u few same_limit all worked
   end = next_end known left left' room front old worked.0 new old.asks refl worked.2 worked.3 waits;
 }
 
--- ---- what holds then
-
--- the lines of pieces
-pub more_lines : (old middle : Ahead) (u : Unit {0}) → IsInHand old → IsAdded (Ok u) old middle → 0 < length old.pieces.items → old.line < middle.line
-more_lines old middle u hand added some = omega (arith, hand.pending.some some, added.lines hand.pending.bytes hand.pending.judged)
-
--- ---- rounds
-
-pub fewer_rounds : (n n' : ℕ) (asks asks' : Bool) (pieces pieces' : List Piece) (front front' : List ℕ) → asks ≡ true → n ≤ n' → n' ≤ max_records + 2 → (0 < length pieces → n < n') → (0 < length front → 0 < length pieces') → (asks' ≡ true → 0 < length front')
-    → 4 * (max_records + 3 - n') + rounds_behind asks' pieces' front' < 4 * (max_records + 3 - n) + rounds_behind asks pieces front
-fewer_rounds n n' true asks' pieces pieces' front front' is later last more some next = by asks' pieces pieces' front front' more some next
-  where
-    by : (a : Bool) (ps ps' : List Piece) (f f' : List ℕ) → (0 < length ps → n < n') → (0 < length f → 0 < length ps') → (a ≡ true → 0 < length f') → 4 * (max_records + 3 - n') + rounds_behind a ps' f' < 4 * (max_records + 3 - n) + rounds_behind true ps f
-    by false (p ∷ ps) ps' f f' more some next = omega arith
-    by false [] ps' (b ∷ f) f' more some next = omega arith
-    by false [] ps' [] f' more some next = omega arith
-    by true ps ps' f [] more some next = absurd (omega (arith, next refl))
-    by true (p ∷ ps) (q ∷ qs) f (c ∷ g) more some next = omega (arith, more (omega arith))
-    by true (p ∷ ps) [] f (c ∷ g) more some next = omega (arith, more (omega arith))
-    by true [] (q ∷ qs) (b ∷ f) (c ∷ g) more some next = omega arith
-    by true [] [] (b ∷ f) (c ∷ g) more some next = absurd (omega (arith, some (omega arith)))
-    by true [] (q ∷ qs) [] (c ∷ g) more some next = omega arith
-    by true [] [] [] (c ∷ g) more some next = omega arith
-fewer_rounds n n' false asks' pieces pieces' front front' is later last more some next = absurd (let h : false ≡ true = is in cc)
-
 -- ---- what is told
-
--- a fault of the lines is told whatever the source did
-pub line_told_after : (met : Option ReadCause) (cause : ReadCause) → IsLineFault cause → IsToldAfter met (Some cause)
-line_told_after met Device is = absurd is
-line_told_after met Memory is = tt
-line_told_after met Header is = tt
-line_told_after met LineTooLong is = tt
-line_told_after met NotJson is = tt
-line_told_after met Field is = tt
-line_told_after met Limit is = tt
-line_told_after met Unended is = tt
-line_told_after met TurnsSpent is = absurd is
 
 -- no memory was found for what waits
 pub waits_memory : (known left : Option (List ℕ)) (room : ℕ) (front : List ℕ) (ahead : Ahead) → Waits known left room front ahead → IsToldNext Memory known left room ahead
@@ -164,10 +127,6 @@ pub ended_step : (known left : Option (List ℕ)) (room n : ℕ) (kept : TraceVi
 ended_step known left room n kept front ahead (Ok u) line first later ended = absurd (later first)
 ended_step known left room n kept front ahead (Err cause) line first later ended = rw line ended
 
-pub never_ok : (n : ℕ) (X : Type 0) (r : Result (Unit {0}) ReadCause) → n ≡ 1 → OnOk r (n ≢ 1) → OnOk r X
-never_ok n X (Ok u) first later = absurd (later first)
-never_ok n X (Err cause) first later = tt
-
 -- the last pieces were added
 pub added_last : (known left : Option (List ℕ)) (room : ℕ) (front : List ℕ) (old new : Ahead) (u : Unit {0}) → old.block.waiting ≡ [] → IsAdded (Ok u) old new → Waits known left room front old → IsBetweenLines known new.line new.kept front left
 added_last known left room front old new u none added waits =
@@ -213,98 +172,8 @@ turned_waits known left room front new last next judged line kept none filled =
 pub worked_version : (left left' : Option (List ℕ)) (old new : Ahead) (u : Unit {0}) → WorkedBeside (Ok u) old new left left' → new.kept.version ≡ old.kept.version
 worked_version left left' old new u worked = ap (λ (t : TraceView). t.version) worked.3.lines.kept ∙ worked.1.version
 
--- all but the pieces and the block
-pub record SameBut (new last : Ahead) : Type 0 where
-  pub line : last.line ≡ new.line
-  pub kept : last.kept ≡ new.kept
-  pub turns : last.turns ≡ new.turns
-  pub filled : last.filled ≡ new.filled
-  pub asks : last.asks ≡ new.asks
-
-pub turned_hand : (left left' : Option (List ℕ)) (front : List ℕ) (old new last : Ahead) (u : Unit {0}) → IsInHand old → WorkedBeside (Ok u) old new left left' → AreJudgedOf old.kept.version last.pieces.items front → last.line ≡ new.line → last.kept ≡ new.kept → last.filled ≡ new.filled → IsInHand last
-turned_hand left left' front old new last u hand worked judged line kept filled =
-    let same_version = worked_version left left' old new u worked in
-    let same_kept = ap (λ (t : TraceView). t.version) kept ∙ same_version in
-    record {
-      low = omega (arith, hand.low, worked.1.later, worked.3.lines.line, line);
-      high = omega (arith, worked.1.last, worked.3.lines.line, line);
-      counted = rw (line, kept, worked.3.lines.line, worked.3.lines.kept) worked.1.counted;
-      version = omega (arith, hand.version, same_kept);
-      pending = record { bytes = front; judged = rw same_kept judged.judged; some = judged.some };
-      met = rw filled worked.3.met;
-    }
-
-some_pieces : (ps : List Piece) (front : List ℕ) → (ps ≡ [] → front ≡ []) → 0 < length front → 0 < length ps
-some_pieces [] front none some = absurd (omega (arith, ap length (none refl)))
-some_pieces (p ∷ ps) front none some = omega arith
-
-pub turned : (left left' : Option (List ℕ)) (front : BlockView) (old new last : Ahead) (u : Unit {0}) → IsReady front old → WorkedBeside (Ok u) old new left left' → AreJudgedOf old.kept.version last.pieces.items front.waiting → SameBut new last → last.block.waiting ≡ [] → last.block.limit ≡ front.limit → IsTurned front old new.block last
-turned left left' front old new last u ready worked judged but none limit =
-    let added = worked.1 in
-    let same = worked.2 in
-    let re = worked.3 in
-    record {
-      in_hand = turned_hand left left' front.waiting old new last u ready.in_hand worked judged but.line but.kept but.filled;
-      waiting = none;
-      limit = (re.limit ∙ ap (λ (b : BlockView). b.limit) same.block ∙ sym ready.limit, limit);
-      asks = but.asks ∙ re.asks ∙ same.asks;
-      line = omega (arith, added.later, re.lines.line, but.line);
-      more = λ some. omega (arith, more_lines old worked.0 u ready.in_hand added some, re.lines.line, but.line);
-      some = some_pieces last.pieces.items front.waiting judged.none;
-      full = λ asks full. re.full (same.asks ∙ asks) (sym but.filled ∙ full);
-      turns = λ asks full. (rw but.turns (re.turns (same.asks ∙ asks) (sym but.filled ∙ full)));
-      unasked = λ asks.
-          let none = re.unasked (same.asks ∙ asks) in (
-            ap (λ (b : BlockView). b.waiting) (none.0.block ∙ same.block),
-            but.filled ∙ none.0.filled ∙ same.filled,
-          );
-    }
-
 pub added_fault_known : (known left left' : Option (List ℕ)) (room : ℕ) (front : List ℕ) (old new : Ahead) (cause : ReadCause) → WorkedBeside (Err cause) old new left left' → Waits known left room front old → IsToldNext cause known left' room new
 added_fault_known known left left' room front old new cause worked waits = rw worked.2 (added_fault known left room front old new cause worked.0 waits)
-
--- ---- between two rounds
-
-hand_same : (old new : Ahead) → SameLines old new → new.filled ≡ old.filled → IsInHand old → IsInHand new
-hand_same old new same filled hand = record {
-  low = rw same.line hand.low;
-  high = rw same.line hand.high;
-  counted = rw (same.line, same.kept) hand.counted;
-  version = rw same.kept hand.version;
-  pending = rw (same.kept, same.pieces) hand.pending;
-  met = rw filled hand.met;
-}
-
--- the bytes behind the whole lines were moved
-pub record IsParted (front front' : BlockView) (old new : Ahead) : Type 0 where
-  pub whole : IsWholeLines front'.waiting
-  pub none : LineFeedAt new.block.waiting None
-  pub limit : (front'.limit ≡ front.limit) × (new.block.limit ≡ old.block.limit)
-  pub lines : SameLines old new
-  pub source : (new.turns ≡ old.turns) × (new.filled ≡ old.filled)
-  pub asks : new.asks ≡ true → (new.filled ≡ Ok true) × (0 < length front'.waiting)
-  pub rests : new.asks ≡ false → new.filled ≡ Ok true → max_line < length new.block.waiting
-
-pub ready_again : (first front front' : BlockView) (old middle new : Ahead) → old.asks ≡ true → max_line < first.limit → IsTurned first old front middle → IsParted front front' middle new → IsReady front' new
-ready_again first front front' old middle new asks long turned parted = record {
-  in_hand = hand_same middle new parted.lines parted.source.1 turned.in_hand;
-  can_ask = λ again.
-      let more = (parted.asks again).0 in
-      (more, rw parted.source.0 (turned.turns asks (sym parted.source.1 ∙ more)));
-  whole = parted.whole;
-  none = parted.none;
-  limit = parted.limit.0 ∙ turned.limit.0 ∙ sym turned.limit.1 ∙ sym parted.limit.1;
-  long = omega (arith, parted.limit.0, turned.limit.0);
-  rests = parted.rests;
-}
-
-pub fewer_again : (first front front' : BlockView) (old middle new : Ahead) → old.asks ≡ true → IsTurned first old front middle → IsParted front front' middle new → rounds_left front'.waiting new < rounds_left first.waiting old
-fewer_again first front front' old middle new asks turned parted =
-    let line : new.line ≡ middle.line = parted.lines.line in
-    fewer_rounds old.line new.line old.asks new.asks old.pieces.items new.pieces.items first.waiting front'.waiting asks (omega (arith, turned.line)) (omega (arith, turned.in_hand.high))
-    (λ some. omega (arith, turned.more some))
-    (λ some. (rw parted.lines.pieces (turned.some some)))
-    (λ again. (parted.asks again).1)
 
 -- what the source did, at the end of a reading
 pub reads_ahead : (told : Option ReadCause) (ahead : Ahead) (a b a' b' : ℕ) → HasMet ahead 0 a b a' b' → IsToldAfter (result_err ahead.filled) told → (turns : ℕ) × ReadsAhead told 0 turns a a' b b'

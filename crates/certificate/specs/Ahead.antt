@@ -1,5 +1,5 @@
 -- What a reading on several workers has in hand, before, between and after its rounds.
-use Rattle.std.specs.Prelude.{ℕ, Bool, true, false, ◌≡◌, ◌+◌, ◌-◌, ◌*◌, ◌≤◌, ◌<◌, List, [], ◌∷◌, ◌++◌, length, Option, None, Some, Result, Ok, Err, IfErr, IfSome, OnOk}
+use Rattle.std.specs.Prelude.{ℕ, Bool, true, false, ◌≡◌, ◌+◌, ◌-◌, ◌*◌, ◌≤◌, ◌<◌, List, [], ◌∷◌, ◌++◌, length, Option, None, Result, Ok, Err, IfErr, IfSome, OnOk}
 use Rattle.std.specs.Result.{result_err}
 use Rattle.std.specs.Io.KnownBytes.{Keeps, IsAtEnd, prepend_known}
 use Rattle.ompt_events.specs.Limits.{max_records}
@@ -115,11 +115,11 @@ pub record SameLines (old new : Ahead) : Type 0 where
 -- the pieces were added, up to the first fault
 pub record IsAdded (result : Result (Unit {0}) ReadCause) (old new : Ahead) : Type 0 where
   pub between : (bytes more : List ℕ) (known left : Option (List ℕ)) (room : ℕ)
-    → AreJudged old.kept.version old.pieces.items bytes → length (bytes ++ more) ≤ room
-    → IsBetweenLines known old.line old.kept (bytes ++ more) left
-    → IsJudgedUpTo result known new.line new.kept more room left
+      → AreJudged old.kept.version old.pieces.items bytes → length (bytes ++ more) ≤ room
+      → IsBetweenLines known old.line old.kept (bytes ++ more) left
+      → IsJudgedUpTo result known new.line new.kept more room left
   pub lines : OnOk result ((bytes : List ℕ) → AreJudged old.kept.version old.pieces.items bytes
-    → new.line ≡ old.line + line_feeds bytes)
+      → new.line ≡ old.line + line_feeds bytes)
   pub later : old.line ≤ new.line
   pub last : new.line ≤ max_records + 2
   pub counted : OnOk result (IsCounted new.line new.kept)

@@ -1,6 +1,6 @@
 //! What a reading on several workers has in hand on the thread that called it: the records that were read, the
 //! pieces that come next, and the block that is filled while others are judged.
-ghost use Rattle.std.specs.Prelude.{◌≡◌, ◌≤◌, ◌<◌, ◌+◌, ℕ, List, Option, Ok, None, true, false, [], ◌++◌, length, IfOk, IfErr, OnOk, OnErr};
+ghost use Rattle.std.specs.Prelude.{◌≡◌, ◌≤◌, ◌<◌, ◌+◌, ℕ, List, Option, Ok, None, true, false, [], ◌++◌, length, IfOk, IfErr, OnOk};
 ghost use Rattle.std.specs.Result.{result_err};
 ghost use Rattle.certificate.specs.Formats.{line_feeds};
 ghost use Rattle.certificate.specs.Pieces.{IsWholeLines, IsJudged, AreJudged};
@@ -10,7 +10,7 @@ ghost use Rattle.certificate.specs.ReadingOn.{IsBetweenLines, IsJudgedUpTo, IsCo
 ghost use Rattle.certificate.specs.Ahead.{IsFirst, IsInHand, CanAsk, IsAdded, IsRefilled, WorkedBeside, MeetsMore, SameSource, SameLines};
 
 use crate::blocks::{Block, fill};
-use crate::device::{MAX_TURNS, Source};
+use crate::device::Source;
 use crate::faults::ReadCause;
 use crate::kept::Kept;
 use crate::pieces::Piece;

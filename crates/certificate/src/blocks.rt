@@ -120,14 +120,6 @@ impl Block {
         &self.bytes[..self.end]
     }
 
-    /// The first bytes.
-    pub(crate) fn front(&self, count: usize) -> &[u8]
-        requires { count ≤ length self.now.waiting }
-        ensures { result.now ≡ take count self.now.waiting }
-    {
-        &self.bytes[..count]
-    }
-
     /// Lets the first bytes go, and moves the others to the front.
     pub(crate) fn skip(&mut self, count: usize)
         requires { count ≤ length self.old.waiting }

@@ -3,7 +3,7 @@
 //! for what a caller sees, and `laws` for what follows of a file; `lines` is how a line is read (`canonical`
 //! as it is written, `unordered` and `making` with its members in another order, both by `parts`), `texts`
 //! how it is written, and `callbacks` has the tables. `reading_on` reads on several workers: by `blocks`, cut
-//! into `pieces` that are judged side by side.
+//! into `pieces` that are judged side by side; `ahead` is what the calling thread has in hand meanwhile.
 #![tactic(auto)]
 
 mod ahead;

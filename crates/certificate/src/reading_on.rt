@@ -6,7 +6,7 @@ ghost use Rattle.std.specs.Io.KnownBytes.{IsAtEnd};
 ghost use denote.Param.Send.{IsSync};
 ghost use Rattle.ompt_events.specs.Traces.{TraceView};
 ghost use Rattle.certificate.specs.Counts.{cause_told};
-ghost use Rattle.certificate.specs.Pieces.{IsWholeLines, AreJudged};
+ghost use Rattle.certificate.specs.Pieces.{IsWholeLines};
 ghost use Rattle.certificate.specs.Windows.{LineFeedAt};
 ghost use Rattle.certificate.specs.Blocks.{IsFillFault};
 ghost use Rattle.certificate.specs.ReadingOn.{IsAnswerOn, IsAnswerInBlocks, ReadsAhead, IsToldAfter, IsBetweenLines, IsEnded, IsLineFault, room_of};
@@ -14,7 +14,7 @@ ghost use Rattle.certificate.specs.Ahead.{AreJudgedOf, SameSource, IsFirst, IsIn
 
 use crate::ahead::Ahead;
 use crate::blocks::{Block, fill};
-use crate::device::{MAX_TURNS, Source};
+use crate::device::Source;
 use crate::faults::{ReadCause, ReadFault};
 use crate::pieces::{Piece, cuts, judge_all};
 use crate::reading::{LAST_LINE, NEWEST_VERSION, take_header};
@@ -35,6 +35,7 @@ struct Hands {
     alloc: Global,
     workers: u32,
     block: usize,
+    ghost some: { 1 ≤ workers },
 }
 
 /// Reads a trace file of a version up to [`NEWEST_VERSION`] to its end, on so many workers. The answer is
@@ -185,7 +186,13 @@ fn begin(alloc: Global, front: &mut Block, ahead: &mut Ahead) -> Result<(), Read
         None => return end(ahead.filled, ahead.block.len(), 1),
     };
     let mut scratch = Scratch::new(alloc);
-    take_header(alloc, NEWEST_VERSION, &text[..len], &mut ahead.kept, &mut scratch)?;
+    take_header(
+        alloc,
+        NEWEST_VERSION,
+        &text[..len],
+        &mut ahead.kept,
+        &mut scratch,
+    )?;
     ahead.line = 2;
     front.skip(len + 1);
     Ok(())
@@ -200,7 +207,6 @@ fn round<R: Threads + Sync, S: Source>(
     ahead: &mut Ahead,
     source: &mut S,
 ) -> Result<bool, ReadCause>
-    requires workers { 1 ≤ hands.now.workers }
     requires ready { IsReady front.old ahead.old }
     ensures after { (known : Option (List ℕ)) (room : ℕ) → front.old.limit + front.old.limit ≤ room
         → Waits known (S.remaining source.old) room front.old.waiting ahead.old
@@ -235,7 +241,6 @@ fn advance<R: Threads + Sync, S: Source>(
     ahead: &mut Ahead,
     source: &mut S,
 ) -> Result<(), ReadCause>
-    requires workers { 1 ≤ hands.now.workers }
     requires ready { IsReady front.old ahead.old }
     ensures after { (known : Option (List ℕ)) (room : ℕ) → front.old.limit + front.old.limit ≤ room
         → Waits known (S.remaining source.old) room front.old.waiting ahead.old
@@ -266,7 +271,6 @@ fn side_by_side<R: Threads + Sync, S: Source>(
     ahead: &mut Ahead,
     source: &mut S,
 ) -> (Result<Vec<Piece>, AllocError>, Result<(), ReadCause>)
-    requires workers { 1 ≤ hands.now.workers }
     requires whole { IsWholeLines text.now }
     requires in_hand { IsInHand ahead.old }
     requires can_ask { CanAsk ahead.old }
@@ -281,7 +285,7 @@ fn side_by_side<R: Threads + Sync, S: Source>(
     join_mut(
         rt,
         &mut || -> Result<Vec<Piece>, AllocError>
-            requires { IsSync R.row × (1 ≤ hands.now.workers) × IsWholeLines text.now }
+            requires { IsSync R.row × IsWholeLines text.now }
             ensures { IfOk result (λ pieces. AreJudgedOf version pieces.items text.entry.now) }
         { judge(rt, hands, version, text) },
         &mut || -> Result<(), ReadCause>
@@ -301,7 +305,6 @@ fn judge<R: Threads + Sync>(
     version: u32,
     text: &[u8],
 ) -> Result<Vec<Piece>, AllocError>
-    requires workers { 1 ≤ hands.now.workers }
     requires whole { IsWholeLines text.now }
     ensures { IfOk result (λ pieces. AreJudgedOf version pieces.items text.now) }
 {
