@@ -1,23 +1,21 @@
 -- What a reading on several workers has in hand, from step to step.
-use Rattle.std.proofs.Common.{◌≡◌, ◌≢◌, ℕ, ◌+◌, ◌-◌, ◌*◌, ◌<◌, ◌≤◌, Bool, true, false, List, [], ◌∷◌, ◌++◌, length, Option, Some, None, Result, Ok, Err, arith, refl, sym, ap, ◌∙◌, subst, inl, inr, append-nil, append_assoc, length-append}
-use Rattle.std.specs.Prelude.{IfSome, IfErr, OnOk}
+use Rattle.std.proofs.Common.{◌≡◌, ◌≢◌, ℕ, ◌+◌, ◌<◌, ◌≤◌, Bool, true, false, List, [], ◌∷◌, ◌++◌, length, Option, Some, None, Result, Ok, Err, arith, refl, sym, ap, ◌∙◌, subst, inl, inr, append-nil, append_assoc, length-append}
+use Rattle.std.specs.Prelude.{OnOk}
 use Rattle.std.specs.Result.{result_err}
 use Rattle.std.specs.Io.KnownBytes.{Keeps, IsAtEnd, prepend_known}
 use Rattle.ompt_events.specs.Traces.{TraceView}
-use Rattle.ompt_events.specs.Limits.{max_records}
 use Rattle.certificate.specs.declared.faults.ReadCause.{ReadCause}
-use Rattle.certificate.specs.declared.faults.ReadCause.TheVariants.{Device, Memory, Header, LineTooLong, NotJson, Field, Limit, Unended, TurnsSpent}
+use Rattle.certificate.specs.declared.faults.ReadCause.TheVariants.{Memory}
 use Rattle.certificate.specs.declared.ahead.Ahead.{Ahead}
 use Rattle.certificate.specs.declared.pieces.Piece.{Piece}
-use Rattle.certificate.specs.Limits.{max_line, max_turns, newest_version}
+use Rattle.certificate.specs.Limits.{newest_version}
 use Rattle.certificate.specs.Counts.{TakesTurns, breaks_told}
 use Rattle.certificate.specs.Formats.{line_feeds}
 use Rattle.certificate.specs.Files.{no_trace, traces}
 use Rattle.certificate.specs.Pieces.{IsWholeLines, AreJudged}
 use Rattle.certificate.specs.Windows.{LineFeedAt}
-use Rattle.certificate.specs.Blocks.{BlockView, IsFillFault}
-use Rattle.certificate.specs.ReadingOn.{IsBetweenLines, IsToldAfter, IsLineFault, IsCounted, IsEnded, ReadsAhead}
-use Rattle.certificate.specs.Ahead.{AreJudgedOf, IsInHand, CanAsk, IsReady, Waits, IsToldNext, IsAfterStep, SameSource, SameLines, IsAdded, IsRefilled, WorkedBeside, HasMet, MeetsMore, IsTurned, rounds_behind, rounds_left}
+use Rattle.certificate.specs.ReadingOn.{IsBetweenLines, IsToldAfter, IsEnded, ReadsAhead}
+use Rattle.certificate.specs.Ahead.{Waits, IsToldNext, IsAfterStep, SameSource, SameLines, IsAdded, IsRefilled, WorkedBeside, HasMet, MeetsMore}
 use Rattle.certificate.proofs.CountLemmas.{TakesTurns-more}
 use Rattle.certificate.proofs.PieceLemmas.{no_memory}
 use Rattle.certificate.proofs.ReadingLemmas.{line_feeds-append, line_feeds-one, line_feeds-unbroken, IsBetween-keeps, IsBetween-start}

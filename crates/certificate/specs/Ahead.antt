@@ -49,8 +49,8 @@ pub record IsInHand (ahead : Ahead) : Type 0 where
 abbrev pub CanAsk : Ahead → Type 0
 CanAsk ahead = ahead.asks ≡ true → (ahead.filled ≡ Ok true) × (ahead.turns ≤ max_turns)
 
--- between two rounds: whole lines stand in front, and no line feed follows them. Where the source may give more
--- and is not asked, the line that waits is too long
+-- between two rounds: whole lines stand in front, and no line feed follows them. Where the source may give
+-- more and is not asked, the line that waits is too long
 pub record IsReady (front : BlockView) (ahead : Ahead) : Type 0 where
   pub in_hand : IsInHand ahead
   pub can_ask : CanAsk ahead
@@ -139,8 +139,8 @@ pub record IsRefilled (old new : Ahead) (left left' : Option (List ℕ)) : Type 
   pub met : IfErr new.filled IsFillFault
   pub turns : old.asks ≡ true → new.filled ≡ Ok true → new.turns ≤ max_turns
 
--- what the calling thread did while lines were judged: the pieces before them were added, and then the block was
--- filled
+-- what the calling thread did while lines were judged: the pieces before them were added, and then the
+-- block was filled
 abbrev pub WorkedBeside : Result (Unit {0}) ReadCause → Ahead → Ahead → Option (List ℕ) → Option (List ℕ)
     → Type 0
 WorkedBeside (Ok u) old new left left' =

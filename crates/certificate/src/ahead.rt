@@ -1,5 +1,5 @@
-//! What a reading on several workers has in hand on the thread that called it: the records that were read, the
-//! pieces that come next, and the block that is filled while others are judged.
+//! What a reading on several workers has in hand on the thread that called it: the records that were read,
+//! the pieces that come next, and the block that is filled while others are judged.
 ghost use Rattle.std.specs.Prelude.{◌≡◌, ◌≤◌, ◌<◌, ◌+◌, ℕ, List, Option, Ok, None, true, false, [], ◌++◌, length, IfOk, IfErr, OnOk};
 ghost use Rattle.std.specs.Result.{result_err};
 ghost use Rattle.certificate.specs.Formats.{line_feeds};
@@ -54,8 +54,8 @@ impl Ahead {
         })
     }
 
-    /// Leaves whole lines in the block, and moves the bytes behind them to its own, in which none wait. Finds out
-    /// whether the source is asked again: not where it has no more, nor where a line is too long.
+    /// Leaves whole lines in the block, and moves the bytes behind them to its own, in which none wait.
+    /// Finds out whether the source is asked again: not where it has no more, nor where a line is too long.
     pub(crate) fn part(&mut self, front: &mut Block) -> Result<(), ReadCause>
         requires empty { self.old.block.waiting ≡ [] }
         requires limit { front.old.limit ≡ self.old.block.limit }
@@ -80,8 +80,8 @@ impl Ahead {
         Ok(())
     }
 
-    /// Does what the calling thread does while lines are judged: adds the pieces before them, and then fills the
-    /// block, where the source is asked.
+    /// Does what the calling thread does while lines are judged: adds the pieces before them, and then
+    /// fills the block, where the source is asked.
     pub(crate) fn work_beside<S: Source>(
         &mut self,
         alloc: Global,

@@ -1,5 +1,6 @@
-//! The reader of trace files on several workers. While the whole lines of one block are judged side by side, cut
-//! into pieces, the calling thread puts together the pieces of the block before it and fills the next one.
+//! The reader of trace files on several workers. While the whole lines of one block are judged side by
+//! side, cut into pieces, the calling thread puts together the pieces of the block before it and fills the
+//! next one.
 ghost use Rattle.std.specs.Prelude.{◌≡◌, ◌≢◌, ◌≤◌, ◌<◌, ◌+◌, ◌*◌, ◌^◌, ℕ, List, Option, Ok, true, false, [], length, IfOk, IfErr, IfSome, OnOk, OnErr, None, Some};
 ghost use Rattle.std.specs.Result.{result_err};
 ghost use Rattle.std.specs.Io.KnownBytes.{IsAtEnd};
@@ -40,8 +41,9 @@ struct Hands {
 
 /// Reads a trace file of a version up to [`NEWEST_VERSION`] to its end, on so many workers. The answer is
 /// that of [`crate::read`]. At most `workers` blocks of 2^21 bytes and two longest lines with their line
-/// feeds wait at a time, and the source is asked for no more than there is room for. The source is read ahead
-/// of the lines that are judged: where it breaks or has no turn left, the lines that it gave are judged first.
+/// feeds wait at a time, and the source is asked for no more than there is room for. The source is read
+/// ahead of the lines that are judged: where it breaks or has no turn left, the lines that it gave are
+/// judged first.
 pub fn read_on<R: Threads + Sync, S: Source>(
     rt: &R,
     alloc: Global,
@@ -198,8 +200,8 @@ fn begin(alloc: Global, front: &mut Block, ahead: &mut Ahead) -> Result<(), Read
     Ok(())
 }
 
-/// Judges the lines in front while the pieces before them are added and the other block is filled. Says whether
-/// more may come.
+/// Judges the lines in front while the pieces before them are added and the other block is filled. Says
+/// whether more may come.
 fn round<R: Threads + Sync, S: Source>(
     rt: &R,
     hands: &Hands,
@@ -316,7 +318,8 @@ fn judge<R: Threads + Sync>(
     judge_all(rt, hands.alloc, version, text, &cuts)
 }
 
-/// How many pieces so many bytes are cut into: one for each worker, but none smaller than a sixteenth of a block.
+/// How many pieces so many bytes are cut into: one for each worker, but none smaller than a sixteenth of a
+/// block.
 fn pieces_of(workers: u32, block: usize, len: usize) -> u32
     requires { 1 ≤ workers }
     ensures some { 1 ≤ result }
@@ -348,8 +351,8 @@ fn finish(alloc: Global, front: &Block, ahead: &mut Ahead) -> Result<(), ReadCau
     end(ahead.filled, front.len(), ahead.line)
 }
 
-/// How a reading ends when these bytes are left behind all lines: a line that is too long is told before what the
-/// source has answered.
+/// How a reading ends when these bytes are left behind all lines: a line that is too long is told before
+/// what the source has answered.
 fn end(filled: Result<bool, ReadCause>, len: usize, line: u32) -> Result<(), ReadCause>
     requires fault { IfErr filled IsFillFault }
     requires full { filled ≡ Ok true → MAX_LINE < len }

@@ -1,10 +1,7 @@
-use Rattle.std.proofs.Common.{◌≡◌, Ok, Err, sym, refl, subst}
+use Rattle.std.proofs.Common.{Ok, Err, sym, refl}
 use Rattle.std.proofs.lemmas.Result.{err_from_is_err_and}
-use Rattle.std.specs.Prelude.{Result, Option, List, ℕ}
 use Rattle.certificate.specs.declared.ahead.Ahead.{Ahead}
-use Rattle.certificate.specs.declared.faults.ReadCause.{ReadCause}
-use Rattle.certificate.specs.Blocks.{BlockView}
-use Rattle.certificate.specs.Ahead.{Waits, WorkedBeside}
+use Rattle.certificate.specs.Ahead.{WorkedBeside}
 use Rattle.certificate.proofs.AheadLemmas.{added_fault_known, next_waits, next_memory, turned_waits, worked_version}
 use Rattle.certificate.proofs.reading_on.advance.Goals as goal
 

@@ -1,5 +1,5 @@
 use Rattle.std.proofs.lemmas.Result.{err_from_is_err_and}
-use Rattle.certificate.proofs.AheadLemmas.{waits_memory, waits_parted, HasMet-same}
+use Rattle.certificate.proofs.AheadLemmas.{waits_memory, HasMet-same}
 use Rattle.certificate.proofs.reading_on.round.Goals as goal
 
 pub returns-in_err-part-clause-after : goal.returns-in_err-part-clause-after
