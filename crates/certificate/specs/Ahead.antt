@@ -145,7 +145,8 @@ abbrev pub WorkedBeside : Result (Unit {0}) ReadCause → Ahead → Ahead → Op
     → Type 0
 WorkedBeside (Ok u) old new left left' =
     (middle : Ahead) × IsAdded (Ok u) old middle × SameSource old middle × IsRefilled middle new left left'
-WorkedBeside (Err cause) old new left left' = IsAdded (Err cause) old new × SameSource old new × (left' ≡ left)
+WorkedBeside (Err cause) old new left left' =
+    IsAdded (Err cause) old new × SameSource old new × (left' ≡ left)
 
 -- what was met at the source, since it was asked first
 pub record HasMet (ahead : Ahead) (turns agains breaks agains' breaks' : ℕ) : Type 0 where

@@ -146,7 +146,8 @@ fn start<S: Source>(
     requires empty { front.old.waiting ≡ [] }
     requires long { MAX_LINE < front.old.limit }
     ensures after { (room : ℕ) → front.old.limit + front.old.limit ≤ room
-        → IsAfterStep result (S.remaining source.old) (S.remaining source.new) room front.new.waiting ahead.new }
+        → IsAfterStep result (S.remaining source.old) (S.remaining source.new) room front.new.waiting
+        ahead.new }
     ensures ready { OnOk result (IsReady front.new ahead.new) }
     ensures limit { front.new.limit ≡ front.old.limit }
     ensures line { OnErr result (ahead.new.line ≡ 1) }
