@@ -1,4 +1,5 @@
 mod WindowLemmas
+mod AheadLemmas
 mod BlockLemmas
 mod RoomLemmas
 mod PieceLemmas

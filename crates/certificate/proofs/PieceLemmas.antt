@@ -271,8 +271,3 @@ header_fault known n room kept cause text more len left first at short few says 
     by Limit same = told Limit same (λ is. cc)
     by Unended same = told Unended same (λ is. cc)
     by TurnsSpent same = told TurnsSpent same (λ is. cc)
-
-pub header_lines : (text : List ℕ) (n len : ℕ) → n ≡ 1 → LineFeedAt text (Some len) → 2 + line_feeds (drop (len + 1) text) ≡ n + line_feeds text
-header_lines text n len first at =
-    let one : line_feeds text ≡ line_feeds (drop (len + 1) text) + 1 = ap line_feeds (window-parts text len at) ∙ line_feeds-one (take len text) (drop (len + 1) text) (unbroken-before text len at) in
-    omega arith

@@ -19,7 +19,7 @@ use Rattle.certificate.proofs.FileLemmas.{IsUnbroken, unbroken-before, unbroken-
 pub line_feeds-append : (xs ys : List ℕ) → line_feeds (xs ++ ys) ≡ line_feeds xs + line_feeds ys
 line_feeds-append xs ys = sum_by-append (λ (b : ℕ). cond (b == 10) 1 0) xs ys
 
-line_feeds-unbroken : (xs : List ℕ) → IsUnbroken xs → line_feeds xs ≡ 0
+pub line_feeds-unbroken : (xs : List ℕ) → IsUnbroken xs → line_feeds xs ≡ 0
 line_feeds-unbroken [] all = refl
 line_feeds-unbroken (x ∷ xs) all =
     sum_by-cons (λ (b : ℕ). cond (b == 10) 1 0) x xs ∙ rw (all.0) (zero-add _ ∙ line_feeds-unbroken xs all.1)

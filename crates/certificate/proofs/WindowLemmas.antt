@@ -3,7 +3,7 @@ use Rattle.std.proofs.Common.{◌≡◌, ℕ, ◌+◌, ◌-◌, ◌<◌, ◌≤�
 use Rattle.std.specs.Io.KnownBytes.{Consumes, Keeps, prepend_known}
 use Rattle.memchr.specs.Find.{IsFirstByte, is_byte}
 use Rattle.std.specs.Prelude.{slice_range}
-use Rattle.std.proofs.Math.Seq.{take-add}
+use Rattle.std.proofs.Math.Seq.{take-add, take-append-add, take-append_seam}
 use Rattle.std.proofs.lemmas.Bool.{cases_lt}
 use Rattle.std.proofs.lemmas.List.{get_or-drop, get_or-take, drop-take, drop-drop}
 use Rattle.certificate.specs.Windows.{IsWindow}
@@ -30,6 +30,21 @@ slice_range-more xs s e n le =
     let rest : s + (e - s) ≡ e = omega arith in
     ap (λ k. take k (drop s xs)) whole ∙ take-add (e - s) n (drop s xs)
     ∙ ap (λ ys. slice_range xs s e ++ take n ys) (drop-drop (e - s) s xs ∙ ap (λ k. drop k xs) rest)
+
+-- the bytes from the first one on, in two parts
+pub slice_range-parts : (xs : List ℕ) (n e : ℕ) → n ≤ e → slice_range xs 0 e ≡ slice_range xs 0 n ++ slice_range xs n e
+slice_range-parts xs n e le =
+    let whole : n + (e - n) ≡ e = omega arith in
+    ap (slice_range xs 0) (sym whole) ∙ slice_range-more xs 0 n (e - n) (omega arith)
+
+-- bytes that were put in front
+pub slice_range-put : (xs given ys : List ℕ) (n : ℕ) → given ≡ xs → length xs ≤ n → slice_range (take n (given ++ ys)) 0 (length xs) ≡ xs
+slice_range-put xs given ys n same few =
+    let size : length given ≡ length xs = ap length same in
+    let low : n ≡ length given + (n - length given) = omega arith in
+    let rest = take (n - length given) ys in
+    let whole : length xs - 0 ≡ length xs = omega arith in
+    ap (λ k. take k (take n (given ++ ys))) whole ∙ ap (λ k. take (length xs) (take k (given ++ ys))) low ∙ ap (take (length xs)) (take-append-add given ys (n - length given)) ∙ ap (λ k. take k (given ++ rest)) (sym size) ∙ take-append_seam given rest ∙ same
 
 -- behind the same front
 pub slice_range-same_front : (xs ys : List ℕ) (s e : ℕ) → s ≤ e → take e ys ≡ take e xs → slice_range ys s e ≡ slice_range xs s e

@@ -1,7 +1,7 @@
 -- The trace file. Read first what a file stands for: `Files`, over `RecordLines` and `Members` for a line and
 -- `Formats` for line after line, and `Texts` for the text of a trace; then what a call of `read` and of
--- `write` answers: `Reading`, `Counts`, `Answers`; of `read_on`: `ReadingOn`, over `Pieces` and `Blocks`;
--- of `upgrade`: `Upgrading`.
+-- `write` answers: `Reading`, `Counts`, `Answers`; of `read_on`: `ReadingOn` and `Ahead`,
+-- over `Pieces` and `Blocks`; of `upgrade`: `Upgrading`.
 pub mod Limits
 pub mod Counts
 pub mod Windows
@@ -23,6 +23,7 @@ pub mod Reading
 pub mod Pieces
 pub mod Blocks
 pub mod ReadingOn
+pub mod Ahead
 pub mod MemoryDevices
 pub mod Answers
 pub mod Streams

@@ -1,5 +1,5 @@
 -- What a reader on several workers answers, which takes the bytes of its source by blocks.
-use Rattle.std.specs.Prelude.{ℕ, Bool, true, false, ◌≡◌, ◌+◌, ◌-◌, ◌*◌, ◌≤◌, ◌^◌, List, length, drop, ◌++◌, Option, Some, None, Result, Ok, Err, IfSome}
+use Rattle.std.specs.Prelude.{ℕ, ◌≡◌, ◌+◌, ◌-◌, ◌*◌, ◌≤◌, ◌^◌, List, length, ◌++◌, Option, Some, None, Result, Ok, Err, IfSome}
 use Rattle.ompt_events.specs.Traces.{TraceView}
 use Rattle.certificate.specs.declared.faults.ReadCause.{ReadCause}
 use Rattle.certificate.specs.declared.faults.ReadCause.TheVariants.{Device, Memory, TurnsSpent}
@@ -12,11 +12,11 @@ use Rattle.certificate.specs.Reading.{IsFromLine, IsReached, IsToldIn, IsToldRig
 
 -- the bytes of a block that `read_on` takes
 abbrev pub block_size : ℕ
-block_size = 2 ^ 20
+block_size = 2 ^ 21
 
--- how many bytes wait at most: a block for each worker, and a line that goes on in the next blocks
+-- how many bytes wait at most: a block for each worker, and two lines that go on in the next blocks
 abbrev pub room_of : ℕ → ℕ → ℕ
-room_of workers block = workers * block + max_line + 1
+room_of workers block = workers * block + 2 * (max_line + 1)
 
 -- the line of number n is being read: behind the lines before it, at most so many bytes were given
 pub record IsBeingReadIn (room n : ℕ) (bytes left : List ℕ) : Type 0 where
@@ -89,21 +89,11 @@ IsJudgedUpTo (Err cause) known n kept waiting room left =
 abbrev pub IsCounted : ℕ → TraceView → Type 0
 IsCounted n kept = length kept.records ≡ n - 2
 
--- after a round: more may come, all is read, or the line of number n has a fault
-abbrev pub IsAfterRound : Result Bool ReadCause → Option (List ℕ) → ℕ → TraceView → List ℕ → ℕ
-    → Option (List ℕ) → Type 0
-IsAfterRound (Ok true) known n kept waiting room left = IsBetweenLines known n kept waiting left
-IsAfterRound (Ok false) known n kept waiting room left =
-    IfSome known (λ bytes. said (traces newest_version) bytes ≡ Ok kept)
-IsAfterRound (Err cause) known n kept waiting room left =
-    IfSome known (λ bytes. IsToldWithin room cause n bytes left)
-
--- after the header was taken, where it was not taken before: the bytes from its end on wait, or it has a fault
-abbrev pub IsBegun : Result ℕ ReadCause → Option (List ℕ) → ℕ → TraceView → List ℕ → List ℕ → ℕ
-    → Option (List ℕ) → Type 0
-IsBegun (Ok len) known n kept bytes more room left = IsBetweenLines known n kept (drop len bytes ++ more) left
-IsBegun (Err cause) known n kept bytes more room left =
-    IfSome known (λ bytes. IsToldWithin room cause n bytes left)
+-- at the end of what is read: all lines are kept, or the line of number n has a fault
+abbrev pub IsEnded : Result (Unit {0}) ReadCause → Option (List ℕ) → ℕ → TraceView → ℕ → Option (List ℕ)
+    → Type 0
+IsEnded (Ok _) known n kept room left = IfSome known (λ bytes. said (traces newest_version) bytes ≡ Ok kept)
+IsEnded (Err cause) known n kept room left = IfSome known (λ bytes. IsToldWithin room cause n bytes left)
 
 -- a fault that the lines have which a source gave, or that no memory was found for them
 abbrev pub IsLineFault : ReadCause → Type 0

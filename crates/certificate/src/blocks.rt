@@ -1,9 +1,10 @@
 //! A block of bytes that a source gave, for several workers at a time.
-ghost use Rattle.std.specs.Prelude.{◌≡◌, ◌≤◌, ◌<◌, ◌+◌, ◌==◌, [], length, take, drop, true, false, Ok, IfOk, IfErr, OnOk, OnErr};
+ghost use Rattle.std.specs.Prelude.{◌≡◌, ◌≤◌, ◌<◌, ◌+◌, ◌++◌, ◌==◌, [], length, take, drop, true, false, Ok, None, IfOk, IfErr, OnOk, OnErr};
 ghost use Rattle.std.specs.Result.{result_err};
 ghost use Rattle.std.specs.Io.KnownBytes.{Keeps, IsAtEnd, prepend_known};
 ghost use Rattle.certificate.specs.Counts.{TakesTurns, agains_after, breaks_after, breaks_told};
-ghost use Rattle.certificate.specs.Windows.{IsDeviceFault};
+ghost use Rattle.certificate.specs.Windows.{IsDeviceFault, LineFeedAt};
+ghost use Rattle.certificate.specs.Pieces.{IsWholeLines};
 ghost use Rattle.certificate.specs.Blocks.{AreWholeLines, IsFillFault};
 
 use crate::device::{DeviceFault, MAX_TURNS, Source};
@@ -85,6 +86,7 @@ impl Block {
     /// Takes more bytes from the source, and says how many: none only at its end.
     pub(crate) fn read<S: Source>(&mut self, source: &mut S) -> Result<usize, DeviceFault>
         requires { 0 < self.old.free }
+        ensures few { length self.new.waiting ≤ self.new.limit }
         ensures bytes { Keeps (prepend_known self.old.waiting (S.remaining source.old))
             (prepend_known self.new.waiting (S.remaining source.new)) }
         ensures limit { self.new.limit ≡ self.old.limit }
@@ -110,12 +112,12 @@ impl Block {
         }
     }
 
-    /// The first bytes.
-    pub(crate) fn front(&self, count: usize) -> &[u8]
-        requires { count ≤ length self.now.waiting }
-        ensures { result.now ≡ take count self.now.waiting }
+    /// The bytes that wait.
+    pub(crate) fn bytes(&self) -> &[u8]
+        ensures bytes { result.now ≡ self.now.waiting }
+        ensures few { length self.now.waiting ≤ self.now.limit }
     {
-        &self.bytes[..count]
+        &self.bytes[..self.end]
     }
 
     /// Lets the first bytes go, and moves the others to the front.
@@ -127,6 +129,67 @@ impl Block {
         self.bytes.copy_within(count..self.end, 0);
         self.end -= count;
     }
+
+    /// Lets all bytes go.
+    pub(crate) fn clear(&mut self)
+        ensures waiting { self.new.waiting ≡ [] }
+        ensures limit { self.new.limit ≡ self.old.limit }
+    {
+        self.end = 0;
+    }
+
+    /// Makes sure that there is room for so many bytes, where none wait.
+    fn hold(&mut self, count: usize) -> Result<(), AllocError>
+        requires none { self.old.waiting ≡ [] }
+        requires few { count ≤ self.old.limit }
+        ensures waiting { self.new.waiting ≡ [] }
+        ensures limit { self.new.limit ≡ self.old.limit }
+        ensures free { OnOk result (count ≤ self.new.free) }
+    {
+        if count <= self.bytes.len() {
+            return Ok(());
+        }
+        self.bytes.resize(count, 0)
+    }
+
+    /// Takes these bytes, where none wait.
+    fn put(&mut self, bytes: &[u8]) -> Result<(), AllocError>
+        requires none { self.old.waiting ≡ [] }
+        requires few { length bytes.now ≤ self.old.limit }
+        ensures waiting { OnOk result (self.new.waiting ≡ bytes.now) }
+        ensures limit { self.new.limit ≡ self.old.limit }
+    {
+        self.hold(bytes.len())?;
+        put_front(&mut self.bytes, bytes);
+        self.end = bytes.len();
+        Ok(())
+    }
+
+    /// Keeps the whole lines, and moves the bytes behind them to another block, in which none wait.
+    pub(crate) fn move_rest(&mut self, rest: &mut Block) -> Result<(), AllocError>
+        requires none { rest.old.waiting ≡ [] }
+        requires limit { self.old.limit ≡ rest.old.limit }
+        ensures parts { OnOk result (self.old.waiting ≡ self.new.waiting ++ rest.new.waiting) }
+        ensures whole { OnOk result (IsWholeLines self.new.waiting) }
+        ensures none { OnOk result (LineFeedAt rest.new.waiting None) }
+        ensures same { OnErr result (self.new ≡ self.old) }
+        ensures few { length self.old.waiting ≤ self.old.limit }
+        ensures limit { (self.new.limit ≡ self.old.limit) × (rest.new.limit ≡ rest.old.limit) }
+    {
+        let whole = self.whole_lines();
+        rest.put(&self.bytes[whole..self.end])?;
+        self.end = whole;
+        Ok(())
+    }
+}
+
+/// Writes these bytes over the first ones.
+fn put_front(bytes: &mut [u8], front: &[u8])
+    requires { length front.now ≤ length bytes.old }
+    ensures len { length bytes.new ≡ length bytes.old }
+    ensures front { take (length front.now) bytes.new ≡ front.now }
+{
+    bytes[..front.len()].copy_from_slice(front);
 }
 
 /// Takes bytes until as many wait as may or the source ends. Says whether more may come.
@@ -138,6 +201,7 @@ pub(crate) fn fill<S: Source>(
     requires { turns.old ≤ MAX_TURNS }
     ensures bytes { Keeps (prepend_known block.old.waiting (S.remaining source.old))
         (prepend_known block.new.waiting (S.remaining source.new)) }
+    ensures few { length block.new.waiting ≤ block.new.limit }
     ensures limit { block.new.limit ≡ block.old.limit }
     ensures full { result ≡ Ok true → length block.new.waiting ≡ block.new.limit }
     ensures end { result ≡ Ok false → IsAtEnd (S.remaining source.new) }
@@ -160,9 +224,11 @@ pub(crate) fn fill<S: Source>(
 /// Takes more bytes from the source, and asks again as long as it wants that and has turns left.
 fn ask<S: Source>(block: &mut Block, source: &mut S, turns: &mut u32) -> Result<usize, ReadCause>
     requires room { 0 < block.old.free }
+    requires few { length block.old.waiting ≤ block.old.limit }
     requires turns { turns.old ≤ MAX_TURNS }
     ensures bytes { Keeps (prepend_known block.old.waiting (S.remaining source.old))
         (prepend_known block.new.waiting (S.remaining source.new)) }
+    ensures few { length block.new.waiting ≤ block.new.limit }
     ensures limit { block.new.limit ≡ block.old.limit }
     ensures more { IfOk result (λ count. length block.new.waiting ≡ length block.old.waiting + count) }
     ensures end { result ≡ Ok 0 → IsAtEnd (S.remaining source.new) }

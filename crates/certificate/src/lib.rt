@@ -3,10 +3,11 @@
 //! for what a caller sees, and `laws` for what follows of a file; `lines` is how a line is read (`canonical`
 //! as it is written, `unordered` and `making` with its members in another order, both by `parts`), `texts`
 //! how it is written, and `callbacks` has the tables. `reading_on` reads on several workers: by `blocks`, cut
-//! into `pieces` that are judged side by side. `upgrading` makes a trace of version 2 of one of version 1, by
-//! what `task_turns` notes of each task.
+//! into `pieces` that are judged side by side; `ahead` is what the calling thread has in hand meanwhile.
+//! `upgrading` makes a trace of version 2 of one of version 1, by what `task_turns` notes of each task.
 #![tactic(auto)]
 
+mod ahead;
 mod blocks;
 mod callbacks;
 mod canonical;

@@ -203,6 +203,7 @@ pub(crate) fn other(
 }
 
 /// The record that a line as it is written stands for in a file of this version, if it can stand there.
+#[inline(always)]
 pub(crate) fn sound(alloc: Global, version: u32, line: &[u8]) -> Option<Record>
     ensures { IfSome result (λ event. spec.line_says version line.now ≡ Ok event) }
 {

@@ -1,36 +1,49 @@
-//! The reader of trace files on several workers. It takes the bytes by blocks, cuts the whole lines of each
-//! into pieces that are judged side by side, and puts the pieces together in their order.
-ghost use Rattle.std.specs.Prelude.{◌≡◌, ◌≢◌, ◌≤◌, ◌<◌, ◌+◌, ◌-◌, ◌*◌, ◌^◌, ◌++◌, ℕ, List, Option, Ok, Err, true, false, length, drop, IfOk, IfErr, IfSome, OnOk, OnErr, max};
+//! The reader of trace files on several workers. While the whole lines of one block are judged side by
+//! side, cut into pieces, the calling thread puts together the pieces of the block before it and fills the
+//! next one.
+ghost use Rattle.std.specs.Prelude.{◌≡◌, ◌≢◌, ◌≤◌, ◌<◌, ◌+◌, ◌*◌, ◌^◌, ℕ, List, Option, Ok, true, false, [], length, IfOk, IfErr, IfSome, OnOk, OnErr, None, Some};
 ghost use Rattle.std.specs.Result.{result_err};
 ghost use Rattle.std.specs.Io.KnownBytes.{IsAtEnd};
+ghost use denote.Param.Send.{IsSync};
 ghost use Rattle.ompt_events.specs.Traces.{TraceView};
 ghost use Rattle.certificate.specs.Counts.{cause_told};
-ghost use Rattle.certificate.specs.Formats.{line_feeds};
-ghost use Rattle.certificate.specs.Pieces.{IsWholeLines, IsJudged, AreJudged};
+ghost use Rattle.certificate.specs.Pieces.{IsWholeLines};
 ghost use Rattle.certificate.specs.Windows.{LineFeedAt};
 ghost use Rattle.certificate.specs.Blocks.{IsFillFault};
-ghost use Rattle.certificate.specs.ReadingOn.{IsAnswerOn, IsAnswerInBlocks, ReadsAhead, IsToldAfter, IsBetweenLines, IsJudgedUpTo, IsCounted, IsAfterRound, IsBegun, IsLineFault, room_of};
+ghost use Rattle.certificate.specs.ReadingOn.{IsAnswerOn, IsAnswerInBlocks, ReadsAhead, IsToldAfter, IsBetweenLines, IsEnded, IsLineFault, room_of};
+ghost use Rattle.certificate.specs.Ahead.{AreJudgedOf, SameSource, IsFirst, IsInHand, CanAsk, IsReady, Waits, IsAfterStep, IsAfterRound, IsTurned, WorkedBeside, HasMet, MeetsMore, rounds_left};
 
+use crate::ahead::Ahead;
 use crate::blocks::{Block, fill};
-use crate::device::{MAX_TURNS, Source};
+use crate::device::Source;
 use crate::faults::{ReadCause, ReadFault};
-use crate::kept::Kept;
 use crate::pieces::{Piece, cuts, judge_all};
 use crate::reading::{LAST_LINE, NEWEST_VERSION, take_header};
 use crate::window::MAX_LINE;
 use json::Scratch;
 use memchr::memchr;
 use ompt_events::Trace;
-use std::alloc::Global;
-use std::thread::Threads;
+use std::alloc::{AllocError, Global};
+use std::mem::swap;
+use std::thread::{Threads, join_mut};
 
 /// The bytes of a block that [`read_on`] takes.
-const BLOCK: usize = 1 << 20;
+const BLOCK: usize = 1 << 21;
+
+/// How lines are judged: on so many workers, of which each takes blocks of this size.
+#[derive(Drop)]
+struct Hands {
+    alloc: Global,
+    workers: u32,
+    block: usize,
+    ghost some: { 1 ≤ workers },
+}
 
 /// Reads a trace file of a version up to [`NEWEST_VERSION`] to its end, on so many workers. The answer is
-/// that of [`crate::read`]. At most `workers` blocks of 2^20 bytes and one longest line with its line feed
-/// wait at a time, and the source is asked for no more than there is room for. The source is read ahead of
-/// the lines that are judged: where it breaks or has no turn left, the lines that it gave are judged first.
+/// that of [`crate::read`]. At most `workers` blocks of 2^21 bytes and two longest lines with their line
+/// feeds wait at a time, and the source is asked for no more than there is room for. The source is read
+/// ahead of the lines that are judged: where it breaks or has no turn left, the lines that it gave are
+/// judged first.
 pub fn read_on<R: Threads + Sync, S: Source>(
     rt: &R,
     alloc: Global,
@@ -75,169 +88,245 @@ pub fn read_blocks<R: Threads + Sync, S: Source>(
     ensures line { IfErr result (λ fault. (1 ≤ fault.line) × (fault.line ≤ LAST_LINE)) }
     ensures version { IfOk result (λ trace. trace.version ≤ NEWEST_VERSION) }
 {
-    let Ok(mut waiting) = Block::new(alloc, limit_of(workers, block)) else {
+    let limit = limit_of(workers, block);
+    let Ok(mut front) = Block::new(alloc, limit) else {
         return Err(ReadFault {
             line: 1,
             cause: ReadCause::Memory,
         });
     };
-    let mut line = 1;
-    let mut kept = Kept::new(alloc);
-    let mut turns = 0;
-    'rounds: while line <= LAST_LINE {
-        match round(
-            rt,
-            alloc,
-            workers,
-            block,
-            &mut waiting,
-            source,
-            &mut turns,
-            &mut line,
-            &mut kept,
-        ) {
+    let Ok(mut ahead) = Ahead::new(alloc, limit) else {
+        return Err(ReadFault {
+            line: 1,
+            cause: ReadCause::Memory,
+        });
+    };
+    let hands = Hands {
+        alloc,
+        workers,
+        block,
+    };
+    if let Err(cause) = start(alloc, &mut front, &mut ahead, source) {
+        return Err(ReadFault {
+            line: ahead.line,
+            cause,
+        });
+    }
+    'rounds: loop {
+        match round(rt, &hands, &mut front, &mut ahead, source) {
             Ok(true) => {}
-            Ok(false) => return Ok(kept.into_trace()),
-            Err(cause) => return Err(ReadFault { line, cause }),
+            Ok(false) => return Ok(ahead.kept.into_trace()),
+            Err(cause) => {
+                return Err(ReadFault {
+                    line: ahead.line,
+                    cause,
+                });
+            }
         }
     }
-    unreachable!()
 }
 
-/// How many bytes may wait.
+/// How many bytes may wait in each of two blocks.
 fn limit_of(workers: u32, block: usize) -> usize
     requires { block ≤ 2 ^ 24 }
-    ensures { result ≡ room_of workers block }
+    ensures long { MAX_LINE < result }
+    ensures room { result + result ≤ room_of workers block }
 {
-    workers as usize * block + MAX_LINE + 1
+    workers as usize * block / 2 + MAX_LINE + 1
 }
 
-/// Takes bytes until as many wait as may, and judges their whole lines. Says whether more may come.
-fn round<R: Threads + Sync, S: Source>(
-    rt: &R,
+/// Takes the first bytes, and the header among them.
+fn start<S: Source>(
     alloc: Global,
-    workers: u32,
-    block: usize,
-    waiting: &mut Block,
+    front: &mut Block,
+    ahead: &mut Ahead,
     source: &mut S,
-    turns: &mut u32,
-    line: &mut u32,
-    kept: &mut Kept,
-) -> Result<bool, ReadCause>
-    requires workers { 1 ≤ workers }
-    requires limit { MAX_LINE < waiting.old.limit }
-    requires turns { turns.old ≤ MAX_TURNS }
-    requires line { (1 ≤ line.old) × (line.old ≤ LAST_LINE) }
-    requires counted { IsCounted line.old kept.old }
-    ensures after { (known : Option (List ℕ)) →
-        IsBetweenLines known line.old kept.old waiting.old.waiting (S.remaining source.old)
-        → IsAfterRound result known line.new kept.new waiting.new.waiting waiting.old.limit
-        (S.remaining source.new) }
-    ensures limit { waiting.new.limit ≡ waiting.old.limit }
-    ensures grows { result ≡ Ok true → line.old < line.new }
-    ensures line { (1 ≤ line.new) × (line.new ≤ LAST_LINE) }
-    ensures counted { OnOk result (IsCounted line.new kept.new) }
-    ensures version { kept.old.version ≤ NEWEST_VERSION → OnOk result (kept.new.version ≤ NEWEST_VERSION) }
-    ensures device { ReadsAhead (result_err result) turns.old turns.new (S.agains source.old)
-        (S.agains source.new) (S.breaks source.old) (S.breaks source.new) }
-{
-    let filled = fill(waiting, source, turns);
-    judge_waiting(rt, alloc, workers, block, waiting, line, kept)?;
-    end_round(filled, waiting.len(), *line)
-}
-
-/// What a round answers that has judged all whole lines, when these bytes are left of it: a line that is too
-/// long is told before what the source has answered.
-fn end_round(filled: Result<bool, ReadCause>, len: usize, line: u32) -> Result<bool, ReadCause>
-    requires { IfErr filled IsFillFault }
-    ensures after { (known : Option (List ℕ)) (kept : TraceView) (waiting : List ℕ) (room : ℕ)
-        (left : Option (List ℕ)) → IsBetweenLines known line kept waiting left → length waiting ≡ len
-        → LineFeedAt waiting None → length waiting ≤ room → (filled ≡ Ok false → IsAtEnd left)
-        → IsAfterRound result known line kept waiting room left }
-    ensures more { result ≡ Ok true → (filled ≡ Ok true) × (len ≤ MAX_LINE) }
-    ensures told { IsToldAfter (result_err filled) (result_err result) }
-{
-    if len > MAX_LINE {
-        return Err(ReadCause::LineTooLong);
-    }
-    match filled {
-        Ok(true) => Ok(true),
-        Ok(false) if len > 0 => Err(ReadCause::Unended),
-        Ok(false) if line == 1 => Err(ReadCause::Header),
-        Ok(false) => Ok(false),
-        Err(cause) => Err(cause),
-    }
-}
-
-/// Judges the whole lines that wait, and lets them go.
-fn judge_waiting<R: Threads + Sync>(
-    rt: &R,
-    alloc: Global,
-    workers: u32,
-    block: usize,
-    waiting: &mut Block,
-    line: &mut u32,
-    kept: &mut Kept,
 ) -> Result<(), ReadCause>
-    requires workers { 1 ≤ workers }
-    requires line { (1 ≤ line.old) × (line.old ≤ LAST_LINE) }
-    requires counted { IsCounted line.old kept.old }
-    ensures judged { (known left : Option (List ℕ)) →
-        IsBetweenLines known line.old kept.old waiting.old.waiting left
-        → IsJudgedUpTo result known line.new kept.new waiting.new.waiting waiting.old.limit left }
-    ensures none { OnOk result (LineFeedAt waiting.new.waiting None) }
-    ensures limit { waiting.new.limit ≡ waiting.old.limit }
-    ensures grows { OnOk result (length waiting.new.waiting < length waiting.old.waiting → line.old < line.new) }
-    ensures line { (1 ≤ line.new) × (line.new ≤ LAST_LINE) }
-    ensures counted { OnOk result (IsCounted line.new kept.new) }
-    ensures version { kept.old.version ≤ NEWEST_VERSION → OnOk result (kept.new.version ≤ NEWEST_VERSION) }
-    ensures fault { IfErr result IsLineFault }
+    requires first { IsFirst front.old.limit ahead.old }
+    requires empty { front.old.waiting ≡ [] }
+    requires long { MAX_LINE < front.old.limit }
+    ensures after { (room : ℕ) → front.old.limit + front.old.limit ≤ room
+        → IsAfterStep result (S.remaining source.old) (S.remaining source.new) room front.new.waiting
+        ahead.new }
+    ensures ready { OnOk result (IsReady front.new ahead.new) }
+    ensures limit { front.new.limit ≡ front.old.limit }
+    ensures line { OnErr result (ahead.new.line ≡ 1) }
+    ensures met { HasMet ahead.new 0 (S.agains source.old) (S.breaks source.old) (S.agains source.new)
+        (S.breaks source.new) }
+    ensures told { IfErr result (λ cause. IsToldAfter (result_err ahead.new.filled) (Some cause)) }
 {
-    let whole = waiting.whole_lines();
-    judge_lines(rt, alloc, workers, block, waiting.front(whole), line, kept)?;
-    waiting.skip(whole);
+    ahead.filled = fill(front, source, &mut ahead.turns);
+    ahead.part(front)?;
+    begin(alloc, front, ahead)
+}
+
+/// Takes the header, with which the whole lines in front begin.
+fn begin(alloc: Global, front: &mut Block, ahead: &mut Ahead) -> Result<(), ReadCause>
+    requires line { ahead.old.line ≡ 1 }
+    requires pieces { ahead.old.pieces.items ≡ [] }
+    requires whole { IsWholeLines front.old.waiting }
+    requires none { LineFeedAt ahead.old.block.waiting None }
+    requires limit { front.old.limit ≡ ahead.old.block.limit }
+    requires long { MAX_LINE < front.old.limit }
+    requires can_ask { CanAsk ahead.old }
+    requires rests { (ahead.old.asks ≡ false → ahead.old.filled ≡ Ok true
+        → MAX_LINE < length ahead.old.block.waiting) }
+    requires some { ahead.old.asks ≡ true → 0 < length front.old.waiting }
+    requires met { IfErr ahead.old.filled IsFillFault }
+    ensures after { (known left : Option (List ℕ)) (room : ℕ)
+        → Waits known left room front.old.waiting ahead.old
+        → IsAfterStep result known left room front.new.waiting ahead.new }
+    ensures ready { OnOk result (IsReady front.new ahead.new) }
+    ensures limit { front.new.limit ≡ front.old.limit }
+    ensures line { OnErr result (ahead.new.line ≡ 1) }
+    ensures source { SameSource ahead.old ahead.new }
+    ensures told { IfErr result (λ cause. IsToldAfter (result_err ahead.new.filled) (Some cause)) }
+{
+    let text = front.bytes();
+    let len = match memchr(b'\n', text) {
+        Some(len) if len <= MAX_LINE => len,
+        Some(_) => return Err(ReadCause::LineTooLong),
+        None => return end(ahead.filled, ahead.block.len(), 1),
+    };
+    let mut scratch = Scratch::new(alloc);
+    take_header(
+        alloc,
+        NEWEST_VERSION,
+        &text[..len],
+        &mut ahead.kept,
+        &mut scratch,
+    )?;
+    ahead.line = 2;
+    front.skip(len + 1);
     Ok(())
 }
 
-/// Judges whole lines: the header, where it is among them, and then those of the records.
-fn judge_lines<R: Threads + Sync>(
+/// Judges the lines in front while the pieces before them are added and the other block is filled. Says
+/// whether more may come.
+fn round<R: Threads + Sync, S: Source>(
     rt: &R,
-    alloc: Global,
-    workers: u32,
-    block: usize,
-    text: &[u8],
-    line: &mut u32,
-    kept: &mut Kept,
-) -> Result<(), ReadCause>
-    requires workers { 1 ≤ workers }
-    requires whole { IsWholeLines text.now }
-    requires line { (1 ≤ line.old) × (line.old ≤ LAST_LINE) }
-    requires counted { IsCounted line.old kept.old }
-    ensures judged { (more : List ℕ) (known left : Option (List ℕ)) (room : ℕ) →
-        length (text.now ++ more) ≤ room → IsBetweenLines known line.old kept.old (text.now ++ more) left
-        → IsJudgedUpTo result known line.new kept.new more room left }
-    ensures lines { OnOk result (line.new ≡ line.old + line_feeds text.now) }
-    ensures line { (1 ≤ line.new) × (line.new ≤ LAST_LINE) }
-    ensures counted { OnOk result (IsCounted line.new kept.new) }
-    ensures version { kept.old.version ≤ NEWEST_VERSION → OnOk result (kept.new.version ≤ NEWEST_VERSION) }
-    ensures fault { IfErr result IsLineFault }
+    hands: &Hands,
+    front: &mut Block,
+    ahead: &mut Ahead,
+    source: &mut S,
+) -> Result<bool, ReadCause>
+    requires ready { IsReady front.old ahead.old }
+    ensures after { (known : Option (List ℕ)) (room : ℕ) → front.old.limit + front.old.limit ≤ room
+        → Waits known (S.remaining source.old) room front.old.waiting ahead.old
+        → IsAfterRound result known (S.remaining source.new) room front.new.waiting ahead.new }
+    ensures ready { result ≡ Ok true → IsReady front.new ahead.new }
+    ensures limit { front.new.limit ≡ front.old.limit }
+    ensures fewer { result ≡ Ok true
+        → rounds_left front.new.waiting ahead.new < rounds_left front.old.waiting ahead.old }
+    ensures line { (1 ≤ ahead.new.line) × (ahead.new.line ≤ LAST_LINE) }
+    ensures version { OnOk result (ahead.new.kept.version ≤ NEWEST_VERSION) }
+    ensures met { MeetsMore ahead.old ahead.new (S.agains source.old) (S.agains source.new)
+        (S.breaks source.old) (S.breaks source.new) }
+    ensures told { IfErr result (λ cause. IsToldAfter (result_err ahead.new.filled) (Some cause)) }
+    ensures ended { result ≡ Ok false → result_err ahead.new.filled ≡ None }
 {
-    if text.is_empty() {
-        return Ok(());
+    let asks = ahead.asks;
+    advance(rt, hands, front, ahead, source)?;
+    if asks {
+        ahead.part(front)?;
+        return Ok(true);
     }
-    let start = begin(alloc, text, line, kept)?;
-    let rest = &text[start..];
-    let count = pieces_of(workers, block, rest.len());
-    judge_records(rt, alloc, count, rest, line, kept)
+    finish(hands.alloc, front, ahead)?;
+    Ok(false)
 }
 
-/// How many pieces so many bytes are cut into: one for each worker, but none smaller than an eighth of a block.
+/// Judges the lines in front while the pieces before them are added and the other block is filled. Then those
+/// that were judged come next, and the block that was filled is in front.
+fn advance<R: Threads + Sync, S: Source>(
+    rt: &R,
+    hands: &Hands,
+    front: &mut Block,
+    ahead: &mut Ahead,
+    source: &mut S,
+) -> Result<(), ReadCause>
+    requires ready { IsReady front.old ahead.old }
+    ensures after { (known : Option (List ℕ)) (room : ℕ) → front.old.limit + front.old.limit ≤ room
+        → Waits known (S.remaining source.old) room front.old.waiting ahead.old
+        → IsAfterStep result known (S.remaining source.new) room front.new.waiting ahead.new }
+    ensures turned { OnOk result (IsTurned front.old ahead.old front.new ahead.new) }
+    ensures limit { front.new.limit ≡ front.old.limit }
+    ensures line { (1 ≤ ahead.new.line) × (ahead.new.line ≤ LAST_LINE) }
+    ensures met { MeetsMore ahead.old ahead.new (S.agains source.old) (S.agains source.new)
+        (S.breaks source.old) (S.breaks source.new) }
+    ensures fault { IfErr result IsLineFault }
+{
+    let (judged, worked) = side_by_side(rt, hands, front.bytes(), ahead, source);
+    worked?;
+    let Ok(pieces) = judged else {
+        return Err(ReadCause::Memory);
+    };
+    ahead.pieces = pieces;
+    front.clear();
+    swap(front, &mut ahead.block);
+    Ok(())
+}
+
+/// Judges whole lines in a thread of their own, and does the work of this one.
+fn side_by_side<R: Threads + Sync, S: Source>(
+    rt: &R,
+    hands: &Hands,
+    text: &[u8],
+    ahead: &mut Ahead,
+    source: &mut S,
+) -> (Result<Vec<Piece>, AllocError>, Result<(), ReadCause>)
+    requires whole { IsWholeLines text.now }
+    requires in_hand { IsInHand ahead.old }
+    requires can_ask { CanAsk ahead.old }
+    ensures judged { IfOk result.0 (λ pieces. AreJudgedOf ahead.old.kept.version pieces.items text.now) }
+    ensures worked { WorkedBeside result.1 ahead.old ahead.new (S.remaining source.old)
+        (S.remaining source.new) }
+    ensures met { MeetsMore ahead.old ahead.new (S.agains source.old) (S.agains source.new)
+        (S.breaks source.old) (S.breaks source.new) }
+{
+    let version = ahead.kept.version();
+    let alloc = hands.alloc;
+    join_mut(
+        rt,
+        &mut || -> Result<Vec<Piece>, AllocError>
+            requires { IsSync R.row × IsWholeLines text.now }
+            ensures { IfOk result (λ pieces. AreJudgedOf version pieces.items text.entry.now) }
+        { judge(rt, hands, version, text) },
+        &mut || -> Result<(), ReadCause>
+            requires { IsInHand ahead.now × CanAsk ahead.now }
+            ensures worked { WorkedBeside result ahead.entry.now ahead.exit.now
+                (S.remaining source.entry.now) (S.remaining source.exit.now) }
+            ensures met { MeetsMore ahead.entry.now ahead.exit.now (S.agains source.entry.now)
+                (S.agains source.exit.now) (S.breaks source.entry.now) (S.breaks source.exit.now) }
+        { ahead.work_beside(alloc, source) },
+    )
+}
+
+/// Judges whole lines in pieces side by side.
+fn judge<R: Threads + Sync>(
+    rt: &R,
+    hands: &Hands,
+    version: u32,
+    text: &[u8],
+) -> Result<Vec<Piece>, AllocError>
+    requires whole { IsWholeLines text.now }
+    ensures { IfOk result (λ pieces. AreJudgedOf version pieces.items text.now) }
+{
+    if text.is_empty() {
+        return Ok(Vec::new(hands.alloc));
+    }
+    let count = pieces_of(hands.workers, hands.block, text.len());
+    let cuts = cuts(hands.alloc, text, count)?;
+    judge_all(rt, hands.alloc, version, text, &cuts)
+}
+
+/// How many pieces so many bytes are cut into: one for each worker, but none smaller than a sixteenth of a
+/// block.
 fn pieces_of(workers: u32, block: usize, len: usize) -> u32
     requires { 1 ≤ workers }
     ensures some { 1 ≤ result }
     ensures few { result ≤ workers }
 {
-    let pieces = len / (block / 8 + 1);
+    let pieces = len / (block / 16 + 1);
     if pieces >= workers as usize {
         workers
     } else {
@@ -245,122 +334,44 @@ fn pieces_of(workers: u32, block: usize, len: usize) -> u32
     }
 }
 
-/// Takes the header, where it was not taken before. Says how long it is with its line feed.
-fn begin(alloc: Global, text: &[u8], line: &mut u32, kept: &mut Kept) -> Result<usize, ReadCause>
-    requires whole { IsWholeLines text.now }
-    requires some { 0 < length text.now }
-    requires line { 1 ≤ line.old }
-    requires counted { IsCounted line.old kept.old }
-    ensures judged { (more : List ℕ) (known left : Option (List ℕ)) (room : ℕ) →
-        length (text.now ++ more) ≤ room → IsBetweenLines known line.old kept.old (text.now ++ more) left
-        → IsBegun result known line.new kept.new text.now more room left }
-    ensures len { IfOk result (λ len. len ≤ length text.now) }
-    ensures lines { IfOk result (λ len. line.new + line_feeds (drop len text.now)
-        ≡ line.old + line_feeds text.now) }
-    ensures line { OnOk result ((2 ≤ line.new) × (line.old ≤ line.new) × (line.new ≤ max line.old 2)) }
-    ensures same { OnErr result (line.new ≡ line.old) }
-    ensures counted { OnOk result (IsCounted line.new kept.new) }
-    ensures version { kept.old.version ≤ NEWEST_VERSION → OnOk result (kept.new.version ≤ NEWEST_VERSION) }
-    ensures fault { IfErr result IsLineFault }
+/// Adds the last pieces, behind which these bytes are in front, and tells how the reading ends.
+fn finish(alloc: Global, front: &Block, ahead: &mut Ahead) -> Result<(), ReadCause>
+    requires in_hand { IsInHand ahead.old }
+    requires none { LineFeedAt front.now.waiting None }
+    requires empty { ahead.old.block.waiting ≡ [] }
+    requires rests { ahead.old.filled ≡ Ok true → MAX_LINE < length front.now.waiting }
+    ensures after { (known left : Option (List ℕ)) (room : ℕ)
+        → Waits known left room front.now.waiting ahead.old
+        → IsEnded result known ahead.new.line ahead.new.kept room left }
+    ensures line { (1 ≤ ahead.new.line) × (ahead.new.line ≤ LAST_LINE) }
+    ensures version { OnOk result (ahead.new.kept.version ≤ NEWEST_VERSION) }
+    ensures source { SameSource ahead.old ahead.new }
+    ensures told { IsToldAfter (result_err ahead.new.filled) (result_err result) }
 {
-    if *line != 1 {
-        return Ok(0);
+    ahead.add_pieces(alloc)?;
+    end(ahead.filled, front.len(), ahead.line)
+}
+
+/// How a reading ends when these bytes are left behind all lines: a line that is too long is told before
+/// what the source has answered.
+fn end(filled: Result<bool, ReadCause>, len: usize, line: u32) -> Result<(), ReadCause>
+    requires fault { IfErr filled IsFillFault }
+    requires full { filled ≡ Ok true → MAX_LINE < len }
+    ensures after { (known : Option (List ℕ)) (kept : TraceView) (waiting : List ℕ) (room : ℕ)
+        (left : Option (List ℕ)) → IsBetweenLines known line kept waiting left → length waiting ≡ len
+        → LineFeedAt waiting None → length waiting ≤ room → (filled ≡ Ok false → IsAtEnd left)
+        → IsEnded result known line kept room left }
+    ensures later { OnOk result (line ≢ 1) }
+    ensures told { IsToldAfter (result_err filled) (result_err result) }
+{
+    if len > MAX_LINE {
+        return Err(ReadCause::LineTooLong);
     }
-    let len = match memchr(b'\n', text) {
-        Some(len) if len <= MAX_LINE => len,
-        Some(_) => return Err(ReadCause::LineTooLong),
-        None => unreachable!(),
-    };
-    let mut scratch = Scratch::new(alloc);
-    take_header(alloc, NEWEST_VERSION, &text[..len], kept, &mut scratch)?;
-    *line = 2;
-    Ok(len + 1)
-}
-
-/// Judges lines of records in so many pieces side by side, and adds what they stand for in their order.
-fn judge_records<R: Threads + Sync>(
-    rt: &R,
-    alloc: Global,
-    count: u32,
-    text: &[u8],
-    line: &mut u32,
-    kept: &mut Kept,
-) -> Result<(), ReadCause>
-    requires count { 1 ≤ count }
-    requires whole { IsWholeLines text.now }
-    requires line { (2 ≤ line.old) × (line.old ≤ LAST_LINE) }
-    requires counted { IsCounted line.old kept.old }
-    ensures judged { (more : List ℕ) (known left : Option (List ℕ)) (room : ℕ) →
-        length (text.now ++ more) ≤ room → IsBetweenLines known line.old kept.old (text.now ++ more) left
-        → IsJudgedUpTo result known line.new kept.new more room left }
-    ensures lines { OnOk result (line.new ≡ line.old + line_feeds text.now) }
-    ensures line { (line.old ≤ line.new) × (line.new ≤ LAST_LINE) }
-    ensures counted { OnOk result (IsCounted line.new kept.new) }
-    ensures version { OnOk result (kept.new.version ≡ kept.old.version) }
-    ensures fault { IfErr result IsLineFault }
-{
-    let Ok(cuts) = cuts(alloc, text, count) else {
-        return Err(ReadCause::Memory);
-    };
-    let Ok(pieces) = judge_all(rt, alloc, kept.version(), text, &cuts) else {
-        return Err(ReadCause::Memory);
-    };
-    join(pieces, line, kept)
-}
-
-/// Adds what these pieces stand for, up to the first fault.
-fn join(pieces: Vec<Piece>, line: &mut u32, kept: &mut Kept) -> Result<(), ReadCause>
-    requires judged { (bytes : List ℕ) × AreJudged kept.old.version pieces.items bytes }
-    requires line { (2 ≤ line.old) × (line.old ≤ LAST_LINE) }
-    requires counted { IsCounted line.old kept.old }
-    ensures judged { (bytes more : List ℕ) (known left : Option (List ℕ)) (room : ℕ) →
-        AreJudged kept.old.version pieces.items bytes → length (bytes ++ more) ≤ room
-        → IsBetweenLines known line.old kept.old (bytes ++ more) left
-        → IsJudgedUpTo result known line.new kept.new more room left }
-    ensures lines { OnOk result ((bytes : List ℕ) → AreJudged kept.old.version pieces.items bytes
-        → line.new ≡ line.old + line_feeds bytes) }
-    ensures line { (line.old ≤ line.new) × (line.new ≤ LAST_LINE) }
-    ensures counted { OnOk result (IsCounted line.new kept.new) }
-    ensures version { OnOk result (kept.new.version ≡ kept.old.version) }
-    ensures fault { IfErr result IsLineFault }
-{
-    let mut rest = pieces.into_iter();
-    'pieces: while let Some(piece) = rest.next() {
-        add(piece, line, kept)?;
-    }
-    Ok(())
-}
-
-/// Adds what a piece stands for, up to its fault. A record for which there is no room comes first.
-fn add(piece: Piece, line: &mut u32, kept: &mut Kept) -> Result<(), ReadCause>
-    requires judged { (bytes : List ℕ) × IsJudged kept.old.version bytes piece }
-    requires line { (2 ≤ line.old) × (line.old ≤ LAST_LINE) }
-    requires counted { IsCounted line.old kept.old }
-    ensures judged { (bytes more : List ℕ) (known left : Option (List ℕ)) (room : ℕ) →
-        IsJudged kept.old.version bytes piece → length (bytes ++ more) ≤ room
-        → IsBetweenLines known line.old kept.old (bytes ++ more) left
-        → IsJudgedUpTo result known line.new kept.new more room left }
-    ensures lines { OnOk result ((bytes : List ℕ) → IsJudged kept.old.version bytes piece
-        → line.new ≡ line.old + line_feeds bytes) }
-    ensures line { (line.old ≤ line.new) × (line.new ≤ LAST_LINE) }
-    ensures counted { OnOk result (IsCounted line.new kept.new) }
-    ensures version { OnOk result (kept.new.version ≡ kept.old.version) }
-    ensures fault { IfErr result IsLineFault }
-{
-    let (count, why) = kept.keep_all(piece.records, piece.tasks);
-    *line += count as u32;
-    match why {
-        Some(cause) => Err(cause),
-        None => fault_of(piece.fault),
-    }
-}
-
-/// The fault, if there is one.
-fn fault_of(fault: Option<ReadCause>) -> Result<(), ReadCause>
-    ensures { fault ≡ result_err result }
-{
-    match fault {
-        Some(cause) => Err(cause),
-        None => Ok(()),
+    match filled {
+        Ok(true) => unreachable!(),
+        Ok(false) if len > 0 => Err(ReadCause::Unended),
+        Ok(false) if line == 1 => Err(ReadCause::Header),
+        Ok(false) => Ok(()),
+        Err(cause) => Err(cause),
     }
 }

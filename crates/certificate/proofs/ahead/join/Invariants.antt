@@ -4,7 +4,7 @@ use Rattle.ompt_events.specs.Limits.{max_records}
 use Rattle.certificate.specs.Pieces.{AreJudged}
 use Rattle.certificate.specs.ReadingOn.{IsCounted}
 use Rattle.certificate.proofs.JoinLemmas.{Joins}
-use Rattle.certificate.proofs.reading_on.join.Given as goal
+use Rattle.certificate.proofs.ahead.join.Given as goal
 
 abbrev pub invariant-pieces : goal.invariant-pieces
 invariant-pieces l = record {

@@ -1,6 +1,6 @@
 use Rattle.std.proofs.Common.{arith}
 use Rattle.certificate.proofs.JoinLemmas.{kept_some, piece_told, piece_lines, piece_sound}
-use Rattle.certificate.proofs.reading_on.add.Goals as goal
+use Rattle.certificate.proofs.ahead.add.Goals as goal
 
 pub keep_all-count-requires-clause-sound : goal.keep_all-count-requires-clause-sound
 keep_all-count-requires-clause-sound c =

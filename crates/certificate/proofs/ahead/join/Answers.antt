@@ -4,7 +4,7 @@ use Rattle.std.specs.Vec.Iter.{into_iter_items}
 use Rattle.certificate.specs.declared.pieces.Piece.{Piece}
 use Rattle.certificate.specs.Pieces.{AreJudged}
 use Rattle.certificate.proofs.JoinLemmas.{Joins, Joins-next, Joins-piece}
-use Rattle.certificate.proofs.reading_on.join.Goals as goal
+use Rattle.certificate.proofs.ahead.join.Goals as goal
 
 pub pieces-preserved : goal.pieces-preserved
 pieces-preserved c =

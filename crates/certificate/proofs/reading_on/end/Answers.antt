@@ -1,6 +1,6 @@
 use Rattle.std.proofs.Common.{arith, ap, ◌∙◌, Ok}
 use Rattle.certificate.proofs.EndLemmas.{waiting_long, waiting_unended, waiting_no_header, waiting_none, waiting_fault}
-use Rattle.certificate.proofs.reading_on.end_round.Goals as goal
+use Rattle.certificate.proofs.reading_on.end.Goals as goal
 
 pub returns-then-len-gt-MAX_LINE-clause-after : goal.returns-then-len-gt-MAX_LINE-clause-after
 returns-then-len-gt-MAX_LINE-clause-after c =
@@ -25,4 +25,4 @@ returns-in-Ok-false-3-clause-after c =
 pub returns-in-Err-clause-after : goal.returns-in-Err-clause-after
 returns-in-Err-clause-after c =
     λ known kept waiting room left now len none few end.
-    waiting_fault known c.args.line room kept c.in-Err.cause waiting left (rw c.in-Err.is at c.requires) few none now
+    waiting_fault known c.args.line room kept c.in-Err.cause waiting left (rw c.in-Err.is at c.requires.fault) few none now
