@@ -19,6 +19,11 @@ mod StartLemmas
 mod LateLemmas
 mod PhaseLemmas
 mod VerdictLemmas
+mod BlindBodyLemmas
+mod TwinLemmas
+mod TwinCauseLemmas
+mod TwinMoveLemmas
+mod TwinStepLemmas
 pub mod ReadingLemmas
 mod BeforeLemmas
 mod DecidingLemmas
