@@ -4,10 +4,10 @@ mod WalkLemmas
 mod CurrentLemmas
 mod NestingLemmas
 mod ProgressLemmas
-mod OriginLemmas
+pub mod OriginLemmas
 mod PassLemmas
-mod HomeLemmas
-mod RootLemmas
+pub mod HomeLemmas
+pub mod RootLemmas
 mod MovedLemmas
 pub mod RowLemmas
 mod TurnEdgeLemmas

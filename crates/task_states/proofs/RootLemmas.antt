@@ -93,7 +93,7 @@ walk_begun rs thread i =
 -- ---- a root never moves
 
 -- a root that runs next is the innermost open one, which began on the thread
-root_runs_home : (rs : List Record) (task i : ℕ) → IsFreeOf rs NotCurrent → IsFreeOf rs CreatedTwice → IsRoot rs task → at started rs i ≡ Some task → is_on rs (home_of rs task) i ≡ true
+pub root_runs_home : (rs : List Record) (task i : ℕ) → IsFreeOf rs NotCurrent → IsFreeOf rs CreatedTwice → IsRoot rs task → at started rs i ≡ Some task → is_on rs (home_of rs task) i ≡ true
 root_runs_home rs task i current once root starts =
     let (r, stands, is) = record_there started rs i task starts in
     let roots = (walk_of r.thread (take i rs)).roots in
