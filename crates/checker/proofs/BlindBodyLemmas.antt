@@ -1,12 +1,10 @@
 -- More that records say of all but turns.
-use Rattle.std.proofs.Common.{◌≡◌, ℕ, refl}
-use Rattle.ompt_events.specs.declared.records.Body.{Body}
+use Rattle.std.proofs.Common.{ℕ, refl}
 use Rattle.ompt_events.specs.declared.records.Body.TheVariants.{TaskSchedule}
-use Rattle.ompt_events.specs.declared.names.Status.TheVariants.{EarlyFulfill, LateFulfill, TaskwaitComplete}
-use Rattle.ompt_events.specs.Records.{made, forked, region_named, ended_root, started, wait_completed, created_with_deps, discarded, fulfilled, flags, named}
+use Rattle.ompt_events.specs.declared.names.Status.TheVariants.{EarlyFulfill, LateFulfill, Switch, TaskwaitComplete, Yield}
+use Rattle.ompt_events.specs.Records.{made, forked, region_named, ended_root, started, wait_completed, created_with_deps, discarded, fulfilled, flags, named, suspended}
 use Rattle.ompt_events.specs.Threads.{Walk, after_body}
 use Rattle.ompt_events.specs.States.{moves_by}
-use Rattle.task_tree.specs.Renaming.{untold}
 use Rattle.task_tree.proofs.BlindLemmas.{IsBlind}
 
 pub blind_made : IsBlind made
@@ -53,6 +51,11 @@ blind_flags _ = refl
 pub blind_named : IsBlind named
 blind_named (TaskSchedule status turns prior next share) = refl
 blind_named _ = refl
+
+pub blind_suspended : IsBlind suspended
+blind_suspended (TaskSchedule Yield turns prior next share) = refl
+blind_suspended (TaskSchedule Switch turns prior next share) = refl
+blind_suspended _ = refl
 
 pub blind_walk : (walk : Walk) → IsBlind (after_body walk)
 blind_walk walk (TaskSchedule status turns prior next share) = refl

@@ -24,7 +24,11 @@ mod TwinLemmas
 mod TwinCauseLemmas
 mod TwinMoveLemmas
 mod TwinStepLemmas
+mod UpgradeLemmas
+mod UpgradeWalkLemmas
+mod UpgradeTurnLemmas
 pub mod ReadingLemmas
+mod UpgradeVerdictLemmas
 mod BeforeLemmas
 mod DecidingLemmas
 mod ShareLemmas

@@ -1,21 +1,19 @@
 -- Two lists of records that say the same of all but turns show the same causes, but for those that are of turns, of
 -- states and of orders.
-use Rattle.std.proofs.Common.{◌≡◌, ◌≢◌, ◌∙◌, ℕ, ◌<◌, ◌≤◌, List, [], length, Option, Some, None, Bool, true, cond, refl, sym, ap, subst, arith, ◌+◌}
-use Rattle.std.specs.Prelude.{slice_get, take, filter, is_some, Contains, ◌==◌, count_by}
+use Rattle.std.proofs.Common.{◌≡◌, ◌∙◌, ℕ, List, Bool, cond, refl, sym, ap, subst, arith, ◌+◌}
+use Rattle.std.specs.Prelude.{take, filter, is_some, Contains, ◌==◌, count_by}
 use Rattle.ompt_events.specs.declared.records.Record.{Record}
 use Rattle.ompt_events.specs.declared.records.Body.{Body}
-use Rattle.ompt_events.specs.declared.records.Membership.{Membership}
 use Rattle.ompt_events.specs.declared.cause.Cause.{Cause}
 use Rattle.ompt_events.specs.declared.cause.Cause.TheVariants.{SeqGap, CreatedTwice, Rootless, NotCurrent, Moved, TurnGap, StatusOrder, RegionOrder, TeamShort, NestedParallel, DepsPlace, ShareWrong, EntryTwice, LengthAhead, LengthBack, NoOrder, TargetTask}
-use Rattle.ompt_events.specs.Records.{made, created, forked, region_named, running, ended_root, started, wait_completed, named, begun_root, begun_initial, joined, creation, dependences, created_with_deps, finish, flags}
-use Rattle.ompt_events.specs.Places.{at, thread_at, seen_at}
-use Rattle.ompt_events.specs.Tree.{IsRoot, IsRooted, IsCreatedAt}
+use Rattle.ompt_events.specs.Records.{made, created, forked, region_named, running, ended_root, started, wait_completed, named, begun_initial, joined, dependences, created_with_deps, finish, flags}
+use Rattle.ompt_events.specs.Places.{at, seen_at}
+use Rattle.ompt_events.specs.Tree.{IsRooted}
 use Rattle.ompt_events.specs.Threads.{Walk, walk_of, after_record, at_start, Misfits, not_running, not_innermost, other_root, other_parent, MisfitsAt}
-use Rattle.ompt_events.specs.Teams.{IsInitial, IsMember}
 use Rattle.ompt_events.specs.HappensBefore.{IsFinishing}
 use Rattle.ompt_events.specs.Causes.{HasCause, HasSeqGap, IsMadeAgain, IsForkedAgain, IsNamedAt, IsMade, IsForked, HasNoRoot, unmade, unrooted, no_region, IsNotCurrent, IsNested, forked_inside, joined_inside, initial_inside, IsWalkAt, IsNextInThread, AreFollowed, HasMisplacedDeps, stray, missing, RepeatsEntry, entries_in, IsAhead, entry, ledger_length, known_after, MakesTarget, seq_gap, created_twice, forked_twice, rootless, not_current, nested_parallel, deps_place, entry_twice, length_ahead, target_task}
 use Rattle.task_tree.specs.Renaming.{untold}
-use Rattle.task_tree.proofs.BlindLemmas.{blind_running, blind_begun_root, blind_begun_initial, blind_joined, blind_created, blind_creation, blind_dependences, blind_finish}
+use Rattle.task_tree.proofs.BlindLemmas.{blind_running, blind_begun_initial, blind_joined, blind_created, blind_dependences, blind_finish}
 use Rattle.task_tree.proofs.RenamedPlaceLemmas.{reordered}
 use Rattle.task_tree.proofs.RenamedTreeLemmas.{moved_rooted, moved_root, moved_initial, moved_member, moved_creation}
 use Rattle.task_tree.proofs.RenamingLemmas.{renamed_order, renamed_short, renamed_share}

@@ -1,18 +1,18 @@
 -- Two lists of records that say the same of all but turns: what each task is, and its moves where it stays on one
 -- thread.
-use Rattle.std.proofs.Common.{◌≡◌, ◌∙◌, ℕ, List, [], ◌∷◌, ◌++◌, length, Option, Some, None, Bool, true, false, cond, refl, sym, ap, subst, map, ◌+◌}
+use Rattle.std.proofs.Common.{◌≡◌, ◌∙◌, ℕ, List, [], ◌∷◌, ◌++◌, Option, Some, None, Bool, false, cond, refl, sym, ap, map, ◌+◌}
 use Rattle.std.specs.Prelude.{slice_get, take, filter, is_some, option_map, option_and_then, not, ◌&&◌, ◌==◌}
 use Rattle.std.specs.List.{find, flat_map, range_with_len}
 use Rattle.std.specs.Option.{option_map_or}
 use Rattle.ompt_events.specs.declared.records.Record.{Record}
 use Rattle.ompt_events.specs.declared.records.Body.{Body}
-use Rattle.ompt_events.specs.declared.records.Body.TheVariants.{TaskSchedule, TaskCreate}
+use Rattle.ompt_events.specs.declared.records.Body.TheVariants.{TaskSchedule}
 use Rattle.ompt_events.specs.declared.names.Status.TheVariants.{EarlyFulfill}
 use Rattle.ompt_events.specs.declared.cause.Cause.TheVariants.{StatusOrder}
 use Rattle.ompt_events.specs.Records.{begun_root, started}
 use Rattle.ompt_events.specs.Places.{at, thread_at, places}
-use Rattle.ompt_events.specs.States.{Move, Nature, Root, Wait, Plain, is_task, is_made_so, creates_wait, nature_of, state_of, begun_on, run_on, home_of, is_on, is_early, moves_by, moves_at, places_of, moves_of, moved_moves, all_moves_of, has_moved}
-use Rattle.ompt_events.specs.Causes.{HasCause, HasNoState, status_order}
+use Rattle.ompt_events.specs.States.{Root, Wait, Plain, is_task, is_made_so, creates_wait, nature_of, state_of, begun_on, run_on, home_of, is_on, is_early, moves_by, moves_at, places_of, moves_of, moved_moves, all_moves_of, has_moved}
+use Rattle.ompt_events.specs.Causes.{HasCause, status_order}
 use Rattle.task_tree.specs.Renaming.{untold}
 use Rattle.task_tree.proofs.BlindLemmas.{IsBlind, blind_begun_root}
 use Rattle.checker.proofs.BlindBodyLemmas.{blind_started, blind_moves}

@@ -1,24 +1,25 @@
 -- Two lists of records that say the same of all but turns have the same steps and orders, and the same tasks are
 -- complete at each record, where the same records start tasks and a resumption is in file order on one thread.
-use Rattle.std.proofs.Common.{◌≡◌, ◌≢◌, ◌∙◌, ℕ, ◌<◌, ◌+◌, List, [], length, Option, Some, refl, sym, ap, subst, arith, inl, inr}
-use Rattle.std.specs.Prelude.{◌↔◌, ⊤, take, slice_index, Contains, ◌++◌}
+use Rattle.std.proofs.Common.{◌≡◌, ◌∙◌, ℕ, ◌<◌, List, [], ◌∷◌, length, sym, subst, arith, inl, inr}
+use Rattle.std.specs.Prelude.{◌↔◌, ⊤, take, slice_index, ◌++◌}
 use Rattle.std.specs.List.Sorted.{IsPermutation}
 use Rattle.ompt_events.specs.declared.records.Record.{Record}
 use Rattle.ompt_events.specs.declared.records.Part.{Part}
 use Rattle.ompt_events.specs.declared.records.Part.TheVariants.{Whole, Body, Event}
 use Rattle.ompt_events.specs.declared.cause.Cause.TheVariants.{LengthBack, NoOrder}
 use Rattle.ompt_events.specs.Records.{created, discarded, fulfilled, finish}
-use Rattle.ompt_events.specs.Places.{at, thread_at, seen_at, places}
+use Rattle.ompt_events.specs.Places.{thread_at}
 use Rattle.ompt_events.specs.Tree.{IsExplicit}
 use Rattle.ompt_events.specs.HappensBefore.{IsStart, IsResumption, IsProgramStep, thread_order, creation, resumption, discard, fulfilment, IsStep, program, ledger, HappensBefore, step, chain}
-use Rattle.ompt_events.specs.Linearization.{IsEarlier, IsLinearization, IsDue, IsReady, IsFirstReady, IsGreedyAfter, IsGreedy, IsGrounded}
+use Rattle.ompt_events.specs.Linearization.{IsLinearization, IsDue, IsReady, IsGreedyAfter, IsGreedy, IsGrounded}
 use Rattle.ompt_events.specs.Completion.{IsPartFinished, IsFinished, StartsTask, CountsIn, IsCompleteIn, CountsAt, IsCompleteAt}
-use Rattle.ompt_events.specs.Causes.{HasCause, HasNoOrder, IsBehind, known_after, length_back, no_order}
+use Rattle.ompt_events.specs.Causes.{HasCause, length_back, no_order}
+use Rattle.checker.specs.Counter.{IsEarliestOrder}
 use Rattle.task_tree.proofs.BlindLemmas.{blind_created, blind_finish}
 use Rattle.task_tree.proofs.RenamedPlaceLemmas.{reordered}
 use Rattle.task_tree.proofs.RenamedTreeLemmas.{moved_explicit}
 use Rattle.checker.proofs.BlindBodyLemmas.{blind_discarded, blind_fulfilled}
-use Rattle.checker.proofs.TwinLemmas.{AreTwins, twins_back, twins_long, twin_says, twin_thread, twin_seen, twin_renaming}
+use Rattle.checker.proofs.TwinLemmas.{AreTwins, twins_long, twin_says, twin_thread, twin_seen, twin_renaming}
 use Rattle.checker.proofs.TwinCauseLemmas.{twin_finishing, twin_known}
 use Rattle.checker.proofs.TwinMoveLemmas.{twin_places}
 
@@ -74,24 +75,37 @@ kept_order rs ss order same is = record {
 kept_due : (rs ss : List Record) (standing : List ℕ) (i : ℕ) → HaveSameSteps rs ss → IsDue rs standing i → IsDue ss standing i
 kept_due rs ss standing i same due a before = due a (kept_before ss rs a i same.back before)
 
-kept_ready : (rs ss : List Record) (may : ℕ → Type 0) (standing : List ℕ) (i : ℕ) → HaveSameSteps rs ss → IsReady rs may standing i → IsReady ss may standing i
-kept_ready rs ss may standing i same is = record {
+kept_ready : (rs ss : List Record) (may can : ℕ → Type 0) (standing : List ℕ) (i : ℕ) → HaveSameSteps rs ss → ((k : ℕ) → may k → can k) → IsReady rs may standing i → IsReady ss can standing i
+kept_ready rs ss may can standing i same allows is = record {
   within = let long = twins_long rs ss same.there.twins in let inside = is.within in omega arith;
-  taken = is.taken;
+  taken = allows i is.taken;
   missing = is.missing;
   due = kept_due rs ss standing i same is.due;
 }
 
-pub kept_greedy_after : (rs ss : List Record) (may : ℕ → Type 0) (standing order : List ℕ) → HaveSameSteps rs ss → IsGreedyAfter rs may standing order → IsGreedyAfter ss may standing order
-kept_greedy_after rs ss may standing order same greedy k below =
+kept_greedy_after : (rs ss : List Record) (may can : ℕ → Type 0) (standing order : List ℕ) → HaveSameSteps rs ss → ((k : ℕ) → may k ↔ can k) → IsGreedyAfter rs may standing order → IsGreedyAfter ss can standing order
+kept_greedy_after rs ss may can standing order same allows greedy k below =
     let here = greedy k below in
     record {
-      ready = kept_ready rs ss may (standing ++ take k order) (slice_index order k) same here.ready;
-      first = λ j before ready. here.first j before (kept_ready ss rs may (standing ++ take k order) j (same_steps_back rs ss same) ready);
+      ready = kept_ready rs ss may can (standing ++ take k order) (slice_index order k) same (λ j. (allows j).0) here.ready;
+      first = λ j before ready. here.first j before (kept_ready ss rs can may (standing ++ take k order) j (same_steps_back rs ss same) (λ j. (allows j).1) ready);
     }
 
 pub kept_greedy : (rs ss : List Record) (order : List ℕ) → HaveSameSteps rs ss → IsGreedy rs order → IsGreedy ss order
-kept_greedy rs ss order same greedy = kept_greedy_after rs ss (λ _. ⊤) [] order same greedy
+kept_greedy rs ss order same greedy = kept_greedy_after rs ss (λ _. ⊤) (λ _. ⊤) [] order same (λ k. (λ x. x, λ x. x)) greedy
+
+both_before : (rs ss : List Record) (a b : ℕ) → HaveSameSteps rs ss → HappensBefore rs a b ↔ HappensBefore ss a b
+both_before rs ss a b same = (kept_before rs ss a b same.there, kept_before ss rs a b same.back)
+
+pub kept_earliest : (rs ss : List Record) (i : ℕ) (order : List ℕ) → HaveSameSteps rs ss → IsEarliestOrder rs i order → IsEarliestOrder ss i order
+kept_earliest rs ss i order same is = record {
+  before = is.before;
+  after = is.after;
+  parts = is.parts;
+  just_before = λ a. let both = both_before rs ss a i same in let has = is.just_before a in (λ c. both.0 (has.0 c), λ h. has.1 (both.1 h));
+  before_greedy = kept_greedy_after rs ss (λ a. HappensBefore rs a i) (λ a. HappensBefore ss a i) [] is.before same (λ a. both_before rs ss a i same) is.before_greedy;
+  after_greedy = kept_greedy_after rs ss (λ _. ⊤) (λ _. ⊤) (is.before ++ i ∷ []) is.after same (λ k. (λ x. x, λ x. x)) is.after_greedy;
+}
 
 kept_grounded : (rs ss : List Record) (order : List ℕ) → HaveSameSteps rs ss → IsGrounded rs order → IsGrounded ss order
 kept_grounded rs ss order same grounded k below = kept_due rs ss (take k order) (slice_index order k) same (grounded k below)
