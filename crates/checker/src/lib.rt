@@ -24,6 +24,7 @@ mod ordered;
 mod phases;
 mod queue;
 mod schedule;
+mod side_by_side;
 mod sound;
 mod starts;
 mod suspensions;
