@@ -64,7 +64,7 @@ pub record IsSound (run : RunView) : Type 0 where
   pub is_run : IsRun run
   pub clear : IsClear run.records (before EntryTwice)
 
--- what clauses see of such a trace: its run, and that in the tasks' own order
+-- what clauses see of a trace: its run, and that in the tasks' own order
 pub record SoundView : Type 0 where
   pub run : RunView
   pub own : OwnView

@@ -23,6 +23,7 @@ mod merge;
 mod ordered;
 mod phases;
 mod queue;
+mod runs;
 mod schedule;
 mod side_by_side;
 mod sound;

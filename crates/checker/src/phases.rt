@@ -5,7 +5,7 @@ ghost use Rattle.ompt_events.specs.declared.cause.Cause.TheVariants.{NotCurrent,
 ghost use Rattle.ompt_events.specs.CauseNames.{all_causes, before};
 ghost use Rattle.ompt_events.specs.Faults.{FindsFirst, IsShownFault};
 ghost use Rattle.ompt_events.specs.Linearization.{IsLinearization, IsGreedy};
-ghost use Rattle.task_tree.specs.Families.{AreFamiliesOf, IsOwnOf};
+ghost use Rattle.task_tree.specs.Families.{AreFamiliesOf};
 ghost use Rattle.checker.specs.Search.{IsClear, IsLeastFound, AreStatesOf, AreEdgesOf, IsKnownOf, state_causes, edge_causes};
 
 use crate::claims::exclude_wrong_claims;
@@ -14,13 +14,14 @@ use crate::in_order::is_in_order;
 use crate::lengths::find_back;
 use crate::makers::Makers;
 use crate::merge::find_order;
+use crate::runs::Runs;
 use crate::sound::Sound;
 use crate::verdict::Order;
 use depend_edges::Edges;
 use ompt_events::{Cause, Fault, Trace, exclude};
 use std::alloc::Global;
 use task_states::{States, find_nested, gap, target};
-use task_tree::{Families, Own, Run};
+use task_tree::Families;
 use teams::Teams;
 use wait_coverage::{Known, find_known};
 
@@ -59,9 +60,13 @@ fn ask_run<A: Drop, F: Fn(Clear) -> Result<A, Fault>>(
 {
     let run = families.run(trace);
     let own = families.own(trace);
-    let states = states_of(alloc, &run, &own, families.gap())?;
+    let runs = Runs {
+        run: &run,
+        own: &own,
+    };
+    let states = states_of(alloc, &runs, families.gap())?;
     let teams = Teams::in_own(alloc, states.regions())?;
-    let edges = edges_of(alloc, &run, &own)?;
+    let edges = edges_of(alloc, &runs)?;
     let sound = Sound {
         trace,
         run: &run,
@@ -105,30 +110,30 @@ pub(crate) fn families_of(alloc: Global, trace: &Trace) -> Result<Families, Faul
     Ok(families)
 }
 
-/// The states of the run's tasks, which `own` has in the tasks' own order; the first turn gap is known. Excludes
-/// NotCurrent, Moved, TurnGap, StatusOrder and RegionOrder.
+/// The states of the run's tasks; the first turn gap is known. Excludes NotCurrent, Moved, TurnGap, StatusOrder and
+/// RegionOrder.
 pub(crate) fn states_of<'a>(
     alloc: Global,
-    run: &Run<'a>,
-    own: &Own<'a>,
+    runs: &Runs<'a>,
     gap: Option<usize>,
 ) -> Result<States<'a>, Fault>
-    requires own { IsOwnOf run.now.records own.now }
-    requires gap { FindsFirst run.now.records TurnGap gap }
-    ensures states { IfOk result (AreStatesOf run.now own.now) }
-    ensures fault { IfErr result (IsShownFault run.now.records state_causes) }
+    requires gap { FindsFirst runs.now.run.records TurnGap gap }
+    ensures states { IfOk result (AreStatesOf runs.now.run runs.now.own) }
+    ensures fault { IfErr result (IsShownFault runs.now.run.records state_causes) }
 {
+    let run = runs.run();
+    let own = runs.own();
     let states = States::in_run(alloc, run, own, gap)?;
     Ok(states)
 }
 
-/// The edges between the run's tasks, which `own` has in the tasks' own order. Excludes NestedParallel, DepsPlace and
-/// ShareWrong.
-pub(crate) fn edges_of<'a>(alloc: Global, run: &Run, own: &Own<'a>) -> Result<Edges<'a>, Fault>
-    requires own { IsOwnOf run.now.records own.now }
-    ensures edges { IfOk result (AreEdgesOf run.now own.now) }
-    ensures fault { IfErr result (IsShownFault run.now.records edge_causes) }
+/// The edges between the run's tasks. Excludes NestedParallel, DepsPlace and ShareWrong.
+pub(crate) fn edges_of<'a>(alloc: Global, runs: &Runs<'a>) -> Result<Edges<'a>, Fault>
+    ensures edges { IfOk result (AreEdgesOf runs.now.run runs.now.own) }
+    ensures fault { IfErr result (IsShownFault runs.now.run.records edge_causes) }
 {
+    let run = runs.run();
+    let own = runs.own();
     let _records = own.run();
     exclude(Cause::NestedParallel, find_nested(alloc, run)?)?;
     let edges = Edges::in_run(alloc, run, own)?;

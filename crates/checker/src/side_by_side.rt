@@ -5,11 +5,12 @@ ghost use Rattle.ompt_events.specs.declared.cause.Cause.TheVariants.{NotCurrent,
 ghost use Rattle.ompt_events.specs.CauseNames.{all_causes, before};
 ghost use Rattle.ompt_events.specs.Faults.{FindsFirst, IsShownFault};
 ghost use Rattle.ompt_events.specs.Linearization.{IsLinearization, IsGreedy};
-ghost use Rattle.task_tree.specs.Families.{AreFamiliesOf, IsOwnOf};
+ghost use Rattle.task_tree.specs.Families.{AreFamiliesOf};
 ghost use Rattle.checker.specs.Search.{IsClear, IsLeastFound, AreStatesOf, AreEdgesOf, IsKnownOf, state_causes, edge_causes};
 
 use crate::clear::Clear;
 use crate::phases::{ask, clear_order, edges_of, families_of, known_of, states_of};
+use crate::runs::Runs;
 use crate::sound::Sound;
 use crate::verdict::Order;
 use depend_edges::Edges;
@@ -17,7 +18,7 @@ use ompt_events::{Fault, Trace};
 use std::alloc::Global;
 use std::thread::{Threads, join};
 use task_states::States;
-use task_tree::{Families, Own, Run};
+use task_tree::Families;
 use teams::Teams;
 use wait_coverage::Known;
 
@@ -62,7 +63,11 @@ fn ask_run_on<R: Threads, A: Drop, F: Fn(Clear) -> Result<A, Fault>>(
 {
     let run = families.run(trace);
     let own = families.own(trace);
-    let (states, edges) = states_and_edges(rt, alloc, &run, &own, families.gap());
+    let runs = Runs {
+        run: &run,
+        own: &own,
+    };
+    let (states, edges) = states_and_edges(rt, alloc, &runs, families.gap());
     let states = states?;
     let teams = Teams::in_own(alloc, states.regions())?;
     let edges = edges?;
@@ -102,30 +107,26 @@ fn ask_sound_on<R: Threads, A: Drop, F: Fn(Clear) -> Result<A, Fault>>(
 fn states_and_edges<'a, R: Threads>(
     rt: &R,
     alloc: Global,
-    run: &Run<'a>,
-    own: &Own<'a>,
+    runs: &Runs<'a>,
     gap: Option<usize>,
 ) -> (Result<States<'a>, Fault>, Result<Edges<'a>, Fault>)
-    requires own { IsOwnOf run.now.records own.now }
-    requires gap { FindsFirst run.now.records TurnGap gap }
-    ensures states { IfOk result.0 (AreStatesOf run.now own.now) }
-    ensures states_fault { IfErr result.0 (IsShownFault run.now.records state_causes) }
-    ensures edges { IfOk result.1 (AreEdgesOf run.now own.now) }
-    ensures edges_fault { IfErr result.1 (IsShownFault run.now.records edge_causes) }
+    requires gap { FindsFirst runs.now.run.records TurnGap gap }
+    ensures states { IfOk result.0 (AreStatesOf runs.now.run runs.now.own) }
+    ensures states_fault { IfErr result.0 (IsShownFault runs.now.run.records state_causes) }
+    ensures edges { IfOk result.1 (AreEdgesOf runs.now.run runs.now.own) }
+    ensures edges_fault { IfErr result.1 (IsShownFault runs.now.run.records edge_causes) }
 {
     let (edges, states) = join(
         rt,
         || -> Result<Edges, Fault>
-            requires own { IsOwnOf run.now.records own.now }
-            ensures edges { IfOk result (AreEdgesOf run.entry.now own.entry.now) }
-            ensures fault { IfErr result (IsShownFault run.entry.now.records edge_causes) }
-        { edges_of(alloc, run, own) },
+            ensures edges { IfOk result (AreEdgesOf runs.entry.now.run runs.entry.now.own) }
+            ensures fault { IfErr result (IsShownFault runs.entry.now.run.records edge_causes) }
+        { edges_of(alloc, runs) },
         || -> Result<States, Fault>
-            requires own { IsOwnOf run.now.records own.now }
-            requires gap { FindsFirst run.now.records TurnGap gap }
-            ensures states { IfOk result (AreStatesOf run.entry.now own.entry.now) }
-            ensures fault { IfErr result (IsShownFault run.entry.now.records state_causes) }
-        { states_of(alloc, run, own, gap) },
+            requires gap { FindsFirst runs.now.run.records TurnGap gap }
+            ensures states { IfOk result (AreStatesOf runs.entry.now.run runs.entry.now.own) }
+            ensures fault { IfErr result (IsShownFault runs.entry.now.run.records state_causes) }
+        { states_of(alloc, runs, gap) },
     );
     (states, edges)
 }

@@ -12,8 +12,8 @@ use Rattle.checker.specs.Search.{IsClear, state_causes, edge_causes}
 use Rattle.checker.proofs.PhaseLemmas.{beyond, least_more, clear_more, teams_clear, same_own}
 use Rattle.checker.proofs.phases.ask_run.Goals as goal
 
-pub states_of-requires-clause-own : goal.states_of-requires-clause-own
-states_of-requires-clause-own g c =
+pub invariant_of-runs : goal.invariant_of-runs
+invariant_of-runs g c =
     rw c.run-run.ensures.records c.own-own.ensures
 
 pub returns-in_err-states-clause-malformed : goal.returns-in_err-states-clause-malformed
@@ -32,10 +32,6 @@ returns-in_err-teams-clause-malformed g c =
     let fault : IsShownFault rs (TeamShort ∷ []) c.in_err-teams.field-0.0 = own_fault rs own TeamShort c.in_err-teams.field-0.0 of_teams c.own-own.ensures places (rw (c.regions.ensures.value, states.of_own) at c.in_err-teams.ensures.fault) in
     let p = err_from_is_err_and c.from_residual-in_err-teams.result c.from_residual-in_err-teams.ensures.1 in
     rw (p.1, p.2) (least_more rs (before TeamShort) (TeamShort ∷ []) (beyond TeamShort) c.in_err-teams.field-0.0 refl of_states fault)
-
-pub edges_of-requires : goal.edges_of-requires
-edges_of-requires g c =
-    rw c.run-run.ensures.records c.own-own.ensures
 
 pub returns-in_err-edges-clause-malformed : goal.returns-in_err-edges-clause-malformed
 returns-in_err-edges-clause-malformed g c =
