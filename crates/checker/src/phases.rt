@@ -88,6 +88,7 @@ fn ask_sound<A: Drop, F: Fn(Clear) -> Result<A, Fault>>(
         × F.post answer.now clear (Ok a)) }
     ensures malformed { IfErr result (IsLeastFound sound.now.run.records) }
 {
+    let _run = sound.run();
     let order = clear_order(alloc, sound)?;
     let known = known_of(alloc, sound)?;
     answer(Clear {

@@ -93,6 +93,7 @@ fn ask_sound_on<R: Threads, A: Drop, F: Fn(Clear) -> Result<A, Fault>>(
         × F.post answer.now clear (Ok a)) }
     ensures malformed { IfErr result (IsLeastFound sound.now.run.records) }
 {
+    let _run = sound.run();
     let (order, known) = order_and_known(rt, alloc, sound);
     let order = order?;
     let known = known?;

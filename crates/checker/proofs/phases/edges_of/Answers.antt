@@ -10,7 +10,7 @@ use Rattle.checker.proofs.PhaseLemmas.{fault_shown, shown_more, edges_clear, non
 use Rattle.checker.proofs.phases.edges_of.Goals as goal
 
 pub in_run-requires : goal.in_run-requires
-in_run-requires c = rw (c.run-run.ensures.value, c.own-own.ensures.value) c.own-own.ensures.is_own
+in_run-requires c = rw (c.run-run.ensures.value, c.own-own.ensures.value) (record { own = c.own-own.ensures.is_own })
 
 pub returns-in_err-exclude-clause-fault : goal.returns-in_err-exclude-clause-fault
 returns-in_err-exclude-clause-fault c =
@@ -34,7 +34,7 @@ returns-in_err-exclude_wrong_claims-clause-fault c =
     let own = c.args.runs.now.own in
     let flat : IsFreeOf rs NestedParallel = c.in_ok-exclude.ensures.free rs (rw c.run-run.ensures.value at c.in_ok-find_nested.ensures) in
     let placed : IsFreeOf rs DepsPlace = rw c.run-run.ensures.value at c.in_ok-edges.ensures.placed in
-    let is_own : IsOwn own = rw c.own-own.ensures.value at c.run.ensures.is_own in
+    let is_own : IsOwn own = rw c.own-own.ensures.value at c.run-records.ensures.is_own in
     let found : IsOwnFault own ShareWrong c.in_err-exclude_wrong_claims.field-0.0 = rw c.own-own.ensures.value at c.in_err-exclude_wrong_claims.ensures.fault in
     let fault : IsShownFault rs (ShareWrong ∷ []) c.in_err-exclude_wrong_claims.field-0.0 = own_fault rs own ShareWrong c.in_err-exclude_wrong_claims.field-0.0 of_claims c.own-own.ensures.is_own is_own.places found in
     let p = err_from_is_err_and c.from_residual-in_err-exclude_wrong_claims.result c.from_residual-in_err-exclude_wrong_claims.ensures.1 in
