@@ -1,4 +1,5 @@
 //! The phases of a check on two threads: what needs nothing of one another is made side by side.
+ghost use denote.Param.Send.{IsSync};
 ghost use Rattle.std.specs.Prelude.{◌≡◌, Ok, Err, IfOk, IfErr, OnOk};
 ghost use Rattle.ompt_events.specs.declared.fault.Fault.TheVariants.{Memory};
 ghost use Rattle.ompt_events.specs.declared.cause.Cause.TheVariants.{NotCurrent, TurnGap};
@@ -16,6 +17,7 @@ use crate::verdict::Order;
 use depend_edges::Edges;
 use ompt_events::{Fault, Trace};
 use std::alloc::Global;
+use std::marker::{Send, Sync};
 use std::thread::{Threads, join};
 use task_states::States;
 use task_tree::Families;
@@ -117,13 +119,13 @@ fn states_and_edges<'a, R: Threads>(
     ensures edges { IfOk result.1 (AreEdgesOf runs.now.run runs.now.own) }
     ensures edges_fault { IfErr result.1 (IsShownFault runs.now.run.records edge_causes) }
 {
-    let (edges, states) = join(
+    let (edges, states) = both(
         rt,
-        || -> Result<Edges, Fault>
+        &|| -> Result<Edges, Fault>
             ensures edges { IfOk result (AreEdgesOf runs.entry.now.run runs.entry.now.own) }
             ensures fault { IfErr result (IsShownFault runs.entry.now.run.records edge_causes) }
         { edges_of(alloc, runs) },
-        || -> Result<States, Fault>
+        &|| -> Result<States, Fault>
             requires gap { FindsFirst runs.now.run.records TurnGap gap }
             ensures states { IfOk result (AreStatesOf runs.entry.now.run runs.entry.now.own) }
             ensures fault { IfErr result (IsShownFault runs.entry.now.run.records state_causes) }
@@ -145,13 +147,13 @@ fn order_and_known<'a, R: Threads>(
     ensures known { IfOk result.1 (IsKnownOf sound.now.own) }
     ensures memory_alone { IfErr result.1 (λ fault. fault ≡ Memory) }
 {
-    let (known, order) = join(
+    let (known, order) = both(
         rt,
-        || -> Result<Known, Fault>
+        &|| -> Result<Known, Fault>
             ensures known { IfOk result (IsKnownOf sound.entry.now.own) }
             ensures memory_alone { IfErr result (λ fault. fault ≡ Memory) }
         { known_of(alloc, sound) },
-        || -> Result<Order, Fault>
+        &|| -> Result<Order, Fault>
             ensures linearization { IfOk result (IsLinearization sound.entry.now.run.records) }
             ensures greedy { IfOk result (IsGreedy sound.entry.now.run.records) }
             ensures clear { OnOk result (IsClear sound.entry.now.run.records all_causes) }
@@ -159,4 +161,24 @@ fn order_and_known<'a, R: Threads>(
         { clear_order(alloc, sound) },
     );
     (order, known)
+}
+
+/// What the two functions give, called side by side, the first one in a thread of its own. Their values may borrow.
+fn both<R: Threads, F: Fn() -> A + Sync, G: Fn() -> B, A: Send, B>(rt: &R, f: &F, g: &G) -> (A, B)
+    requires first { F.pre f.now }
+    requires second { G.pre g.now }
+    ensures first { F.post f.now result.0 }
+    ensures second { G.post g.now result.1 }
+{
+    join(
+        rt,
+        || -> A
+            requires { IsSync F.row × F.pre f.now }
+            ensures { F.post f.entry.now result }
+        { f() },
+        || -> B
+            requires { G.pre g.now }
+            ensures { G.post g.entry.now result }
+        { g() },
+    )
 }
