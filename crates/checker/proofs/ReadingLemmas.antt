@@ -32,13 +32,16 @@ use Rattle.checker.specs.declared.verdict.Why.TheVariants.{Unfinished, Predecess
 use Rattle.checker.specs.Readings.{Reading, by_task, by_file, IsPrecededBy, IsRequiredBy}
 use Rattle.checker.specs.Verdicts.{ShowsNone, IsLeastShown, IsOpenBy, IsUnfinished, IsMissed, IsFirstSo, IsApproved, IsRejected, IsReason, IsVerdictBy, task_of}
 use Rattle.checker.specs.Counter.{IsEarliestOrder, IsCounterOrderBy, IsCounterBy}
-use Rattle.checker.specs.Search.{IsClear, ClearView, IsClearView, IsOfRecords}
+use Rattle.checker.specs.Search.{IsClear, SoundView, IsSoundView, ClearView, IsClearView, IsKnownOf, IsOfRecords}
 use Rattle.task_tree.specs.Own.{OwnView, IsOwn, of_claims}
 use Rattle.task_tree.specs.Families.{IsOwnOf}
 use Rattle.task_tree.proofs.OwnRunLemmas.{place_of_number}
 use Rattle.task_tree.proofs.ShownLemmas.{shown_there}
 use Rattle.trace_ledger.specs.Entries.{HasRightEntries}
 use Rattle.trace_ledger.proofs.RightLemmas.{own_entries}
+use Rattle.teams.specs.Teams.{own_of}
+use Rattle.wait_coverage.specs.Done.{AreDone}
+use Rattle.wait_coverage.specs.Known.{KnownView, AreCreditLengths}
 use Rattle.wait_coverage.specs.Waits.{IsOpen}
 use Rattle.wait_coverage.proofs.ShownLemmas.{own_open}
 use Rattle.checker.proofs.VerdictLemmas.{cover_ends, preceded_starts, at_cases, listed}
@@ -276,6 +279,18 @@ clear_entries view clear =
     (none CreatedTwice (1, omega arith, refl)) (none TurnGap (5, omega arith, refl)) (none StatusOrder (6, omega arith, refl))
     (none EntryTwice (12, omega arith, refl)) (none LengthAhead (13, omega arith, refl))
     (claims_right rs view.own clear.one.of_file clear.one.is_own (none ShareWrong (11, omega arith, refl)))
+
+-- what the phases give is a trace without a cause, and the lengths from which on its tasks' credit is held
+pub clear_and_known : (view : SoundView) (order : List ℕ) (known : KnownView) → IsSoundView view → IsClear view.run.records all_causes → IsLinearization view.run.records order → IsGreedy view.run.records order → IsKnownOf view.own known → IsClearView (record { run = view.run; own = view.own; order = order }) × (own_of known.done.teams ≡ view.own) × AreDone known.done × AreCreditLengths known.done
+clear_and_known view order known sound clear linear greedy is =
+    let whole : IsClearView (record { run = view.run; own = view.own; order = order }) = record {
+      is_run = sound.sound.is_run;
+      one = sound.one;
+      well_formed = clear;
+      linearization = linear;
+      greedy = greedy;
+    } in
+    (whole, is.of_own, is.done, is.credit (clear_entries (record { run = view.run; own = view.own; order = order }) whole))
 
 -- ---- what the searches in the tasks' own order find
 
