@@ -25,13 +25,16 @@ use Rattle.checker.proofs.TwinLemmas.{AreTwins, blank, twins_back, twins_long, t
 twin_gap : (rs ss : List Record) (i : ℕ) → AreTwins rs ss → HasSeqGap rs i → HasSeqGap ss i
 twin_gap rs ss i twins (r, stands, gap) =
     let other = twin_of rs ss i r twins stands in
-    let s : Record = other.0 in
-    (s, other.1, λ is. gap (
-    ap (λ (q : Record). q.seq) other.2
-    ∙ is
-    ∙ ap (λ t. count_by (λ (q : Record). q.thread == t) (take i ss)) (sym (ap (λ (q : Record). q.thread) other.2))
-    ∙ sym (twin_count (λ (q : Record). q.thread == r.thread) (λ q. refl) (take i rs) (take i ss) (twins_take rs ss i twins))
-    ))
+    let s : Record = other.0 in (
+      s,
+      other.1,
+      λ is. gap (
+          ap (λ (q : Record). q.seq) other.2
+          ∙ is
+          ∙ ap (λ t. count_by (λ (q : Record). q.thread == t) (take i ss)) (sym (ap (λ (q : Record). q.thread) other.2))
+          ∙ sym (twin_count (λ (q : Record). q.thread == r.thread) (λ q. refl) (take i rs) (take i ss) (twins_take rs ss i twins))
+          ),
+    )
 
 -- ---- tasks and parallel regions
 

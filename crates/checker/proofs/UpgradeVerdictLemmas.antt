@@ -152,14 +152,16 @@ clear_runs rs ss known clear =
     let twins = first_twins rs ss known in
     let untold : TellsNoTurns rs = first_version_tells_none rs known.trace in
     let stays : StaysAtHome rs = clear_stays rs known.still clear in
-    let still : IsStillUpgrade rs ss = record { trace = known.trace; untold = untold; upgrade = known.upgrade; stays = stays } in
-    (still, record {
-      steps = upgrade_steps rs ss still;
-      stays = stays;
-      stay = clear_stays ss (still_twin rs ss twins known.still) (clear_twin rs ss twins clear);
-      gapless = free_of_gaps rs untold;
-      no_gaps = λ i has. no_gap rs ss i untold known.upgrade has;
-    })
+    let still : IsStillUpgrade rs ss = record { trace = known.trace; untold = untold; upgrade = known.upgrade; stays = stays } in (
+      still,
+      record {
+        steps = upgrade_steps rs ss still;
+        stays = stays;
+        stay = clear_stays ss (still_twin rs ss twins known.still) (clear_twin rs ss twins clear);
+        gapless = free_of_gaps rs untold;
+        no_gaps = λ i has. no_gap rs ss i untold known.upgrade has;
+      },
+    )
 
 -- both read alike, each task's records in its own order
 record ReadAlike (rs ss : List Record) : Type 0 where
