@@ -1,6 +1,6 @@
 //! Judges recorded runs of OpenMP tasks: whether each wait ended, and each dependent task started, only when
-//! it was allowed to. Read `audit` first (`auditing.rt`): its clause `reports` is the headline; and `record`
-//! (`record.rt`), which writes a trace. Then `run` (`program.rt`), from the words of the command line to the
+//! it was allowed to. Read `audit` first (`auditing.rt`): its clause `reports` is the headline; `record`
+//! (`record.rt`), which writes a trace, and `upgrade` (`upgrading.rt`), which writes one in version 2. Then `run` (`program.rt`), from the words of the command line to the
 //! exit status, `tell` (`telling.rt`) and the texts (`report.rt`, and `order.rt` for an order).
 #![tactic(auto)]
 
@@ -10,6 +10,7 @@ mod program;
 mod record;
 mod report;
 mod telling;
+mod upgrading;
 mod words;
 mod work;
 
