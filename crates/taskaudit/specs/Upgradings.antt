@@ -32,8 +32,8 @@ pub record BreaksOffUpgrade (bytes old new : Option (List ℕ)) : Type 0 where
   pub count : ℕ
   pub written : Appends old new (take count (trace_text upgraded))
 
--- the bytes are a file of version 1, and the record on this line is the first at which a task has moved: line 1
--- is the header
+-- the bytes are a file of version 1, and the record on this line is the first at which a task has moved; line
+-- 1 is the header
 pub record IsMovedAt (bytes : Option (List ℕ)) (line : ℕ) (fault : UpgradeFault) : Type 0 where
   pub trace : TraceView
   pub file : AreFile bytes trace

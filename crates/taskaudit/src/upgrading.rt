@@ -11,8 +11,8 @@ use certificate::{Sink, Source, UpgradeFault, read, write};
 use ompt_events::Record;
 use std::alloc::Global;
 
-/// Reads a trace file to its end and writes its trace in version 2, in which turns are told. A trace of version
-/// 2 is written as it was read.
+/// Reads a trace file to its end and writes its trace in version 2, in which turns are told. A trace of
+/// version 2 is written as it was read.
 pub fn upgrade<I: Source, O: Sink>(
     alloc: Global,
     source: &mut I,
