@@ -19,7 +19,16 @@ mod StartLemmas
 mod LateLemmas
 mod PhaseLemmas
 mod VerdictLemmas
+mod BlindBodyLemmas
+mod TwinLemmas
+mod TwinCauseLemmas
+mod TwinMoveLemmas
+mod TwinStepLemmas
+mod UpgradeLemmas
+mod UpgradeWalkLemmas
+mod UpgradeTurnLemmas
 pub mod ReadingLemmas
+mod UpgradeVerdictLemmas
 mod BeforeLemmas
 mod DecidingLemmas
 mod ShareLemmas

@@ -16,14 +16,14 @@ use Rattle.task_tree.specs.Runs.{RunView}
 use Rattle.task_tree.specs.Own.{OwnView, of_regions, of_teams, of_claims}
 use Rattle.task_tree.specs.Families.{IsOwnOf}
 use Rattle.task_tree.proofs.ShownLemmas.{own_free}
-use Rattle.checker.specs.Search.{IsClear, IsLeastFound}
+use Rattle.checker.specs.Search.{IsClear, IsLeastFound, state_causes, edge_causes}
 
 -- the causes with greater numbers than this one
 abbrev pub beyond : Cause → List Cause
 beyond cause = filter (λ other. ltb (cause_number cause) (cause_number other)) all_causes
 
 -- no cause has a smaller number than the one before it, and the first one none than this number
-abbrev rises : ℕ → List Cause → Bool
+abbrev pub rises : ℕ → List Cause → Bool
 rises low [] = true
 rises low (c ∷ rest) = leb low (cause_number c) && rises (cause_number c) rest
 
@@ -99,10 +99,10 @@ fault_shown rs sought (Malformed i cause) all is = record {
 
 -- ---- from phase to phase
 
--- a phase that looks for some causes, once those before them do not occur: it finds the least of all
-pub least_more : (rs : List Record) (cleared sought rest : List Cause) (fault : Fault) → all_causes ≡ (cleared ++ sought) ++ rest → IsClear rs cleared → IsShownFault rs sought fault → IsLeastFound rs fault
-least_more rs cleared sought rest Memory parts clear found = tt
-least_more rs cleared sought rest (Malformed i cause) parts clear found = record {
+-- a search for some causes, once those before them do not occur: it finds the least of these all
+pub shown_more : (rs : List Record) (all cleared sought rest : List Cause) (fault : Fault) → all ≡ (cleared ++ sought) ++ rest → rises 0 all ≡ true → IsClear rs cleared → IsShownFault rs sought fault → IsShownFault rs all fault
+shown_more rs all cleared sought rest Memory parts rise clear found = tt
+shown_more rs all cleared sought rest (Malformed i cause) parts rise clear found = record {
   sought_for = whole cause (Contains-append_left (cleared ++ sought) rest cause (Contains-append_right cleared sought cause found.sought_for));
   found = found.found;
   least = λ other has less. elim (Contains-append_cases (cleared ++ sought) rest other (part other has)) [
@@ -114,14 +114,18 @@ least_more rs cleared sought rest (Malformed i cause) parts clear found = record
   ];
 }
   where
-    whole : (other : Cause) → Contains ((cleared ++ sought) ++ rest) other → Contains all_causes other
+    whole : (other : Cause) → Contains ((cleared ++ sought) ++ rest) other → Contains all other
     whole other has = let P : List Cause → Type 0 = λ l. Contains l other in subst P (sym parts) has
 
-    part : (other : Cause) → Contains all_causes other → Contains ((cleared ++ sought) ++ rest) other
+    part : (other : Cause) → Contains all other → Contains ((cleared ++ sought) ++ rest) other
     part other has = let P : List Cause → Type 0 = λ l. Contains l other in subst P parts has
 
     rising : rises 0 ((cleared ++ sought) ++ rest) ≡ true
-    rising = let P : List Cause → Type 0 = λ l. rises 0 l ≡ true in subst P parts refl
+    rising = let P : List Cause → Type 0 = λ l. rises 0 l ≡ true in subst P parts rise
+
+-- and a phase that of all causes
+pub least_more : (rs : List Record) (cleared sought rest : List Cause) (fault : Fault) → all_causes ≡ (cleared ++ sought) ++ rest → IsClear rs cleared → IsShownFault rs sought fault → IsLeastFound rs fault
+least_more rs cleared sought rest fault parts clear found = shown_more rs all_causes cleared sought rest fault parts refl clear found
 
 -- or they do not occur either
 pub clear_more : (rs : List Record) (cleared sought : List Cause) → IsClear rs cleared → IsClear rs sought → IsClear rs (cleared ++ sought)
@@ -142,22 +146,16 @@ pub only_clear : (rs : List Record) (cause : Cause) → ShowsNowhere rs cause �
 only_clear rs cause free = one_clear rs cause [] free (none_clear rs)
 
 -- what is clear after each phase: the causes of regions, teams and claims are read in the tasks' own order
-pub states_clear : (rs : List Record) (own : OwnView) → IsOwnOf rs own → IsClear rs (before NotCurrent) → IsFreeOf rs NotCurrent → IsFreeOf rs Moved → IsFreeOf rs TurnGap → IsFreeOf rs StatusOrder → IsFreeOf own.run.records RegionOrder → IsClear rs (before TeamShort)
-states_clear rs own of clear current stay gapless ordered closed =
+pub states_clear : (rs : List Record) (own : OwnView) → IsOwnOf rs own → IsFreeOf rs NotCurrent → IsFreeOf rs Moved → IsFreeOf rs TurnGap → IsFreeOf rs StatusOrder → IsFreeOf own.run.records RegionOrder → IsClear rs state_causes
+states_clear rs own of current stay gapless ordered closed =
     let regions = own_free rs own RegionOrder of_regions of closed in
-    clear_more rs (before NotCurrent) (NotCurrent ∷ Moved ∷ TurnGap ∷ StatusOrder ∷ RegionOrder ∷ []) clear (one_clear rs NotCurrent (Moved ∷ TurnGap ∷ StatusOrder ∷ RegionOrder ∷ []) current (one_clear rs Moved (TurnGap ∷ StatusOrder ∷ RegionOrder ∷ []) stay (one_clear rs TurnGap (StatusOrder ∷ RegionOrder ∷ []) gapless (one_clear rs StatusOrder (RegionOrder ∷ []) ordered (only_clear rs RegionOrder regions)))))
+    one_clear rs NotCurrent (Moved ∷ TurnGap ∷ StatusOrder ∷ RegionOrder ∷ []) current (one_clear rs Moved (TurnGap ∷ StatusOrder ∷ RegionOrder ∷ []) stay (one_clear rs TurnGap (StatusOrder ∷ RegionOrder ∷ []) gapless (one_clear rs StatusOrder (RegionOrder ∷ []) ordered (only_clear rs RegionOrder regions))))
 
 pub teams_clear : (rs : List Record) (own : OwnView) → IsOwnOf rs own → IsClear rs (before TeamShort) → IsFreeOf own.run.records TeamShort → IsClear rs (before NestedParallel)
 teams_clear rs own of clear whole = clear_more rs (before TeamShort) (TeamShort ∷ []) clear (only_clear rs TeamShort (own_free rs own TeamShort of_teams of whole))
 
-pub nesting_clear : (rs : List Record) → IsClear rs (before NestedParallel) → IsFreeOf rs NestedParallel → IsClear rs (before DepsPlace)
-nesting_clear rs clear flat = clear_more rs (before NestedParallel) (NestedParallel ∷ []) clear (only_clear rs NestedParallel flat)
-
-pub edges_clear : (rs : List Record) → IsClear rs (before DepsPlace) → IsFreeOf rs DepsPlace → IsClear rs (before ShareWrong)
-edges_clear rs clear placed = clear_more rs (before DepsPlace) (DepsPlace ∷ []) clear (only_clear rs DepsPlace placed)
-
-pub claims_clear : (rs : List Record) (own : OwnView) → IsOwnOf rs own → IsClear rs (before ShareWrong) → IsFreeOf own.run.records ShareWrong → IsClear rs (before EntryTwice)
-claims_clear rs own of clear claims = clear_more rs (before ShareWrong) (ShareWrong ∷ []) clear (only_clear rs ShareWrong (own_free rs own ShareWrong of_claims of claims))
+pub edges_clear : (rs : List Record) (own : OwnView) → IsOwnOf rs own → IsFreeOf rs NestedParallel → IsFreeOf rs DepsPlace → IsFreeOf own.run.records ShareWrong → IsClear rs edge_causes
+edges_clear rs own of flat placed claims = one_clear rs NestedParallel (DepsPlace ∷ ShareWrong ∷ []) flat (one_clear rs DepsPlace (ShareWrong ∷ []) placed (only_clear rs ShareWrong (own_free rs own ShareWrong of_claims of claims)))
 
 -- two views of a run in its tasks' own order with the same run and the same places are the same
 pub same_own : (own other : OwnView) → own.run ≡ other.run → own.places ≡ other.places → own ≡ other

@@ -32,43 +32,70 @@ use Rattle.checker.specs.declared.verdict.Why.TheVariants.{Unfinished, Predecess
 use Rattle.checker.specs.Readings.{Reading, by_task, by_file, IsPrecededBy, IsRequiredBy}
 use Rattle.checker.specs.Verdicts.{ShowsNone, IsLeastShown, IsOpenBy, IsUnfinished, IsMissed, IsFirstSo, IsApproved, IsRejected, IsReason, IsVerdictBy, task_of}
 use Rattle.checker.specs.Counter.{IsEarliestOrder, IsCounterOrderBy, IsCounterBy}
-use Rattle.checker.specs.Search.{IsClear, ClearView, IsClearView, IsOfRecords}
+use Rattle.checker.specs.Search.{IsClear, SoundView, IsSoundView, ClearView, IsClearView, IsKnownOf, IsOfRecords}
 use Rattle.task_tree.specs.Own.{OwnView, IsOwn, of_claims}
 use Rattle.task_tree.specs.Families.{IsOwnOf}
 use Rattle.task_tree.proofs.OwnRunLemmas.{place_of_number}
 use Rattle.task_tree.proofs.ShownLemmas.{shown_there}
 use Rattle.trace_ledger.specs.Entries.{HasRightEntries}
 use Rattle.trace_ledger.proofs.RightLemmas.{own_entries}
+use Rattle.teams.specs.Teams.{own_of}
+use Rattle.wait_coverage.specs.Done.{AreDone}
+use Rattle.wait_coverage.specs.Known.{KnownView, AreCreditLengths}
 use Rattle.wait_coverage.specs.Waits.{IsOpen}
 use Rattle.wait_coverage.proofs.ShownLemmas.{own_open}
 use Rattle.checker.proofs.VerdictLemmas.{cover_ends, preceded_starts, at_cases, listed}
 
 -- ---- readings that say the same
 
--- two readings are of the same records, and what the one says the other says too
+-- an explicit task starts there
+abbrev pub StartsExplicit : List Record → ℕ → ℕ → Type 0
+StartsExplicit rs i task = IsExplicit rs task × IsStart rs i task
+
+-- what the one reading says the other says too, and of records that have the same orders, creations, starts and
+-- completions
 pub record AreAlike (a b : Reading) : Type 0 where
-  pub same : a.records ≡ b.records
+  pub long : length a.records ≡ length b.records
   pub shows : (i : ℕ) (cause : Cause) → a.shows i cause ↔ b.shows i cause
   pub covers : (i task : ℕ) → a.covers i task ↔ b.covers i task
   pub depends : (task other : ℕ) → a.depends task other ↔ b.depends task other
+  pub creates : (i task : ℕ) → (at created a.records i ≡ Some task) ↔ (at created b.records i ≡ Some task)
+  pub starts : (i task : ℕ) → StartsExplicit a.records i task ↔ StartsExplicit b.records i task
+  pub completes : (i task : ℕ) → (at wait_completed a.records i ≡ Some task) ↔ (at wait_completed b.records i ≡ Some task)
+  pub ordered : (order : List ℕ) → IsLinearization a.records order ↔ IsLinearization b.records order
+  pub greedy : (order : List ℕ) → IsGreedy a.records order ↔ IsGreedy b.records order
+  pub earliest : (i : ℕ) (order : List ℕ) → IsEarliestOrder a.records i order ↔ IsEarliestOrder b.records i order
+  pub complete_at : (task i : ℕ) → IsCompleteAt a.records task i ↔ IsCompleteAt b.records task i
+  pub complete_in : (order : List ℕ) (task i : ℕ) → IsCompleteIn a.records order task i ↔ IsCompleteIn b.records order task i
+
+turned : {A B : Type 0} → A ↔ B → B ↔ A
+turned (there, back) = (back, there)
+
+same : {A : Type 0} → A ↔ A
+same = (λ x. x, λ x. x)
 
 -- the other way round
 pub alike_back : (a b : Reading) → AreAlike a b → AreAlike b a
 alike_back a b alike = record {
-  same = sym alike.same;
-  shows = λ i cause. ((alike.shows i cause).1, (alike.shows i cause).0);
-  covers = λ i task. ((alike.covers i task).1, (alike.covers i task).0);
-  depends = λ task other. ((alike.depends task other).1, (alike.depends task other).0);
+  long = sym alike.long;
+  shows = λ i cause. turned (alike.shows i cause);
+  covers = λ i task. turned (alike.covers i task);
+  depends = λ task other. turned (alike.depends task other);
+  creates = λ i task. turned (alike.creates i task);
+  starts = λ i task. turned (alike.starts i task);
+  completes = λ i task. turned (alike.completes i task);
+  ordered = λ order. turned (alike.ordered order);
+  greedy = λ order. turned (alike.greedy order);
+  earliest = λ i order. turned (alike.earliest i order);
+  complete_at = λ task i. turned (alike.complete_at task i);
+  complete_in = λ order task i. turned (alike.complete_in order task i);
 }
 
 alike_preceded : (a b : Reading) (i task : ℕ) → AreAlike a b → IsPrecededBy a i task → IsPrecededBy b i task
 alike_preceded a b i task alike (inl (dependent, explicit, start, after)) =
-    let E : List Record → Type 0 = λ rs. IsExplicit rs dependent in
-    let S : List Record → Type 0 = λ rs. IsStart rs i dependent in
-    inl (dependent, subst E alike.same explicit, subst S alike.same start, (alike.depends dependent task).0 after)
-alike_preceded a b i task alike (inr (dependent, completes, after)) =
-    let C : List Record → Type 0 = λ rs. at wait_completed rs i ≡ Some dependent in
-    inr (dependent, subst C alike.same completes, (alike.depends dependent task).0 after)
+    let there : StartsExplicit b.records i dependent = (alike.starts i dependent).0 (explicit, start) in
+    inl (dependent, there.0, there.1, (alike.depends dependent task).0 after)
+alike_preceded a b i task alike (inr (dependent, completes, after)) = inr (dependent, (alike.completes i dependent).0 completes, (alike.depends dependent task).0 after)
 
 alike_required : (a b : Reading) (i task : ℕ) → AreAlike a b → IsRequiredBy a i task → IsRequiredBy b i task
 alike_required a b i task alike (inl covers) = inl ((alike.covers i task).0 covers)
@@ -79,7 +106,7 @@ alike_none a b alike free i cause shown = free i cause ((alike.shows i cause).1 
 
 alike_least : (a b : Reading) (i : ℕ) (cause : Cause) → AreAlike a b → IsLeastShown a i cause → IsLeastShown b i cause
 alike_least a b i cause alike is = record {
-  within = let P : List Record → Type 0 = λ rs. i < length rs in subst P alike.same is.within;
+  within = let inside = is.within in let long = alike.long in omega arith;
   shown = (alike.shows i cause).0 is.shown;
   first = λ k below shown. is.first k below ((alike.shows k cause).1 shown);
   least = λ k other less shown. is.least k other less ((alike.shows k other).1 shown);
@@ -88,52 +115,48 @@ alike_least a b i cause alike is = record {
 alike_unfinished : (a b : Reading) (i task : ℕ) → AreAlike a b → IsUnfinished a i task → IsUnfinished b i task
 alike_unfinished a b i task alike is = record {
   required = alike_required a b i task alike is.required;
-  incomplete = let P : List Record → Type 0 = λ rs. IsCompleteAt rs task i in λ complete. is.incomplete (subst P (sym alike.same) complete);
+  incomplete = λ complete. is.incomplete ((alike.complete_at task i).1 complete);
 }
 
 alike_missed : (a b : Reading) (i task : ℕ) → AreAlike a b → IsMissed a i task → IsMissed b i task
 alike_missed a b i task alike is = record {
   required = alike_required a b i task alike is.required;
   order = is.order;
-  linearization = let P : List Record → Type 0 = λ rs. IsLinearization rs is.order in subst P alike.same is.linearization;
-  incomplete = let P : List Record → Type 0 = λ rs. IsCompleteIn rs is.order task i in λ complete. is.incomplete (subst P (sym alike.same) complete);
+  linearization = (alike.ordered is.order).0 is.linearization;
+  incomplete = λ complete. is.incomplete ((alike.complete_in is.order task i).1 complete);
 }
 
 -- the first of which one thing is so is the first of which another is, where both are so of the same
-first_so : (rs ss : List Record) (is_so is_too : ℕ → ℕ → Type 0) (i task : ℕ) → rs ≡ ss → ((k other : ℕ) → is_so k other ↔ is_too k other) → IsFirstSo rs is_so i task → IsFirstSo ss is_too i task
-first_so rs ss is_so is_too i task same both is = record {
+first_so : (a b : Reading) (is_so is_too : ℕ → ℕ → Type 0) (i task : ℕ) → AreAlike a b → ((k other : ℕ) → is_so k other ↔ is_too k other) → IsFirstSo a.records is_so i task → IsFirstSo b.records is_too i task
+first_so a b is_so is_too i task alike both is = record {
   so = (both i task).0 is.so;
   first = λ k other below so. is.first k other below ((both k other).1 so);
   creation = is.creation;
-  is_created = let P : List Record → Type 0 = λ l. at created l is.creation ≡ Some task in subst P same is.is_created;
-  created_first = λ k other below creates so.
-      let P : List Record → Type 0 = λ l. at created l k ≡ Some other in
-      is.created_first k other below (subst P (sym same) creates) ((both i other).1 so);
+  is_created = (alike.creates is.creation task).0 is.is_created;
+  created_first = λ k other below creates so. is.created_first k other below ((alike.creates k other).1 creates) ((both i other).1 so);
 }
 
 alike_reason : (a b : Reading) (i : ℕ) (why : Why) → AreAlike a b → IsReason a i why → IsReason b i why
 alike_reason a b i (Unfinished task) alike reason = (alike.covers i task).0 reason
 alike_reason a b i (Predecessor task) alike reason = alike_preceded a b i task alike reason
 
-alike_yes : (a b : Reading) (order : List ℕ) → AreAlike a b → IsApproved a order → IsApproved b order
+pub alike_yes : (a b : Reading) (order : List ℕ) → AreAlike a b → IsApproved a order → IsApproved b order
 alike_yes a b order alike is = record {
   well_formed = alike_none a b alike is.well_formed;
-  linearization = let P : List Record → Type 0 = λ rs. IsLinearization rs order in subst P alike.same is.linearization;
-  greedy = let P : List Record → Type 0 = λ rs. IsGreedy rs order in subst P alike.same is.greedy;
+  linearization = (alike.ordered order).0 is.linearization;
+  greedy = (alike.greedy order).0 is.greedy;
   finished = λ i task unfinished. is.finished i task (alike_unfinished b a i task (alike_back a b alike) unfinished);
   always_complete = λ other linear i task required.
-      let L : List Record → Type 0 = λ rs. IsLinearization rs other in
-      let C : List Record → Type 0 = λ rs. IsCompleteIn rs other task i in
-      subst C alike.same (is.always_complete other (subst L (sym alike.same) linear) i task (alike_required b a i task (alike_back a b alike) required));
+      (alike.complete_in other task i).0 (is.always_complete other ((alike.ordered other).1 linear) i task (alike_required b a i task (alike_back a b alike) required));
 }
 
-alike_no : (a b : Reading) (i : ℕ) (why : Why) → AreAlike a b → IsRejected a i why → IsRejected b i why
+pub alike_no : (a b : Reading) (i : ℕ) (why : Why) → AreAlike a b → IsRejected a i why → IsRejected b i why
 alike_no a b i why alike is =
     let back = alike_back a b alike in
     record {
       well_formed = alike_none a b alike is.well_formed;
-      unfinished = first_so a.records b.records (IsUnfinished a) (IsUnfinished b) i (task_of why) alike.same (λ k other. (alike_unfinished a b k other alike, alike_unfinished b a k other back)) is.unfinished;
-      missed = first_so a.records b.records (IsMissed a) (IsMissed b) i (task_of why) alike.same (λ k other. (alike_missed a b k other alike, alike_missed b a k other back)) is.missed;
+      unfinished = first_so a b (IsUnfinished a) (IsUnfinished b) i (task_of why) alike (λ k other. (alike_unfinished a b k other alike, alike_unfinished b a k other back)) is.unfinished;
+      missed = first_so a b (IsMissed a) (IsMissed b) i (task_of why) alike (λ k other. (alike_missed a b k other alike, alike_missed b a k other back)) is.missed;
       reason = alike_reason a b i why alike is.reason;
     }
 
@@ -147,9 +170,9 @@ alike_order : (a b : Reading) (i task : ℕ) (order : List ℕ) → AreAlike a b
 alike_order a b i task order alike is = record {
   well_formed = alike_none a b alike is.well_formed;
   required = alike_required a b i task alike is.required;
-  linearization = let P : List Record → Type 0 = λ rs. IsLinearization rs order in subst P alike.same is.linearization;
-  incomplete = let P : List Record → Type 0 = λ rs. IsCompleteIn rs order task i in λ complete. is.incomplete (subst P (sym alike.same) complete);
-  earliest = let P : List Record → Type 0 = λ rs. IsEarliestOrder rs i order in subst P alike.same is.earliest;
+  linearization = (alike.ordered order).0 is.linearization;
+  incomplete = λ complete. is.incomplete ((alike.complete_in order task i).1 complete);
+  earliest = (alike.earliest i order).0 is.earliest;
 }
 
 -- and the same counter orders
@@ -164,10 +187,18 @@ alike_counter a b i task None alike none = λ free missed.
 -- where no task's turns fall the order of the file says what each task's own order says
 pub rising_alike : (rs : List Record) → TurnsRise rs → AreAlike (by_task rs) (by_file rs)
 rising_alike rs rise = record {
-  same = refl;
+  long = refl;
   shows = shows_has rs rise;
   covers = λ i task. let c = renamed_covers (own_renaming rs rise) i task in (c.1, c.0);
   depends = λ task other. let p = renamed_predecessor (own_renaming rs rise) task other in (p.1, p.0);
+  creates = λ i task. same;
+  starts = λ i task. same;
+  completes = λ i task. same;
+  ordered = λ order. same;
+  greedy = λ order. same;
+  earliest = λ i order. same;
+  complete_at = λ task i. same;
+  complete_in = λ order task i. same;
 }
 
 pub first_version_alike : (rs : List Record) → IsTraceOf 1 rs → AreAlike (by_task rs) (by_file rs)
@@ -248,6 +279,18 @@ clear_entries view clear =
     (none CreatedTwice (1, omega arith, refl)) (none TurnGap (5, omega arith, refl)) (none StatusOrder (6, omega arith, refl))
     (none EntryTwice (12, omega arith, refl)) (none LengthAhead (13, omega arith, refl))
     (claims_right rs view.own clear.one.of_file clear.one.is_own (none ShareWrong (11, omega arith, refl)))
+
+-- what the phases give is a trace without a cause, and the lengths from which on its tasks' credit is held
+pub clear_and_known : (view : SoundView) (order : List ℕ) (known : KnownView) → IsSoundView view → IsClear view.run.records all_causes → IsLinearization view.run.records order → IsGreedy view.run.records order → IsKnownOf view.own known → IsClearView (record { run = view.run; own = view.own; order = order }) × (own_of known.done.teams ≡ view.own) × AreDone known.done × AreCreditLengths known.done
+clear_and_known view order known sound clear linear greedy is =
+    let whole : IsClearView (record { run = view.run; own = view.own; order = order }) = record {
+      is_run = sound.sound.is_run;
+      one = sound.one;
+      well_formed = clear;
+      linearization = linear;
+      greedy = greedy;
+    } in
+    (whole, is.of_own, is.done, is.credit (clear_entries (record { run = view.run; own = view.own; order = order }) whole))
 
 -- ---- what the searches in the tasks' own order find
 

@@ -1,9 +1,9 @@
 -- What the searches of a check tell one another.
-use Rattle.std.specs.Prelude.{ℕ, ◌<◌, List, Contains, length}
+use Rattle.std.specs.Prelude.{ℕ, ◌≡◌, ◌<◌, List, [], ◌∷◌, Contains, length}
 use Rattle.ompt_events.specs.declared.records.Record.{Record}
 use Rattle.ompt_events.specs.declared.cause.Cause.{Cause}
 use Rattle.ompt_events.specs.declared.fault.Fault.{Fault}
-use Rattle.ompt_events.specs.declared.cause.Cause.TheVariants.{EntryTwice}
+use Rattle.ompt_events.specs.declared.cause.Cause.TheVariants.{NotCurrent, Moved, TurnGap, StatusOrder, RegionOrder, NestedParallel, DepsPlace, ShareWrong, EntryTwice}
 use Rattle.ompt_events.specs.CauseNames.{all_causes, before}
 use Rattle.ompt_events.specs.Causes.{ShowsNowhere}
 use Rattle.ompt_events.specs.Faults.{IsShownFault}
@@ -11,6 +11,12 @@ use Rattle.ompt_events.specs.Linearization.{IsLinearization, IsGreedy}
 use Rattle.task_tree.specs.Runs.{RunView, IsRun}
 use Rattle.task_tree.specs.Own.{OwnView, IsOwn}
 use Rattle.task_tree.specs.Families.{IsOwnOf}
+use Rattle.task_states.specs.States.{StatesView, IsStates}
+use Rattle.depend_edges.specs.Edges.{EdgesView}
+use Rattle.teams.specs.Teams.{own_of}
+use Rattle.trace_ledger.specs.Entries.{HasRightEntries}
+use Rattle.wait_coverage.specs.Done.{AreDone}
+use Rattle.wait_coverage.specs.Known.{KnownView, AreCreditLengths}
 use Rattle.checker.specs.Readings.{Reading, IsPrecededBy}
 use Rattle.checker.specs.Verdicts.{task_of, IsReason, IsFirstUnfinished}
 use Rattle.checker.specs.declared.verdict.Why.{Why}
@@ -23,12 +29,42 @@ IsClear rs causes = (cause : Cause) → Contains causes cause → ShowsNowhere r
 abbrev pub IsLeastFound : List Record → Fault → Type 0
 IsLeastFound rs fault = IsShownFault rs all_causes fault
 
+-- ---- what is made of a run
+
+-- the causes that taking tasks through their states shows
+abbrev pub state_causes : List Cause
+state_causes = NotCurrent ∷ Moved ∷ TurnGap ∷ StatusOrder ∷ RegionOrder ∷ []
+
+-- those that nesting, dependences and claims show
+abbrev pub edge_causes : List Cause
+edge_causes = NestedParallel ∷ DepsPlace ∷ ShareWrong ∷ []
+
+-- the states of the run's tasks, where it shows none of these causes
+pub record AreStatesOf (run : RunView) (own : OwnView) (states : StatesView) : Type 0 where
+  pub of_run : states.run ≡ run
+  pub of_own : states.regions.own ≡ own
+  pub are : IsStates states
+  pub clear : IsClear run.records state_causes
+
+-- the edges between its tasks, where it shows none of those
+pub record AreEdgesOf (run : RunView) (own : OwnView) (edges : EdgesView) : Type 0 where
+  pub of_run : edges.run ≡ own.run
+  pub clear : IsClear run.records edge_causes
+
+-- the lengths from which on the run's tasks are finished, and their credit is held where the entries are right
+pub record IsKnownOf (own : OwnView) (known : KnownView) : Type 0 where
+  pub of_own : own_of known.done.teams ≡ own
+  pub done : AreDone known.done
+  pub credit : HasRightEntries own.run.records → AreCreditLengths known.done
+
+-- ---- what is known once ordering alone may show a cause
+
 -- the trace shows none of the causes before those of the ledger
 pub record IsSound (run : RunView) : Type 0 where
   pub is_run : IsRun run
   pub clear : IsClear run.records (before EntryTwice)
 
--- what clauses see of such a trace: its run, and that in the tasks' own order
+-- what clauses see of a trace: its run, and that in the tasks' own order
 pub record SoundView : Type 0 where
   pub run : RunView
   pub own : OwnView

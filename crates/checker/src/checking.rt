@@ -8,11 +8,9 @@ ghost use Rattle.checker.specs.Deciding.{IsFirstOrNone};
 use crate::clear::Clear;
 use crate::deciding::Deciding;
 use crate::phases::ask;
-use crate::starts::Precedence;
 use crate::verdict::{CheckFault, Verdict, Why};
 use ompt_events::{Fault, Trace};
 use std::alloc::Global;
-use wait_coverage::find_known;
 
 /// The verdict on the records of a trace, by each task's own order: malformed with the lowest-numbered cause
 /// that occurs, at the first record in file order that shows it; else no at the first record that ends a region
@@ -61,12 +59,6 @@ pub(crate) fn violation_of(alloc: Global, clear: &Clear) -> Result<Option<(usize
     ensures found { IfOk result (IsFirstOrNone (by_task clear.now.run.records)) }
     ensures memory_alone { IfErr result (λ fault. fault ≡ Memory) }
 {
-    let known = find_known(alloc, clear.sound().teams())?;
-    let precedence = Precedence::of(alloc, clear.sound(), known.own())?;
-    let deciding = Deciding {
-        clear,
-        known: &known,
-        precedence: &precedence,
-    };
+    let deciding = Deciding::of(alloc, clear)?;
     deciding.first_violation(alloc)
 }

@@ -1,19 +1,29 @@
 //! What is known of a trace in which no cause occurs.
 ghost use Rattle.std.specs.Prelude.{◌≡◌};
+ghost use Rattle.teams.specs.Teams.{own_of};
+ghost use Rattle.wait_coverage.specs.Done.{AreDone};
+ghost use Rattle.wait_coverage.specs.Known.{AreCreditLengths};
 ghost use Rattle.checker.specs.Search.{IsClearView};
 
 use crate::sound::Sound;
 use crate::verdict::Order;
 use std::marker::Model;
+use wait_coverage::Known;
 
-/// A trace in which no cause occurs, with the greedy order of its records.
+/// A trace in which no cause occurs, with the greedy order of its records, and the ledger lengths from which on
+/// its tasks are finished.
 #[derive(Drop)]
 pub(crate) struct Clear<'a> {
     pub(crate) sound: &'a Sound<'a>,
     pub(crate) order: Order,
+    pub(crate) known: Known<'a>,
 }
 
 impl<'a> Model for Clear<'a> {
+    ghost use Rattle.std.specs.Prelude.{◌≡◌};
+    ghost use Rattle.teams.specs.Teams.{own_of};
+    ghost use Rattle.wait_coverage.specs.Done.{AreDone};
+    ghost use Rattle.wait_coverage.specs.Known.{AreCreditLengths};
     ghost use Rattle.checker.specs.Search.{ClearView, IsClearView};
 
     ghost Value = { ClearView };
@@ -28,7 +38,9 @@ impl<'a> Model for Clear<'a> {
       run = clear.sound.now.run;
       own = clear.sound.now.own;
       order = clear.order;
-    }) };
+    }) × (own_of clear.known.done.teams ≡ clear.sound.now.own)
+        × AreDone clear.known.done
+        × AreCreditLengths clear.known.done };
 }
 
 impl<'a> Clear<'a> {
@@ -39,5 +51,15 @@ impl<'a> Clear<'a> {
         ensures is_clear { IsClearView self.now }
     {
         self.sound
+    }
+
+    /// The ledger lengths from which on its tasks are finished, exactly those from which on the trace's ledger
+    /// holds their credit.
+    pub(crate) fn known(&self) -> &Known<'a>
+        ensures own { own_of result.now.done.teams ≡ self.now.own }
+        ensures done { AreDone result.now.done }
+        ensures credit { AreCreditLengths result.now.done }
+    {
+        &self.known
     }
 }

@@ -16,7 +16,7 @@ use crate::starts::Precedence;
 use crate::verdict::{CheckFault, Order, Verdict};
 use ompt_events::{Fault, Trace};
 use std::alloc::Global;
-use wait_coverage::{find_known, is_open};
+use wait_coverage::is_open;
 
 /// An order of all records of a trace, allowed by them, in which the task is not complete at the
 /// place, although it must be: a wait ends there that covers it, or what starts or is complete there depends
@@ -110,8 +110,8 @@ fn is_unfinished(alloc: Global, clear: &Clear, at: usize, task: u64) -> Result<b
     ensures memory_alone { IfErr result (λ fault. fault ≡ Memory) }
 {
     let sound = clear.sound();
-    let known = find_known(alloc, sound.teams())?;
-    if is_open(alloc, &known, sound.own().number(at), task)? {
+    let known = clear.known();
+    if is_open(alloc, known, sound.own().number(at), task)? {
         return Ok(true);
     }
     let precedence = Precedence::of(alloc, sound, known.own())?;

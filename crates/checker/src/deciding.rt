@@ -11,33 +11,39 @@ use crate::verdict::Why;
 use ompt_events::Fault;
 use std::alloc::{AllocError, Global};
 use std::marker::Model;
-use wait_coverage::{Known, ends_wait, find_open};
+use wait_coverage::{ends_wait, find_open};
 
-/// What decides it: of a trace without a cause the ledger lengths from which on tasks are finished, and which tasks
-/// precede which.
+/// What decides it: a trace without a cause, with the ledger lengths from which on its tasks are finished, and
+/// which tasks precede which.
 #[derive(Drop)]
 pub(crate) struct Deciding<'a, 'r> {
-    pub(crate) clear: &'a Clear<'r>,
-    pub(crate) known: &'a Known<'r>,
-    pub(crate) precedence: &'a Precedence<'a, 'r>,
+    clear: &'a Clear<'r>,
+    precedence: Precedence<'a, 'r>,
 }
 
 impl<'a, 'r> Model for Deciding<'a, 'r> {
     ghost use Rattle.std.specs.Prelude.{◌≡◌};
-    ghost use Rattle.teams.specs.Teams.{own_of};
-    ghost use Rattle.wait_coverage.specs.Known.{AreCreditLengths};
     ghost use Rattle.checker.specs.Search.{ClearView};
 
     ghost Value = { ClearView };
 
     ghost view = { λ deciding. deciding.clear.now };
 
-    ghost invariant = { λ deciding. (own_of deciding.known.now.done.teams ≡ deciding.clear.now.own)
-        × AreCreditLengths deciding.known.now.done
-        × (deciding.precedence.now.file ≡ deciding.clear.now.run) };
+    ghost invariant = { λ deciding. deciding.precedence.file ≡ deciding.clear.now.run };
 }
 
-impl Deciding<'_, '_> {
+impl<'a, 'r> Deciding<'a, 'r> {
+    /// What decides it in this trace. It takes a few steps for each record, n log n in the dependences, and memory
+    /// linear in the tasks. Fails only when out of memory.
+    pub(crate) fn of(alloc: Global, clear: &'a Clear<'r>) -> Result<Deciding<'a, 'r>, Fault>
+        ensures clear { IfOk result (λ deciding. deciding ≡ clear.now) }
+        ensures memory_alone { IfErr result (λ fault. fault ≡ Memory) }
+    {
+        let known = clear.known();
+        let precedence = Precedence::of(alloc, clear.sound(), known.own())?;
+        Ok(Deciding { clear, precedence })
+    }
+
     /// The first record at which a task that must be finished is not, and why it must be.
     pub(crate) fn first_violation(&self, alloc: Global) -> Result<Option<(usize, Why)>, Fault>
         ensures found { IfOk result (IsFirstOrNone (by_task self.now.run.records)) }
@@ -58,7 +64,7 @@ impl Deciding<'_, '_> {
         ensures memory_alone { IfErr result (λ fault. fault ≡ Memory) }
     {
         let own = self.clear.sound().own();
-        if let Some(task) = find_open(alloc, self.known, own.number(at))? {
+        if let Some(task) = find_open(alloc, self.clear.known(), own.number(at))? {
             return Ok(Some(Why::Unfinished(task)));
         }
         match self.precedence.late_at(at)? {
@@ -88,6 +94,6 @@ impl Deciding<'_, '_> {
         ensures { result ≡ false → AreComplete (by_task self.now.run.records) at }
     {
         let own = self.clear.sound().own();
-        ends_wait(self.known, own.number(at)) || self.precedence.has_dependent(at)
+        ends_wait(self.clear.known(), own.number(at)) || self.precedence.has_dependent(at)
     }
 }

@@ -4,6 +4,7 @@ ghost use Rattle.std.specs.Prelude.{◌↔◌, ℕ, List, Option};
 ghost use Rattle.ompt_events.specs.declared.records.Record.{Record};
 ghost use Rattle.ompt_events.specs.Traces.{IsTraceOf};
 ghost use Rattle.ompt_events.specs.Linearization.{IsLinearization};
+ghost use Rattle.ompt_events.specs.Upgrades.{IsUpgrade, MovesNowhere};
 ghost use Rattle.ompt_events.specs.Violations as violations;
 ghost use Rattle.task_tree.specs.Rising.{TurnsRise};
 ghost use Rattle.checker.specs.declared.verdict.Verdict.{Verdict};
@@ -41,4 +42,14 @@ pub fn required_is_owed_by_waits_and_dependences()
         → IsRequiredBy (by_task rs) i task ↔ violations.MustBeComplete rs i task }
     ensures by_file { (rs : List Record) (i task : ℕ)
         → IsRequiredBy (by_file rs) i task ↔ violations.IsRequired rs i task }
+{}
+
+/// A trace of version 1 in which no task moves has, upgraded to version 2, the verdict that it has as it is, record
+/// for record and with the same order, and the same counter orders.
+pub fn an_upgrade_keeps_the_verdict()
+    ensures verdict { (rs upgraded : List Record) → IsTraceOf 1 rs → MovesNowhere rs → IsUpgrade rs upgraded
+        → (verdict : Verdict) → IsVerdict rs verdict ↔ IsVerdict upgraded verdict }
+    ensures counter { (rs upgraded : List Record) → IsTraceOf 1 rs → MovesNowhere rs → IsUpgrade rs upgraded
+        → (i task : ℕ) (found : Option (List ℕ))
+        → IsCounterBy (by_task rs) i task found ↔ IsCounterBy (by_task upgraded) i task found }
 {}

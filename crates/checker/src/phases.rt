@@ -1,11 +1,12 @@
 //! The phases of a check, in the order of their causes.
 ghost use Rattle.std.specs.Prelude.{◌≡◌, Ok, Err, IfOk, IfErr, OnOk};
 ghost use Rattle.ompt_events.specs.declared.fault.Fault.TheVariants.{Memory};
-ghost use Rattle.ompt_events.specs.declared.cause.Cause.TheVariants.{NotCurrent, TargetTask};
-ghost use Rattle.ompt_events.specs.CauseNames.{before};
+ghost use Rattle.ompt_events.specs.declared.cause.Cause.TheVariants.{NotCurrent, TurnGap, TargetTask};
+ghost use Rattle.ompt_events.specs.CauseNames.{all_causes, before};
+ghost use Rattle.ompt_events.specs.Faults.{FindsFirst, IsShownFault};
 ghost use Rattle.ompt_events.specs.Linearization.{IsLinearization, IsGreedy};
 ghost use Rattle.task_tree.specs.Families.{AreFamiliesOf};
-ghost use Rattle.checker.specs.Search.{IsClear, IsLeastFound};
+ghost use Rattle.checker.specs.Search.{IsClear, IsLeastFound, AreStatesOf, AreEdgesOf, IsKnownOf, state_causes, edge_causes};
 
 use crate::claims::exclude_wrong_claims;
 use crate::clear::Clear;
@@ -13,6 +14,7 @@ use crate::in_order::is_in_order;
 use crate::lengths::find_back;
 use crate::makers::Makers;
 use crate::merge::find_order;
+use crate::runs::Runs;
 use crate::sound::Sound;
 use crate::verdict::Order;
 use depend_edges::Edges;
@@ -21,10 +23,11 @@ use std::alloc::Global;
 use task_states::{States, find_nested, gap, target};
 use task_tree::Families;
 use teams::Teams;
+use wait_coverage::{Known, find_known};
 
 /// What the function answers about a trace without a cause, or the fault of the first phase that finds a cause. Each
-/// phase needs that the causes before its own do not occur. The phases stand in four functions, since a fault lets
-/// go all that its function made, and a proof has to look at each way to do so.
+/// phase needs that the causes before its own do not occur. The phases stand in several functions, since a fault
+/// lets go all that its function made, and a proof has to look at each way to do so.
 pub(crate) fn ask<A: Drop, F: Fn(Clear) -> Result<A, Fault>>(
     alloc: Global,
     trace: &Trace,
@@ -36,8 +39,7 @@ pub(crate) fn ask<A: Drop, F: Fn(Clear) -> Result<A, Fault>>(
         × F.post answer.now clear (Ok a)) }
     ensures malformed { IfErr result (IsLeastFound trace.now.records) }
 {
-    exclude(Cause::SeqGap, gap(trace))?;
-    let families = Families::build(alloc, trace)?;
+    let families = families_of(alloc, trace)?;
     ask_run(alloc, trace, &families, answer)
 }
 
@@ -58,11 +60,13 @@ fn ask_run<A: Drop, F: Fn(Clear) -> Result<A, Fault>>(
 {
     let run = families.run(trace);
     let own = families.own(trace);
-    let states = States::in_run(alloc, &run, &own, families.gap())?;
+    let runs = Runs {
+        run: &run,
+        own: &own,
+    };
+    let states = states_of(alloc, &runs, families.gap())?;
     let teams = Teams::in_own(alloc, states.regions())?;
-    exclude(Cause::NestedParallel, find_nested(alloc, &run)?)?;
-    let edges = Edges::in_run(alloc, &run, &own)?;
-    exclude_wrong_claims(&own)?;
+    let edges = edges_of(alloc, &runs)?;
     let sound = Sound {
         trace,
         run: &run,
@@ -84,9 +88,80 @@ fn ask_sound<A: Drop, F: Fn(Clear) -> Result<A, Fault>>(
         × F.post answer.now clear (Ok a)) }
     ensures malformed { IfErr result (IsLeastFound sound.now.run.records) }
 {
+    let _run = sound.run();
+    let order = clear_order(alloc, sound)?;
+    let known = known_of(alloc, sound)?;
+    answer(Clear {
+        sound,
+        order,
+        known,
+    })
+}
+
+// ---- the phases one by one, which a check on several threads has too
+
+/// The families of the trace's tasks. Excludes SeqGap, CreatedTwice and Rootless.
+pub(crate) fn families_of(alloc: Global, trace: &Trace) -> Result<Families, Fault>
+    ensures families { IfOk result (AreFamiliesOf trace.now.records) }
+    ensures clear { OnOk result (IsClear trace.now.records (before NotCurrent)) }
+    ensures least { IfErr result (IsLeastFound trace.now.records) }
+{
+    exclude(Cause::SeqGap, gap(trace))?;
+    let families = Families::build(alloc, trace)?;
+    Ok(families)
+}
+
+/// The states of the run's tasks; the first turn gap is known. Excludes NotCurrent, Moved, TurnGap, StatusOrder and
+/// RegionOrder.
+pub(crate) fn states_of<'a>(
+    alloc: Global,
+    runs: &Runs<'a>,
+    gap: Option<usize>,
+) -> Result<States<'a>, Fault>
+    requires gap { FindsFirst runs.now.run.records TurnGap gap }
+    ensures states { IfOk result (AreStatesOf runs.now.run runs.now.own) }
+    ensures fault { IfErr result (IsShownFault runs.now.run.records state_causes) }
+{
+    let run = runs.run();
+    let own = runs.own();
+    let states = States::in_run(alloc, run, own, gap)?;
+    Ok(states)
+}
+
+/// The edges between the run's tasks. Excludes NestedParallel, DepsPlace and ShareWrong.
+pub(crate) fn edges_of<'a>(alloc: Global, runs: &Runs<'a>) -> Result<Edges<'a>, Fault>
+    ensures edges { IfOk result (AreEdgesOf runs.now.run runs.now.own) }
+    ensures fault { IfErr result (IsShownFault runs.now.run.records edge_causes) }
+{
+    let run = runs.run();
+    let own = runs.own();
+    let _records = own.run();
+    exclude(Cause::NestedParallel, find_nested(alloc, run)?)?;
+    let edges = Edges::in_run(alloc, run, own)?;
+    exclude_wrong_claims(own)?;
+    Ok(edges)
+}
+
+/// The ledger lengths from which on the run's tasks are finished. Fails only when out of memory.
+pub(crate) fn known_of<'a>(alloc: Global, sound: &Sound<'a>) -> Result<Known<'a>, Fault>
+    ensures known { IfOk result (IsKnownOf sound.now.own) }
+    ensures memory_alone { IfErr result (λ fault. fault ≡ Memory) }
+{
+    let known = find_known(alloc, sound.teams())?;
+    Ok(known)
+}
+
+/// The greedy order of all records, where no cause occurs. Excludes EntryTwice, LengthAhead, LengthBack, NoOrder and
+/// TargetTask.
+pub(crate) fn clear_order(alloc: Global, sound: &Sound) -> Result<Order, Fault>
+    ensures linearization { IfOk result (IsLinearization sound.now.run.records) }
+    ensures greedy { IfOk result (IsGreedy sound.now.run.records) }
+    ensures clear { OnOk result (IsClear sound.now.run.records all_causes) }
+    ensures least { IfErr result (IsLeastFound sound.now.run.records) }
+{
     let order = order_of(alloc, sound)?;
     exclude(Cause::TargetTask, target(sound.trace))?;
-    answer(Clear { sound, order })
+    Ok(order)
 }
 
 /// The greedy order of all records. Excludes EntryTwice, LengthAhead, LengthBack and NoOrder.

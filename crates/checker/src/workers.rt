@@ -1,4 +1,5 @@
-//! The check on several threads.
+//! The check on several threads: workers that share out what is decided of a trace without a cause. The phases before
+//! stand in `side_by_side`.
 ghost use Rattle.std.specs.Prelude.{ℕ, ◌≡◌, ◌≢◌, ◌≤◌, ◌<◌, ◌^◌, ◌↔◌, Err, Some, IfOk, IfErr, length, slice_get};
 ghost use denote.Param.Send.{IsSync};
 ghost use Rattle.ompt_events.specs.declared.fault.Fault.TheVariants.{Memory};
@@ -10,23 +11,24 @@ use crate::checking::verdict_of;
 use crate::clear::Clear;
 use crate::deciding::Deciding;
 use crate::gate::Gate;
-use crate::phases::ask;
-use crate::starts::Precedence;
+use crate::side_by_side::ask_on;
 use crate::verdict::{CheckFault, Verdict, Why};
 use ompt_events::{Fault, Trace};
 use std::alloc::Global;
 use std::marker::Model;
 use std::thread::{Threads, map_indices};
-use wait_coverage::find_known;
 
 /// The most workers of a check.
 pub const MAX_WORKERS: u32 = 256;
 
 /// The verdict of `check`, with the ends of waits and the starts of tasks decided by so many workers, 1 to
 /// [`MAX_WORKERS`], side by side. Each worker passes the gate once, before it decides; where the trace is malformed no
-/// worker starts. A worker for which no thread can be made works on the caller's. Fails when out of memory, for
-/// another number of workers, which is looked at first, and where the gate refuses a worker: of those that it
-/// refuses the one with the least number is named, unless memory runs out.
+/// worker starts. With two workers or more some phases before are made side by side too, two at a time: the states of
+/// tasks beside nesting, dependences and claims; and the order of the records beside the ledger lengths from which on
+/// tasks are finished. Such a thread is no worker, and passes no gate. A worker or a phase for which no thread can be
+/// made works on the caller's. Fails when out of memory, for another number of workers, which is looked at first, and
+/// where the gate refuses a worker: of those that it refuses the one with the least number is named, unless memory
+/// runs out.
 pub fn check_on<R: Threads + Sync, G: Gate + Sync>(
     rt: &R,
     alloc: Global,
@@ -43,9 +45,11 @@ pub fn check_on<R: Threads + Sync, G: Gate + Sync>(
     if workers == 0 || workers > MAX_WORKERS {
         return Err(CheckFault::Workers);
     }
-    match ask(
+    match ask_on(
+        rt,
         alloc,
         trace,
+        workers,
         &|clear: Clear| -> Result<Result<Verdict, u32>, Fault>
             requires { IsSync R.row × IsSync G.row × (1 ≤ workers) }
             ensures verdict { IfOk result (λ answer. IfOk answer (IsVerdict clear.entry.run.records)) }
@@ -96,13 +100,7 @@ fn violation_on<R: Threads + Sync, G: Gate + Sync>(
         × G.may_refuse gate.now worker)) }
     ensures memory_alone { IfErr result (λ fault. fault ≡ Memory) }
 {
-    let known = find_known(alloc, clear.sound().teams())?;
-    let precedence = Precedence::of(alloc, clear.sound(), known.own())?;
-    let deciding = Deciding {
-        clear,
-        known: &known,
-        precedence: &precedence,
-    };
+    let deciding = Deciding::of(alloc, clear)?;
     let stops = deciding.find_stops(alloc)?;
     let work = Work {
         deciding: &deciding,

@@ -32,8 +32,8 @@ returns-then-branch-clause-unfinished c =
     let Stands : OwnView → Type 0 = λ own. slice_get own.places c.number.result ≡ Some c.args.at in
     let Tells : OwnView → Type 0 = λ own. IsTrue c.in_ok-is_open.field-0 ↔ IsOpen own.run.records c.number.result c.args.task in
     let stands = subst Stands (c.own.ensures.value ∙ c.sound-sound.ensures.own) c.number.ensures.value in
-    let known = ap own_of c.in_ok-known.ensures.teams ∙ c.teams.ensures.value ∙ c.sound-sound.ensures.own in
-    let tells = open_told view c.number.result c.args.at c.args.task c.in_ok-is_open.field-0 c.sound-sound.ensures.is_clear stands (subst Tells known (c.in_ok-is_open.ensures.open c.in_ok-known.ensures.done)) in
+    let known = c.known-known.ensures.own in
+    let tells = open_told view c.number.result c.args.at c.args.task c.in_ok-is_open.field-0 c.sound-sound.ensures.is_clear stands (subst Tells known (c.in_ok-is_open.ensures.open c.known-known.ensures.done)) in
     ((λ _. open_unfinished (by_task view.run.records) c.args.at c.args.task (tells.0 c.if-branch.true)), (λ _. refl))
 
 pub returns-clause-unfinished : goal.returns-clause-unfinished
@@ -46,8 +46,8 @@ returns-clause-unfinished c =
     let Tells : OwnView → Type 0 = λ own. IsTrue c.in_ok-is_open.field-0 ↔ IsOpen own.run.records c.number.result task in
     let TellsLate : RunView → Type 0 = λ run. IfOk c.is_late.result (λ found. IsTrue found ↔ IsLate run.records at task) in
     let stands = subst Stands (c.own.ensures.value ∙ c.sound-sound.ensures.own) c.number.ensures.value in
-    let known = ap own_of c.in_ok-known.ensures.teams ∙ c.teams.ensures.value ∙ c.sound-sound.ensures.own in
-    let tells = open_told view c.number.result at task c.in_ok-is_open.field-0 c.sound-sound.ensures.is_clear stands (subst Tells known (c.in_ok-is_open.ensures.open c.in_ok-known.ensures.done)) in
+    let known = c.known-known.ensures.own in
+    let tells = open_told view c.number.result at task c.in_ok-is_open.field-0 c.sound-sound.ensures.is_clear stands (subst Tells known (c.in_ok-is_open.ensures.open c.known-known.ensures.done)) in
     let closed : IsOpenBy (by_task rs) at task → ⊥ = λ is. false≢true (sym c.if-branch.false ∙ tells.1 is) in
     IfOk-weaker c.is_late.result (λ found. IsTrue found ↔ IsLate rs at task) (λ found. IsTrue found ↔ IsUnfinished (by_task rs) at task)
     (λ found late. (

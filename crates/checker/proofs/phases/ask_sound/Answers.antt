@@ -1,32 +1,8 @@
-use Rattle.std.proofs.Common.{[], ◌∷◌, ◌∙◌, refl, sym, ap, subst}
-use Rattle.std.proofs.lemmas.Result.{err_from_is_err_and}
-use Rattle.ompt_events.specs.declared.cause.Cause.TheVariants.{TargetTask}
-use Rattle.ompt_events.specs.CauseNames.{before}
-use Rattle.ompt_events.specs.Causes.{IsFreeOf}
-use Rattle.ompt_events.specs.Faults.{FindsFirst}
-use Rattle.checker.specs.Search.{SoundView, IsSoundView}
-use Rattle.checker.proofs.PhaseLemmas.{fault_shown, least_more, clear_more, only_clear}
+use Rattle.checker.proofs.ReadingLemmas.{clear_and_known}
 use Rattle.checker.proofs.phases.ask_sound.Goals as goal
-
-pub returns-in_err-exclude-clause-malformed : goal.returns-in_err-exclude-clause-malformed
-returns-in_err-exclude-clause-malformed g c =
-    let rs = c.args.sound.now.run.records in
-    let same = ap (λ (v : SoundView). v.run.records) (sym c.sound.view_is) ∙ c.sound.invariant.1 in
-    let target : FindsFirst rs TargetTask c.target.result = rw (← same) at c.target.ensures in
-    let p = err_from_is_err_and c.from_residual-in_err-exclude.result c.from_residual-in_err-exclude.ensures.1 in
-    rw (p.1, p.2) (least_more rs (before TargetTask) (TargetTask ∷ []) [] c.in_err-exclude.field-0.0 refl c.in_ok-order.ensures.clear (fault_shown rs (TargetTask ∷ []) c.in_err-exclude.field-0.0 refl (c.in_err-exclude.ensures.fault rs target)))
 
 pub invariant_of-answer : goal.invariant_of-answer
 invariant_of-answer g c =
-    let rs = c.args.sound.now.run.records in
-    let sound : IsSoundView c.args.sound.now = subst IsSoundView c.sound.view_is c.sound.invariant.0 in
-    let same = ap (λ (v : SoundView). v.run.records) (sym c.sound.view_is) ∙ c.sound.invariant.1 in
-    let target : FindsFirst rs TargetTask c.target.result = rw (← same) at c.target.ensures in
-    let free : IsFreeOf rs TargetTask = c.in_ok-exclude.ensures.free rs target in
-    record {
-      is_run = sound.sound.is_run;
-      one = sound.one;
-      well_formed = clear_more rs (before TargetTask) (TargetTask ∷ []) c.in_ok-order.ensures.clear (only_clear rs TargetTask free);
-      linearization = c.in_ok-order.ensures.linearization;
-      greedy = c.in_ok-order.ensures.greedy;
-    }
+    let view = c.args.sound.now in
+    let order = c.in_ok-order.ensures in
+    clear_and_known view c.in_ok-order.order c.in_ok-known.known c.run-run.ensures.is_sound order.clear order.linearization order.greedy c.in_ok-known.ensures.known

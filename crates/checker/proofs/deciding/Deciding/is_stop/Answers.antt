@@ -15,8 +15,8 @@ number-requires c =
 pub returns-else-ends_wait : goal.returns-else-ends_wait
 returns-else-ends_wait c = λ none.
     let view = c.self.inside.clear.now in
-    let covered = no_end_decided view c.own-own.result.now c.self.inside.known.now.done c.number.result c.args.at c.sound.ensures.is_clear (c.own-own.ensures.value ∙ c.sound.ensures.own) c.self.invariant.0 c.number.ensures.value
+    let covered = no_end_decided view c.own-own.result.now c.known.result.now.done c.number.result c.args.at c.sound.ensures.is_clear (c.own-own.ensures.value ∙ c.sound.ensures.own) c.known.ensures.own c.number.ensures.value
     (λ end. false≢true (sym c.if-ends_wait.false ∙ c.ends_wait.ensures.1 end)) in
     let Ready : RunView → Type 0 = λ run. AreReady run.records c.args.at in
     let P : ClearView → Type 0 = λ v. AreComplete (by_task v.run.records) c.args.at in
-    subst P c.self.view_is (complete_at view.run.records c.args.at covered (subst Ready c.self.invariant.2 (c.has_dependent.ensures none)))
+    subst P c.self.view_is (complete_at view.run.records c.args.at covered (subst Ready c.self.invariant (c.has_dependent.ensures none)))
