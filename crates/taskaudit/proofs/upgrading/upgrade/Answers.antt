@@ -15,6 +15,14 @@ returns-in-Ok-write-clause-upgrades g c =
       written = c.in-Ok-write.ensures.ok;
     }
 
+pub returns-in-Err-clause-leaves : goal.returns-in-Err-clause-leaves
+returns-in-Err-clause-leaves g c =
+    let trace = c.in_ok-trace.trace in
+    let read : c.read.result ≡ Ok trace = search rules in
+    let before = g.O.Sink.contents c.args.sink.now in
+    let kept : Keeps before before = search rules in
+    rw c.of_upgrade.ensures (upgrade_leaves (g.I.Source.remaining c.args.source.now) before trace c.in-Err.refusal.1 (rw read at c.read.ensures.file) c.in-Err.ensures.refused.0 c.in-Err.ensures.refused.1 kept)
+
 pub returns-clause-leaves : goal.returns-clause-leaves
 returns-clause-leaves g c =
     let trace = c.in_ok-trace.trace in
