@@ -7,7 +7,7 @@ use Rattle.certificate.specs.Counts.{count_more}
 use Rattle.certificate.specs.ReadingOn.{ReadsAhead}
 use Rattle.checker.specs.declared.verdict.Verdict.{Verdict}
 use Rattle.taskaudit.specs.declared.work.AuditFault.{AuditFault}
-use Rattle.taskaudit.specs.declared.work.AuditFault.TheVariants.{Read, Write, Check, Call, Memory}
+use Rattle.taskaudit.specs.declared.work.AuditFault.TheVariants.{Read, Write, Check, Call, Upgrade, Memory}
 use Rattle.taskaudit.specs.declared.work.Outcome.{Outcome}
 use Rattle.taskaudit.specs.declared.work.Shown.{Shown}
 use Rattle.taskaudit.specs.declared.work.Shown.TheVariants.{Report}
@@ -49,6 +49,7 @@ module _ (shown : Shown) (bytes old new : Option (List ℕ)) (trace : TraceView)
   leaves_by (Read f) h = absurd h
   leaves_by (Check f) h = absurd h
   leaves_by (Call line f) h = absurd h
+  leaves_by (Upgrade line f) h = absurd h
   leaves_by Memory h = absurd h
 
   pub leaves_of : (r : Result Outcome AuditFault) → IfErr r (IsWriteFault (λ n. Appends old new (take n text)))
@@ -64,6 +65,7 @@ leaves_on workers may_refuse part bytes old new (Err (Write f)) wrong h = h
 leaves_on workers may_refuse part bytes old new (Err (Read f)) wrong h = absurd wrong
 leaves_on workers may_refuse part bytes old new (Err (Check f)) wrong h = absurd wrong
 leaves_on workers may_refuse part bytes old new (Err (Call line f)) wrong h = absurd wrong
+leaves_on workers may_refuse part bytes old new (Err (Upgrade line f)) wrong h = absurd wrong
 leaves_on workers may_refuse part bytes old new (Err Memory) wrong h = absurd wrong
 
 -- at a source that is not read nothing is met

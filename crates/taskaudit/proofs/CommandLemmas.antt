@@ -13,7 +13,7 @@ use Rattle.clap.specs.declared.parser.matches.Found.{Found}
 use Rattle.clap.proofs.ValueTestLemmas.{accepts-Accepts}
 use Rattle.clap.proofs.WalkLemmas.{one_text-rows}
 use Rattle.std.specs.Str.Parse.{ParsesUnsigned}
-use Rattle.taskaudit.specs.declared.work.Job.TheVariants.{Check, Order, Record}
+use Rattle.taskaudit.specs.declared.work.Job.TheVariants.{Check, Order, Record, Upgrade}
 use Rattle.clap.specs.ValueTests.{is_unsigned_in}
 use Rattle.clap.specs.Walk.{nothing_held, rows_after, stop_after, walk_from}
 use Rattle.clap.specs.Matches.{has_subcommand}
@@ -40,15 +40,17 @@ abbrev own_fault : Shape → List Text → Kinds
 own_fault s rest = level_fault s [] nothing_held rest false []
 
 -- what a subcommand comes to, where the tests say which one is named
-named_if : (first second third : Bool) (s t u : Shape) (rest : List Text) → s.name ≡ codes "check" → t.name ≡ codes "order" → u.name ≡ codes "record"
+named_if : (first second third fourth : Bool) (s t u v : Shape) (rest : List Text)
+    → s.name ≡ codes "check" → t.name ≡ codes "order" → u.name ≡ codes "record" → v.name ≡ codes "upgrade"
     → (own_fault s rest ≡ [] → is_some (check_by (one_of (codes "workers") (rows_after s.rules [] rest))) ≡ true)
-    → option_map_or (λ (it : Shape). own_fault it rest) (cond first (Some s) (cond second (Some t) (cond third (Some u) None))) [] ≡ []
-    → is_some (option_map (λ (it : Shape). rows_at it rest) (cond first (Some s) (cond second (Some t) (cond third (Some u) None)))) ≡ true
-    → is_some (option_and_then job_named (option_map (λ (it : Shape). rows_at it rest) (cond first (Some s) (cond second (Some t) (cond third (Some u) None))))) ≡ true
-named_if true second third s t u rest check order recording fits passed e = rw check (fits passed)
-named_if false true third s t u rest check order recording fits passed e = rw order
-named_if false false true s t u rest check order recording fits passed e = rw recording
-named_if false false false s t u rest check order recording fits passed e = cc
+    → option_map_or (λ (it : Shape). own_fault it rest) (cond first (Some s) (cond second (Some t) (cond third (Some u) (cond fourth (Some v) None)))) [] ≡ []
+    → is_some (option_map (λ (it : Shape). rows_at it rest) (cond first (Some s) (cond second (Some t) (cond third (Some u) (cond fourth (Some v) None))))) ≡ true
+    → is_some (option_and_then job_named (option_map (λ (it : Shape). rows_at it rest) (cond first (Some s) (cond second (Some t) (cond third (Some u) (cond fourth (Some v) None)))))) ≡ true
+named_if true second third fourth s t u v rest check order recording upgrading fits passed e = rw check (fits passed)
+named_if false true third fourth s t u v rest check order recording upgrading fits passed e = rw order
+named_if false false true fourth s t u v rest check order recording upgrading fits passed e = rw recording
+named_if false false false true s t u v rest check order recording upgrading fits passed e = rw upgrading
+named_if false false false false s t u v rest check order recording upgrading fits passed e = cc
 
 check_named : (o : Option Text) → IfSome o (λ t. is_unsigned_in 1 256 t ≡ true) → is_some (check_by o) ≡ true
 check_named None h = refl
@@ -60,7 +62,7 @@ names_at : (stop : Option (Text × List Text)) → entered_fault (built command_
 unfolding command_line
 names_at None passed e = cc
 names_at (Some (name, rest)) passed e =
-    named_if _ _ _ _ _ _ rest refl refl refl
+    named_if _ _ _ _ _ _ _ _ rest refl refl refl refl
     (λ own. check_named _ (workers_fit _ (record { defaults = refl; which = inl refl }, (record { defaults = refl; which = inr refl }, tt)) rest own))
     passed e
 
@@ -100,7 +102,8 @@ number_found E G only f r e none value =
 few_named : (o : Option (Text × List Row)) (job : Job) → option_and_then job_named o ≡ Some job → HasFewWorkers job
 few_named None job e = cc
 few_named (Some (name, rows)) job e =
-    go (bytes_eq name (codes "check")) (bytes_eq name (codes "order")) (bytes_eq name (codes "record")) (one_of (codes "workers") rows) e
+    go (bytes_eq name (codes "check")) (bytes_eq name (codes "order")) (bytes_eq name (codes "record")) (bytes_eq name (codes "upgrade"))
+    (one_of (codes "workers") rows) e
   where
     of_value : (value : Text) (b : Bool) → is_unsigned_in 1 256 value ≡ b → cond b (Some (Check (Some (number_of value)))) None ≡ Some job → HasFewWorkers job
     of_value value true is named =
@@ -108,12 +111,14 @@ few_named (Some (name, rows)) job e =
         subst HasFewWorkers (same_Some _ job named) (number.2, number.3)
     of_value value false is named = cc
 
-    go : (check order recording : Bool) (o : Option Text) → cond check (check_by o) (cond order (Some Order) (cond recording (Some Record) None)) ≡ Some job → HasFewWorkers job
-    go true order recording None named = subst HasFewWorkers (same_Some _ job named) tt
-    go true order recording (Some value) named = of_value value (is_unsigned_in 1 256 value) refl named
-    go false true recording o named = subst HasFewWorkers (same_Some _ job named) tt
-    go false false true o named = subst HasFewWorkers (same_Some _ job named) tt
-    go false false false o named = cc
+    go : (check order recording upgrading : Bool) (o : Option Text)
+        → cond check (check_by o) (cond order (Some Order) (cond recording (Some Record) (cond upgrading (Some Upgrade) None))) ≡ Some job → HasFewWorkers job
+    go true order recording upgrading None named = subst HasFewWorkers (same_Some _ job named) tt
+    go true order recording upgrading (Some value) named = of_value value (is_unsigned_in 1 256 value) refl named
+    go false true recording upgrading o named = subst HasFewWorkers (same_Some _ job named) tt
+    go false false true upgrading o named = subst HasFewWorkers (same_Some _ job named) tt
+    go false false false true o named = subst HasFewWorkers (same_Some _ job named) tt
+    go false false false false o named = cc
 
 pub few_asked : (words : List Text) (job : Job) → AsksFor words job → HasFewWorkers job
 few_asked words job asked = few_named (subcommand_of command_line words) job asked

@@ -6,3 +6,4 @@ mod HeadlineLemmas
 mod AuditLemmas
 mod OrderLemmas
 mod RecordingLemmas
+mod UpgradingLemmas

@@ -17,7 +17,7 @@ use Rattle.taskaudit.specs.declared.work.Shown.TheVariants.{Report, Order}
 use Rattle.taskaudit.specs.declared.work.Outcome.{Outcome}
 use Rattle.taskaudit.specs.declared.work.Outcome.TheVariants.{Yes}
 use Rattle.taskaudit.specs.declared.work.AuditFault.{AuditFault}
-use Rattle.taskaudit.specs.declared.work.AuditFault.TheVariants.{Read, Write, Check, Call, Memory}
+use Rattle.taskaudit.specs.declared.work.AuditFault.TheVariants.{Read, Write, Check, Call, Upgrade, Memory}
 use Rattle.taskaudit.specs.Headline.{IsSynchronised}
 use Rattle.taskaudit.specs.Orders.{order_lines}
 use Rattle.taskaudit.specs.Reports.{report_of, outcome_of}
@@ -71,12 +71,13 @@ IsWriteFault part (Write f) = (count : ℕ) × part count
 IsWriteFault part _ = ⊥
 
 -- what a fault leaves: a prefix of that text where the sink failed, and else nothing. An audit on one thread
--- starts no thread and makes no call of a script
+-- starts no thread, makes no call of a script and upgrades nothing
 abbrev pub Leaves : Shown → Option (List ℕ) → Option (List ℕ) → Option (List ℕ) → AuditFault → Type 0
 Leaves shown bytes old new (Write f) = BreaksOff shown bytes old new
 Leaves shown bytes old new (Check check.Memory) = Keeps old new
 Leaves shown bytes old new (Check f) = ⊥
 Leaves shown bytes old new (Call line f) = ⊥
+Leaves shown bytes old new (Upgrade line f) = ⊥
 Leaves shown bytes old new _ = Keeps old new
 
 -- no workers, or more than 256

@@ -7,7 +7,7 @@ use Rattle.clap.specs.ValueTests.{is_unsigned_in}
 use Rattle.clap.specs.declared.builder.action.ArgAction.TheVariants.{Set}
 use Rattle.clap.specs.declared.builder.value_parser.ValueParser.TheVariants.{Signed}
 use Rattle.taskaudit.specs.declared.work.Job.{Job}
-use Rattle.taskaudit.specs.declared.work.Job.TheVariants.{Check, Order, Record}
+use Rattle.taskaudit.specs.declared.work.Job.TheVariants.{Check, Order, Record, Upgrade}
 
 -- the option `--workers N`: a number from 1 to 256
 abbrev pub workers_rule : Rule
@@ -22,7 +22,7 @@ workers_rule = record (new_rule (codes "workers")) {
 abbrev pub check_app : App
 check_app = with_rule (new_app (codes "check")) workers_rule
 
--- what clap reads of the command: it wants a subcommand, of which there are three, and `check` alone has an
+-- what clap reads of the command: it wants a subcommand, of which there are four, and `check` alone has an
 -- option
 unfoldable pub command_line : App
 command_line = record {
@@ -32,7 +32,7 @@ command_line = record {
     disable_help_subcommand = true;
   };
   subs = check_app.top ∷ (new_app (codes "order")).top
-      ∷ (new_app (codes "record")).top ∷ [];
+      ∷ (new_app (codes "record")).top ∷ (new_app (codes "upgrade")).top ∷ [];
 }
 
 -- the number that the digits of a value write; a plus may stand before them
@@ -48,7 +48,8 @@ check_by (Some value) = if is_unsigned_in 1 256 value then Some (Check (Some (nu
 abbrev pub job_named : Text × List Row → Option Job
 job_named (name, rows) = if bytes_eq name (codes "check") then check_by (one_of (codes "workers") rows)
     else (if bytes_eq name (codes "order") then Some Order
-    else (if bytes_eq name (codes "record") then Some Record else None))
+    else (if bytes_eq name (codes "record") then Some Record
+    else (if bytes_eq name (codes "upgrade") then Some Upgrade else None)))
 
 -- the words ask for the job
 abbrev pub AsksFor : List Text → Job → Type 0

@@ -6,7 +6,7 @@ use Rattle.taskaudit.specs.declared.work.AuditFault.{AuditFault}
 use Rattle.taskaudit.specs.declared.work.Done.{Done}
 use Rattle.taskaudit.specs.declared.work.Done.TheVariants.{Judged, Written}
 use Rattle.taskaudit.specs.declared.work.Job.{Job}
-use Rattle.taskaudit.specs.declared.work.Job.TheVariants.{Check, Order, Record}
+use Rattle.taskaudit.specs.declared.work.Job.TheVariants.{Check, Order, Record, Upgrade}
 use Rattle.taskaudit.specs.declared.work.Refusal.{Refusal}
 use Rattle.taskaudit.specs.declared.work.Refusal.TheVariants.{NotText, Words, Audit}
 use Rattle.taskaudit.specs.declared.work.Shown.TheVariants as shown
@@ -15,12 +15,14 @@ use Rattle.taskaudit.specs.Commands.{command_line, AsksFor}
 use Rattle.taskaudit.specs.Recordings.{Records, LeavesRecording}
 use Rattle.taskaudit.specs.Statuses.{exit_status_of}
 use Rattle.taskaudit.specs.Tellings.{Call, IsTold}
+use Rattle.taskaudit.specs.Upgradings.{Upgrades, LeavesUpgrade}
 
 -- the job was done: a verdict was reported, or a trace was written
 abbrev pub Does : Job → Option (List ℕ) → Option (List ℕ) → Option (List ℕ) → Done → Type 0
 Does (Check workers) bytes old new (Judged outcome) = Reports shown.Report bytes old new outcome
 Does Order bytes old new (Judged outcome) = Reports shown.Order bytes old new outcome
 Does Record bytes old new Written = Records bytes old new
+Does Upgrade bytes old new Written = Upgrades bytes old new
 Does _ bytes old new _ = ⊥
 
 -- what the fault leaves of the job. A check by workers has as many as the words say, 1 to 256, and its gate is
@@ -29,6 +31,7 @@ abbrev pub LeavesOfJob : Job → Option (List ℕ) → Option (List ℕ) → Opt
 LeavesOfJob (Check workers) bytes old new fault = Leaves shown.Report bytes old new fault
 LeavesOfJob Order bytes old new fault = Leaves shown.Order bytes old new fault
 LeavesOfJob Record bytes old new fault = LeavesRecording bytes old new fault
+LeavesOfJob Upgrade bytes old new fault = LeavesUpgrade bytes old new fault
 
 -- what the words ask for is done
 abbrev pub DoesAsked : List Text → Option (List ℕ) → Option (List ℕ) → Option (List ℕ) → Done → Type 0

@@ -13,7 +13,7 @@ use Rattle.script_runs.specs.Runs.{IsRun, IsOfLine}
 use Rattle.script_runs.specs.declared.fault.RunFault.{RunFault}
 use Rattle.script_runs.specs.declared.fault.RunFault.TheVariants as run
 use Rattle.taskaudit.specs.declared.work.AuditFault.{AuditFault}
-use Rattle.taskaudit.specs.declared.work.AuditFault.TheVariants.{Read, Write, Check, Call, Memory}
+use Rattle.taskaudit.specs.declared.work.AuditFault.TheVariants.{Read, Write, Check, Call, Upgrade, Memory}
 
 -- the bytes that were read, where they are known, are a script with these steps
 abbrev pub AreSteps : Option (List ℕ) → List Step → Type 0
@@ -43,12 +43,13 @@ pub record IsRefusedAt (bytes : Option (List ℕ)) (line : ℕ) (fault : CallFau
   pub within : IsOfLine steps (run.Call line fault)
 
 -- what a fault leaves: a prefix of that text where the sink failed, or memory ran out while it was written,
--- and else nothing. A recording checks no trace
+-- and else nothing. A recording checks and upgrades no trace
 abbrev pub LeavesRecording : Option (List ℕ) → Option (List ℕ) → Option (List ℕ) → AuditFault → Type 0
 LeavesRecording bytes old new (Write f) = BreaksOffRecording bytes old new
 LeavesRecording bytes old new (Call line f) = IsRefusedAt bytes line f × Keeps old new
 LeavesRecording bytes old new (Check check.Thread) = Keeps old new
 LeavesRecording bytes old new (Check f) = ⊥
+LeavesRecording bytes old new (Upgrade line f) = ⊥
 LeavesRecording bytes old new _ = Keeps old new
 
 -- a fault of the input is the script's first one, or one of the source or of memory while the line was read;

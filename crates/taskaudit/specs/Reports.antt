@@ -15,7 +15,9 @@ use Rattle.certificate.specs.declared.faults.ReadCause.{ReadCause}
 use Rattle.certificate.specs.declared.faults.ReadCause.TheVariants as read
 use Rattle.certificate.specs.declared.faults.WriteFault.{WriteFault}
 use Rattle.certificate.specs.declared.faults.WriteFault.TheVariants as write
-use Rattle.certificate.specs.FaultNames.{read_cause_number, read_cause_name, write_fault_number, write_fault_name}
+use Rattle.certificate.specs.declared.faults.UpgradeFault.{UpgradeFault}
+use Rattle.certificate.specs.declared.faults.UpgradeFault.TheVariants as upgrade
+use Rattle.certificate.specs.FaultNames.{read_cause_number, read_cause_name, write_fault_number, write_fault_name, upgrade_fault_number, upgrade_fault_name}
 use Rattle.checker.specs.declared.verdict.CheckFault.TheVariants as check
 use Rattle.recorder.specs.declared.fault.CallFault.{CallFault}
 use Rattle.recorder.specs.declared.fault.CallFault.TheVariants as call
@@ -122,12 +124,20 @@ refused_line line f =
     codes "refused: line " ++ (decimal line
     ++ (codes ": " ++ (decimal (call_fault_number f) ++ (codes " " ++ call_fault_name f))))
 
+-- the trace has no version 2, by the record on this line
+abbrev pub not_upgraded_line : ℕ → UpgradeFault → List ℕ
+not_upgraded_line line upgrade.Memory = no_memory_line
+not_upgraded_line line f =
+    codes "not upgraded: line " ++ (decimal line
+    ++ (codes ": " ++ (decimal (upgrade_fault_number f) ++ (codes " " ++ upgrade_fault_name f))))
+
 abbrev pub fault_line : AuditFault → List ℕ
 fault_line (fault.Read f) = unreadable_line f.line f.cause
 fault_line (fault.Write f) = unwritten_line f
 fault_line (fault.Check check.Memory) = no_memory_line
 fault_line (fault.Check f) = codes "no thread"
 fault_line (fault.Call line f) = refused_line line f
+fault_line (fault.Upgrade line f) = not_upgraded_line line f
 fault_line fault.Memory = no_memory_line
 
 -- what is printed of a fault

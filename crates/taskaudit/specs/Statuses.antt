@@ -4,6 +4,8 @@ use Rattle.certificate.specs.declared.faults.ReadCause.{ReadCause}
 use Rattle.certificate.specs.declared.faults.ReadCause.TheVariants as read
 use Rattle.certificate.specs.declared.faults.WriteFault.{WriteFault}
 use Rattle.certificate.specs.declared.faults.WriteFault.TheVariants as write
+use Rattle.certificate.specs.declared.faults.UpgradeFault.{UpgradeFault}
+use Rattle.certificate.specs.declared.faults.UpgradeFault.TheVariants as upgrade
 use Rattle.clap.specs.declared.error.kind.ErrorKind.{ErrorKind}
 use Rattle.clap.specs.declared.error.kind.ErrorKind.TheVariants.{DisplayHelp, DisplayVersion, OutOfMemory}
 use Rattle.recorder.specs.declared.fault.CallFault.{CallFault}
@@ -44,12 +46,18 @@ abbrev pub refused_status : CallFault → ℕ
 refused_status call.Memory = 5
 refused_status _ = 2
 
+-- the trace was not upgraded
+abbrev pub upgrade_status : UpgradeFault → ℕ
+upgrade_status upgrade.Memory = 5
+upgrade_status _ = 2
+
 -- no verdict was given, or no trace, or it could not be written
 abbrev pub fault_status_of : AuditFault → ℕ
 fault_status_of (fault.Read f) = read_status f.cause
 fault_status_of (fault.Write f) = write_status f
 fault_status_of (fault.Check f) = 5
 fault_status_of (fault.Call line f) = refused_status f
+fault_status_of (fault.Upgrade line f) = upgrade_status f
 fault_status_of fault.Memory = 5
 
 -- the command line names nothing to do: help or the version was asked for, memory ran out, or it is wrong

@@ -1,7 +1,8 @@
 //! Judges recorded runs of OpenMP tasks: whether each wait ended, and each dependent task started, only when
-//! it was allowed to. Read `audit` first (`auditing.rt`): its clause `reports` is the headline; and `record`
-//! (`record.rt`), which writes a trace. Then `run` (`program.rt`), from the words of the command line to the
-//! exit status, `tell` (`telling.rt`) and the texts (`report.rt`, and `order.rt` for an order).
+//! it was allowed to. Read `audit` first (`auditing.rt`): its clause `reports` is the headline; then `record`
+//! (`record.rt`), which writes a trace, and `upgrade` (`upgrading.rt`), which writes one in version 2. Then
+//! `run` (`program.rt`), from the words of the command line to the exit status, `tell` (`telling.rt`) and the
+//! texts (`report.rt`, and `order.rt` for an order).
 #![tactic(auto)]
 
 mod auditing;
@@ -10,6 +11,7 @@ mod program;
 mod record;
 mod report;
 mod telling;
+mod upgrading;
 mod words;
 mod work;
 

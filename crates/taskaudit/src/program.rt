@@ -9,6 +9,7 @@ use crate::auditing::{Crew, audit, audit_on, audit_order};
 use crate::record::record;
 use crate::report::{WRONG_WORDS, fault_status, usage_status};
 use crate::telling::{Console, tell};
+use crate::upgrading::upgrade;
 use crate::words::job;
 use crate::work::{AuditFault, Done, Job, Outcome, Refusal, Shown};
 use certificate::{Sink, Source};
@@ -73,6 +74,9 @@ pub fn serve<S: AsStr, R: Threads + Wait + Sync, I: Source, O: Sink>(
             .map(Done::Judged)
             .map_err(Refusal::Audit),
         Ok(Job::Record) => record(rt, alloc, source, sink)
+            .map(|()| Done::Written)
+            .map_err(Refusal::Audit),
+        Ok(Job::Upgrade) => upgrade(alloc, source, sink)
             .map(|()| Done::Written)
             .map_err(Refusal::Audit),
         Err(error) => Err(Refusal::Words(error)),

@@ -9,7 +9,7 @@ ghost use Rattle.taskaudit.specs.Statuses.{fault_status_of, usage_status_of};
 
 use crate::work::AuditFault;
 use callbacks::CallFault;
-use certificate::{ReadCause, WriteFault};
+use certificate::{ReadCause, UpgradeFault, WriteFault};
 use checker::{Verdict, Why};
 use clap::error::ErrorKind;
 use ompt_events::{Cause, Record, Trace, finish};
@@ -18,6 +18,9 @@ use std::fmt;
 
 /// The exit status where a call of a script is refused.
 const CALL_REFUSED: u8 = 2;
+
+/// The exit status where a trace is not upgraded.
+const NOT_UPGRADED: u8 = 2;
 
 /// The exit status where the input is not read, or the report or the trace is not written.
 const NOT_REPORTED: u8 = 3;
@@ -202,6 +205,8 @@ pub fn fault_status(fault: &AuditFault) -> u8
         AuditFault::Read(_) | AuditFault::Write(_) => NOT_REPORTED,
         AuditFault::Call { fault, .. } if *fault != CallFault::Memory => CALL_REFUSED,
         AuditFault::Call { .. } => NO_MEMORY,
+        AuditFault::Upgrade { fault, .. } if *fault != UpgradeFault::Memory => NOT_UPGRADED,
+        AuditFault::Upgrade { .. } => NO_MEMORY,
         AuditFault::Check(_) | AuditFault::Memory => NO_MEMORY,
     }
 }

@@ -27,6 +27,9 @@ const ORDER_ABOUT: &str =
 const RECORD_ABOUT: &str =
     "Runs the script on standard input with recorders, and writes the trace that they record";
 
+/// What `upgrade` is for.
+const UPGRADE_ABOUT: &str = "Writes the trace file on standard input in version 2 of its format";
+
 /// What the option `--workers` of `check` is for.
 const WORKERS_HELP: &str = "Reads and checks on N threads (1 to 256); without it, on one";
 
@@ -48,7 +51,7 @@ const EXPLANATION: &str = r#"Answers of check, one line on standard output:
 
 Exit status: 0 yes, 1 no, 2 malformed, 3 input not read or answer not written,
   4 wrong arguments, 5 out of memory. Errors go to standard error.
-  Those of record: taskaudit record --help.
+  Those of record and upgrade: in the help of each.
 
 Input: one JSON object a line, in UTF-8. The first line is
   {"format":"task-credit-audit","version":2}
@@ -123,6 +126,25 @@ Exit status: 0 written, 2 a call refused, 3 input not read or trace not written,
 
 taskaudit check --help says what the members of an event are."#;
 
+/// What stands below the options in the help of `upgrade`.
+const UPGRADE_EXPLANATION: &str =
+    r#"Output, on standard output: the trace file in version 2. Each task_schedule with a next
+task tells the turns that prior and next are in (prior_turn, next_turn), counted along
+the file. Nothing else changes, and taskaudit check answers the same for both files.
+A file of version 2 keeps its events and their turns.
+
+Errors, one line on standard error; nothing is written:
+  not upgraded: line 7: 2 Moved
+      the first event in the file whose next task was the next task of an event
+      before it on another thread: the file does not tell which turn comes first
+  unreadable: line 3: 6 Field
+      the first faulty line, and why it is none of a trace file
+
+Exit status: 0 written, 2 not upgraded, 3 input not read or trace not written,
+  4 wrong arguments, 5 out of memory.
+
+taskaudit check --help says what the input is."#;
+
 /// What the command line asks for; its first word is the program's name.
 pub fn job<'a, S: AsStr>(alloc: Global, words: &'a [S]) -> Result<Job, Error>
     ensures asked { IfOk result (AsksFor (map S.text words.entry.now)) }
@@ -161,6 +183,7 @@ fn job_of(name: &str, found: &ArgMatches) -> Job
     match name {
         "order" => Job::Order,
         "record" => Job::Record,
+        "upgrade" => Job::Upgrade,
         _ => Job::Check(workers_found(found)),
     }
 }
@@ -181,6 +204,7 @@ fn command<'a>(alloc: Global) -> Result<Command<'a>, AllocError>
     let check = checking(alloc)?;
     let order = plain(alloc, "order", ORDER_ABOUT, ORDER_EXPLANATION);
     let recording = plain(alloc, "record", RECORD_ABOUT, RECORD_EXPLANATION);
+    let upgrading = plain(alloc, "upgrade", UPGRADE_ABOUT, UPGRADE_EXPLANATION);
     Command::new(alloc, "taskaudit")
         .about(ABOUT)
         .after_help(EXPLANATION)
@@ -188,7 +212,8 @@ fn command<'a>(alloc: Global) -> Result<Command<'a>, AllocError>
         .subcommand_required(true)
         .subcommand(check)?
         .subcommand(order)?
-        .subcommand(recording)
+        .subcommand(recording)?
+        .subcommand(upgrading)
 }
 
 /// The subcommand `check`, with its option.

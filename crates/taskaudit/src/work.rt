@@ -4,7 +4,7 @@ ghost use Rattle.taskaudit.specs.Reports.{call_fault_name, call_fault_number};
 ghost use Rattle.taskaudit.specs.Statuses.{done_status, outcome_status};
 
 use callbacks::CallFault;
-use certificate::{ReadCause, ReadFault, WriteFault};
+use certificate::{ReadCause, ReadFault, UpgradeFault, WriteFault};
 use checker::{CheckFault, Verdict};
 use std::error::Error;
 use std::fmt;
@@ -18,6 +18,8 @@ pub enum Job {
     Order,
     /// To run the script on standard input and write the trace that its recorders gather.
     Record,
+    /// To write the trace on standard input in version 2.
+    Upgrade,
 }
 
 /// What is printed of a verdict.
@@ -99,7 +101,9 @@ pub enum AuditFault {
     Check(CheckFault),
     /// The call on this line of the script is refused.
     Call { line: u32, fault: CallFault },
-    /// Out of memory for the report, or for the run of the script.
+    /// The trace is not upgraded, by the record on this line.
+    Upgrade { line: u32, fault: UpgradeFault },
+    /// Out of memory for the report, for the run of the script or for the upgrade.
     Memory,
 }
 
@@ -126,6 +130,11 @@ impl fmt::Display for AuditFault {
                 let number = call_fault_number(*fault);
                 let name = call_fault_name(*fault);
                 write!(f, "refused: line {line}: {number} {name}")
+            }
+            AuditFault::Upgrade { line, fault } if *fault != UpgradeFault::Memory => {
+                let number = fault.number();
+                let name = fault.name();
+                write!(f, "not upgraded: line {line}: {number} {name}")
             }
             AuditFault::Check(fault) if *fault != CheckFault::Memory => write!(f, "no thread"),
             _ => write!(f, "out of memory"),

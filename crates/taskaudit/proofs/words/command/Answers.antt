@@ -21,4 +21,5 @@ returns-clause-app c =
     ap app_of_fields c.subcommand_required.ensures ∙ ap requiring (ap app_of_fields c.disable_help_subcommand.ensures ∙ ap without_help plain_is) in
     let with_check = c.in_ok-subcommand.ensures.shape c.in_ok-check.ensures.local ∙ ap₂ with_subcommand top_is c.in_ok-check.ensures.shape in
     let with_order = c.in_ok-subcommand-2.ensures.shape c.plain-order.ensures.local ∙ ap₂ with_subcommand with_check c.plain-order.ensures.shape in
-    IfOk-weaker c.subcommand-3.result _ _ (λ r h. h.shape c.plain-recording.ensures.local ∙ ap₂ with_subcommand with_order c.plain-recording.ensures.shape) c.subcommand-3.ensures
+    let with_record = c.in_ok-subcommand-3.ensures.shape c.plain-recording.ensures.local ∙ ap₂ with_subcommand with_order c.plain-recording.ensures.shape in
+    IfOk-weaker c.subcommand-4.result _ _ (λ r h. h.shape c.plain-upgrading.ensures.local ∙ ap₂ with_subcommand with_record c.plain-upgrading.ensures.shape) c.subcommand-4.ensures
