@@ -1,8 +1,9 @@
 -- What clap reads of the command: each builder changes its own field.
-use Rattle.std.proofs.Common.{◌≡◌, ◌∙◌, ap, ap₂, true, codes}
+use Rattle.std.proofs.Common.{rules, ◌≡◌, ◌∙◌, ◌||◌, Bool, ap, ap₂, true, false, codes}
 use Rattle.std.proofs.lemmas.Result.{IfOk-weaker}
 use Rattle.clap.specs.Words.{App, app_of, new_app, with_subcommand}
 use Rattle.clap.specs.Simple.{on_top, app_of_fields}
+use Rattle.clap.specs.declared.builder.command.Command.TheViews.{out-Command}
 use Rattle.taskaudit.specs.Commands.{command_line}
 use Rattle.taskaudit.proofs.words.command.Goals as goal
 
@@ -23,3 +24,14 @@ returns-clause-app c =
     let with_order = c.in_ok-subcommand-2.ensures.shape c.plain-order.ensures.local ∙ ap₂ with_subcommand with_check c.plain-order.ensures.shape in
     let with_record = c.in_ok-subcommand-3.ensures.shape c.plain-recording.ensures.local ∙ ap₂ with_subcommand with_order c.plain-recording.ensures.shape in
     IfOk-weaker c.subcommand-4.result _ _ (λ r h. h.shape c.plain-upgrading.ensures.local ∙ ap₂ with_subcommand with_record c.plain-upgrading.ensures.shape) c.subcommand-4.ensures
+
+abbrev either : Bool → Bool → Bool
+either x y = x || y
+
+pub returns-clause-local : goal.returns-clause-local
+returns-clause-local c =
+    let top_is : (out-Command c.subcommand_required.result).has_globals ≡ false = search rules in
+    let with_check = c.in_ok-subcommand.ensures.globals ∙ ap₂ either top_is c.in_ok-check.ensures.local in
+    let with_order = c.in_ok-subcommand-2.ensures.globals ∙ ap₂ either with_check c.plain-order.ensures.local in
+    let with_record = c.in_ok-subcommand-3.ensures.globals ∙ ap₂ either with_order c.plain-recording.ensures.local in
+    IfOk-weaker c.subcommand-4.result _ _ (λ r h. h.globals ∙ ap₂ either with_record c.plain-upgrading.ensures.local) c.subcommand-4.ensures
