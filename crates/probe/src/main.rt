@@ -7,6 +7,7 @@
 //! pass one of the `gates`.
 #![tactic(auto)]
 
+mod answers;
 mod calls;
 mod gates;
 mod pool;
