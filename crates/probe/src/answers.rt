@@ -57,8 +57,8 @@ impl Answers {
     ) -> Result<Answers> {
         let mut answers = Answers {
             ledger_len,
-            recorders: Vec::new(alloc),
-            tasks: Vec::new(alloc),
+            recorders: Vec::with_capacity(alloc, recorders.len())?,
+            tasks: Vec::with_capacity(alloc, tasks.places().len())?,
             regions: Vec::new(alloc),
         };
         for recorder in recorders {

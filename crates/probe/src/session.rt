@@ -33,10 +33,10 @@ struct Session {
 /// M; `gather` closes all recorders and prints the trace that is gathered from them, and `gather N` leaves those from the
 /// number N on out. After either the next line begins anew.
 ///
-/// A call of the library that is refused for memory is told by a line `memory in CALL` before its answer, where CALL is
-/// the command's second word, `ledger`, `close_all` or `gather`. It must have changed nothing that can be asked for, and
-/// the ledger must still answer; then it is made once more, with the values that came back, and that answer is printed.
-/// Where something has changed, and where memory runs out for the commands themselves, the program ends with an error.
+/// Where a call of the library is refused for memory, `memory, ` is printed in front of its answer; that of a new ledger
+/// stands in front of the next line. The call must have changed nothing that can be asked for, and the ledger must still
+/// answer; then it is made once more, with the values that came back. The program ends with an error where something has
+/// changed, and where it gets no memory for what it does itself.
 pub fn each<R: Wait + Print + AllocGlobal>(rt: &R, text: &str) -> Result<()> {
     let mut session = Session::new(rt)?;
     for line in text.lines() {
@@ -59,7 +59,7 @@ impl Session {
         let made = match SharedLedger::new(alloc) {
             Ok(made) => Ok(made),
             Err(_memory) => {
-                println!(rt; "memory in ledger")?;
+                print!(rt; "memory, ")?;
                 SharedLedger::new(alloc)
             }
         };
@@ -134,7 +134,7 @@ impl Session {
         if self.perform(rt, number, &mut command)? == Outcome::Answered {
             return Ok(());
         }
-        self.tell_memory(rt, words[1], &before)?;
+        self.tell_memory(rt, &before)?;
         if self.perform(rt, number, &mut command)? == Outcome::Memory {
             tell_fault(rt, CallFault::Memory)?;
         }
@@ -169,10 +169,9 @@ impl Session {
     fn tell_memory<R: Wait + Print + AllocGlobal>(
         &mut self,
         rt: &R,
-        call: &str,
         before: &Answers,
     ) -> Result<()> {
-        println!(rt; "memory in {call}")?;
+        print!(rt; "memory, ")?;
         self.answers(rt)?.test(before)
     }
 
@@ -186,7 +185,7 @@ impl Session {
         let closed = match session.close(rt) {
             Ok(closed) => Ok(closed),
             Err(mut session) => {
-                session.tell_memory(rt, "close_all", &before)?;
+                session.tell_memory(rt, &before)?;
                 session.close(rt)
             }
         };
@@ -224,7 +223,7 @@ pub fn print_trace<R: Print + AllocGlobal>(rt: &R, closed: Closed) -> Result<()>
     let before = ClosedAnswers::of(alloc, &closed)?;
     let gathered = match gather(alloc, closed) {
         Err((closed, CallFault::Memory)) => {
-            println!(rt; "memory in gather")?;
+            print!(rt; "memory, ")?;
             ClosedAnswers::of(alloc, &closed)?.test(&before)?;
             gather(alloc, closed)
         }
