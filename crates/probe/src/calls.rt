@@ -237,7 +237,7 @@ fn list<P: Print + AllocGlobal>(
     match answer {
         Ok(()) => tell_ok(rt),
         Err((items, CallFault::Memory)) => {
-            test_list(rt.alloc(), &items, words[3])?;
+            test_list(rt.alloc(), items.as_slice(), words[3])?;
             command.list = Some(items);
             Ok(Outcome::Memory)
         }
@@ -253,8 +253,8 @@ fn list<P: Print + AllocGlobal>(
 }
 
 /// Tests that the dependences that came back are those of the word.
-fn test_list(alloc: Global, items: &Vec<Dep>, word: &str) -> Result<()> {
-    if items.as_slice() != dependences(alloc, word)?.as_slice() {
+fn test_list(alloc: Global, items: &[Dep], word: &str) -> Result<()> {
+    if items != dependences(alloc, word)?.as_slice() {
         bail!("changed: the dependences that came back");
     }
     Ok(())
