@@ -16,9 +16,10 @@ from concurrent.futures import ThreadPoolExecutor
 
 import mutated_lines
 import reading
-from changes import TASKS, changed, changed_with_turns, finishes, implied_turns, numbered
+import upgrade_model
+from changes import (CHANGES, TASKS, changed, changed_with_turns, created_late, entries_exchanged, entry_twice, finishes,
+                     flags_other, implied_turns, numbered, run_too_soon)
 from reading import LONGEST, LONGEST_PATH, MOST_DEPENDENCES, SCRIPTS
-from upgrade_model import in_full
 
 HERE = os.path.dirname(os.path.abspath(__file__))
 RUN, COMPARE = reading.script('run'), reading.script('compare')
@@ -31,7 +32,10 @@ Mutant = namedtuple('Mutant', 'data changes')
 # What is read of a file: the version of a trace or SCRIPT, and its records.
 Parsed = namedtuple('Parsed', 'version records')
 SCRIPT = 'script'
-# Members of a trace that a script does not know.
+# Changes behind which a trace may well have a cause that is told seldom.
+SELDOM = flags_other, entries_exchanged, entry_twice, created_late, run_too_soon
+# Members that are tasks or regions, and those of a trace that a script does not know.
+IDS = (*TASKS, 'parallel')
 OF_TRACES = ('seq', 'seen', 'root', 'path', 'kept', 'prior_turn', 'next_turn')
 
 
@@ -392,36 +396,64 @@ def lines_merged(chance, files, parsed):
     return parsed._replace(records=COMPARE.in_lines(chance, parsed.records))
 
 
-def with_threads(records, threads):
-    """The records, where these threads have other numbers, also in an `after`."""
+def in_full(parsed):
+    """The records of a trace, without members that are not known."""
+    def turns(it):
+        return (it['prior_turn'], it['next_turn']) if 'next_turn' in reading.more_members(it, parsed.version) else None
+
+    return [upgrade_model.in_full(it, turns(it)) for it in parsed.records]
+
+
+def threads_of(parsed):
+    return sorted({it['thread'] for it in parsed.records})
+
+
+def with_threads(parsed, threads):
+    """The records, where these threads have other numbers, in a script also in an `after`."""
     def moved(it):
-        after = {'after': [threads.get(it['after'][0], it['after'][0]), it['after'][1]]} if 'after' in it else {}
+        after = {}
+        if parsed.version == SCRIPT and 'after' in it:
+            after = {'after': [threads.get(it['after'][0], it['after'][0]), it['after'][1]]}
         return it | {'thread': threads.get(it['thread'], it['thread'])} | after
 
-    return [moved(it) for it in records]
+    return [moved(it) for it in parsed.records]
+
+
+def ids_of(records):
+    """The tasks and regions of the records."""
+    return sorted({it[name] for it in records for name in IDS if type(it.get(name)) is int})
+
+
+def with_ids(records, ids):
+    """The records, where these tasks and regions have other ids."""
+    return [it | {name: ids.get(it[name], it[name]) for name in IDS if type(it.get(name)) is int} for it in records]
 
 
 @of_records
 def threads_renumbered(chance, files, parsed):
-    known = sorted({it['thread'] for it in parsed.records})
+    known = threads_of(parsed)
     numbers = chance.choice([chance.sample(known, len(known)), chance.sample(range(256), len(known))])
-    return parsed._replace(records=with_threads(parsed.records, dict(zip(known, numbers))))
+    return parsed._replace(records=with_threads(parsed, dict(zip(known, numbers))))
 
 
 @of_records
 def threads_joined(chance, files, parsed):
     """Two threads are one."""
-    known = sorted({it['thread'] for it in parsed.records})
+    known = threads_of(parsed)
     if len(known) < 2:
         return None
     one, other = chance.sample(known, 2)
-    records = with_threads(parsed.records, {one: other})
+    records = with_threads(parsed, {one: other})
     return parsed._replace(records=records if parsed.version == SCRIPT else numbered(records))
 
 
 @of_records
 def ids_other(chance, files, parsed):
-    return parsed._replace(records=COMPARE.with_ids(chance, parsed.records))
+    """The ids in another order, or others of 64 bits."""
+    known = ids_of(parsed.records)
+    wide = sorted({0, ID_END - 1, *(chance.randrange(ID_END) for _ in known)})
+    ids = dict(zip(known, chance.sample(chance.choice([known, wide]), len(known))))
+    return parsed._replace(records=with_ids(parsed.records, ids))
 
 
 @of_records
@@ -440,22 +472,24 @@ def something_changed(chance, files, parsed):
     """A change of those that `compare` makes."""
     if parsed.version == SCRIPT:
         return None
-    turns = [(it['prior_turn'], it['next_turn']) if parsed.version == 2 and 'next_turn' in reading.more_members(it, 2) else None
-             for it in parsed.records]
-    records = [in_full(it, told) for it, told in zip(parsed.records, turns)]
-    return parsed._replace(records=(changed_with_turns if parsed.version == 2 else changed)(chance, records))
+    records = in_full(parsed)
+    if parsed.version == 2 and chance.random() < 0.7:
+        return parsed._replace(records=changed_with_turns(chance, records))
+    records = changed(chance, records, chance.choice([CHANGES, SELDOM]))
+    return parsed._replace(records=implied_turns(records) if parsed.version == 2 else records)
 
 
 def in_version(parsed, version):
-    """A trace in this version, or as a script."""
+    """The records of a trace in this version, with turns that the order of its lines implies; or the steps of a script."""
+    records = in_full(parsed)
     if version == SCRIPT:
-        return [{name: it for name, it in record.items() if name not in OF_TRACES} for record in parsed.records]
-    return implied_turns(parsed.records) if version == 2 and parsed.version == 1 else parsed.records
+        return [{name: it for name, it in record.items() if name not in OF_TRACES} for record in records]
+    return implied_turns(records) if version == 2 and parsed.version == 1 else records
 
 
 @of_records
 def version_other(chance, files, parsed):
-    """A trace of one version in the other one, with the turns that the order of its lines implies; or as a script."""
+    """A trace of the other version, or a script."""
     if parsed.version == SCRIPT:
         return None
     version = chance.choice([3 - parsed.version, SCRIPT])
@@ -468,16 +502,13 @@ def another_beside(chance, files, parsed):
     other = parsed_of(chance.choice(files.traces))
     if parsed.version == SCRIPT or len(parsed.records) + len(other.records) > MOST_RECORDS:
         return None
-    threads = sorted({it['thread'] for it in parsed.records})
-    theirs = sorted({it['thread'] for it in other.records})
-    free = chance.sample(sorted({*range(256)} - {*threads}), len(theirs))
-    entries, names = sum(map(finishes, parsed.records)), (*TASKS, 'parallel')
-    used = {it[name] for it in parsed.records for name in names if type(it.get(name)) is int}
-    known = {it[name] for it in other.records for name in names if type(it.get(name)) is int}
-    fresh = dict(zip(sorted(known), (it for it in range(1, 2**32) if it not in used)))
-    moved = [it | {name: fresh[it[name]] for name in names if type(it.get(name)) is int} | {'seen': it['seen'] + entries}
-             for it in with_threads(in_version(other, parsed.version), dict(zip(theirs, free)))]
-    records = [*parsed.records, *moved]
+    records = in_full(parsed)
+    entries, used, threads = sum(map(finishes, records)), {*ids_of(records)}, threads_of(other)
+    free = chance.sample(sorted({*range(256)} - {*threads_of(parsed)}), len(threads))
+    moved = Parsed(parsed.version, in_version(other, parsed.version))
+    moved = with_threads(moved, dict(zip(threads, free)))
+    ids = dict(zip(ids_of(moved), (it for it in range(ID_END) if it not in used)))
+    records += [it | {'seen': it['seen'] + entries} for it in with_ids(moved, ids)]
     return parsed._replace(records=COMPARE.in_lines(chance, records) if chance.random() < 0.5 else records)
 
 
@@ -498,14 +529,14 @@ def steps_linked(chance, files, parsed):
 # The mutants
 
 BYTES = dict.fromkeys([bit_flipped, bytes_inserted, bytes_removed, bytes_repeated, bytes_cut, spliced], 1) | {text_changed: 3}
-LINES = dict.fromkeys([line_removed, line_doubled, lines_exchanged, line_moved, lines_cut], 2)
-FAULTY = dict.fromkeys([line_taken, header_other, member_removed, member_renamed, value_other, value_nested, line_padded], 2)
-MEMBERS = dict.fromkeys([member_doubled, value_at_its_end, member_added], 1) | {value_named: 2, number_other: 4}
+LINES = dict.fromkeys([line_removed, line_doubled, lines_exchanged, line_moved, lines_cut], 1)
+FAULTY = dict.fromkeys([line_taken, header_other, member_removed, member_renamed, value_other, value_nested], 2)
+MEMBERS = dict.fromkeys([member_doubled, value_at_its_end, member_added], 1) | {value_named: 2, number_other: 3}
 FORMS = dict.fromkeys([text_escaped, members_shuffled, line_spaced], 2)
-RECORDS = {lines_merged: 4, threads_renumbered: 3, threads_joined: 2, ids_other: 3, length_moved: 4, something_changed: 6,
-           version_other: 2, another_beside: 3, steps_linked: 8}
+RECORDS = {lines_merged: 4, threads_renumbered: 3, threads_joined: 1, ids_other: 3, length_moved: 4, something_changed: 10,
+           version_other: 5, another_beside: 3, steps_linked: 4}
 GENTLE = LINES | MEMBERS | FORMS | RECORDS
-ALL = GENTLE | BYTES | FAULTY
+ALL = GENTLE | BYTES | FAULTY | {value_at_its_end: 4, line_padded: 4}
 
 
 def once_changed(chance, files, data, kinds):
@@ -520,7 +551,7 @@ def once_changed(chance, files, data, kinds):
 def mutant(files, seed, number):
     """The mutant of this number, and which changes were made."""
     chance = random.Random(f'{seed} {number}')
-    data = chance.choice(chance.choices(files[:3], [8, 2, 1])[0])
+    data = chance.choice(chance.choices(files[:3], [16, 4, 1])[0])
     kinds, changes = chance.choices([GENTLE, ALL], [2, 1])[0], []
     for _ in range(chance.choices(range(1, 6), [5, 4, 3, 2, 1])[0]):
         if len(data) <= MOST_MUTATED:
