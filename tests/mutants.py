@@ -1,9 +1,9 @@
-"""Mutants of the files of tests/ and examples/, for `fuzz`: mutant NUMBER of SEED is one of these files with one to five
-random changes.
+"""Mutants of the files of tests/ and examples/, for `fuzz`: mutant NUMBER of SEED is one of these files with one to
+five random changes.
 
-A change takes a source of chance, the files, and the bytes of one; it gives other bytes, or None where it does not apply.
-Some change bytes, some the lines behind the header, some the members of one line, and some all records of a file that can
-be read. Of most mutants all changes are of kinds behind which a file can often be read still (GENTLE)."""
+A change takes a source of chance, the files, and the bytes of one; it gives other bytes, or None where it does not
+apply. Some change bytes, some the lines behind the header, some the members of one line, and some all records of a file
+that can be read. Most mutants have only changes behind which a file can often be read still (GENTLE)."""
 import functools
 import json
 import os
@@ -17,8 +17,8 @@ from concurrent.futures import ThreadPoolExecutor
 import mutated_lines
 import reading
 import upgrade_model
-from changes import (CHANGES, TASKS, changed, changed_with_turns, created_late, entries_exchanged, entry_twice, finishes,
-                     flags_other, implied_turns, numbered, run_too_soon)
+from changes import (CHANGES, TASKS, changed, changed_with_turns, created_late, entries_exchanged, entry_twice,
+                     finishes, flags_other, implied_turns, numbered, run_too_soon)
 from reading import LONGEST, LONGEST_PATH, MOST_DEPENDENCES, SCRIPTS
 
 HERE = os.path.dirname(os.path.abspath(__file__))
@@ -219,14 +219,14 @@ def header_other(chance, files, data):
 
 ID_END, SHORT_END = 2**64, 2**32
 ENDS = {'thread': 256, **dict.fromkeys([*reading.SHORT, 'kept', *reading.TURNS], SHORT_END)}
-VALUES = ('null true false 0 1 2 -1 -0 1.0 1e0 0.5 "1" "" "x" [] {} [0] [null] [[0]] {"a":0} 01 +1 .5 1. 1e999 -1e999 1e-999 '
-          '1.7976931348623157e308 1.7976931348623159e308 NaN Infinity "\\u0000" "\\ud83d\\ude00" "\\ud800" "\\x" "\t" '
+VALUES = ('null true false 0 1 2 -1 -0 1.0 1e0 0.5 "1" "" "x" [] {} [0] [null] [[0]] {"a":0} 01 +1 .5 1. 1e999 -1e999 '
+          '1e-999 1.7976931348623157e308 1.7976931348623159e308 NaN Infinity "\\u0000" "\\ud800" "\\x" "\t" '
           '4294967295 4294967296 18446744073709551615 18446744073709551616').split(' ')
 TABLES = {'cb': [*SCRIPTS.MEMBERS], 'status': [*SCRIPTS.STATUSES], 'endpoint': ['begin', 'end', 'beginend'],
           'kind': [*SCRIPTS.REGIONS, 'initial', 'worker', 'other', 'unknown'], 'type': SCRIPTS.DEPENDENCES,
-          'flags': [*SCRIPTS.TASK_FLAGS, *SCRIPTS.CANCEL_FLAGS], 'format': ['task-credit-audit', 'task-credit-script']}
+          'flags': [*SCRIPTS.TASK_FLAGS, *SCRIPTS.CANCEL_FLAGS]}
 NAMES = sorted({name for names in TABLES.values() for name in names})
-MORE = ['"more"', '"turns"', '"after"', '"seq"', '"prior_turn"', '"next_turn"', '"root"', '"path"', '"kept"', '"CB"', '""']
+MORE = '"more" "turns" "after" "seq" "prior_turn" "next_turn" "root" "path" "kept" "CB" ""'.split()
 ITEM = '{"type":"%s","var":%d}'
 
 
@@ -235,7 +235,7 @@ def members_of(line):
     try:
         value = json.loads(line.decode())
         members = value.items() if isinstance(value, dict) else ()
-        return [[json.dumps(it, ensure_ascii=False, separators=(',', ':')) for it in member] for member in members] or None
+        return [[json.dumps(it, ensure_ascii=False, separators=(',', ':')) for it in pair] for pair in members] or None
     except (ValueError, RecursionError):
         return None
 
@@ -246,7 +246,7 @@ def of_members(change):
     def changed_bytes(chance, files, data):
         lines = data.split(b'\n')
         # the header seldom
-        at = chance.choice([chance.randrange(len(lines)), chance.randrange(len(lines))]) or chance.randrange(len(lines))
+        at = chance.randrange(len(lines)) or chance.randrange(len(lines))
         members = members_of(lines[at])
         if not members:
             return None
@@ -304,7 +304,8 @@ def value_at_its_end(chance, members):
 @of_members
 def value_nested(chance, members):
     """Lists or objects in one another, in a member that is not known, or in place of a value."""
-    depth, (begin, end) = chance.choice([2, 50, 125, 126, 126, 127, 128, 1000, 10000]), chance.choice(['[]', ('{"":', '}')])
+    depth = chance.choice([2, 50, 125, 126, 126, 126, 127, 127, 1000, 10000])
+    begin, end = chance.choice([('[', ']'), ('{"":', '}')])
     value = begin * depth + '0' + end * depth
     if chance.random() < 0.8:
         members.append(['"more"', value])
@@ -363,13 +364,13 @@ def member_added(chance, members):
 def line_spaced(chance, members):
     """White space beside names and values."""
     for member in members:
-        member[:] = [chance.choice(['', ' ', '\t', '\r']) + it + chance.choice(['', '', ' ', '\r']) for it in member]
+        member[:] = [chance.choice(['', ' ', '\t', '\r']) + it + chance.choice(['', ' ', '\r']) for it in member]
 
 
 @of_members
 def line_padded(chance, members):
     """The line has as many bytes as a line may have, or one more or less."""
-    length = len('{}') + sum(len(f'{name}:{value},'.encode(errors='surrogatepass')) for name, value in members) - 1
+    length = 1 + sum(len(f'{name}:{value},'.encode(errors='surrogatepass')) for name, value in members)
     missing = LONGEST + chance.choice([-1, 0, 0, 1]) - length
     if missing > len(',"":""') and chance.random() < 0.5:
         members.insert(0, ['""', '"%s"' % ('x' * (missing - len('"":"",')))])
@@ -463,7 +464,7 @@ def length_moved(chance, files, parsed):
         return None
     at, more = chance.randrange(len(parsed.records)), chance.choice([-1, 1])
     end = chance.choice([at + 1, at + 1, len(parsed.records)])
-    records = [it | {'seen': max(0, it['seen'] + more)} if at <= i < end else it for i, it in enumerate(parsed.records)]
+    records = [it | {'seen': max(0, it['seen'] + more * (at <= i < end))} for i, it in enumerate(parsed.records)]
     return parsed._replace(records=records)
 
 
@@ -480,7 +481,7 @@ def something_changed(chance, files, parsed):
 
 
 def in_version(parsed, version):
-    """The records of a trace in this version, with turns that the order of its lines implies; or the steps of a script."""
+    """The records of a trace in this version, with turns by the order of its lines; or the steps of a script."""
     records = in_full(parsed)
     if version == SCRIPT:
         return [{name: it for name, it in record.items() if name not in OF_TRACES} for record in records]
@@ -528,15 +529,15 @@ def steps_linked(chance, files, parsed):
 
 # The mutants
 
-BYTES = dict.fromkeys([bit_flipped, bytes_inserted, bytes_removed, bytes_repeated, bytes_cut, spliced], 1) | {text_changed: 3}
+BYTES = dict.fromkeys([bit_flipped, bytes_inserted, bytes_removed, bytes_repeated, bytes_cut, spliced], 1)
 LINES = dict.fromkeys([line_removed, line_doubled, lines_exchanged, line_moved, lines_cut], 1)
-FAULTY = dict.fromkeys([line_taken, header_other, member_removed, member_renamed, value_other, value_nested], 2)
-MEMBERS = dict.fromkeys([member_doubled, value_at_its_end, member_added], 1) | {value_named: 2, number_other: 3}
+MEMBERS = {member_doubled: 1, value_at_its_end: 1, value_nested: 1, member_added: 1, value_named: 2, number_other: 3}
 FORMS = dict.fromkeys([text_escaped, members_shuffled, line_spaced], 2)
-RECORDS = {lines_merged: 4, threads_renumbered: 3, threads_joined: 1, ids_other: 3, length_moved: 4, something_changed: 10,
-           version_other: 5, another_beside: 3, steps_linked: 4}
+RECORDS = {lines_merged: 4, threads_renumbered: 3, threads_joined: 1, ids_other: 3, length_moved: 4,
+           something_changed: 10, version_other: 5, another_beside: 3, steps_linked: 4}
+FAULTY = dict.fromkeys([line_taken, header_other, member_removed, member_renamed, value_other], 2)
 GENTLE = LINES | MEMBERS | FORMS | RECORDS
-ALL = GENTLE | BYTES | FAULTY | {value_at_its_end: 4, line_padded: 4}
+ALL = GENTLE | BYTES | FAULTY | {text_changed: 3, value_at_its_end: 4, line_padded: 4}
 
 
 def once_changed(chance, files, data, kinds):

@@ -1,7 +1,6 @@
 """What comes of reading a trace file, by docs/FORMAT.md: the first faulty line and its cause, or the version and the
-records. What a JSON text is, and which members each callback has, is that of the model in `script_files`. Files with 2^22
-records or 2^20 tasks are left out; and what the half of a surrogate pair is (`is_unsaid`), of which docs/FORMAT.md says
-nothing."""
+records. `script_files` has the model of what a JSON text is, and of the members of each callback. No file here has more
+records or tasks than there may be. docs/FORMAT.md does not say what half of a surrogate pair is (`is_unsaid`)."""
 import importlib.machinery
 import importlib.util
 import os
@@ -47,7 +46,8 @@ def version_of(value):
 def more_members(record, version):
     """The members that a record has besides those of its callback."""
     runs_next = record['cb'] == 'task_schedule' and record['status'] in DEMANDS_NEXT
-    return {'seq': int, 'seen': int} | (CLAIM if finishes(record) else {}) | (TURNS if runs_next and version == 2 else {})
+    claim, turns = CLAIM if finishes(record) else {}, TURNS if runs_next and version == 2 else {}
+    return {'seq': int, 'seen': int} | claim | turns
 
 
 def is_record(value, version):
