@@ -16,6 +16,7 @@ mod refusals;
 mod script;
 mod shared;
 mod shares;
+mod slow;
 mod states;
 mod tables;
 mod tree;
@@ -46,7 +47,6 @@ fn run(rt: &HostRuntime, word: &str) -> Result<()> {
         "shares" => shares::each(rt),
         "states" => states::each(rt),
         "ledger" => ledger::each(rt),
-        "devices" => devices::all(rt),
         "refusals" => refusals::all(rt),
         "tree" => tree::of_input(rt),
         "edges" => edges::of_input(rt),
@@ -67,6 +67,7 @@ fn main(rt: HostRuntime) -> Result<()> {
     };
     match word.as_str() {
         "shared" => shared::each(&rt),
+        "devices" => devices::all(&rt, &lines::input(&rt)?),
         "calls" => {
             let (Some(kind), Some(count), Some(threads)) = (
                 words.next(),
