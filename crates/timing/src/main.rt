@@ -17,6 +17,7 @@ mod script;
 mod seats;
 mod shared;
 mod shares;
+mod slow;
 mod states;
 mod tables;
 mod tree;
@@ -47,7 +48,6 @@ fn run(rt: &HostRuntime, word: &str) -> Result<()> {
         "shares" => shares::each(rt),
         "states" => states::each(rt),
         "ledger" => ledger::each(rt),
-        "devices" => devices::all(rt),
         "refusals" => refusals::all(rt),
         "tree" => tree::of_input(rt),
         "edges" => edges::of_input(rt),
@@ -69,6 +69,7 @@ fn main(rt: HostRuntime) -> Result<()> {
     match word.as_str() {
         "shared" => shared::each(&rt),
         "seats" => seats::each(&rt),
+        "devices" => devices::all(&rt, &lines::input(&rt)?),
         "calls" => {
             let (Some(kind), Some(count), Some(threads)) = (
                 words.next(),
