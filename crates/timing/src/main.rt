@@ -14,6 +14,7 @@ mod lines;
 mod names;
 mod refusals;
 mod script;
+mod seats;
 mod shared;
 mod shares;
 mod states;
@@ -27,7 +28,7 @@ use std::env;
 
 const WORDS: &str =
     "values, read, write, lines, lines_with_turns, scripts, turns, rise, arrange, names, tables, shares, states, \
-     ledger, devices, refusals, tree, edges, verdict, counters, waits, coverage, open, shared or calls";
+     ledger, seats, devices, refusals, tree, edges, verdict, counters, waits, coverage, open, shared or calls";
 
 /// Does what the word asks for.
 fn run(rt: &HostRuntime, word: &str) -> Result<()> {
@@ -67,6 +68,7 @@ fn main(rt: HostRuntime) -> Result<()> {
     };
     match word.as_str() {
         "shared" => shared::each(&rt),
+        "seats" => seats::each(&rt),
         "calls" => {
             let (Some(kind), Some(count), Some(threads)) = (
                 words.next(),

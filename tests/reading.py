@@ -1,0 +1,110 @@
+"""What comes of reading a trace file, by docs/FORMAT.md: the first faulty line and its cause, or the version and the
+records. What a JSON text is, and which members each callback has, is that of the model in `script_files`. Files with 2^22
+records or 2^20 tasks are left out; and what the half of a surrogate pair is (`is_unsaid`), of which docs/FORMAT.md says
+nothing."""
+import importlib.machinery
+import importlib.util
+import os
+import re
+
+from model import DEMANDS_NEXT
+from upgrade_model import finishes
+
+HERE = os.path.dirname(os.path.abspath(__file__))
+LONGEST, SHORT_END, LAST_THREAD, LONGEST_PATH, MOST_DEPENDENCES = 65536, 2**32, 255, 1024, 64
+SHORT = ('seq', 'seen', 'requested', 'actual', 'index')
+CLAIM, TURNS = {'root': int, 'path': [int], 'kept': int}, {'prior_turn': int, 'next_turn': int}
+
+
+class Fault(Exception):
+    """A line that cannot be read, with its cause."""
+
+
+def script(name):
+    """A script of tests/, as a module."""
+    loader = importlib.machinery.SourceFileLoader(name, os.path.join(HERE, name))
+    module = importlib.util.module_from_spec(importlib.util.spec_from_loader(name, loader))
+    loader.exec_module(module)
+    return module
+
+
+SCRIPTS = script('script_files')
+
+
+def is_unsaid(data):
+    """Whether an escape may be the half of a surrogate pair."""
+    return re.search(rb'\\u[dD][89a-fA-F]', data) is not None
+
+
+def version_of(value):
+    """The version that a header tells, or None where the value is no header."""
+    members = value if type(value) is dict else {}
+    version = members.get('version')
+    is_known = members.get('format') == 'task-credit-audit' and type(version) is int and version in (1, 2)
+    return version if is_known else None
+
+
+def more_members(record, version):
+    """The members that a record has besides those of its callback."""
+    runs_next = record['cb'] == 'task_schedule' and record['status'] in DEMANDS_NEXT
+    return {'seq': int, 'seen': int} | (CLAIM if finishes(record) else {}) | (TURNS if runs_next and version == 2 else {})
+
+
+def is_record(value, version):
+    """Whether the value has the members of a record, each of the right kind."""
+    # as a call of a script, which may have one member more
+    step = {name: it for name, it in value.items() if name != 'after'} if type(value) is dict else None
+    return SCRIPTS.is_step(step) and all(SCRIPTS.is_right(kind, value.get(name))
+                                         for name, kind in more_members(value, version).items())
+
+
+def is_within(record, version):
+    """Whether a record keeps its limits."""
+    names = {*SCRIPTS.MEMBERS[record['cb']], *more_members(record, version)}
+    path = record['path'] if 'path' in names else []
+    numbers = [record[name] for name in (*SHORT, 'kept', *TURNS) if name in names] + path
+    items = record['list'] if 'list' in names else []
+    return (record['thread'] <= LAST_THREAD and all(it < SHORT_END for it in numbers)
+            and len(path) <= LONGEST_PATH and len(items) <= MOST_DEPENDENCES)
+
+
+def value_of(number, line, is_ended, version):
+    """The value of a line, or a Fault; behind the header, that of a record."""
+    if len(line) > LONGEST:
+        raise Fault(number, '4 LineTooLong')
+    if line and not is_ended:
+        raise Fault(number, '8 Unended')
+    value = SCRIPTS.value_of(line)
+    if number == 1 and version_of(value) is None:
+        raise Fault(number, '3 Header')
+    if value is ...:
+        raise Fault(number, '5 NotJson')
+    if number > 1 and not is_record(value, version):
+        raise Fault(number, '6 Field')
+    if number > 1 and not is_within(value, version):
+        raise Fault(number, '7 Limit')
+    return value
+
+
+def read(data):
+    """The version and the records of a file, or a Fault."""
+    *lines, rest = data.split(b'\n')
+    version, records = None, []
+    for number, line in enumerate(lines, 1):
+        value = value_of(number, line, True, version)
+        if number == 1:
+            version = version_of(value)
+        else:
+            records.append(value)
+    if rest or not lines:
+        value_of(len(lines) + 1, rest, False, version)
+    return version, records
+
+
+def fault_of(data):
+    """The line of the program that names the first fault, or None where there is none."""
+    try:
+        read(data)
+    except Fault as fault:
+        return 'unreadable: line {}: {}\n'.format(*fault.args).encode()
+    return None
