@@ -8,10 +8,12 @@
      INTERRUPT_READ=N             the first N reads of standard input are interrupted
      INTERRUPT_WRITE=N            the first N writes to standard output are
      IDLE_WRITE=N                 the first N writes to standard output take no byte
+     TROUBLE_FROM=K               the three above count from the K-th read and the K-th write on
      ONE_BYTE=1                   a read of standard input gives one byte, and a write to standard output takes one
-     REFUSE_TOLD=FD               a line goes there for the first of these calls that fails for good: its kind and number,
-                                  and of an allocation its size and the places in the program that it may have been
-                                  called from, the innermost first
+     REFUSE_TOLD=FD               a line goes there for the first of these calls that fails for good: its kind and number;
+                                  of an allocation its size, of a read or a write how many bytes were given or taken
+                                  before; and the places in the program that it may have been called from, the innermost
+                                  first
 
    Calls are counted from the first statement of `main` on. */
 #define _GNU_SOURCE
@@ -41,9 +43,9 @@ struct range {
 enum { MOST_PLACES = 48, MOST_WORDS = 16384 };
 
 static struct range allocations, reads, writes;
-static long interrupted_reads, interrupted_writes, idle_writes;
+static long interrupted_reads, interrupted_writes, idle_writes, trouble_from;
 static int one_byte, told_to = -1, is_counting;
-static atomic_long allocation_count, read_count, write_count;
+static atomic_long allocation_count, read_count, write_count, given_bytes, taken_bytes;
 static atomic_flag is_told = ATOMIC_FLAG_INIT;
 static uintptr_t base, code_begin, code_end;
 
@@ -82,6 +84,7 @@ __attribute__((constructor)) static void begin(void) {
     interrupted_reads = number_of("INTERRUPT_READ");
     interrupted_writes = number_of("INTERRUPT_WRITE");
     idle_writes = number_of("IDLE_WRITE");
+    trouble_from = getenv("TROUBLE_FROM") ? number_of("TROUBLE_FROM") : 1;
     one_byte = number_of("ONE_BYTE") != 0;
     told_to = getenv("REFUSE_TOLD") ? (int)number_of("REFUSE_TOLD") : -1;
     dl_iterate_phdr(note_code, NULL);
@@ -95,11 +98,11 @@ static uintptr_t *stack_end(void) {
 
 /* Tells the first refusal. No frame pointers lead from call to call, so each word of the stack counts that points into
    the program's code: it may also be left from an earlier call. */
-static void tell(const char *kind, long number, size_t size) {
+static void tell(const char *kind, long number, size_t amount) {
     char line[MOST_PLACES * 20 + 96];
     if (told_to < 0 || atomic_flag_test_and_set(&is_told))
         return;
-    int length = snprintf(line, sizeof line, "%s %ld %zu", kind, number, size), places = 0;
+    int length = snprintf(line, sizeof line, "%s %ld %zu", kind, number, amount), places = 0;
     uintptr_t *word = __builtin_frame_address(0), *last = stack_end();
     for (int i = 0; i < MOST_WORDS && word < last && places < MOST_PLACES; i++, word++)
         if (code_begin <= *word && *word < code_end) {
@@ -153,35 +156,43 @@ static ssize_t failed(int error) {
     return -1;
 }
 
-static ssize_t broken(const char *kind, long number, size_t size) {
-    tell(kind, number, size);
+static ssize_t broken(const char *kind, long number, size_t before) {
+    tell(kind, number, before);
     return failed(EIO);
 }
 
+/* Whether the read or the write with this number is one of the first so many from which trouble counts. */
+static int is_troubled(long number, long count) {
+    return trouble_from <= number && number - trouble_from < count;
+}
+
+/* Adds the bytes that were given or taken. */
+static ssize_t counted(ssize_t count, atomic_long *bytes) {
+    if (count > 0)
+        atomic_fetch_add(bytes, count);
+    return count;
+}
+
 ssize_t read(int descriptor, void *buffer, size_t size) {
-    if (descriptor == STDIN_FILENO && is_counting) {
-        long number = atomic_fetch_add(&read_count, 1) + 1;
-        if (is_in(reads, number))
-            return broken("read", number, size);
-        if (number <= interrupted_reads)
-            return failed(EINTR);
-        if (one_byte && size > 1)
-            size = 1;
-    }
-    return syscall(SYS_read, descriptor, buffer, size);
+    if (descriptor != STDIN_FILENO || !is_counting)
+        return syscall(SYS_read, descriptor, buffer, size);
+    long number = atomic_fetch_add(&read_count, 1) + 1;
+    if (is_in(reads, number))
+        return broken("read", number, given_bytes);
+    if (is_troubled(number, interrupted_reads))
+        return failed(EINTR);
+    return counted(syscall(SYS_read, descriptor, buffer, one_byte && size > 1 ? 1 : size), &given_bytes);
 }
 
 ssize_t write(int descriptor, const void *buffer, size_t size) {
-    if (descriptor == STDOUT_FILENO && is_counting) {
-        long number = atomic_fetch_add(&write_count, 1) + 1;
-        if (is_in(writes, number))
-            return broken("write", number, size);
-        if (number <= interrupted_writes)
-            return failed(EINTR);
-        if (number <= idle_writes)
-            return 0;
-        if (one_byte && size > 1)
-            size = 1;
-    }
-    return syscall(SYS_write, descriptor, buffer, size);
+    if (descriptor != STDOUT_FILENO || !is_counting)
+        return syscall(SYS_write, descriptor, buffer, size);
+    long number = atomic_fetch_add(&write_count, 1) + 1;
+    if (is_in(writes, number))
+        return broken("write", number, taken_bytes);
+    if (is_troubled(number, interrupted_writes))
+        return failed(EINTR);
+    if (is_troubled(number, idle_writes))
+        return 0;
+    return counted(syscall(SYS_write, descriptor, buffer, one_byte && size > 1 ? 1 : size), &taken_bytes);
 }

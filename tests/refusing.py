@@ -11,8 +11,8 @@ LIMIT = 20
 HUNG = 'hung'
 # What a run printed, its exit status (minus a signal, or HUNG), and the first call that failed for good: its kind, as
 # 'allocation', and the functions of the program that it may have been called from, the innermost first. Both are empty
-# where no call failed.
-Run = namedtuple('Run', 'out err status refused callers')
+# where no call failed. The amount is the size of the allocation, or how many bytes were read or written before.
+Run = namedtuple('Run', 'out err status refused callers amount', defaults=[0])
 
 
 @contextlib.contextmanager
@@ -52,5 +52,5 @@ def run(made, functions, words, data, failing):
             except subprocess.TimeoutExpired as error:
                 return Run(error.stdout or b'', error.stderr or b'', HUNG, 'hung', [])
         line = told_by.read().decode().split()
-    refused, places = (line[0], line[3:]) if line else ('', [])
-    return Run(ended.stdout, ended.stderr, ended.returncode, refused, callers_of(functions, places))
+    refused, amount, places = (line[0], int(line[2]), line[3:]) if line else ('', 0, [])
+    return Run(ended.stdout, ended.stderr, ended.returncode, refused, callers_of(functions, places), amount)

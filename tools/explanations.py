@@ -26,6 +26,8 @@ Move = namedtuple('Move', 'number thread turn move')
 MOST_SHOWN = 8
 # A path has at most so many numbers.
 MOST_NUMBERS = 1024
+# Arrays and objects of a line nest at most so deep.
+DEEPEST = 127
 
 
 class Explanation:
@@ -584,8 +586,20 @@ def unreadable(sentence):
     return tell
 
 
+def nesting(text):
+    """How deep arrays and objects nest in a line."""
+    depth = deepest = 0
+    for it in re.findall(rb'[][{}]', re.sub(rb'"(?:[^"\\]|\\.)*"', b'', text)):
+        depth += 1 if it in b'[{' else -1
+        deepest = max(deepest, depth)
+    return deepest
+
+
 def not_json(found, trace):
     text = trace.line(found.line)
+    if nesting(text) > DEEPEST:
+        found.say(f'Arrays and objects nest {nesting(text):,} deep in the line; {DEEPEST} is allowed.')
+        return
     try:
         json.loads(text.decode())
         found.say('The line is not one JSON text as docs/FORMAT.md has it.')

@@ -7,44 +7,87 @@ use crate::words::{cancel_flags, dependences, status, sync_kind, task_flags, thr
 use anyhow::{Result, bail};
 use callbacks::{CallFault, Recorder, TaskData};
 use credit_ledger::SharedLedger;
+use ompt_events::Dep;
+use std::alloc::Global;
 use std::fmt::Display;
 use std::sync::Wait;
 
-/// Prints what a call answers that gives nothing.
-fn tell<P: Print + AllocGlobal>(rt: &P, answer: Result<(), CallFault>) -> Result<()> {
-    match answer {
-        Ok(()) => println!(rt; "ok")?,
-        Err(fault) => refused(rt, fault)?,
+/// What came of a call.
+#[derive(Clone, Copy, PartialEq, Eq)]
+pub enum Outcome {
+    /// Its answer is printed.
+    Answered,
+    /// It was refused for memory, and nothing is printed.
+    Memory,
+}
+
+/// A command for a recorder.
+#[derive(Drop)]
+pub struct Command<'a> {
+    words: [&'a str; 8],
+    /// The dependences that came back from a call that was refused for memory.
+    list: Option<Vec<Dep>>,
+}
+
+impl<'a> Command<'a> {
+    /// The command of these words.
+    pub fn new(words: [&'a str; 8]) -> Command<'a> {
+        Command { words, list: None }
     }
-    Ok(())
+}
+
+/// Prints what a call answers that gives nothing.
+fn tell<P: Print + AllocGlobal>(rt: &P, answer: Result<(), CallFault>) -> Result<Outcome> {
+    match answer {
+        Ok(()) => tell_ok(rt),
+        Err(fault) => refused(rt, fault),
+    }
+}
+
+/// Prints that a call was accepted.
+fn tell_ok<P: Print + AllocGlobal>(rt: &P) -> Result<Outcome> {
+    println!(rt; "ok")?;
+    Ok(Outcome::Answered)
 }
 
 /// Prints what a call answers that gives a length or an index.
-fn tell_number<P: Print + AllocGlobal>(rt: &P, answer: Result<u32, CallFault>) -> Result<()> {
+fn tell_number<P: Print + AllocGlobal>(rt: &P, answer: Result<u32, CallFault>) -> Result<Outcome> {
     match answer {
-        Ok(number) => println!(rt; "ok {number}")?,
-        Err(fault) => refused(rt, fault)?,
+        Ok(number) => {
+            println!(rt; "ok {number}")?;
+            Ok(Outcome::Answered)
+        }
+        Err(fault) => refused(rt, fault),
     }
-    Ok(())
+}
+
+/// Prints a refusal for another reason than memory.
+fn refused<P: Print + AllocGlobal>(rt: &P, fault: CallFault) -> Result<Outcome> {
+    if fault == CallFault::Memory {
+        return Ok(Outcome::Memory);
+    }
+    tell_fault(rt, fault)?;
+    Ok(Outcome::Answered)
 }
 
 /// Prints a refusal with its number and its name.
-fn refused<P: Print + AllocGlobal>(rt: &P, fault: CallFault) -> Result<()> {
+pub fn tell_fault<P: Print + AllocGlobal>(rt: &P, fault: CallFault) -> Result<()> {
     println!(rt; "refused: {} {fault:?}", fault as u8)?;
     Ok(())
 }
 
-/// Makes the call that the words say, and prints its answer.
+/// Makes the call that the command says, and prints its answer, unless it was refused for memory.
 pub fn perform<R: Wait + Print + AllocGlobal>(
     rt: &R,
     ledger: &SharedLedger,
     recorder: &mut Recorder,
     tasks: &mut Tasks,
-    words: [&str; 8],
-) -> Result<()>
+    command: &mut Command,
+) -> Result<Outcome>
     requires { recorder.old.ledger ≡ ledger_id ledger.now }
     ensures { recorder.new.ledger ≡ recorder.old.ledger }
 {
+    let words = command.words;
     match words[1] {
         "thread_begin" => {
             let kind = thread_kind(words[2])?;
@@ -55,7 +98,7 @@ pub fn perform<R: Wait + Print + AllocGlobal>(
         "implicit_begin" => implicit_begin(rt, recorder, tasks, words),
         "implicit_end" => implicit_end(rt, recorder, tasks, words),
         "create" => create(rt, recorder, tasks, words),
-        "dependences" => list(rt, recorder, tasks, words),
+        "dependences" => list(rt, recorder, tasks, command),
         "schedule" => schedule(rt, ledger, recorder, tasks, words),
         "switch_to" => switch(rt, ledger, recorder, tasks, words),
         "begin" | "end" | "both" => region(rt, ledger, recorder, tasks, words),
@@ -68,7 +111,7 @@ pub fn perform<R: Wait + Print + AllocGlobal>(
 
 /// Prints where the recorder stands: its current task, its innermost root, the task whose dependences it awaits, and the
 /// length that it knew last.
-fn stands<P: Print + AllocGlobal>(rt: &P, recorder: &Recorder) -> Result<()> {
+fn stands<P: Print + AllocGlobal>(rt: &P, recorder: &Recorder) -> Result<Outcome> {
     println!(rt;
         "{:?} {:?} {:?} {}",
         recorder.current(),
@@ -76,7 +119,7 @@ fn stands<P: Print + AllocGlobal>(rt: &P, recorder: &Recorder) -> Result<()> {
         recorder.awaits(),
         recorder.known()
     )?;
-    Ok(())
+    Ok(Outcome::Answered)
 }
 
 /// `T parallel_begin VALUE REGION REQUESTED` and `T parallel_end VALUE REGION`.
@@ -85,21 +128,19 @@ fn parallel<P: Print + AllocGlobal>(
     recorder: &mut Recorder,
     tasks: &mut Tasks,
     words: [&str; 8],
-) -> Result<()>
+) -> Result<Outcome>
     ensures { recorder.new.ledger ≡ recorder.old.ledger }
 {
     let task = tasks.take(words[2])?;
     let region = words[3].parse()?;
-    if words[1] == "parallel_begin" {
+    let answer = if words[1] == "parallel_begin" {
         let requested = words[4].parse()?;
-        tell(
-            rt,
-            recorder.ompt_callback_parallel_begin(&task, region, requested),
-        )?;
+        recorder.ompt_callback_parallel_begin(&task, region, requested)
     } else {
-        tell(rt, recorder.ompt_callback_parallel_end(&task, region))?;
-    }
-    tasks.put(words[2], task)
+        recorder.ompt_callback_parallel_end(&task, region)
+    };
+    tasks.put(words[2], task)?;
+    tell(rt, answer)
 }
 
 /// `T implicit_begin VALUE ID REGION ACTUAL INDEX FLAGS`.
@@ -108,7 +149,7 @@ fn implicit_begin<P: Print + AllocGlobal>(
     recorder: &mut Recorder,
     tasks: &mut Tasks,
     words: [&str; 8],
-) -> Result<()>
+) -> Result<Outcome>
     ensures { recorder.new.ledger ≡ recorder.old.ledger }
 {
     let [_, _, name, id, region, actual, index, flags] = words;
@@ -129,11 +170,11 @@ fn keep<P: Print + AllocGlobal>(
     tasks: &mut Tasks,
     name: &str,
     made: Result<TaskData, CallFault>,
-) -> Result<()> {
+) -> Result<Outcome> {
     match made {
         Ok(task) => {
-            println!(rt; "ok")?;
-            tasks.put(name, task)
+            tasks.put(name, task)?;
+            tell_ok(rt)
         }
         Err(fault) => refused(rt, fault),
     }
@@ -145,19 +186,18 @@ fn implicit_end<P: Print + AllocGlobal>(
     recorder: &mut Recorder,
     tasks: &mut Tasks,
     words: [&str; 8],
-) -> Result<()>
+) -> Result<Outcome>
     ensures { recorder.new.ledger ≡ recorder.old.ledger }
 {
     let task = tasks.take(words[2])?;
     let region = words[3].parse()?;
     match recorder.ompt_callback_implicit_task_end(task, region) {
-        Ok(()) => println!(rt; "ok")?,
+        Ok(()) => tell_ok(rt),
         Err((task, fault)) => {
             tasks.put(words[2], task)?;
-            refused(rt, fault)?;
+            refused(rt, fault)
         }
     }
-    Ok(())
 }
 
 /// `T create VALUE CHILD ID FLAGS [deps]`.
@@ -166,7 +206,7 @@ fn create<P: Print + AllocGlobal>(
     recorder: &mut Recorder,
     tasks: &mut Tasks,
     words: [&str; 8],
-) -> Result<()>
+) -> Result<Outcome>
     ensures { recorder.new.ledger ≡ recorder.old.ledger }
 {
     let [_, _, name, child, id, flags, deps, _] = words;
@@ -182,21 +222,42 @@ fn list<P: Print + AllocGlobal>(
     rt: &P,
     recorder: &mut Recorder,
     tasks: &mut Tasks,
-    words: [&str; 8],
-) -> Result<()>
+    command: &mut Command,
+) -> Result<Outcome>
     ensures { recorder.new.ledger ≡ recorder.old.ledger }
 {
-    let items = dependences(rt.alloc(), words[3])?;
+    let words = command.words;
+    let items = match command.list.take() {
+        Some(items) => items,
+        None => dependences(rt.alloc(), words[3])?,
+    };
     let task = tasks.take(words[2])?;
-    match recorder.ompt_callback_dependences(&task, items) {
-        Ok(()) => println!(rt; "ok")?,
-        Err((items, fault)) => println!(rt;
-            "refused: {} {fault:?}, {} items back",
-            fault as u8,
-            items.len()
-        )?,
+    let answer = recorder.ompt_callback_dependences(&task, items);
+    tasks.put(words[2], task)?;
+    match answer {
+        Ok(()) => tell_ok(rt),
+        Err((items, CallFault::Memory)) => {
+            test_list(rt.alloc(), items.as_slice(), words[3])?;
+            command.list = Some(items);
+            Ok(Outcome::Memory)
+        }
+        Err((items, fault)) => {
+            println!(rt;
+                "refused: {} {fault:?}, {} items back",
+                fault as u8,
+                items.len()
+            )?;
+            Ok(Outcome::Answered)
+        }
     }
-    tasks.put(words[2], task)
+}
+
+/// Tests that the dependences that came back are those of the word.
+fn test_list(alloc: Global, items: &[Dep], word: &str) -> Result<()> {
+    if items != dependences(alloc, word)?.as_slice() {
+        bail!("changed: the dependences that came back");
+    }
+    Ok(())
 }
 
 /// `T schedule VALUE STATUS NEXT`; `-` is no next task.
@@ -206,7 +267,7 @@ fn schedule<R: Wait + Print + AllocGlobal>(
     recorder: &mut Recorder,
     tasks: &mut Tasks,
     words: [&str; 8],
-) -> Result<()>
+) -> Result<Outcome>
     requires { recorder.old.ledger ≡ ledger_id ledger.now }
     ensures { recorder.new.ledger ≡ recorder.old.ledger }
 {
@@ -224,9 +285,10 @@ fn schedule<R: Wait + Print + AllocGlobal>(
     match answer {
         Ok(Some(prior)) => {
             println!(rt; "ok, {:?}", prior.state())?;
-            tasks.put(name, prior)
+            tasks.put(name, prior)?;
+            Ok(Outcome::Answered)
         }
-        Ok(None) => Ok(println!(rt; "ok")?),
+        Ok(None) => tell_ok(rt),
         Err((prior, fault)) => {
             tasks.put(name, prior)?;
             refused(rt, fault)
@@ -241,7 +303,7 @@ fn switch<R: Wait + Print + AllocGlobal>(
     recorder: &mut Recorder,
     tasks: &mut Tasks,
     words: [&str; 8],
-) -> Result<()>
+) -> Result<Outcome>
     requires { recorder.old.ledger ≡ ledger_id ledger.now }
     ensures { recorder.new.ledger ≡ recorder.old.ledger }
 {
@@ -261,13 +323,13 @@ fn region<R: Wait + Print + AllocGlobal>(
     recorder: &mut Recorder,
     tasks: &mut Tasks,
     words: [&str; 8],
-) -> Result<()>
+) -> Result<Outcome>
     requires { recorder.old.ledger ≡ ledger_id ledger.now }
     ensures { recorder.new.ledger ≡ recorder.old.ledger }
 {
     let kind = sync_kind(words[3])?;
     let mut task = tasks.take(words[2])?;
-    match words[1] {
+    let outcome = match words[1] {
         "begin" => tell(
             rt,
             recorder.ompt_callback_sync_region_begin(&mut task, kind, None),
@@ -280,8 +342,9 @@ fn region<R: Wait + Print + AllocGlobal>(
             rt,
             recorder.ompt_callback_sync_region_both(ledger, rt, &mut task, kind, None),
         )?,
-    }
-    tasks.put(words[2], task)
+    };
+    tasks.put(words[2], task)?;
+    Ok(outcome)
 }
 
 /// `T cancel VALUE FLAGS`.
@@ -290,13 +353,14 @@ fn cancel<P: Print + AllocGlobal>(
     recorder: &mut Recorder,
     tasks: &mut Tasks,
     words: [&str; 8],
-) -> Result<()>
+) -> Result<Outcome>
     ensures { recorder.new.ledger ≡ recorder.old.ledger }
 {
     let flags = cancel_flags(words[3])?;
     let task = tasks.take(words[2])?;
-    tell(rt, recorder.ompt_callback_cancel(&task, flags))?;
-    tasks.put(words[2], task)
+    let answer = recorder.ompt_callback_cancel(&task, flags);
+    tasks.put(words[2], task)?;
+    tell(rt, answer)
 }
 
 /// `T discard VALUE FLAGS`.
@@ -306,18 +370,17 @@ fn discard<R: Wait + Print + AllocGlobal>(
     recorder: &mut Recorder,
     tasks: &mut Tasks,
     words: [&str; 8],
-) -> Result<()>
+) -> Result<Outcome>
     requires { recorder.old.ledger ≡ ledger_id ledger.now }
     ensures { recorder.new.ledger ≡ recorder.old.ledger }
 {
     let flags = cancel_flags(words[3])?;
     let task = tasks.take(words[2])?;
     match recorder.ompt_callback_cancel_discarded(ledger, rt, task, flags) {
-        Ok(index) => println!(rt; "ok {index}")?,
+        Ok(index) => tell_number(rt, Ok(index)),
         Err((task, fault)) => {
             tasks.put(words[2], task)?;
-            refused(rt, fault)?;
+            refused(rt, fault)
         }
     }
-    Ok(())
 }

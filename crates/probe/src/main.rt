@@ -2,11 +2,13 @@
 //! with `program TASKS THREADS SEED [hasty]` it runs a random program and prints its trace, and with
 //! `workers N GATE [REFUSED]` and `blocks N SIZE` it checks and reads a trace file by several workers.
 //! Nothing is promised but safety. Begin at `session`, which says what the commands are; `calls` makes the calls of one
-//! recorder, `tasks` keeps the values of tasks, and `words` reads words. `program` runs a random program on threads,
+//! recorder, `tasks` keeps the values of tasks, `answers` notes what recorders and tasks answer, since a call that is
+//! refused for memory must change none of that, and `words` reads words. `program` runs a random program on threads,
 //! whose tasks lie in a `pool`; `times` tells how long calls take. `workers` checks and reads by several workers, which
 //! pass one of the `gates`.
 #![tactic(auto)]
 
+mod answers;
 mod calls;
 mod gates;
 mod pool;

@@ -2,14 +2,14 @@
 ghost use Rattle.std.specs.Prelude.{◌≡◌, All};
 ghost use Rattle.credit_ledger.specs.Places.{ledger_id, seat_id};
 
-use crate::calls::perform;
+use crate::answers::{Answers, ClosedAnswers};
+use crate::calls::{Command, Outcome, perform, tell_fault};
 use crate::tasks::Tasks;
 use crate::words::words_of;
 use anyhow::{Result, bail};
-use callbacks::{Closed, Note, Recorder, close_all, gather};
+use callbacks::{CallFault, Closed, Note, Recorder, close_all, gather};
 use certificate::{ToWrite, write};
 use credit_ledger::{Seat, SharedLedger};
-use std::alloc::Global;
 use std::io::writer;
 use std::sync::Wait;
 
@@ -32,14 +32,19 @@ struct Session {
 /// `new THREAD` makes a recorder; `N note` keeps a note of a recorder, and `N meet M` lets it meet the note with the number
 /// M; `gather` closes all recorders and prints the trace that is gathered from them, and `gather N` leaves those from the
 /// number N on out. After either the next line begins anew.
+///
+/// Where a call of the library is refused for memory, `memory, ` is printed in front of its answer; that of a new ledger
+/// stands in front of the next line. The call must have changed nothing that can be asked for, and the ledger must still
+/// answer; then it is made once more, with the values that came back. The program ends with an error where something has
+/// changed, and where it gets no memory for what it does itself.
 pub fn each<R: Wait + Print + AllocGlobal>(rt: &R, text: &str) -> Result<()> {
-    let mut session = Session::new(rt.alloc())?;
+    let mut session = Session::new(rt)?;
     for line in text.lines() {
         let words = words_of(line);
         print!(rt; "{line}: ")?;
         if words[0] == "gather" {
             session.end(rt, words[1])?;
-            session = Session::new(rt.alloc())?;
+            session = Session::new(rt)?;
         } else {
             session.answer(rt, words)?;
         }
@@ -49,8 +54,16 @@ pub fn each<R: Wait + Print + AllocGlobal>(rt: &R, text: &str) -> Result<()> {
 
 impl Session {
     /// A new ledger, without recorders.
-    fn new(alloc: Global) -> Result<Session> {
-        let (ledger, seat) = SharedLedger::new(alloc)?;
+    fn new<R: Print + AllocGlobal>(rt: &R) -> Result<Session> {
+        let alloc = rt.alloc();
+        let made = match SharedLedger::new(alloc) {
+            Ok(made) => Ok(made),
+            Err(_memory) => {
+                print!(rt; "memory, ")?;
+                SharedLedger::new(alloc)
+            }
+        };
+        let (ledger, seat) = made?;
         Ok(Session {
             ledger,
             seat,
@@ -109,44 +122,119 @@ impl Session {
         Ok(())
     }
 
-    /// A recorder makes a call.
+    /// A recorder makes a call, and makes it again where it is refused for memory.
     fn call<R: Wait + Print + AllocGlobal>(
         &mut self,
         rt: &R,
         number: usize,
         words: [&str; 8],
     ) -> Result<()> {
+        let mut command = Command::new(words);
+        let before = self.answers(rt)?;
+        if self.perform(rt, number, &mut command)? == Outcome::Answered {
+            return Ok(());
+        }
+        self.tell_memory(rt, &before)?;
+        if self.perform(rt, number, &mut command)? == Outcome::Memory {
+            tell_fault(rt, CallFault::Memory)?;
+        }
+        Ok(())
+    }
+
+    /// A recorder makes a call once.
+    fn perform<R: Wait + Print + AllocGlobal>(
+        &mut self,
+        rt: &R,
+        number: usize,
+        command: &mut Command,
+    ) -> Result<Outcome> {
         let Some(recorder) = self.recorders.get_mut(number) else {
             bail!("no such recorder");
         };
-        perform(rt, &self.ledger, recorder, &mut self.tasks, words)
+        perform(rt, &self.ledger, recorder, &mut self.tasks, command)
+    }
+
+    /// What the recorders and the tasks answer, and how long the ledger is.
+    fn answers<R: Wait + AllocGlobal>(&mut self, rt: &R) -> Result<Answers> {
+        let ledger_len = self.ledger.look(rt, &mut self.seat);
+        Answers::of(
+            rt.alloc(),
+            ledger_len,
+            self.recorders.as_slice(),
+            &self.tasks,
+        )
+    }
+
+    /// Prints that a call was refused for memory, and tests that each answer is the one before it.
+    fn tell_memory<R: Wait + Print + AllocGlobal>(
+        &mut self,
+        rt: &R,
+        before: &Answers,
+    ) -> Result<()> {
+        print!(rt; "memory, ")?;
+        self.answers(rt)?.test(before)
     }
 
     /// Closes the recorders below a number, or all of them, and prints the trace.
     fn end<R: Wait + Print + AllocGlobal>(self, rt: &R, upto: &str) -> Result<()> {
+        let mut session = self;
+        if !upto.is_empty() {
+            session.recorders.truncate(upto.parse()?);
+        }
+        let before = session.answers(rt)?;
+        let closed = match session.close(rt) {
+            Ok(closed) => Ok(closed),
+            Err(mut session) => {
+                session.tell_memory(rt, &before)?;
+                session.close(rt)
+            }
+        };
+        match closed {
+            Ok(closed) => print_trace(rt, closed),
+            Err(_session) => tell_fault(rt, CallFault::Memory),
+        }
+    }
+
+    /// Closes all recorders. Where that is refused for memory, the session comes back.
+    fn close<R: Wait + AllocGlobal>(self, rt: &R) -> Result<Closed, Session> {
         let Session {
             ledger,
-            mut recorders,
-            ..
+            seat,
+            recorders,
+            notes,
+            tasks,
         } = self;
-        if !upto.is_empty() {
-            recorders.truncate(upto.parse()?);
-        }
         match close_all(rt.alloc(), ledger, rt, recorders) {
-            Ok(closed) => print_trace(rt, closed),
-            Err((_ledger, _recorders, fault)) => bail!("{fault:?}"),
+            Ok(closed) => Ok(closed),
+            Err((ledger, recorders, _memory)) => Err(Session {
+                ledger,
+                seat,
+                recorders,
+                notes,
+                tasks,
+            }),
         }
     }
 }
 
 /// Prints the trace of closed recorders behind a line `ok`, or why there is none.
 pub fn print_trace<R: Print + AllocGlobal>(rt: &R, closed: Closed) -> Result<()> {
-    match gather(rt.alloc(), closed) {
+    let alloc = rt.alloc();
+    let before = ClosedAnswers::of(alloc, &closed)?;
+    let gathered = match gather(alloc, closed) {
+        Err((closed, CallFault::Memory)) => {
+            print!(rt; "memory, ")?;
+            ClosedAnswers::of(alloc, &closed)?.test(&before)?;
+            gather(alloc, closed)
+        }
+        gathered => gathered,
+    };
+    match gathered {
         Ok(trace) => {
             println!(rt; "ok")?;
-            write(rt.alloc(), &trace, &mut ToWrite::new(writer(rt)))?;
+            write(alloc, &trace, &mut ToWrite::new(writer(rt)))?;
+            Ok(())
         }
-        Err((_closed, fault)) => println!(rt; "refused: {} {fault:?}", fault as u8)?,
+        Err((_closed, fault)) => tell_fault(rt, fault),
     }
-    Ok(())
 }

@@ -3,37 +3,53 @@ use anyhow::{Result, bail};
 use callbacks::TaskData;
 use std::alloc::Global;
 
-/// Values of tasks, each with its name.
+/// Values of tasks, each with its name. The place of a value that is taken stays, with its name, for the next value.
 #[derive(Drop)]
 pub struct Tasks {
-    values: Vec<(String, TaskData)>,
+    places: Vec<(String, Option<TaskData>)>,
 }
 
 impl Tasks {
     /// No value yet.
     pub fn new(alloc: Global) -> Tasks {
         Tasks {
-            values: Vec::new(alloc),
+            places: Vec::new(alloc),
         }
     }
 
     /// The value of this name, which is no longer kept.
     pub fn take(&mut self, name: &str) -> Result<TaskData> {
-        let Some(place) = self
-            .values
-            .iter()
-            .position(|value| value.0.as_str() == name)
-        else {
-            bail!("no value has this name");
-        };
-        let (_, task) = self.values.swap_remove(place);
-        Ok(task)
+        if let Some(place) = self.place(name)
+            && let Some((_, value)) = self.places.get_mut(place)
+            && let Some(task) = value.take()
+        {
+            return Ok(task);
+        }
+        bail!("no value has this name")
     }
 
-    /// Keeps a value under this name.
+    /// Keeps a value under this name. Where a value of this name was taken, it needs no memory.
     pub fn put(&mut self, name: &str, task: TaskData) -> Result<()> {
-        let alloc = *self.values.allocator();
-        self.values.push((name.to_string(alloc)?, task))?;
+        if let Some(place) = self.place(name)
+            && let Some((_, value)) = self.places.get_mut(place)
+        {
+            *value = Some(task);
+            return Ok(());
+        }
+        let alloc = *self.places.allocator();
+        self.places.push((name.to_string(alloc)?, Some(task)))?;
         Ok(())
+    }
+
+    /// The values, each at its place; none where it is taken.
+    pub fn places(&self) -> &[(String, Option<TaskData>)] {
+        self.places.as_slice()
+    }
+
+    /// The place of this name.
+    fn place(&self, name: &str) -> Option<usize> {
+        self.places
+            .iter()
+            .position(|place| place.0.as_str() == name)
     }
 }

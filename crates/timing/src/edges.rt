@@ -2,7 +2,8 @@
 ghost use Rattle.std.specs.Prelude.{◌≡◌};
 ghost use Rattle.task_tree.specs.Paths.{IsTreeOf};
 
-use crate::lines::trace_of_input;
+use crate::lines::{refused, trace_of_input};
+use crate::tree::built;
 use anyhow::{Result, bail};
 use depend_edges::{EdgeFault, Edges};
 use ompt_events::Trace;
@@ -15,17 +16,28 @@ pub fn of_input(rt: &HostRuntime) -> Result<()> {
 }
 
 fn of_trace(rt: &HostRuntime, trace: &Trace) -> Result<()> {
-    match Tree::build(rt.alloc(), trace) {
+    match built(rt, trace)? {
         Ok(tree) => of_tree(rt, trace, &tree),
         Err(_) => bail!("no tree"),
     }
 }
 
-/// Prints the predecessors, or the first record with misplaced dependences.
+/// Prints the predecessors, or the first record with misplaced dependences. Where memory is refused they are found again.
 fn of_tree(rt: &HostRuntime, trace: &Trace, tree: &Tree) -> Result<()>
     requires { IsTreeOf trace.now.records tree.now }
 {
     match Edges::build(rt.alloc(), trace, tree) {
+        Err(EdgeFault::Memory) => {
+            refused(rt)?;
+            tell(rt, Edges::build(rt.alloc(), trace, tree))
+        }
+        answer => tell(rt, answer),
+    }
+}
+
+/// Prints the predecessors, or the first record with misplaced dependences.
+fn tell(rt: &HostRuntime, answer: Result<Edges, EdgeFault>) -> Result<()> {
+    match answer {
         Ok(edges) => of_edges(rt, &edges),
         Err(EdgeFault::Malformed { at, .. }) => {
             println!(rt; "misplaced at {at}")?;
@@ -43,22 +55,36 @@ fn of_edges(rt: &HostRuntime, edges: &Edges) -> Result<()> {
     if own.len() != tasks {
         bail!("there is not one number for each task");
     }
-    let Ok(latest) = edges.latest(own.as_slice()) else {
-        bail!("out of memory");
+    let latest = match edges.latest(own.as_slice()) {
+        Ok(latest) => latest,
+        Err(_) => {
+            refused(rt)?;
+            edges.latest(own.as_slice())?
+        }
     };
     for event in run.records() {
         let Some(task) = event.body.created() else {
             continue;
         };
-        let Ok(predecessors) = edges.of(task) else {
-            bail!("out of memory");
-        };
         let last = match run.index_of(task) {
             Some(index) if index < latest.len() => latest[index],
             _ => 0,
         };
-        println!(rt; "{task}: {predecessors:?}, latest {last}")?;
+        of_task(rt, edges, task, last)?;
     }
+    Ok(())
+}
+
+/// Prints the predecessors of the task, and the last of them.
+fn of_task(rt: &HostRuntime, edges: &Edges, task: u64, last: u64) -> Result<()> {
+    let predecessors = match edges.of(task) {
+        Ok(predecessors) => predecessors,
+        Err(_) => {
+            refused(rt)?;
+            edges.of(task)?
+        }
+    };
+    println!(rt; "{task}: {predecessors:?}, latest {last}")?;
     Ok(())
 }
 

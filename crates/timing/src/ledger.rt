@@ -1,14 +1,14 @@
 //! A ledger of finished tasks, by commands.
-use crate::lines::text_of_input;
+use crate::lines::{refused, text_of_input};
 use crate::shares::path_of;
 use anyhow::{Result, bail};
-use credit_ledger::{Cover, Entry, Ledger, Span};
+use credit_ledger::{Cover, Entry, Ledger, LedgerFault, Span};
 use ompt_events::{Part, Path};
 use std::alloc::Global;
 
 /// Does what each line of standard input says to one ledger, and prints the answer. The words of a command are
 /// `enter ROOT PATH KEPT PART`, `holds UPTO ROOT PATH FROM TO COVER`, `from ROOT PATH NUMBER COVER`, `entry INDEX`,
-/// `len` and `new`; a path is its numbers with commas between them.
+/// `len` and `new`; a path is its numbers with commas between them. A call that is refused memory is made again.
 pub fn each(rt: &HostRuntime) -> Result<()> {
     let text = text_of_input(rt)?;
     let mut ledger = Ledger::new(rt.alloc());
@@ -63,7 +63,14 @@ fn held(rt: &HostRuntime, ledger: &Ledger, upto: &str, span: &Span, cover: &str)
     if span.path.as_slice().len() > 1_024 {
         bail!("the path has more than 1,024 numbers");
     }
-    let held = ledger.holds(upto.parse()?, span, cover_of(cover)?)?;
+    let (upto, cover) = (upto.parse()?, cover_of(cover)?);
+    let held = match ledger.holds(upto, span, cover) {
+        Ok(held) => held,
+        Err(_) => {
+            refused(rt)?;
+            ledger.holds(upto, span, cover)?
+        }
+    };
     println!(rt; "{held}")?;
     Ok(())
 }
@@ -81,8 +88,14 @@ fn held_from(
     if path.len() > 1_024 {
         bail!("the path has more than 1,024 numbers");
     }
-    let cover = cover_of(cover)?;
-    let from = ledger.held_from(root.parse()?, path.as_slice(), number.parse()?, cover)?;
+    let (root, number, cover) = (root.parse()?, number.parse()?, cover_of(cover)?);
+    let from = match ledger.held_from(root, path.as_slice(), number, cover) {
+        Ok(from) => from,
+        Err(_) => {
+            refused(rt)?;
+            ledger.held_from(root, path.as_slice(), number, cover)?
+        }
+    };
     println!(rt; "{from:?}")?;
     Ok(())
 }
@@ -121,14 +134,47 @@ fn cover_of(word: &str) -> Result<Cover> {
     }
 }
 
-/// Enters the entry, and prints its index or the fault.
+/// Enters the entry, and prints its index or the fault. Where memory is refused, the ledger must be as it was and the entry
+/// have come back, which is then entered.
 fn entered(rt: &HostRuntime, ledger: &mut Ledger, entry: Entry) -> Result<()> {
+    let given = format!(in rt.alloc(); "{entry:?}")?;
+    let list = list_of(rt.alloc(), ledger)?;
+    match enter(ledger, entry)? {
+        Err((back, LedgerFault::Memory)) => {
+            if format!(in rt.alloc(); "{back:?}")? != given
+                || list_of(rt.alloc(), ledger)? != list
+            {
+                bail!("the refused call changed the ledger or the entry");
+            }
+            refused(rt)?;
+            tell(rt, enter(ledger, back)?)
+        }
+        answer => tell(rt, answer),
+    }
+}
+
+/// Enters the entry, whose path may be longer than a trace's.
+fn enter(ledger: &mut Ledger, entry: Entry) -> Result<Result<u32, (Entry, LedgerFault)>> {
     if entry.path.as_slice().len() > 1_024 {
         bail!("the path has more than 1,024 numbers");
     }
-    match ledger.enter(entry) {
+    Ok(ledger.enter(entry))
+}
+
+/// Prints the index, or the fault.
+fn tell(rt: &HostRuntime, answer: Result<u32, (Entry, LedgerFault)>) -> Result<()> {
+    match answer {
         Ok(index) => println!(rt; "{index}")?,
         Err((_, fault)) => println!(rt; "{fault:?}")?,
     }
     Ok(())
+}
+
+/// The entries of the ledger, as text.
+fn list_of(alloc: Global, ledger: &Ledger) -> Result<String> {
+    let mut list = String::new(alloc);
+    for index in 0..ledger.len() {
+        list.push_str(format!(in alloc; "{:?}\n", ledger.entry(index))?.as_str())?;
+    }
+    Ok(list)
 }

@@ -12,6 +12,12 @@ pub const HEADER: &str = "{\"format\":\"task-credit-audit\",\"version\":1}\n";
 /// The first line of a trace file of version 2.
 pub const HEADER_WITH_TURNS: &str = "{\"format\":\"task-credit-audit\",\"version\":2}\n";
 
+/// Prints that memory was refused to a call, which is now made again.
+pub fn refused<P: Print>(rt: &P) -> Result<()> {
+    print!(rt; "memory, ")?;
+    Ok(())
+}
+
 /// Standard input to its end.
 pub fn input(rt: &HostRuntime) -> Result<Vec<u8>> {
     let mut bytes = Vec::new(rt.alloc());

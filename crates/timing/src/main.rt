@@ -14,8 +14,10 @@ mod lines;
 mod names;
 mod refusals;
 mod script;
+mod seats;
 mod shared;
 mod shares;
+mod slow;
 mod states;
 mod tables;
 mod tree;
@@ -27,7 +29,7 @@ use std::env;
 
 const WORDS: &str =
     "values, read, write, lines, lines_with_turns, scripts, turns, rise, arrange, names, tables, shares, states, \
-     ledger, devices, refusals, tree, edges, verdict, counters, waits, coverage, open, shared or calls";
+     ledger, seats, devices, refusals, tree, edges, verdict, counters, waits, coverage, open, shared or calls";
 
 /// Does what the word asks for.
 fn run(rt: &HostRuntime, word: &str) -> Result<()> {
@@ -46,7 +48,6 @@ fn run(rt: &HostRuntime, word: &str) -> Result<()> {
         "shares" => shares::each(rt),
         "states" => states::each(rt),
         "ledger" => ledger::each(rt),
-        "devices" => devices::all(rt),
         "refusals" => refusals::all(rt),
         "tree" => tree::of_input(rt),
         "edges" => edges::of_input(rt),
@@ -67,6 +68,8 @@ fn main(rt: HostRuntime) -> Result<()> {
     };
     match word.as_str() {
         "shared" => shared::each(&rt),
+        "seats" => seats::each(&rt),
+        "devices" => devices::all(&rt, &lines::input(&rt)?),
         "calls" => {
             let (Some(kind), Some(count), Some(threads)) = (
                 words.next(),

@@ -3,45 +3,19 @@ ghost use Rattle.std.specs.Prelude.{◌≡◌, IfOk};
 ghost use Rattle.std.specs.Thread.{IsSync};
 
 use crate::device_turns::{Plan, all_turns, are_each_once, are_in_order, enter_one};
+use crate::seats;
 use anyhow::{Result, bail};
-use credit_ledger::{Ledger, LedgerFault, Seat, SharedLedger, Span};
-use ompt_events::Path;
+use credit_ledger::{Ledger, LedgerFault, Seat, SharedLedger};
 use std::alloc::Global;
 use std::sync::{Barrier, Wait};
 use std::thread::{Threads, join};
 
 /// Prints one line for each scenario.
 pub fn each<R: Threads + Wait + Sync + Print + AllocGlobal>(rt: &R) -> Result<()> {
-    in_one_thread(rt)?;
+    seats::each(rt)?;
     at_barriers(rt)?;
     in_eight_threads(rt)?;
     handed_on(rt)
-}
-
-/// Two seats of one thread.
-fn in_one_thread<R: Wait + Print + AllocGlobal>(rt: &R) -> Result<()> {
-    let alloc = rt.alloc();
-    let (ledger, mut first) = SharedLedger::new(alloc)?;
-    let mut second = ledger.split(&mut first);
-    let index = enter_one(rt, alloc, &ledger, &mut first, 1, 0)?;
-    let note = ledger.split(&mut first);
-    let joined = ledger.join(rt, &mut second, note);
-    let looked = ledger.look(rt, &mut second);
-    let span = Span {
-        from: 0,
-        to: 1,
-        root: 1,
-        path: Path::from_vec(Vec::new(alloc)),
-    };
-    let (len, is_held) = ledger.whole(rt, &mut second, &span)?;
-    let mut seats = Vec::new(alloc);
-    seats.push(first)?;
-    seats.push(second)?;
-    let count = ledger.close(rt, seats).len();
-    println!(rt;
-        "one thread: index {index}, joined {joined}, look {looked}, whole ({len}, {is_held}), {count} entry"
-    )?;
-    Ok(())
 }
 
 /// Two threads, each of which enters an entry between two barriers, and looks after the second.

@@ -1,5 +1,8 @@
 //! The tree of a trace's tasks.
-use crate::lines::trace_of_input;
+ghost use Rattle.std.specs.Prelude.{IfOk};
+ghost use Rattle.task_tree.specs.Paths.{IsTreeOf};
+
+use crate::lines::{refused, trace_of_input};
 use anyhow::{Result, bail};
 use ompt_events::Trace;
 use task_tree::{Tree, TreeFault};
@@ -9,9 +12,22 @@ pub fn of_input(rt: &HostRuntime) -> Result<()> {
     of_trace(rt, &trace_of_input(rt)?)
 }
 
+/// The tree of the trace; where memory is refused it is built again.
+pub fn built(rt: &HostRuntime, trace: &Trace) -> Result<Result<Tree, TreeFault>>
+    ensures { IfOk result (λ built. IfOk built (IsTreeOf trace.now.records)) }
+{
+    match Tree::build(rt.alloc(), trace) {
+        Err(TreeFault::Memory) => {
+            refused(rt)?;
+            Ok(Tree::build(rt.alloc(), trace))
+        }
+        built => Ok(built),
+    }
+}
+
 /// Prints the tree, or why there is none.
 fn of_trace(rt: &HostRuntime, trace: &Trace) -> Result<()> {
-    match Tree::build(rt.alloc(), trace) {
+    match built(rt, trace)? {
         Ok(tree) => {
             for task in tree.families().own_family().tasks().as_slice() {
                 of_task(rt, &tree, *task)?;

@@ -1,7 +1,7 @@
 //! What the calls on a trace answer, the order of a yes among them, and the orders that leave a task incomplete.
 ghost use Rattle.std.specs.Prelude.{◌≡◌};
 
-use crate::lines::trace_of_input;
+use crate::lines::{refused, trace_of_input};
 use anyhow::Result;
 use checker::{Order, Verdict, check, counter_order};
 use ompt_events::Trace;
@@ -18,7 +18,14 @@ fn of_trace(rt: &HostRuntime, trace: &Trace) -> Result<()> {
     let gap = gap(trace);
     let target = target(trace);
     println!(rt; "gap {gap:?}, target {target:?}")?;
-    tell(rt, &check(rt.alloc(), trace)?)
+    let verdict = match check(rt.alloc(), trace) {
+        Ok(verdict) => verdict,
+        Err(_) => {
+            refused(rt)?;
+            check(rt.alloc(), trace)?
+        }
+    };
+    tell(rt, &verdict)
 }
 
 /// Prints the verdict, of a yes the places in its order.
@@ -47,11 +54,24 @@ pub fn counters_of_input(rt: &HostRuntime) -> Result<()> {
 fn counters_at(rt: &HostRuntime, trace: &Trace, at: usize) -> Result<()> {
     for event in trace.records() {
         if let Some(task) = event.body.created() {
-            if let Some(order) = counter_order(rt.alloc(), trace, at, task)? {
-                let places = places_of(rt.alloc(), &order)?;
-                println!(rt; "at {at}, task {task}: {places:?}")?;
-            }
+            counter_at(rt, trace, at, task)?;
         }
+    }
+    Ok(())
+}
+
+/// Prints that of one task, where there is one.
+fn counter_at(rt: &HostRuntime, trace: &Trace, at: usize, task: u64) -> Result<()> {
+    let counter = match counter_order(rt.alloc(), trace, at, task) {
+        Ok(counter) => counter,
+        Err(_) => {
+            refused(rt)?;
+            counter_order(rt.alloc(), trace, at, task)?
+        }
+    };
+    if let Some(order) = counter {
+        let places = places_of(rt.alloc(), &order)?;
+        println!(rt; "at {at}, task {task}: {places:?}")?;
     }
     Ok(())
 }

@@ -2,12 +2,13 @@
 ghost use Rattle.std.specs.Prelude.{◌≡◌, ◌<◌, All, IfOk, length};
 ghost use Rattle.task_tree.specs.Paths.{IsTreeOf};
 
-use crate::lines::{trace_of_input, traces_of_input};
+use crate::lines::{refused, trace_of_input, traces_of_input};
+use crate::tree::built;
 use anyhow::{Result, bail};
 use credit_ledger::Ledger;
 use ompt_events::Trace;
 use std::alloc::{AllocError, Global};
-use task_states::{States, run};
+use task_states::{StateFault, States, run};
 use task_tree::Tree;
 use trace_ledger::ledger_of;
 use wait_coverage::{CoverFault, Coverage};
@@ -64,7 +65,7 @@ fn numbers_below(alloc: Global, count: usize) -> Result<Vec<usize>, AllocError>
 }
 
 fn of_trace(rt: &HostRuntime, trace: &Trace) -> Result<()> {
-    match Tree::build(rt.alloc(), trace) {
+    match built(rt, trace)? {
         Ok(tree) => of_tree(rt, trace, &tree),
         Err(_) => bail!("no tree"),
     }
@@ -73,8 +74,20 @@ fn of_trace(rt: &HostRuntime, trace: &Trace) -> Result<()> {
 fn of_tree(rt: &HostRuntime, trace: &Trace, tree: &Tree) -> Result<()>
     requires tree { IsTreeOf trace.now.records tree.now }
 {
+    of_states(rt, trace, tree, &states_of(rt, trace, tree)?)
+}
+
+/// The states of the trace's tasks; where memory is refused they are found again.
+fn states_of<'a>(rt: &HostRuntime, trace: &'a Trace, tree: &'a Tree) -> Result<States<'a>>
+    requires tree { IsTreeOf trace.now.records tree.now }
+    ensures { IfOk result (λ states. states.run.records ≡ trace.now.records) }
+{
     match run(rt.alloc(), trace, tree) {
-        Ok(states) => of_states(rt, trace, tree, &states),
+        Ok(states) => Ok(states),
+        Err(StateFault::Memory) => {
+            refused(rt)?;
+            Ok(run(rt.alloc(), trace, tree)?)
+        }
         Err(_) => bail!("no states"),
     }
 }
@@ -83,7 +96,18 @@ fn of_states(rt: &HostRuntime, trace: &Trace, tree: &Tree, states: &States) -> R
     requires tree { IsTreeOf trace.now.records tree.now }
     requires records { states.now.run.records ≡ trace.now.records }
 {
-    let coverage = match Coverage::build(rt.alloc(), trace, tree, states) {
+    match Coverage::build(rt.alloc(), trace, tree, states) {
+        Err(CoverFault::Memory) => {
+            refused(rt)?;
+            tell(rt, states, Coverage::build(rt.alloc(), trace, tree, states))
+        }
+        answer => tell(rt, states, answer),
+    }
+}
+
+/// Prints what each end waits for, or the first record of a team or a barrier that lacks a member.
+fn tell(rt: &HostRuntime, states: &States, answer: Result<Coverage, CoverFault>) -> Result<()> {
+    let coverage = match answer {
         Ok(coverage) => coverage,
         Err(CoverFault::Malformed { at, .. }) => {
             println!(rt; "short at {at}")?;
@@ -91,21 +115,46 @@ fn of_states(rt: &HostRuntime, trace: &Trace, tree: &Tree, states: &States) -> R
         }
         Err(CoverFault::Memory) => bail!("out of memory"),
     };
-    let ledger = ledger_of(rt.alloc(), states.run())?;
+    let ledger = match ledger_of(rt.alloc(), states.run()) {
+        Ok(ledger) => ledger,
+        Err(_) => {
+            refused(rt)?;
+            ledger_of(rt.alloc(), states.run())?
+        }
+    };
     for number in 0..coverage.ends().len() {
         of_end(rt, &coverage, &ledger, number)?;
     }
     Ok(())
 }
 
+/// Prints what this end waits for, and the task that is unfinished there.
 fn of_end(rt: &HostRuntime, coverage: &Coverage, ledger: &Ledger, number: usize) -> Result<()>
     requires { number < length coverage.now.ends }
 {
     let end = coverage.ends().get(number);
     let cover = coverage.cover(number);
-    let spans = coverage.spans(number)?;
-    let open = coverage.first_open(number, ledger)?;
-    let again = coverage.first_open_all(&[number, number], ledger)?;
+    let spans = match coverage.spans(number) {
+        Ok(spans) => spans,
+        Err(_) => {
+            refused(rt)?;
+            coverage.spans(number)?
+        }
+    };
+    let open = match coverage.first_open(number, ledger) {
+        Ok(open) => open,
+        Err(_) => {
+            refused(rt)?;
+            coverage.first_open(number, ledger)?
+        }
+    };
+    let again = match coverage.first_open_all(&[number, number], ledger) {
+        Ok(again) => again,
+        Err(_) => {
+            refused(rt)?;
+            coverage.first_open_all(&[number, number], ledger)?
+        }
+    };
     println!(rt; "{end:?}: {cover:?} {spans:?} open {open:?}, twice {again:?}")?;
     Ok(())
 }

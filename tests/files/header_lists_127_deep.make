@@ -1,0 +1,2 @@
+"""Prints a header with lists in lists, 127 deep, in a member that is not known."""
+print('{"format":"task-credit-audit","version":1,"more":' + '[' * 127 + ']' * 127 + '}')
