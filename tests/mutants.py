@@ -220,8 +220,9 @@ def header_other(chance, files, data):
 ID_END, SHORT_END = 2**64, 2**32
 ENDS = {'thread': 256, **dict.fromkeys([*reading.SHORT, 'kept', *reading.TURNS], SHORT_END)}
 VALUES = ('null true false 0 1 2 -1 -0 1.0 1e0 0.5 "1" "" "x" [] {} [0] [null] [[0]] {"a":0} 01 +1 .5 1. 1e999 -1e999 '
-          '1e-999 1.7976931348623157e308 1.7976931348623159e308 NaN Infinity "\\u0000" "\\ud800" "\\x" "\t" '
-          '4294967295 4294967296 18446744073709551615 18446744073709551616').split(' ')
+          '1e-999 1.7976931348623157e308 1.7976931348623159e308 NaN Infinity "\\u0000" "\\ud800" "\\udc00\\ud800" '
+          '"\\ud834\\uDD1E" "\\\\ud800" "\\x" "\t" 4294967295 4294967296 18446744073709551615 18446744073709551616'
+          ).split(' ')
 TABLES = {'cb': [*SCRIPTS.MEMBERS], 'status': [*SCRIPTS.STATUSES], 'endpoint': ['begin', 'end', 'beginend'],
           'kind': [*SCRIPTS.REGIONS, 'initial', 'worker', 'other', 'unknown'], 'type': SCRIPTS.DEPENDENCES,
           'flags': [*SCRIPTS.TASK_FLAGS, *SCRIPTS.CANCEL_FLAGS]}

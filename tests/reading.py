@@ -1,10 +1,9 @@
 """What comes of reading a trace file, by docs/FORMAT.md: the first faulty line and its cause, or the version and the
-records. `script_files` has the model of what a JSON text is, and of the members of each callback. No file here has more
-records or tasks than there may be. docs/FORMAT.md does not say what half of a surrogate pair is (`is_unsaid`)."""
+records. `script_files` has the model of what a JSON text is, and of the members of each callback. How many records and
+tasks there may be is left out: a file that is over these limits is too long for a mutant."""
 import importlib.machinery
 import importlib.util
 import os
-import re
 
 from model import DEMANDS_NEXT
 from upgrade_model import finishes
@@ -28,11 +27,6 @@ def script(name):
 
 
 SCRIPTS = script('script_files')
-
-
-def is_unsaid(data):
-    """Whether an escape may be the half of a surrogate pair."""
-    return re.search(rb'\\u[dD][89a-fA-F]', data) is not None
 
 
 def version_of(value):
