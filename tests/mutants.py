@@ -20,9 +20,10 @@ import upgrade_model
 from changes import (CHANGES, TASKS, changed, changed_with_turns, created_late, entries_exchanged, entry_twice,
                      finishes, flags_other, implied_turns, numbered, run_too_soon)
 from reading import LONGEST, LONGEST_PATH, MOST_DEPENDENCES, SCRIPTS
+from scripts import script
 
 HERE = os.path.dirname(os.path.abspath(__file__))
-RUN, COMPARE = reading.script('run'), reading.script('compare')
+RUN, COMPARE = script('run'), script('compare')
 # What is taken of files, and how long a mutant may get: longer ones are not changed any more.
 MOST_BYTES, MOST_MUTATED = 65536, 2**18
 MOST_RECORDS = 200

@@ -1,14 +1,12 @@
 """What comes of reading a trace file, by docs/FORMAT.md: the first faulty line and its cause, or the version and the
 records. `script_files` has the model of what a JSON text is, and of the members of each callback. How many records and
 tasks there may be is left out: a file that is over these limits is too long for a mutant."""
-import importlib.machinery
-import importlib.util
 import os
 
 from model import DEMANDS_NEXT
+from scripts import script
 from upgrade_model import finishes
 
-HERE = os.path.dirname(os.path.abspath(__file__))
 LONGEST, SHORT_END, LAST_THREAD, LONGEST_PATH, MOST_DEPENDENCES = 65536, 2**32, 255, 1024, 64
 SHORT = ('seq', 'seen', 'requested', 'actual', 'index')
 CLAIM, TURNS = {'root': int, 'path': [int], 'kept': int}, {'prior_turn': int, 'next_turn': int}
@@ -16,14 +14,6 @@ CLAIM, TURNS = {'root': int, 'path': [int], 'kept': int}, {'prior_turn': int, 'n
 
 class Fault(Exception):
     """A line that cannot be read, with its cause."""
-
-
-def script(name):
-    """A script of tests/, as a module."""
-    loader = importlib.machinery.SourceFileLoader(name, os.path.join(HERE, name))
-    module = importlib.util.module_from_spec(importlib.util.spec_from_loader(name, loader))
-    loader.exec_module(module)
-    return module
 
 
 SCRIPTS = script('script_files')
