@@ -1,8 +1,6 @@
 """What comes of reading a trace file, by docs/FORMAT.md: the first faulty line and its cause, or the version and the
 records. `script_files` has the model of what a JSON text is, and of the members of each callback. How many records and
 tasks there may be is left out: a file that is over these limits is too long for a mutant."""
-import os
-
 from model import DEMANDS_NEXT
 from scripts import script
 from upgrade_model import finishes
