@@ -1,5 +1,5 @@
 -- How a round ends, and what is told of the source.
-use Rattle.std.proofs.Common.{◌≡◌, ◌≢◌, ℕ, ◌<◌, ◌≤◌, List, [], ◌∷◌, length, Option, Some, None, Ok, Err, arith, refl, ap, ◌∙◌, subst, eq-eqb}
+use Rattle.std.proofs.Common.{◌≡◌, ◌≢◌, ℕ, ◌<◌, ◌≤◌, List, [], ◌∷◌, length, Option, Some, None, Ok, Err, arith, refl, eq-eqb}
 use Rattle.std.specs.Prelude.{IfSome}
 use Rattle.std.specs.Io.KnownBytes.{IsAtEnd}
 use Rattle.ompt_events.specs.Traces.{TraceView}
@@ -7,13 +7,11 @@ use Rattle.certificate.specs.declared.faults.ReadCause.{ReadCause}
 use Rattle.certificate.specs.declared.faults.ReadFault.{ReadFault}
 use Rattle.certificate.specs.declared.faults.ReadCause.TheVariants.{Device, Memory, Header, LineTooLong, NotJson, Field, Limit, Unended, TurnsSpent}
 use Rattle.certificate.specs.Limits.{max_line, newest_version}
-use Rattle.certificate.specs.Counts.{TakesTurns, breaks_told}
 use Rattle.certificate.specs.Formats.{said, fault_in}
 use Rattle.certificate.specs.Files.{traces, file_says_to}
 use Rattle.certificate.specs.Windows.{LineFeedAt}
 use Rattle.certificate.specs.Blocks.{IsFillFault}
-use Rattle.certificate.specs.ReadingOn.{IsBetweenLines, IsToldWithin, IsToldInRoom, IsAnswerInRoom, ReadsAhead}
-use Rattle.certificate.proofs.CountLemmas.{TakesTurns-more}
+use Rattle.certificate.specs.ReadingOn.{IsBetweenLines, IsToldWithin, IsToldInRoom, IsAnswerInRoom}
 use Rattle.certificate.proofs.LawLemmas.{faultless-before}
 use Rattle.certificate.proofs.ReadingLemmas.{IsAfter-long, IsAfter-device, IsAfter-unended, IsAfter-none_first, IsAfter-none}
 use Rattle.certificate.proofs.PieceLemmas.{no_memory}
@@ -71,19 +69,3 @@ pub answer_trace : (known : Option (List ℕ)) (room : ℕ) (trace : TraceView) 
 unfolding file_says_to
 answer_trace None room trace left says = tt
 answer_trace (Some bytes) room trace left says = says
-
--- ---- what the source did
-
--- a round more
-pub ReadsAhead-more : (told : Option ReadCause) (t t' t'' a a' a'' b b' b'' : ℕ) → TakesTurns None t t' a a' → b' ≡ b → ReadsAhead told t' t'' a' a'' b' b'' → ReadsAhead told t t'' a a'' b b''
-ReadsAhead-more told t t' t'' a a' a'' b b' b'' first same more = record {
-  met = more.met;
-  taken = TakesTurns-more more.met t t' t'' a a' a'' first more.taken;
-  broken = more.broken ∙ ap (breaks_told more.met) same;
-  told_after = more.told_after;
-}
-
--- after a round that is not the last one, no turn is wanting, and the source has not broken
-pub ReadsAhead-none : (t t' a a' b b' : ℕ) → ReadsAhead None t t' a a' b b' → TakesTurns None t t' a a' × (b' ≡ b)
-ReadsAhead-none t t' a a' b b' reads =
-    (subst (λ (met : Option ReadCause). TakesTurns met t t' a a') reads.told_after reads.taken, reads.broken ∙ ap (λ met. breaks_told met b) reads.told_after)

@@ -32,10 +32,6 @@ pub record IsPut {X : Type 0} (f : X → Data) (left : List X) (later : Bool) (s
   pub puts : Puts start now done
   pub rest : done ++ items_text later (items_of (map f left)) ≡ whole
 
--- nothing is put but what stands before the items
-pub IsPut-none : {X : Type 0} (f : X → Data) (xs : List X) (start now text : List ℕ) → Puts start now (text ++ (91 ∷ [])) → IsPut f xs false start now (text ++ (91 ∷ items_text false (items_of (map f xs))))
-IsPut-none f xs start now text puts = record { done = text ++ (91 ∷ []); puts = puts; rest = append_assoc text (91 ∷ []) (items_text false (items_of (map f xs))) }
-
 pub item-more : {X : Type 0} (f : X → Data) (x : X) (left : List X) (later : Bool) (done whole : List ℕ) → done ++ items_text later (items_of (map f (x ∷ left))) ≡ whole
     → (done ++ (comma_if later ++ compact_text (f x))) ++ items_text true (items_of (map f left)) ≡ whole
 item-more f x left later done whole rest =
@@ -55,19 +51,6 @@ IsPut-more f x left later start now new whole before puts = record {
   puts = Puts-both start now new before.done (comma_if later ++ compact_text (f x)) before.puts puts;
   rest = item-more f x left later before.done whole before.rest;
 }
-
-pub IsPut-next : {X : Type 0} (f : X → Data) (xs : List X) (i : ℕ) (x : X) (later : Bool) (start now new whole : List ℕ) → i < length xs → x ≡ get_or xs i x → IsPut f (drop i xs) later start now whole → Puts now new (comma_if later ++ compact_text (f x))
-    → IsPut f (drop (i + 1) xs) true start new whole
-IsPut-next f xs i x later start now new whole within read before puts =
-    let left : drop i xs ≡ x ∷ drop (i + 1) xs = drop_more xs i x within ∙ ap (λ y. y ∷ drop (i + 1) xs) (sym read) in
-    IsPut-more f x (drop (i + 1) xs) later start now new whole (rw left at before) puts
-
--- all items are put, and the bracket
-pub Puts-all : {X : Type 0} (f : X → Data) (xs : List X) (i : ℕ) (later : Bool) (start now new whole : List ℕ) → length xs ≤ i → IsPut f (drop i xs) later start now whole → Puts now new (93 ∷ []) → Puts start new whole
-Puts-all f xs i later start now new whole past before puts =
-    let none : drop i xs ≡ [] = drop_all i xs past in
-    let all : IsPut f [] later start now whole = (rw none at before) in
-    Puts-same start new (all.done ++ (93 ∷ [])) whole (sym all.rest) (Puts-both start now new all.done (93 ∷ []) all.puts puts)
 
 -- ---- names of flags
 

@@ -1,5 +1,5 @@
 -- How pieces are put together behind what was kept before them.
-use Rattle.std.proofs.Common.{◌≡◌, ℕ, ◌+◌, ◌-◌, ◌≤◌, List, [], ◌∷◌, ◌++◌, length, Option, Some, None, Result, Ok, Err, arith, refl, sym, ap, ◌∙◌, subst, append-nil, append_assoc, length-append}
+use Rattle.std.proofs.Common.{◌≡◌, ℕ, ◌+◌, ◌≤◌, List, [], ◌∷◌, ◌++◌, length, Option, Some, None, Result, Ok, Err, arith, refl, sym, ap, ◌∙◌, subst, append-nil, append_assoc, length-append}
 use Rattle.std.specs.Prelude.{All, IfSome, OnOk}
 use Rattle.std.specs.Result.{result_err}
 use Rattle.ompt_events.specs.declared.records.Record.{Record}
@@ -9,10 +9,10 @@ use Rattle.certificate.specs.declared.faults.ReadCause.TheVariants.{Device, Memo
 use Rattle.certificate.specs.declared.pieces.Piece.{Piece}
 use Rattle.certificate.specs.Formats.{line_feeds}
 use Rattle.certificate.specs.Keeping.{HaveRoom, IsWhyNot, KeepsFirst}
-use Rattle.certificate.specs.Pieces.{BeginsWithRecords, IsFaultOf, AreRecordsOf, IsJudged, AreJudged}
-use Rattle.certificate.specs.ReadingOn.{IsBetweenLines, IsToldWithin, IsLineFault, IsJudgedUpTo}
+use Rattle.certificate.specs.Pieces.{BeginsWithRecords, AreRecordsOf, IsJudged, AreJudged}
+use Rattle.certificate.specs.ReadingOn.{IsBetweenLines, IsToldWithin, IsJudgedUpTo}
 use Rattle.certificate.proofs.ReadingLemmas.{line_feeds-append}
-use Rattle.certificate.proofs.PieceLemmas.{BeginsWithRecords-split, BeginsWithRecords-length, BeginsWithRecords-line_feeds, BeginsWithRecords-sound, IsBetween-records, no_room_line, no_memory, piece_fault, no_text_cause}
+use Rattle.certificate.proofs.PieceLemmas.{BeginsWithRecords-split, BeginsWithRecords-length, BeginsWithRecords-line_feeds, BeginsWithRecords-sound, IsBetween-records, no_room_line, no_memory, piece_fault}
 
 -- ---- one piece
 
@@ -88,34 +88,6 @@ kept_lines count old new rs bytes keeps read =
     let all = kept_all old new rs count keeps in
     omega (arith, all.all, BeginsWithRecords-line_feeds old.version rs bytes [] read)
 
-pub kept_counted : (n count : ℕ) (old new : TraceView) (rs : List Record) → 2 ≤ n → length old.records ≡ n - 2 → KeepsFirst old rs count None new → (length new.records ≡ n + count - 2) × (new.version ≡ old.version)
-kept_counted n count old new rs low counted keeps =
-    let all = kept_all old new rs count keeps in
-    (omega (arith, ap (λ (t : TraceView). length t.records) all.kept, length-append old.records rs, all.all), ap (λ (t : TraceView). t.version) all.kept)
-
--- what a piece may tell
-pub why_is_line : (cause : ReadCause) (before rest : List Record) → IsWhyNot (Some cause) before rest → IsLineFault cause
-why_is_line Memory before rest why = tt
-why_is_line Limit before rest why = tt
-why_is_line Device before rest why = absurd why
-why_is_line Header before rest why = absurd why
-why_is_line LineTooLong before rest why = absurd why
-why_is_line NotJson before rest why = absurd why
-why_is_line Field before rest why = absurd why
-why_is_line Unended before rest why = absurd why
-why_is_line TurnsSpent before rest why = absurd why
-
-pub fault_is_line : (version : ℕ) (cause : ReadCause) (bytes : List ℕ) → IsFaultOf version cause bytes → IsLineFault cause
-fault_is_line version Memory bytes is = tt
-fault_is_line version Limit bytes is = tt
-fault_is_line version Header bytes is = tt
-fault_is_line version LineTooLong bytes is = tt
-fault_is_line version NotJson bytes is = tt
-fault_is_line version Field bytes is = tt
-fault_is_line version Unended bytes is = tt
-fault_is_line version Device bytes is = absurd (no_text_cause 2 (record { version = version; records = [] }) Device bytes (λ same. absurd (omega arith)) is)
-fault_is_line version TurnsSpent bytes is = absurd (no_text_cause 2 (record { version = version; records = [] }) TurnsSpent bytes (λ same. absurd (omega arith)) is)
-
 -- the answer after all records of a piece are kept
 pub piece_told : (known : Option (List ℕ)) (n room count : ℕ) (old new : TraceView) (rs : List Record) (fault : Option ReadCause) (r : Result (Unit {0}) ReadCause) (bytes more : List ℕ) (left : Option (List ℕ)) → 2 ≤ n → KeepsFirst old rs count None new → fault ≡ result_err r → AreRecordsOf old.version bytes rs fault → length (bytes ++ more) ≤ room
     → IsBetweenLines known n old (bytes ++ more) left → IsJudgedUpTo r known (n + count) new more room left
@@ -140,10 +112,6 @@ pub record Joins (n : ℕ) (kept : TraceView) (bytes : List ℕ) (n' : ℕ) (kep
   pub shorter : length later ≤ length bytes
   pub lines : n' + line_feeds later ≡ n + line_feeds bytes
   pub between : (more : List ℕ) (known left : Option (List ℕ)) → IsBetweenLines known n kept (bytes ++ more) left → IsBetweenLines known n' kept' (later ++ more) left
-
--- nothing is joined yet
-pub Joins-none : (n : ℕ) (kept : TraceView) (bytes : List ℕ) (pieces : List Piece) → AreJudged kept.version pieces bytes → Joins n kept bytes n kept pieces
-Joins-none n kept bytes pieces judged = record { later = bytes; judged = judged; shorter = omega arith; lines = refl; between = λ more known left now. now }
 
 -- one piece more
 pub Joins-piece : (n : ℕ) (kept : TraceView) (bytes : List ℕ) (n' n'' : ℕ) (kept' kept'' : TraceView) (piece : Piece) (pieces : List Piece) → kept''.version ≡ kept'.version

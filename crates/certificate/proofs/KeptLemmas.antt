@@ -1,5 +1,5 @@
 -- One record more among those that are kept, and the first ones of them.
-use Rattle.std.proofs.Common.{◌≡◌, ℕ, ◌+◌, ◌<◌, ◌≤◌, ◌⊎◌, refl, List, [], ◌∷◌, ◌++◌, length, take, drop, cond, arith, ap, sym, ◌∙◌, length-take}
+use Rattle.std.proofs.Common.{◌≡◌, ℕ, ◌+◌, ◌<◌, ◌≤◌, List, [], ◌∷◌, ◌++◌, length, take, drop, cond, arith, ap, sym, ◌∙◌, length-take}
 use Rattle.std.specs.Prelude.{is_some}
 use Rattle.std.proofs.lemmas.List.{length_push, take-append-drop}
 use Rattle.std.proofs.lemmas.List.Elements.{All-push, All-take}
@@ -26,17 +26,6 @@ IsKept-more version rs r tasks more kept sound in_range room counted few =
       };
       counted = counted ∙ ap (λ n. n + cond (is_some (made r.body)) 1 0) kept.counted ∙ sym same;
     }
-
--- no record of a trace of a version that is known
-pub IsKept-none : (version : ℕ) → (version ≡ 1) ⊎ (version ≡ 2) → IsKept version [] 0
-IsKept-none version known = record {
-  trace = record {
-    known = known;
-    is_trace = record { few_records = omega arith; few_tasks = omega arith; sound = λ k d h. absurd (omega arith); in_range = λ k d h. absurd (omega arith) };
-    turns = λ k d h. absurd (omega arith);
-  };
-  counted = refl;
-}
 
 IsTrace-take : (n : ℕ) (rs : List Record) → IsTrace rs → IsTrace (take n rs)
 IsTrace-take n rs trace =

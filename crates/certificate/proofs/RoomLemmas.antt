@@ -1,5 +1,5 @@
 -- Room for records behind others.
-use Rattle.std.proofs.Common.{◌≡◌, ℕ, ◌+◌, ◌<◌, ◌≤◌, Bool, List, [], ◌∷◌, ◌++◌, length, Result, Ok, Err, true, false, cond, arith, refl, sym, ap, append_assoc, append-nil, length-append}
+use Rattle.std.proofs.Common.{◌≡◌, ℕ, ◌+◌, ◌<◌, ◌≤◌, Bool, List, [], ◌∷◌, ◌++◌, length, Ok, Err, true, false, cond, arith, refl, sym, ap, append_assoc, append-nil, length-append}
 use Rattle.std.specs.Prelude.{All, is_some}
 use Rattle.std.proofs.lemmas.Bool.{ltb-true}
 use Rattle.std.proofs.lemmas.Bool.Decides.{nat_tests}
@@ -9,7 +9,6 @@ use Rattle.ompt_events.specs.declared.records.Record.{Record}
 use Rattle.ompt_events.specs.Records.{made}
 use Rattle.ompt_events.specs.Limits.{max_records, max_tasks}
 use Rattle.ompt_events.specs.Traces.{TraceView, IsSoundIn, HasItsTurns, IsInRange, IsSound, tasks_in}
-use Rattle.certificate.specs.declared.faults.ReadCause.{ReadCause}
 use Rattle.certificate.specs.declared.faults.ReadCause.TheVariants.{Limit}
 use Rattle.certificate.specs.Files.{has_room, with_record}
 use Rattle.certificate.specs.Keeping.{IsKept, HaveRoom}
@@ -51,13 +50,6 @@ with_record-ok before after r h = by (has_room before.records r) refl h
     by : (b : Bool) → has_room before.records r ≡ b → Ok after ≡ cond b (Ok (record { version = before.version; records = before.records ++ r ∷ [] })) (Err Limit) → (has_room before.records r ≡ true) × (after ≡ record { version = before.version; records = before.records ++ r ∷ [] })
     by true is e = (is, let same : after ≡ record { version = before.version; records = before.records ++ r ∷ [] } = cc in same)
     by false is e = absurd (ok_not_err after Limit e)
-
-pub with_record-err : (before : TraceView) (r : Record) (cause : ReadCause) → Err cause ≡ with_record before (Ok r) → (has_room before.records r ≡ false) × (cause ≡ Limit)
-with_record-err before r cause h = by (has_room before.records r) refl h
-  where
-    by : (b : Bool) → has_room before.records r ≡ b → ◌≡◌ {A = Result TraceView ReadCause} (Err cause) (cond b (Ok (record { version = before.version; records = before.records ++ r ∷ [] })) (Err Limit)) → (has_room before.records r ≡ false) × (cause ≡ Limit)
-    by true is e = absurd (ok_not_err _ cause (sym e))
-    by false is e = (is, let same : cause ≡ Limit = cc in same)
 
 -- many records more at a time
 pub IsKept-append : (version : ℕ) (before rs : List Record) (tasks more : ℕ) → IsKept version before tasks → All (λ r. IsSoundIn version r.body) rs → All IsInRange rs → more ≡ tasks_in rs → length before + length rs ≤ max_records → tasks + more ≤ max_tasks → IsKept version (before ++ rs) (tasks + more)

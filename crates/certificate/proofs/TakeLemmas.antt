@@ -65,10 +65,6 @@ same-half rest text at within_rest within_text low_rest low_text half same =
     (same_half (take 4 (drop at rest)) (take 4 (drop at text)) (omega (arith, length-take 4 (drop at rest), length-drop at rest)) (omega (arith, length-take 4 (drop at text), length-drop at text)) (low-take 4 (drop at rest) (low-drop at rest low_rest)) (low-take 4 (drop at text) (low-drop at text low_text)) half)
     same
 
-pub same-byte : (rest text : List ℕ) (at : ℕ) → at < length rest → at < length text → get_or rest at 0 ≡ get_or text at 0 → take at rest ≡ take at text → take (at + 1) rest ≡ take (at + 1) text
-same-byte rest text at within_rest within_text byte same =
-    take_more rest at 0 within_rest ∙ ap (λ b. take at rest ++ (b ∷ [])) byte ∙ ap (λ front. front ++ (get_or text at 0 ∷ [])) same ∙ sym (take_more text at 0 within_text)
-
 pub Takes-front : (rest text : List ℕ) (at : ℕ) → length text ≤ at → take at rest ≡ take at text → Takes rest text (take (length rest - at) (drop at rest))
 Takes-front rest text at past same = rw take_rest (record { is = sym (take-append-drop at rest) ∙ ap (λ front. front ++ drop at rest) (same ∙ take_all at text past) })
 

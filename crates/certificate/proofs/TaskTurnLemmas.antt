@@ -11,7 +11,7 @@ use Rattle.std.proofs.lemmas.List.Folds.{list_any_more}
 use Rattle.std.proofs.lemmas.List.Sums.{count_by_more_yes, count_by_more_no, count_by-le-length, fold-append}
 use Rattle.std.proofs.lemmas.List.Elements.{filter-append}
 use Rattle.std.proofs.lemmas.Option.{none-some, same_Some, slice_get_within, get_or_from_slice_get}
-use Rattle.std.proofs.Math.Seq.{take-length, take-suc-set}
+use Rattle.std.proofs.Math.Seq.{take-suc-set}
 use Rattle.ompt_events.specs.declared.records.Record.{Record}
 use Rattle.ompt_events.specs.declared.records.Body.{Body}
 use Rattle.ompt_events.specs.declared.records.Body.TheVariants.{TaskSchedule}
@@ -20,7 +20,6 @@ use Rattle.ompt_events.specs.Records.{begun_root, started, begun_turn}
 use Rattle.ompt_events.specs.Turns.{turn_in, turn_after}
 use Rattle.ompt_events.specs.Places.{at, thread_at}
 use Rattle.ompt_events.specs.States.{is_task, is_made_so}
-use Rattle.ompt_events.proofs.PlaceLemmas.{at_within}
 use Rattle.certificate.specs.declared.task_turns.TaskTurns.{TaskTurns}
 use Rattle.ompt_events.specs.Upgrades.{Moves, turn_counted, telling}
 use Rattle.certificate.specs.TaskTurns.{no_turns, first_turn, noted, with_begin, with_start, with_turn, one_later, turn_ended, IsElsewhere, IsAtHome, AreHomes, AreTurns, AreEnded, turns_told, told_by}
@@ -174,14 +173,6 @@ turn_few rs task i short =
     let long = length-take-le i rs short in
     omega (arith, first, starts, long)
 
-pub turns_begin : (rs : List Record) (table : BTreeMap ℕ TaskTurns) → AreHomes rs (length rs) table → AreTurns rs 0 table
-turns_begin rs table are = record {
-  at_home = λ task k ran. are.at_home task k (at_within started rs k task ran) ran;
-  next = λ task.
-      let first : (noted table task).next ≡ first_turn rs task = are.first task ∙ ap (λ (xs : List Record). first_turn xs task) (take-length rs) in
-      omega (arith, first);
-}
-
 -- after how many of these records the task runs next
 abbrev starts_in : ℕ → List Record → ℕ
 starts_in task rs = count_by (λ (r : Record). is_task task (started r.body)) rs
@@ -259,14 +250,6 @@ told_not table r still = by r.body refl still
 
 end_at : (t : TaskTurns) (thread home : ℕ) → t.home ≡ Some home → turn_ended t thread ≡ cond (home == thread) (t.next - 1) 0
 end_at t thread home lives = ap (λ (o : Option ℕ). cond (option_map_or (λ h. h == thread) o false) (t.next - 1) 0) lives
-
--- before the first record no turn has ended
-pub ended_none : (rs : List Record) (table : BTreeMap ℕ TaskTurns) → AreHomes rs (length rs) table → AreEnded rs 0 table
-ended_none rs table are = λ task thread. by task (option_map_or (λ home. home == thread) (noted table task).home false)
-  where
-    by : (task : ℕ) (b : Bool) → 0 ≡ cond b ((noted table task).next - 1) 0
-    by task true = let first = are.first task in let few = first_few (take (length rs) rs) task in omega (arith, first, few)
-    by task false = refl
 
 -- the turn in which the task is after the record at n, on a thread
 ended_by : (rs : List Record) (n : ℕ) (r : Record) (old new : BTreeMap ℕ TaskTurns) → slice_get rs n ≡ Some r → AreTurns rs n old → ((task : ℕ) → noted new task ≡ with_turn task r (noted old task)) → (task thread : ℕ) (b : Bool) → (r.thread == thread) ≡ b → fold (turn_after task) (turn_ended (noted old task) thread) (cond b (told_by old r ∷ []) []) ≡ turn_ended (noted new task) thread

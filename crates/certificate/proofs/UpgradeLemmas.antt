@@ -1,6 +1,6 @@
 -- Records that are told their turns are a trace of version 2, and an upgrade.
 use Rattle.std.proofs.Common.{◌≡◌, ◌≢◌, ◌∙◌, ℕ, ◌<◌, ◌≤◌, ◌+◌, ◌-◌, ◌^◌, suc, List, [], ◌∷◌, length, take, get_or, Option, Some, None, Bool, true, false, cond, refl, sym, ap, subst, arith, inl, inr}
-use Rattle.std.specs.Prelude.{slice_get, slice_set, is_some, All, sum_by, filter, ◌==◌, if◌then◌else◌}
+use Rattle.std.specs.Prelude.{slice_get, slice_set, is_some, sum_by, filter, ◌==◌, if◌then◌else◌}
 use Rattle.std.specs.Option.{option_map_or}
 use Rattle.std.specs.BTreeMap.{BTreeMap}
 use Rattle.std.proofs.lemmas.Bool.{cases_eq, cases_lt}
@@ -111,14 +111,6 @@ told_in_range old n r table short few are in_range = by r.body refl
     by _ is = in_range
 
 -- ---- the records so far
-
-pub upgraded_none : (rs : List Record) → All IsInRange rs → IsUpgradedUpTo rs 0 rs
-upgraded_none rs in_range = record {
-  all = refl;
-  each = λ i r below stands. absurd (omega (arith, below));
-  rest = λ i past. refl;
-  in_range = λ i s is. subst IsInRange (get_or_from_slice_get rs i s s is) (in_range i s (slice_get_within rs i s is));
-}
 
 pub upgraded_more : (old now : List Record) (n : ℕ) (r : Record) (table : BTreeMap ℕ TaskTurns) → slice_get old n ≡ Some r → length old ≤ max_records → IsSound r.body → AreTurns old n table → AreEnded now n table → IsUpgradedUpTo old n now → IsUpgradedUpTo old (n + 1) (slice_set now n (told_by table r))
 upgraded_more old now n r table stands few sound are ended before =

@@ -3,7 +3,7 @@ use Rattle.std.proofs.Common.{◌≡◌, ℕ, ◌+◌, ◌-◌, ◌<◌, ◌≤�
 use Rattle.std.specs.Io.KnownBytes.{Consumes, Keeps, prepend_known}
 use Rattle.memchr.specs.Find.{IsFirstByte, is_byte}
 use Rattle.std.specs.Prelude.{slice_range}
-use Rattle.std.proofs.Math.Seq.{take-add, take-append-add, take-append_seam}
+use Rattle.std.proofs.Math.Seq.{take-add}
 use Rattle.std.proofs.lemmas.Bool.{cases_lt}
 use Rattle.std.proofs.lemmas.List.{get_or-drop, get_or-take, drop-take, drop-drop}
 use Rattle.certificate.specs.Windows.{IsWindow}
@@ -36,15 +36,6 @@ pub slice_range-parts : (xs : List ℕ) (n e : ℕ) → n ≤ e → slice_range 
 slice_range-parts xs n e le =
     let whole : n + (e - n) ≡ e = omega arith in
     ap (slice_range xs 0) (sym whole) ∙ slice_range-more xs 0 n (e - n) (omega arith)
-
--- bytes that were put in front
-pub slice_range-put : (xs given ys : List ℕ) (n : ℕ) → given ≡ xs → length xs ≤ n → slice_range (take n (given ++ ys)) 0 (length xs) ≡ xs
-slice_range-put xs given ys n same few =
-    let size : length given ≡ length xs = ap length same in
-    let low : n ≡ length given + (n - length given) = omega arith in
-    let rest = take (n - length given) ys in
-    let whole : length xs - 0 ≡ length xs = omega arith in
-    ap (λ k. take k (take n (given ++ ys))) whole ∙ ap (λ k. take (length xs) (take k (given ++ ys))) low ∙ ap (take (length xs)) (take-append-add given ys (n - length given)) ∙ ap (λ k. take k (given ++ rest)) (sym size) ∙ take-append_seam given rest ∙ same
 
 -- behind the same front
 pub slice_range-same_front : (xs ys : List ℕ) (s e : ℕ) → s ≤ e → take e ys ≡ take e xs → slice_range ys s e ≡ slice_range xs s e
@@ -109,12 +100,6 @@ pub Keeps-given : (known known' : Option (List ℕ)) (w given : List ℕ) → Co
 Keeps-given None known' w given h = tt
 Keeps-given (Some xs) None w given h = absurd h
 Keeps-given (Some xs) (Some ys) w given h = fills_known w given xs ys h
-
--- nothing was given
-pub Keeps-nothing : (known known' : Option (List ℕ)) (w : List ℕ) → Keeps known known' → Keeps (prepend_known w known) (prepend_known w known')
-Keeps-nothing None known' w h = tt
-Keeps-nothing (Some xs) None w h = absurd h
-Keeps-nothing (Some xs) (Some ys) w h = ap (λ l. w ++ l) h
 
 -- as a window is filled
 pub Keeps-filled : (known known' : Option (List ℕ)) (now old new : List ℕ) (s e n : ℕ) → s ≤ e → take e new ≡ take e old → slice_range old s e ≡ now → Consumes known known' (take n (drop e new)) → Keeps (prepend_known now known) (prepend_known (slice_range new s (e + n)) known')

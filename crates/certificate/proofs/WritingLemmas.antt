@@ -3,7 +3,7 @@ use Rattle.std.proofs.Common.{ℕ, ◌≡◌, ◌<◌, ◌≤◌, ◌+◌, List,
 use Rattle.std.proofs.lemmas.Grind.{flat_map-append}
 use Rattle.std.proofs.lemmas.List.{map-append, take_more, take_all, take-append-drop}
 use Rattle.std.specs.Prelude.{OnErr}
-use Rattle.std.specs.Io.KnownBytes.{Appends, Keeps}
+use Rattle.std.specs.Io.KnownBytes.{Appends}
 use Rattle.ompt_events.specs.declared.records.Record.{Record}
 use Rattle.certificate.specs.Texts.{ended, header_line, line_of}
 use Rattle.std.proofs.Math.Seq.{take-add, take-append_seam}
@@ -11,12 +11,6 @@ use Rattle.std.proofs.Math.Seq.{take-add, take-append_seam}
 pub Appends-none : (a : Option (List ℕ)) → Appends a a []
 Appends-none None = tt
 Appends-none (Some xs) = sym (append-nil xs)
-
-pub Appends-kept : (a b c : Option (List ℕ)) (bytes : List ℕ) → Appends a b bytes → Keeps b c → Appends a c bytes
-Appends-kept None b c bytes h k = tt
-Appends-kept (Some xs) None c bytes h k = absurd h
-Appends-kept (Some xs) (Some ys) None bytes h k = absurd k
-Appends-kept (Some xs) (Some ys) (Some zs) bytes h k = k ∙ h
 
 pub Appends-more : (a b c : Option (List ℕ)) (bytes : List ℕ) (at n : ℕ) → Appends a b (take at bytes) → Appends b c (take n (drop at bytes)) → Appends a c (take (at + n) bytes)
 Appends-more None b c bytes at n first next = tt

@@ -1,21 +1,20 @@
 -- Which entries are named, and which record is the first that names one again or one past the end.
-use Rattle.std.proofs.Common.{◌≡◌, ◌∙◌, ℕ, ◌<◌, ◌≤◌, ◌+◌, ◌==◌, Bool, true, false, cond, ltb, List, [], length, get_or, replicate, Option, Some, None, Result, Ok, Err, refl, sym, ap, subst, arith, inl, inr, ◌⊎◌}
-use Rattle.std.specs.Prelude.{◌||◌, ◌↔◌, IsTrue, IfOk, OnOk, is_some, slice_index, slice_set}
-use Rattle.std.proofs.lemmas.List.{length-set, length-replicate, get_or-replicate}
+use Rattle.std.proofs.Common.{◌≡◌, ◌∙◌, ℕ, ◌<◌, ◌≤◌, ◌+◌, ◌==◌, Bool, true, false, cond, ltb, List, [], length, Some, None, Result, Ok, Err, refl, sym, ap, arith, inl, inr}
+use Rattle.std.specs.Prelude.{◌||◌, IfOk, OnOk, is_some, slice_index, slice_set}
+use Rattle.std.proofs.lemmas.List.{length-set}
 use Rattle.std.specs.Ordering.{nat_cmp}
 use Rattle.std.specs.BTreeSet.{contains}
-use Rattle.std.proofs.lemmas.Bool.{false≢true, cases_eq, cases_lt, lt-ltb, ltb-true, eqb-true, eq-eqb, or_cases, or_left, or_right}
+use Rattle.std.proofs.lemmas.Bool.{false≢true, cases_eq, cases_lt, lt-ltb, eqb-true, eq-eqb, or_cases, or_left, or_right}
 use Rattle.ompt_events.specs.declared.records.Record.{Record}
-use Rattle.ompt_events.specs.declared.records.Part.{Part}
 use Rattle.ompt_events.specs.declared.cause.Cause.TheVariants.{EntryTwice, LengthAhead}
 use Rattle.ompt_events.specs.Records.{finish}
 use Rattle.ompt_events.specs.Places.{at, seen_at}
 use Rattle.ompt_events.specs.HappensBefore.{IsFinishing}
 use Rattle.ompt_events.specs.Causes.{HasCause, RepeatsEntry, entry_twice, entries_in, IsAhead, entry, ledger_length, length_ahead, IsFreeOf, IsFirstWith}
-use Rattle.ompt_events.proofs.PlaceLemmas.{at_within, at_read, seen_within}
+use Rattle.ompt_events.proofs.PlaceLemmas.{at_within, seen_within}
 use Rattle.checker.specs.declared.makers.Named.{Named}
 use Rattle.checker.specs.Makers.{is_named, IsMadeBelow, AreNamed, IsNaming}
-use Rattle.checker.proofs.MakerLemmas.{makers_start, makers_other, makers_more}
+use Rattle.checker.proofs.MakerLemmas.{makers_more}
 
 pub finishing_within : (rs : List Record) (i : ℕ) → IsFinishing rs i → i < length rs
 finishing_within rs i finishes = there (at finish rs i) refl finishes
@@ -24,24 +23,10 @@ finishing_within rs i finishes = there (at finish rs i) refl finishes
     there None e is = absurd (false≢true is)
     there (Some f) e is = at_within finish rs i f e
 
--- whether the record that was read finishes a task
-pub finishing_read : (rs : List Record) (i : ℕ) (r : Record) (o : Option (ℕ × Part)) (b : Bool) → i < length rs → r ≡ get_or rs i r → o ≡ finish r.body → is_some o ≡ b → is_some (at finish rs i) ≡ b
-finishing_read rs i r o b within read is test = ap is_some (at_read finish rs i r within read ∙ sym is) ∙ test
-
 -- ---- one record more
 
 later : (rs : List Record) (n e : ℕ) → IsMadeBelow rs n e → IsMadeBelow rs (n + 1) e
 later rs n e (k, below, finishes, seen) = (k, omega (arith, below), finishes, seen)
-
--- a record that finishes nothing names no entry
-pub named_same : (rs : List Record) (n : ℕ) (named : Named) → is_some (at finish rs n) ≡ false → AreNamed rs n named → AreNamed rs (n + 1) named
-named_same rs n named none are e = (
-  λ is. later rs n e ((are e).0 is),
-  λ (k, below, finishes, seen). elim (cases_eq k n) [
-    | inl same ↦ let P : ℕ → Type 0 = IsFinishing rs in absurd (false≢true (sym none ∙ subst P same finishes))
-    | inr apart ↦ (are e).1 (k, omega (arith, below, apart), finishes, seen)
-  ],
-)
 
 -- one that does names its own
 pub named_more : (rs : List Record) (n own : ℕ) (old new : Named) → IsFinishing rs n → seen_at rs n ≡ own → ((e : ℕ) → is_named (length rs) new e ≡ ((e == own) || is_named (length rs) old e)) → AreNamed rs n old → AreNamed rs (n + 1) new
@@ -57,35 +42,6 @@ named_more rs n own old new finishes seen more are e = (
 )
 
 -- ---- the record that makes each
-
--- an empty set and a table of no records name nothing
-pub naming_start : (rs : List Record) (told : Named) → told.makers.items ≡ replicate (entries_in rs) (length rs) → told.beyond.keys ≡ [] → IsNaming rs 0 told
-naming_start rs told empty none = record {
-  all = ap length empty ∙ length-replicate (entries_in rs) (length rs);
-  named = λ e. (λ is. absurd (false≢true (sym (unnamed e) ∙ is)), λ (k, below, finishes, seen). absurd (omega (arith, below)));
-  makers = makers_start rs (entries_in rs) told.makers.items empty;
-}
-  where
-    unnamed : (e : ℕ) → is_named (length rs) told e ≡ false
-    unnamed e = test (ltb e (length told.makers.items)) refl
-      where
-        value : e < length told.makers.items → slice_index told.makers.items e ≡ length rs
-        value low = ap (λ l. slice_index l e) empty ∙ get_or-replicate (entries_in rs) e (length rs) 0 (rw (empty, length-replicate (entries_in rs) (length rs)) at low)
-
-        above : (v : ℕ) → v ≡ length rs → (b : Bool) → ltb v (length rs) ≡ b → b ≡ false
-        above v same true is = absurd (let less = ltb-true v (length rs) is in omega (arith, less, same))
-        above v same false is = refl
-
-        test : (b : Bool) → ltb e (length told.makers.items) ≡ b → cond b (ltb (slice_index told.makers.items e) (length rs)) (contains nat_cmp told.beyond e) ≡ false
-        test true is = above (slice_index told.makers.items e) (value (ltb-true e (length told.makers.items) is)) (ltb (slice_index told.makers.items e) (length rs)) refl
-        test false is = ap (λ ks. contains nat_cmp (record { keys = ks }) e) none
-
-pub naming_same : (rs : List Record) (n : ℕ) (told : Named) → is_some (at finish rs n) ≡ false → IsNaming rs n told → IsNaming rs (n + 1) told
-naming_same rs n told none are = record {
-  all = are.all;
-  named = named_same rs n told none are.named;
-  makers = makers_other rs n told.makers.items are.makers none;
-}
 
 -- where the table has an entry that is not named, it has no record at it
 unnamed_free : (records : ℕ) (told : Named) (own : ℕ) → false ≡ is_named records told own → own < length told.makers.items → records ≤ slice_index told.makers.items own
@@ -111,16 +67,6 @@ naming_more rs n own old new (Ok told) within finishes seen known more makers ar
 repeats : (rs : List Record) (i : ℕ) → HasCause rs i EntryTwice → RepeatsEntry rs i
 repeats rs i (entry_twice has) = has
 
-pub none_repeats : (rs : List Record) (n : ℕ) → is_some (at finish rs n) ≡ false → IsTrue false ↔ RepeatsEntry rs n
-none_repeats rs n none = (λ no. absurd (false≢true no), λ (k, below, earlier, own, same). absurd (false≢true (sym none ∙ own)))
-
--- a record repeats an entry where it finishes a task and its own is named already
-pub repeats_own : (rs : List Record) (n own : ℕ) (named : Named) (known : Bool) → AreNamed rs n named → IsFinishing rs n → seen_at rs n ≡ own → known ≡ is_named (length rs) named own → IsTrue known ↔ RepeatsEntry rs n
-repeats_own rs n own named known are finishes seen told = (
-  λ is. let found = (are own).0 (sym told ∙ is) in (found.0, found.1, found.2, finishes, found.3 ∙ sym seen),
-  λ (k, below, earlier, here, same). told ∙ (are own).1 (k, below, earlier, same ∙ seen),
-)
-
 pub first_repeat : (rs : List Record) (n : ℕ) → RepeatsEntry rs n → ((k : ℕ) → k < n → RepeatsEntry rs k → ⊥) → IsFirstWith rs EntryTwice n
 first_repeat rs n is free = record {
   within = finishing_within rs n is.3;
@@ -138,17 +84,6 @@ free_of_repeats rs n free end i has =
 
 ahead : (rs : List Record) (i : ℕ) → HasCause rs i LengthAhead → IsAhead rs i
 ahead rs i (length_ahead has) = has
-
-pub ahead_by : (rs : List Record) (i : ℕ) → (entries_in rs < seen_at rs i) ⊎ ((seen_at rs i ≡ entries_in rs) × IsFinishing rs i) → IsAhead rs i
-ahead_by rs i (inl more) = ledger_length more
-ahead_by rs i (inr (same, finishes)) = entry finishes (omega (arith, same))
-
-pub ahead_is : (rs : List Record) (i : ℕ) → IsAhead rs i → (entries_in rs < seen_at rs i) ⊎ ((seen_at rs i ≡ entries_in rs) × IsFinishing rs i)
-ahead_is rs i (ledger_length more) = inl more
-ahead_is rs i (entry finishes more) = elim (cases_eq (seen_at rs i) (entries_in rs)) [
-  | inl same ↦ inr (same, finishes)
-  | inr apart ↦ inl (omega (arith, more, apart))
-]
 
 ahead_within : (rs : List Record) (i : ℕ) → IsAhead rs i → i < length rs
 ahead_within rs i (ledger_length more) = seen_within rs i (entries_in rs) more

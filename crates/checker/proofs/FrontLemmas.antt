@@ -98,12 +98,6 @@ ready_taken rs placed place old new moved missing least ready = record {
   only = λ i c. ready.only i (Contains-permutation (place ∷ new) old i (IsPermutation-sym old (place ∷ new) moved) (contains_behind i place new c));
 }
 
-pub none_ready_here : (rs : List Record) (placed : List Bool) (ready : List ℕ) → length ready ≡ 0 → AreOffered rs placed ready → (i : ℕ) → MayFollow rs placed i → ⊥
-none_ready_here rs placed ready none are i may =
-    let c = are.all i may in
-    let low = c.1 in
-    absurd (omega (arith, low, none))
-
 -- each record that may stand next is the head of its thread
 pub head_of : (rs : List Record) (placed : List Bool) (heads : List ℕ) (i : ℕ) → AreHeads rs placed heads → MayFollow rs placed i → (thread : ℕ) × (thread < length heads) × (slice_index heads thread ≡ i)
 head_of rs placed heads i are may =

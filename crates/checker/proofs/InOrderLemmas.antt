@@ -1,10 +1,10 @@
 -- From the records so far in the order of the ledger to the causes that this excludes; and what is kept of the
 -- tasks.
-use Rattle.std.proofs.Common.{[], ◌∷◌, ◌≡◌, ◌∙◌, ℕ, ◌<◌, ◌≤◌, ◌+◌, Bool, true, false, cond, List, length, get_or, set, replicate, take, Option, Some, None, refl, sym, ap, subst, arith, inl, inr}
+use Rattle.std.proofs.Common.{[], ◌∷◌, ◌≡◌, ◌∙◌, ℕ, ◌<◌, ◌≤◌, ◌+◌, Bool, true, false, cond, List, length, get_or, set, take, Option, Some, None, refl, sym, ap, subst, arith, inl, inr}
 use Rattle.std.specs.Prelude.{is_some, slice_get, option_and_then}
 use Rattle.std.proofs.lemmas.Bool.{false≢true, cases_eq, cases_lt}
 use Rattle.std.proofs.lemmas.Option.{none-some, same_Some, some_pair_parts, slice_get_within, slice_get-get_or}
-use Rattle.std.proofs.lemmas.List.{take-take, length-set, length-replicate, get_or-set_same, get_or-set_other, get_or-replicate}
+use Rattle.std.proofs.lemmas.List.{take-take, length-set, get_or-set_same, get_or-set_other}
 use Rattle.std.proofs.Math.Nat.{max-eq_left, max-eq_right}
 use Rattle.std.specs.Prelude.{max}
 use Rattle.std.proofs.lemmas.List.Sums.{sum_by-take-le, count_by_more_yes, count_by_more_no}
@@ -158,15 +158,6 @@ fit_entered rs fit a b makes less = elim (cases_lt a b) [
 
 pub no_last : (rs : List Record) (tasks : List ℕ) → AreLast rs tasks []
 no_last rs tasks index task last indexed kept = absurd (none-some last kept)
-
--- a table that has the number of records everywhere
-pub none_last : (rs : List Record) (tasks : List ℕ) (n : ℕ) → AreLast rs tasks (replicate n (record { turn = 0; place = length rs }))
-none_last rs tasks n index task last indexed kept low =
-    let none : Suspension = record { turn = 0; place = length rs } in
-    let within : index < n = rw (length-replicate n none) at (slice_get_within (replicate n none) index last kept) in
-    let same : none ≡ last = sym (get_or-replicate n index none none within) ∙ same_Some (get_or (replicate n none) index none) last (sym (slice_get-get_or (replicate n none) index none (slice_get_within (replicate n none) index last kept)) ∙ kept) in
-    let place = ap (λ (s : Suspension). s.place) same in
-    absurd (omega (arith, low, place))
 
 pub last_more : (rs : List Record) (tasks : List ℕ) (lasts : List Suspension) (i index turn : ℕ) → IsEndOf rs tasks i index turn → AreLast rs tasks lasts → AreLast rs tasks (set lasts index (record { turn = turn; place = i }))
 last_more rs tasks lasts i index turn end are other task last indexed kept low = elim (cases_eq other index) [

@@ -50,14 +50,6 @@ predecessor_index rs tasks task predecessor noted is =
     let place = predecessor_made rs task predecessor is in
     contains_get tasks predecessor (noted.each place.0 predecessor place.1 (created_at_made predecessor rs place.0 place.2))
 
--- ---- done or not
-
-pub done_or_not : (rs : List Record) (tasks own : List ℕ) (index task bound : ℕ) → AreOwn rs tasks own → slice_get tasks index ≡ Some task → bound < 2 ^ 32 → IsDone rs bound task ⊎ (IsDone rs bound task → ⊥)
-done_or_not rs tasks own index task bound are is small = elim (cases_lt bound (slice_index own index)) [
-  | inl late ↦ inr (λ done. let low = (done_from rs tasks own index task are is bound small).1 done in omega (arith, low, late))
-  | inr early ↦ inl ((done_from rs tasks own index task are is bound small).0 early)
-]
-
 -- ---- the search over the predecessors
 
 pub first_of_none : (file own : List Record) (tasks : List ℕ) (bound : ℕ) → IsFirstOf file own tasks bound 0 None

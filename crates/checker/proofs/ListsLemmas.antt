@@ -2,33 +2,15 @@
 use Rattle.std.proofs.Common.{◌≡◌, ◌∙◌, ◌<◌, ◌≤◌, ◌+◌, ℕ, List, length, Option, Some, None, refl, sym, ap, arith, inl, inr, set}
 use Rattle.std.proofs.lemmas.Bool.{cases_eq, cases_lt}
 use Rattle.std.proofs.lemmas.Option.{none-some, same_Some, slice_get_cases}
-use Rattle.std.proofs.lemmas.List.{length-set, length-replicate, get_or-set_same, get_or-set_other, get_or-replicate}
+use Rattle.std.proofs.lemmas.List.{length-set, get_or-set_same, get_or-set_other}
 use Rattle.std.specs.Option.{option_map_or}
-use Rattle.std.specs.Prelude.{slice_get, slice_index, replicate, option_map}
+use Rattle.std.specs.Prelude.{slice_get, slice_index, option_map}
 use Rattle.ompt_events.specs.declared.records.Record.{Record}
 use Rattle.ompt_events.specs.declared.cause.Cause.TheVariants.{LengthAhead}
 use Rattle.ompt_events.specs.Places.{seen_at}
 use Rattle.ompt_events.specs.Causes.{entries_in, ledger_length, length_ahead, IsFreeOf}
 use Rattle.checker.specs.Merge.{length_of}
 use Rattle.checker.specs.Lists.{AreLists, IsRising}
-
--- behind the last place there is none
-pub lists_start : (key : ℕ → Option ℕ) (n keys : ℕ) → AreLists key n n (replicate keys n) (replicate n n)
-lists_start key n keys = record {
-  first = λ k low. rw (get_or-replicate keys k n 0 (rw (length-replicate keys n) at low)) (record {
-    behind = omega arith;
-    within = omega arith;
-    none = λ i from below. absurd (omega arith);
-    found = λ inside. absurd (omega arith);
-  });
-  next = λ i k from below. absurd (omega arith);
-}
-
-pub rising_start : (n : ℕ) → IsRising n (replicate n n)
-rising_start n = record {
-  all = length-replicate n n;
-  later = λ i low. rw (get_or-replicate n i n 0 low) low;
-}
 
 -- the place ahead of those of its list
 pub lists_more : (key : ℕ → Option ℕ) (n k at : ℕ) (firsts nexts : List ℕ) → length nexts ≡ n → at < n → k < length firsts → key at ≡ Some k → AreLists key n (at + 1) firsts nexts → AreLists key n at (set firsts k at) (set nexts at (slice_index firsts k))

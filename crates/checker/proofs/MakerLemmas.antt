@@ -1,11 +1,10 @@
 -- How the table of the records that make entries grows, and the ledger length that it tells.
-use Rattle.std.proofs.Common.{◌≡◌, ◌≢◌, ◌∙◌, ℕ, ◌<◌, ◌≤◌, ◌+◌, List, length, Bool, false, sym, ap, arith, inl, inr, set}
-use Rattle.std.proofs.lemmas.Bool.{cases_eq, cases_lt, false≢true}
-use Rattle.std.proofs.lemmas.List.{length-set, length-replicate, get_or-set_same, get_or-set_other, get_or-replicate}
-use Rattle.std.specs.Prelude.{is_some, slice_index, replicate}
+use Rattle.std.proofs.Common.{◌≡◌, ◌≢◌, ◌∙◌, ℕ, ◌<◌, ◌≤◌, ◌+◌, List, length, Bool, sym, ap, arith, inl, inr, set}
+use Rattle.std.proofs.lemmas.Bool.{cases_eq, cases_lt}
+use Rattle.std.proofs.lemmas.List.{length-set, get_or-set_same, get_or-set_other}
+use Rattle.std.specs.Prelude.{slice_index}
 use Rattle.ompt_events.specs.declared.records.Record.{Record}
 use Rattle.ompt_events.specs.declared.cause.Cause.TheVariants.{LengthAhead}
-use Rattle.ompt_events.specs.Records.{finish}
 use Rattle.ompt_events.specs.Places.{at, seen_at}
 use Rattle.ompt_events.specs.HappensBefore.{IsFinishing}
 use Rattle.ompt_events.specs.Causes.{entries_in, ledger_length, length_ahead, IsFreeOf}
@@ -13,24 +12,6 @@ use Rattle.ompt_events.proofs.HappensBeforeLemmas.{finishing_within}
 use Rattle.checker.specs.Entries.{AreMakers}
 use Rattle.checker.specs.Merge.{Stands, IsUnplaced, IsLow}
 use Rattle.checker.proofs.MergeLemmas.{stands_same}
-
-pub makers_start : (rs : List Record) (n : ℕ) (makers : List ℕ) → makers ≡ replicate n (length rs) → AreMakers rs 0 makers
-makers_start rs n makers are = record {
-  each = λ i below. absurd (omega arith);
-  only = λ entry below inside.
-      let low : entry < n = rw (ap length are ∙ length-replicate n (length rs)) at below in
-      let none : slice_index makers entry ≡ length rs = ap (λ l. slice_index l entry) are ∙ get_or-replicate n entry (length rs) 0 low in
-      absurd (omega (arith, none, inside));
-}
-
-pub makers_other : (rs : List Record) (n : ℕ) (makers : List ℕ) → AreMakers rs n makers → is_some (at finish rs n) ≡ false → AreMakers rs (n + 1) makers
-makers_other rs n makers are none = record {
-  each = λ i below finishes. elim (cases_eq i n) [
-    | inl same ↦ absurd (false≢true (sym none ∙ ap (λ j. is_some (at finish rs j)) (sym same) ∙ finishes))
-    | inr apart ↦ are.each i (omega arith) finishes
-  ];
-  only = are.only;
-}
 
 -- a finishing record whose entry was not named before
 pub makers_more : (rs : List Record) (n seen : ℕ) (old new : List ℕ) → AreMakers rs n old → n < length rs → IsFinishing rs n → seen_at rs n ≡ seen → (seen < length old → length rs ≤ slice_index old seen) → new ≡ set old seen n → AreMakers rs (n + 1) new

@@ -1,5 +1,5 @@
 -- The stops that workers share out, and the first of what they find.
-use Rattle.std.proofs.Common.{◌≡◌, ◌∙◌, ℕ, ◌<◌, ◌≤◌, ◌+◌, ◌-◌, ◌*◌, ◌/◌, ◌%◌, List, [], ◌∷◌, ◌++◌, length, get_or, Option, Some, None, refl, sym, ap, subst, arith, inl, inr, ◌⊎◌}
+use Rattle.std.proofs.Common.{◌≡◌, ◌∙◌, ℕ, ◌<◌, ◌≤◌, ◌+◌, ◌-◌, ◌*◌, ◌/◌, ◌%◌, List, [], ◌∷◌, ◌++◌, length, get_or, Option, Some, None, refl, sym, ap, subst, arith, inl, inr}
 use Rattle.std.proofs.lemmas.Bool.{cases_lt, cases_eq}
 use Rattle.std.proofs.lemmas.Option.{none-some, same_Some, slice_get_within, slice_get-get_or}
 use Rattle.std.proofs.Math.Nat.{add-mul, mod-add-div', mod-lt}
@@ -11,7 +11,7 @@ use Rattle.checker.specs.declared.workers.WorkerFault.{WorkerFault}
 use Rattle.checker.specs.Readings.{Reading, by_task}
 use Rattle.checker.specs.Verdicts.{AreComplete}
 use Rattle.checker.specs.Search.{IsFirstViolation}
-use Rattle.checker.specs.Deciding.{IsViolationAt, AreStops, WorkView, IsWork, IsShared, IsMet, IsFirstOfShare, IsOutcome, found_by, IsLeastFinding, HaveAllDecided, IsLeastOf, IsLesserOf}
+use Rattle.checker.specs.Deciding.{IsViolationAt, AreStops, WorkView, IsWork, IsShared, IsMet, IsFirstOfShare, IsOutcome, found_by, IsLeastFinding, HaveAllDecided, IsLeastOf}
 use Rattle.checker.proofs.DecidingLemmas.{first_violation, complete_whole}
 
 abbrev Outcome : Type 0
@@ -42,9 +42,6 @@ one_of_share workers worker a b (s, is_a) (t, is_b) low high = elim (cases_lt s 
 pub next_of_share : (workers worker index : ℕ) → IsShared workers worker index → IsShared workers worker (index + workers)
 next_of_share workers worker index (turn, is) = (turn + 1, (let more = add-mul turn 1 workers in omega (arith, is, more)))
 
-pub first_of_share : (workers worker : ℕ) → IsShared workers worker worker
-first_of_share workers worker = (0, omega arith)
-
 -- each stop is some worker's
 pub share_of : (workers index : ℕ) → 1 ≤ workers → (index % workers < workers) × IsShared workers (index % workers) index
 share_of workers index some = (mod-lt index some, (index / workers, sym (mod-add-div' index workers)))
@@ -65,66 +62,6 @@ pub met_whole : (reading : Reading) (stops : List ℕ) (workers worker stop : �
 met_whole reading stops workers worker stop past before index is place there =
     let inside = slice_get_within stops index place there in
     before index (omega (arith, inside, past)) is place there
-
--- ---- the least finding
-
-pub lesser_only : (other : Finding) → IsLesserOf None other other
-lesser_only other = record { of_both = inl refl; low = omega arith; low_too = λ finding is. absurd (none-some finding is) }
-
-pub lesser_first : (least other : Finding) → least.stop ≤ other.stop → IsLesserOf (Some least) other least
-lesser_first least other low = record {
-  of_both = inr refl;
-  low = low;
-  low_too = λ finding is. let same = ap (λ (f : Finding). f.stop) (same_Some least finding is) in omega (arith, same);
-}
-
-pub lesser_other : (least other : Finding) → other.stop ≤ least.stop → IsLesserOf (Some least) other other
-lesser_other least other low = record {
-  of_both = inl refl;
-  low = omega arith;
-  low_too = λ finding is. let same = ap (λ (f : Finding). f.stop) (same_Some least finding is) in omega (arith, same, low);
-}
-
-pub none_found_yet : (outcomes : List Outcome) → IsLeastOf outcomes 0 None
-none_found_yet outcomes worker found below there = absurd (omega (arith, below))
-
--- a worker that found nothing changes nothing
-pub least_still : (outcomes : List Outcome) (n : ℕ) (least : Option Finding) → found_by outcomes n ≡ None → IsLeastOf outcomes n least → IsLeastOf outcomes (n + 1) least
-least_still outcomes n None nothing none_found = λ worker found below there. elim (cases_eq worker n) [
-  | inl last ↦ absurd (none-some found (sym nothing ∙ ap (found_by outcomes) (sym last) ∙ there))
-  | inr differ ↦ none_found worker found (omega (arith, below, differ)) there
-]
-least_still outcomes n (Some finding) nothing is = record {
-  worker = is.worker;
-  is_found = is.is_found;
-  least = λ other found below there. elim (cases_eq other n) [
-    | inl last ↦ absurd (none-some found (sym nothing ∙ ap (found_by outcomes) (sym last) ∙ there))
-    | inr differ ↦ is.least other found (omega (arith, below, differ)) there
-  ];
-}
-
--- the lesser of the first n workers' and the next one's is that of them all
-pub least_more : (outcomes : List Outcome) (n : ℕ) (least : Option Finding) (other lesser : Finding) → found_by outcomes n ≡ Some other → IsLesserOf least other lesser → IsLeastOf outcomes n least → IsLeastOf outcomes (n + 1) (Some lesser)
-least_more outcomes n None other lesser stands of is = record {
-  worker = n;
-  is_found = elim of.of_both [ inl same ↦ stands ∙ ap Some (sym same) | inr some ↦ absurd (none-some lesser some) ];
-  least = λ worker found below there. elim (cases_eq worker n) [
-    | inl last ↦ let same = ap (λ (f : Finding). f.stop) (same_Some other found (sym stands ∙ ap (found_by outcomes) (sym last) ∙ there)) in let low = of.low in omega (arith, same, low)
-    | inr differ ↦ absurd (is worker found (omega (arith, below, differ)) there)
-  ];
-}
-least_more outcomes n (Some least) other lesser stands of is = record {
-  worker = elim of.of_both [ inl same ↦ n | inr some ↦ is.worker ];
-  is_found = found of.of_both;
-  least = λ worker found below there. elim (cases_eq worker n) [
-    | inl last ↦ let same = ap (λ (f : Finding). f.stop) (same_Some other found (sym stands ∙ ap (found_by outcomes) (sym last) ∙ there)) in let low = of.low in omega (arith, same, low)
-    | inr differ ↦ let low = is.least worker found (omega (arith, below, differ)) there in let less = of.low_too least refl in omega (arith, low, less)
-  ];
-}
-  where
-    found : (both : (lesser ≡ other) ⊎ (Some least ≡ Some lesser)) → found_by outcomes (elim both [ inl same ↦ n | inr some ↦ is.worker ]) ≡ Some lesser
-    found (inl same) = stands ∙ ap Some (sym same)
-    found (inr some) = is.is_found ∙ some
 
 -- ---- all workers together
 
@@ -217,16 +154,6 @@ least_of_all work may_refuse outcomes finding place is all are decided least sta
     ]
 
 -- ---- the stops
-
-pub no_stops : (reading : Reading) (stops : List ℕ) → stops ≡ [] → AreStops reading 0 stops
-no_stops reading stops empty = record {
-  each = λ i below. absurd (omega (arith, below));
-  within = λ k place there. absurd (nothing k place there);
-  rising = λ k j place after less there then. absurd (nothing k place there);
-}
-  where
-    nothing : (k i : ℕ) → slice_get stops k ≡ Some i → ⊥
-    nothing k i there = let inside = slice_get_within stops k i there in let none = ap length empty in omega (arith, inside, none)
 
 pub stop_other : (reading : Reading) (n : ℕ) (stops : List ℕ) → AreComplete reading n → AreStops reading n stops → AreStops reading (n + 1) stops
 stop_other reading n stops complete are = record {

@@ -1,12 +1,11 @@
 -- Which predecessors are finished where a task starts.
-use Rattle.std.proofs.Common.{cond, ◌≡◌, ◌∙◌, ℕ, ◌<◌, ◌≤◌, ◌+◌, ◌^◌, Bool, List, length, get_or, replicate, Option, Some, None, refl, sym, ap, subst, arith, inl, inr, true, false}
-use Rattle.std.proofs.lemmas.Bool.{false≢true, cases_eq, cases_lt, ltb-true, lt-ltb}
+use Rattle.std.proofs.Common.{cond, ◌≡◌, ◌∙◌, ℕ, ◌<◌, ◌≤◌, ◌+◌, ◌^◌, Bool, List, length, get_or, Some, None, refl, sym, ap, subst, arith, inl, inr, true, false}
+use Rattle.std.proofs.lemmas.Bool.{false≢true, cases_eq, cases_lt}
 use Rattle.std.proofs.lemmas.Option.{none-some, same_Some, some_pair_parts, slice_get_within, slice_get-get_or}
-use Rattle.std.proofs.lemmas.List.{length-set, get_or-set_same, get_or-set_other, length-replicate, get_or-replicate}
+use Rattle.std.proofs.lemmas.List.{length-set, get_or-set_same, get_or-set_other}
 use Rattle.std.proofs.lemmas.List.Sums.{count_by-le-length}
 use Rattle.std.proofs.Math.ListN.{set}
-use Rattle.std.specs.Prelude.{◌↔◌, IsTrue, slice_get, slice_index, nat_lt, is_some}
-use Rattle.std.specs.Option.{option_map_or}
+use Rattle.std.specs.Prelude.{slice_get, slice_index, is_some}
 use Rattle.ompt_events.specs.declared.records.Record.{Record}
 use Rattle.ompt_events.specs.declared.records.Part.{Part}
 use Rattle.ompt_events.specs.declared.records.Part.TheVariants.{Whole, Body, Event}
@@ -14,43 +13,20 @@ use Rattle.ompt_events.specs.Records.{begun_turn, finish}
 use Rattle.ompt_events.specs.declared.cause.Cause.TheVariants.{EntryTwice, LengthAhead}
 use Rattle.ompt_events.specs.Causes.{IsFreeOf, entries_in, entry_twice, length_ahead, entry, ledger_length, known_after}
 use Rattle.ompt_events.specs.Places.{at, seen_at}
-use Rattle.ompt_events.specs.HappensBefore.{IsFinishing, IsStart}
+use Rattle.ompt_events.specs.HappensBefore.{IsFinishing}
 use Rattle.ompt_events.specs.Completion.{IsPartFinished, IsFinished, IsCompleteAt, CountsAt, StartsTask}
-use Rattle.task_tree.specs.Subjects.{Calls}
 use Rattle.task_tree.specs.Numbering.{AreApart}
 use Rattle.trace_ledger.specs.Entries.{IsDone}
 use Rattle.wait_coverage.specs.Done.{IsDoneFrom, AreOwn}
 use Rattle.checker.specs.Schedule.{first_started}
 use Rattle.checker.proofs.ScheduleLemmas.{first_begun_starts}
-use Rattle.checker.specs.Starts.{IsBound, AreStarts, AreStartsBelow, StartsAt}
-
-pub called : (tasks : List ℕ) (found slot : Option ℕ) (index task : ℕ) → Calls tasks found slot → slot ≡ Some index → found ≡ Some task → slice_get tasks index ≡ Some task
-called tasks found slot index task calls is says =
-    let P : Option ℕ → Type 0 = λ f. Calls tasks f slot in
-    let known = subst P says calls in
-    ap (slice_get tasks) (same_Some index known.0 (sym is ∙ known.1)) ∙ known.2
-
-pub own_there : (tasks own named : List ℕ) (index task : ℕ) (slot : Option ℕ) → length own ≡ length tasks → named ≡ tasks → ((k : ℕ) → (slot ≡ Some k) ↔ (slice_get named k ≡ Some task)) → slot ≡ Some index → (index < length own) × (slice_get tasks index ≡ Some task)
-own_there tasks own named index task slot all same found is =
-    let there : slice_get tasks index ≡ Some task = ap (λ l. slice_get l index) (sym same) ∙ (found index).0 is in
-    let inside = slice_get_within tasks index task there in
-    (omega (arith, inside, all), there)
+use Rattle.checker.specs.Starts.{IsBound, AreStartsBelow, StartsAt}
 
 pub done_from : (rs : List Record) (tasks own : List ℕ) (index task : ℕ) → AreOwn rs tasks own → slice_get tasks index ≡ Some task → IsDoneFrom rs task (slice_index own index)
 done_from rs tasks own index task are is =
     let inside = slice_get_within tasks index task is in
     let all = are.all in
     are.each index task (slice_index own index) is (slice_get-get_or own index 0 (omega (arith, inside, all)))
-
--- the test of a task's own length
-pub behind_test : (rs : List Record) (tasks own : List ℕ) (index task bound : ℕ) → AreOwn rs tasks own → slice_get tasks index ≡ Some task → bound < 2 ^ 32 → IsTrue (nat_lt bound (slice_index own index)) ↔ (IsDone rs bound task → ⊥)
-behind_test rs tasks own index task bound are is small = (
-  (λ late done. let low = (done_from rs tasks own index task are is bound small).1 done in let more = ltb-true bound (slice_index own index) late in omega (arith, low, more)),
-  (λ not_done. elim (cases_lt bound (slice_index own index)) [
-    | inl less ↦ lt-ltb bound (slice_index own index) less
-    | inr low ↦ absurd (not_done ((done_from rs tasks own index task are is bound small).0 low))
-  ]),
-)
 
 -- ---- what counts where a task starts
 
@@ -118,21 +94,6 @@ entry_small rs i reached here few = elim (cases_lt (seen_at rs i) (entries_in rs
 ]
 
 -- ---- where tasks start
-
-pub called_task : (tasks : List ℕ) (found slot : Option ℕ) (index : ℕ) → Calls tasks found slot → slot ≡ Some index → (task : ℕ) × (found ≡ Some task) × (slice_get tasks index ≡ Some task)
-called_task tasks None slot index calls is = absurd (none-some index (sym calls ∙ is))
-called_task tasks (Some task) slot index calls is = (task, refl, ap (slice_get tasks) (same_Some index calls.0 (sym is ∙ calls.1)) ∙ calls.2)
-
-pub no_starts_yet : (rs : List Record) (tasks starts : List ℕ) → starts ≡ replicate (length tasks) (length rs) → AreStartsBelow rs 0 tasks starts
-no_starts_yet rs tasks starts is = record {
-  all = ap length is ∙ length-replicate (length tasks) (length rs);
-  low = λ index inside. inr (unset index (rw (ap length is ∙ length-replicate (length tasks) (length rs)) at inside));
-  begins = λ index task there below. absurd (omega (arith, below));
-  first = λ index task k there below begins. absurd (omega (arith, below));
-}
-  where
-    unset : (index : ℕ) → index < length tasks → slice_index starts index ≡ length rs
-    unset index inside = ap (λ l. slice_index l index) is ∙ get_or-replicate (length tasks) index (length rs) 0 inside
 
 -- a task that first begins there starts there
 pub starts_more : (rs : List Record) (n index own : ℕ) (tasks starts : List ℕ) → n < length rs → AreApart tasks → slice_get tasks index ≡ Some own → at begun_turn rs n ≡ Some (own, 0) → slice_index starts index ≡ length rs → AreStartsBelow rs n tasks starts → AreStartsBelow rs (n + 1) tasks (set starts index n)
@@ -219,10 +180,6 @@ pub starts_other : (rs : List Record) (n : ℕ) (tasks starts : List ℕ) → n 
 starts_other rs n tasks starts within none are = starts_kept rs n tasks starts within are
     (λ other task there begins. absurd (none-some task (sym none ∙ first_begun_starts rs n task begins)))
 
--- the length that a record names, where it was read in place
-pub seen_here : (rs : List Record) (i : ℕ) (r : Record) → i < length rs → seen_at rs i ≡ (get_or rs i r).seen
-seen_here rs i r within = ap (λ (o : Option Record). option_map_or (λ (q : Record). q.seen) o 0) (slice_get-get_or rs i r within)
-
 -- the length that decides what counts where a task starts: the one that is known after the record
 pub bound_start : (rs : List Record) (tasks : List ℕ) (i index : ℕ) → IsFreeOf rs EntryTwice → StartsAt rs tasks i index → IsBound rs i (known_after rs i)
 bound_start rs tasks i index once starts = of (is_some (at finish rs i)) refl
@@ -246,19 +203,3 @@ known_small rs i reached few = of (is_some (at finish rs i)) refl
       | inl more ↦ absurd (reached i (length_ahead (ledger_length more)))
       | inr low ↦ let most : entries_in rs ≤ length rs = count_by-le-length (λ (r : Record). is_some (finish r.body)) rs in omega (arith, low, most, few)
     ])
-
--- a task starts at the place that is noted for it
-pub noted_starts : (rs : List Record) (tasks starts : List ℕ) (index task i : ℕ) → AreStarts rs tasks starts → slice_get tasks index ≡ Some task → i < length rs → slice_index starts index ≡ i → IsStart rs i task
-noted_starts rs tasks starts index task i are there within noted = record {
-  starts = ap (at begun_turn rs) (sym noted) ∙ are.begins index task there (omega (arith, noted, within));
-  first = λ k below begins. let low = are.first index task k there (omega (arith, below, within)) begins in omega (arith, low, noted, below);
-}
-
--- and at no other
-pub start_is_noted : (rs : List Record) (tasks starts : List ℕ) (index task i : ℕ) → AreStarts rs tasks starts → slice_get tasks index ≡ Some task → i < length rs → IsStart rs i task → slice_index starts index ≡ i
-start_is_noted rs tasks starts index task i are there within start =
-    let low = are.first index task i there within start.starts in
-    elim (cases_lt (slice_index starts index) i) [
-      | inl less ↦ absurd (start.first (slice_index starts index) less (are.begins index task there (omega (arith, less, within))))
-      | inr more ↦ omega (arith, low, more)
-    ]

@@ -1,13 +1,11 @@
 -- Where the explicit tasks are suspended: the rows of the table, and what stands in its slots.
-use Rattle.std.proofs.Common.{◌≡◌, ◌≢◌, ◌∙◌, ℕ, zero, suc, ◌<◌, ◌≤◌, ◌+◌, ◌++◌, [], ◌∷◌, List, length, replicate, set, Option, Some, None, refl, sym, ap, subst, arith, inl, inr}
+use Rattle.std.proofs.Common.{◌≡◌, ◌≢◌, ◌∙◌, ℕ, zero, suc, ◌<◌, ◌≤◌, ◌+◌, [], List, length, replicate, set, Option, Some, None, refl, sym, ap, subst, arith, inl, inr}
 use Rattle.std.proofs.lemmas.Bool.{cases_eq, cases_lt, cases_order}
 use Rattle.std.proofs.lemmas.Option.{none-some, same_Some, some_pair_parts, slice_get_within}
-use Rattle.std.proofs.lemmas.List.{length_push, get_or-set_same, get_or-set_other, get_or-replicate, get_or_past}
-use Rattle.std.specs.Prelude.{◌↔◌, MatchOption, slice_get, slice_index, option_and_then, option_map}
-use Rattle.std.specs.Option.{option_map_or}
+use Rattle.std.proofs.lemmas.List.{get_or-set_same, get_or-set_other, get_or-replicate, get_or_past}
+use Rattle.std.specs.Prelude.{◌↔◌, MatchOption, slice_get, slice_index}
 use Rattle.ompt_events.specs.declared.records.Record.{Record}
-use Rattle.ompt_events.specs.declared.records.Turns.{Turns}
-use Rattle.ompt_events.specs.Records.{created, started, told_turns, next_turn, begun_turn, suspended_turn}
+use Rattle.ompt_events.specs.Records.{created, begun_turn, suspended_turn}
 use Rattle.ompt_events.specs.Places.{at}
 use Rattle.ompt_events.specs.HappensBefore.{IsResumption}
 use Rattle.ompt_events.specs.Tree.{IsExplicit}
@@ -16,7 +14,6 @@ use Rattle.task_tree.specs.Numbering.{AreApart}
 use Rattle.task_tree.specs.Subjects.{Calls}
 use Rattle.task_tree.proofs.SubjectLemmas.{call_task}
 use Rattle.task_tree.specs.Family.{FamilyView, IsFamilyOf}
-use Rattle.task_tree.proofs.RowLemmas.{read_pushed, read_last}
 use Rattle.task_tree.specs.Rising.{IsStartOf}
 use Rattle.checker.specs.declared.suspensions.Suspensions.{Suspensions}
 use Rattle.checker.specs.Schedule.{Awaits, awaits_creation, awaits_end, EachAwaitsOne}
@@ -285,32 +282,6 @@ pub record AreLaid (n : ℕ) (lengths rows : List ℕ) : Type 0 where
   pub all : length rows ≡ n + 1
   pub next : (index : ℕ) → index < n → slice_index rows (index + 1) ≡ slice_index rows index + slice_index lengths index
 
-pub laid_more : (n end : ℕ) (lengths rows : List ℕ) → slice_index rows n ≡ end → AreLaid n lengths rows → AreLaid (n + 1) lengths (rows ++ (end + slice_index lengths n) ∷ [])
-laid_more n end lengths rows last are = record {
-  all = length_push rows (end + slice_index lengths n) ∙ ap (λ k. k + 1) are.all;
-  next = λ index below.
-      let all = are.all in
-      let old : slice_index (rows ++ (end + slice_index lengths n) ∷ []) index ≡ slice_index rows index = read_pushed rows (end + slice_index lengths n) index (omega (arith, below, all)) in
-      elim (cases_eq index n) [
-        | inl same ↦
-            let new : slice_index (rows ++ (end + slice_index lengths n) ∷ []) (n + 1) ≡ end + slice_index lengths n = read_last rows (end + slice_index lengths n) (n + 1) (sym all) in
-            let here = ap (λ k. slice_index (rows ++ (end + slice_index lengths n) ∷ []) (k + 1)) same in
-            let own = ap (slice_index rows) same in
-            let long = ap (slice_index lengths) same in
-            omega (arith, new, here, own, long, old, last)
-        | inr apart ↦
-            let next : slice_index (rows ++ (end + slice_index lengths n) ∷ []) (index + 1) ≡ slice_index rows (index + 1) = read_pushed rows (end + slice_index lengths n) (index + 1) (omega (arith, below, apart, all)) in
-            let was = are.next index (omega (arith, below, apart)) in
-            omega (arith, next, old, was)
-      ];
-}
-
-pub laid_rows : (n : ℕ) (lengths rows : List ℕ) → AreLaid n lengths rows → AreRows rows
-laid_rows n lengths rows are index inside =
-    let all = are.all in
-    let next = are.next index (omega (arith, inside, all)) in
-    omega (arith, next)
-
 pub laid_room : (rs : List Record) (tasks lengths rows : List ℕ) (n : ℕ) → length tasks ≤ n → AreLaid n lengths rows → AreLengths rs (length rs) tasks lengths → HaveRoom rs tasks rows
 laid_room rs tasks lengths rows n all are long i index turn begins later =
     let more = long i index turn (at_within begun_turn rs i (begins.task, turn) begins.starts) begins in
@@ -326,20 +297,6 @@ rows_within rows last n rise all is index = elim (cases_lt index (length rows)) 
 ]
 
 -- ---- where no record tells a turn
-
-pub untold_later : (rs : List Record) (i task turn : ℕ) → at told_turns rs i ≡ None → at begun_turn rs i ≡ Some (task, turn) → 0 < turn → ⊥
-untold_later rs i task turn untold begins later = by (slice_get rs i) untold begins
-  where
-    by : (o : Option Record) → option_and_then (λ (r : Record). told_turns r.body) o ≡ None → option_and_then (λ (r : Record). begun_turn r.body) o ≡ Some (task, turn) → ⊥
-    by None none is = none-some (task, turn) is
-    by (Some r) none is = of (started r.body) is
-      where
-        of : (s : Option ℕ) → option_map {U = ℕ × ℕ} (λ t. (t, next_turn r.body)) s ≡ Some (task, turn) → ⊥
-        of None e = none-some (task, turn) e
-        of (Some t) e =
-            let parts = some_pair_parts t task (next_turn r.body) turn e in
-            let zero_there : next_turn r.body ≡ 0 = ap (λ (o : Option Turns). option_map_or (λ (u : Turns). u.next) o 0) none in
-            absurd (omega (arith, later, parts.1, zero_there))
 
 -- an empty table serves
 pub none_told : (rs : List Record) (tasks : List ℕ) (known : Suspensions) → EachAwaitsOne rs → BeginsNoLater rs → known.rows.items ≡ [] → known.places.items ≡ [] → AreSuspensions rs tasks known

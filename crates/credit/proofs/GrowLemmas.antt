@@ -10,7 +10,7 @@ use Rattle.credit.specs.declared.links.Side.TheVariants.{First}
 use Rattle.credit.specs.declared.links.Spot.TheVariants.{Missing}
 use Rattle.credit.specs.declared.links.Link.{Link}
 use Rattle.credit.specs.Links.{leaf_link, link_at, behind, with_link, is_link_of, spot_within, spot_of, found, IsRising}
-use Rattle.credit.proofs.LinkLemmas.{step-missing, leaf_behind, link_at-get, link_at-past, IsLinkAdded, IsLinkAdded-set, IsRising-added, added-here, added-elsewhere, missing-at}
+use Rattle.credit.proofs.LinkLemmas.{step-missing, link_at-past, IsLinkAdded, IsLinkAdded-set, IsRising-added, added-here, added-elsewhere, missing-at}
 use Rattle.credit.specs.declared.tree.Node.{Node}
 use Rattle.credit.specs.declared.tree.Tree.{Tree}
 use Rattle.credit.specs.Trees.{no_progress, empty_node, node_at, child, place, progress_at, with_reach, IsLinked, IsGrown}
@@ -248,24 +248,6 @@ IsNodeAdded-one_more old new index node linked inside one = record {
         (cases_lt i (length old.nodes.items)))
         (cases_eq i index)
 
-pub IsNodeAdded-push : (old new : Tree) (index : ℕ) → IsLinked old → index < length old.nodes.items → new.nodes.items ≡ old.nodes.items ++ empty_node index ∷ [] → IsNodeAdded old new index
-IsNodeAdded-push old new index linked inside e = IsNodeAdded-one_more old new index (node_at old index) linked inside (record {
-  longer = ap length e ∙ length-append old.nodes.items (empty_node index ∷ []);
-  before = λ i less other. before i less;
-  here = before index inside;
-  last = at (length old.nodes.items) ∙ get_or_push old.nodes.items (empty_node index) (empty_node 0) (length old.nodes.items) refl;
-  progress = refl;
-  parent = refl;
-  reach = omega arith;
-  small = linked.small index;
-})
-  where
-    at : (i : ℕ) → node_at new i ≡ get_or (old.nodes.items ++ empty_node index ∷ []) i (empty_node 0)
-    at i = node_at-get new i ∙ ap (λ xs. get_or xs i (empty_node 0)) e
-
-    before : (i : ℕ) → i < length old.nodes.items → node_at new i ≡ node_at old i
-    before i less = at i ∙ get_or_append_left old.nodes.items (empty_node index ∷ []) (empty_node 0) i less ∙ sym (node_at-get old i)
-
 pub IsNodeAdded-set : (old new : Tree) (index : ℕ) (node : Node) → IsLinked old → index < length old.nodes.items → new.nodes.items ≡ set (old.nodes.items ++ empty_node index ∷ []) index node
     → node.progress ≡ (node_at old index).progress → node.parent ≡ (node_at old index).parent → (node_at old index).reach ≤ node.reach → node.reach ≤ 2 ^ 48 + 1 → IsNodeAdded old new index
 IsNodeAdded-set old new index node linked inside e progress parent reach small = IsNodeAdded-one_more old new index node linked inside (record {
@@ -296,9 +278,6 @@ IsGrown-through a b c one two = record {
   kept = λ up i e. two.kept up i (one.kept up i e);
 }
 
-pub IsGrown-itself : (tree : Tree) → IsLinked tree → IsGrown tree tree
-IsGrown-itself tree linked = record { linked = linked; longer = omega arith; same = λ up. refl; kept = λ up i e. e }
-
 -- nothing was added
 pub IsGrown-same : (old new : Tree) → new.nodes.items ≡ old.nodes.items → new.links.items ≡ old.links.items → IsLinked old → IsGrown old new
 IsGrown-same old new nodes links linked = record {
@@ -325,56 +304,6 @@ IsGrown-same old new nodes links linked = record {
 
     at : (i : ℕ) → node_at new i ≡ node_at old i
     at i = ap (λ xs. unwrap_or (slice_get xs i) (empty_node 0)) nodes
-
--- a root alone
-pub IsGrown-root : (old new : Tree) → IsLinked old → length old.nodes.items ≡ 0 → new.nodes.items ≡ old.nodes.items ++ empty_node 0 ∷ [] → new.links.items ≡ old.links.items ++ leaf_link 0 0 ∷ [] → IsGrown old new
-IsGrown-root old new linked empty nodes links = record {
-  linked = record {
-    rising = λ here side some. let none : behind (link_at new.links.items here) side ≡ 0 = ap (λ l. behind l side) (leaf here) ∙ leaf_behind 0 0 side in absurd (omega (arith, some, none));
-    aligned = omega (arith, long_links, long_nodes, linked.aligned);
-    within = λ i n k e. absurd (none_some k (sym (none i n) ∙ e));
-    back = λ i n k e. absurd (none_some k (sym (none i n) ∙ e));
-    apart = λ i m n k e f. absurd (none_some k (sym (none i m) ∙ e));
-    reach = λ i n k e. absurd (none_some k (sym (none i n) ∙ e));
-    small = λ i. let here : (node_at new i).reach ≡ 0 = ap (λ (x : Node). x.reach) (at i) in omega (arith, here);
-  };
-  longer = omega (arith, long_nodes);
-  same = progress-same old new 0 (omega (arith, empty)) (λ i n k e. absurd (none_some k (sym (none_old i n) ∙ e))) (λ i n k e. absurd (none_some k (sym (none i n) ∙ e)))
-      (λ n k e. none_some k (sym (none 0 n) ∙ e))
-      (λ i. ap (λ (x : Node). x.progress) (at i) ∙ sym (ap (λ (x : Node). x.progress) (node_at-past old i (omega (arith, empty)))));
-  kept = place-kept old new (λ i n k e. absurd (none_some k (sym (none_old i n) ∙ e)));
-}
-  where
-    long_links : length new.links.items ≡ length old.links.items + 1
-    long_links = ap length links ∙ length-append old.links.items (leaf_link 0 0 ∷ [])
-
-    long_nodes : length new.nodes.items ≡ length old.nodes.items + 1
-    long_nodes = ap length nodes ∙ length-append old.nodes.items (empty_node 0 ∷ [])
-
-    leaf : (i : ℕ) → link_at new.links.items i ≡ leaf_link 0 0
-    leaf i =
-        ⊎_elim
-        (λ (first : i ≡ 0).
-        link_at-get new.links.items i ∙ ap (λ xs. get_or xs i (leaf_link 0 0)) links
-        ∙ get_or_push old.links.items (leaf_link 0 0) (leaf_link 0 0) i (sym (first ∙ sym (linked.aligned ∙ empty))))
-        (λ (other : i ≢ 0). link_at-past new.links.items i (omega (arith, other, long_links, linked.aligned, empty)))
-        (cases_eq i 0)
-
-    at : (i : ℕ) → node_at new i ≡ empty_node 0
-    at i =
-        ⊎_elim
-        (λ (first : i ≡ 0).
-        node_at-get new i ∙ ap (λ xs. get_or xs i (empty_node 0)) nodes
-        ∙ get_or_push old.nodes.items (empty_node 0) (empty_node 0) i (sym (first ∙ sym empty)))
-        (λ (other : i ≢ 0). node_at-past new i (omega (arith, other, long_nodes, empty)))
-        (cases_eq i 0)
-
-    none : (i n : ℕ) → child new i n ≡ None
-    none i n = ap found (search-none new.links.items (length new.links.items) i n (ap (λ l. behind l First) (leaf i)))
-
-    none_old : (i n : ℕ) → child old i n ≡ None
-    none_old i n =
-        ap found (search-none old.links.items (length old.links.items) i n (ap (λ l. behind l First) (link_at-past old.links.items i (omega (arith, linked.aligned, empty)))))
 
 -- a node was added, made a child, and its parent reaches to it
 pub IsGrown-made : (old mid linked_mid new : Tree) (index number j : ℕ) (s : Side) → IsLinked old → index < length old.nodes.items → number ≤ 2 ^ 48 → spot_of old.links.items index number ≡ Missing j s

@@ -8,7 +8,7 @@ use Rattle.std.proofs.lemmas.List.Elements.{recursion_from_All, All-from_recursi
 use Rattle.credit.specs.declared.share.Half.{Half}
 use Rattle.credit.specs.declared.share.Half.TheVariants.{Keep, Give}
 use Rattle.credit.specs.Shares.{is_same_half, begins_with, keep_half, give_half, Hold}
-use Rattle.credit.proofs.ShareLemmas.{ones, same_half, is_same_half-swap, begins_with-append, begins_with-itself, begins_with-halves, begins_with-part, begins_with_through, length-begins_with, list_any_weaker, IsShort}
+use Rattle.credit.proofs.ShareLemmas.{ones, same_half, is_same_half-swap, begins_with-append, begins_with-itself, begins_with-halves, begins_with_through, length-begins_with, list_any_weaker, IsShort}
 
 -- of two lists with which a third begins, one begins with the other
 pub begins_with-either : (l s t : List Half) → begins_with l s ≡ true → begins_with l t ≡ true → (begins_with s t ≡ true) ⊎ (begins_with t s ≡ true)
@@ -100,9 +100,3 @@ Hold-halves shares p apart on kept given l begins long =
     let fits = λ (h : Half). All-from_recursion (IsShort l) ((p ++ h ∷ []) ∷ shares) (omega (arith, longer, length-append p (h ∷ [])), short.1) in
     ⊎_elim (λ first. kept l first (fits Keep)) (λ second. given l second (fits Give))
     (either-true (begins_with l (keep_half p)) (begins_with l (give_half p)) (begins_with-halves l p longer ∙ one))
-
-pub Hold-part : (shares : List (List Half)) (p : List Half) (h : Half) → Hold shares p → Hold shares (p ++ h ∷ [])
-Hold-part shares p h held l begins long =
-    let short = recursion_from_All (IsShort l) ((p ++ h ∷ []) ∷ shares) long in
-    held l (begins_with-part l p (h ∷ []) begins)
-    (All-from_recursion (IsShort l) (p ∷ shares) (omega (arith, short.0, length-append p (h ∷ [])), short.1))

@@ -94,28 +94,6 @@ search-on links (suc steps) parent number digits here next side more e some is =
     left_over : (k : ℕ) → k ≡ suc k - 1
     left_over k = omega arith
 
--- ---- what a search finds
-
-abbrev pub IsFoundAt : List Link → ℕ → ℕ → ℕ → ℕ → Type 0
-IsFoundAt links parent number here k = (here < k) × (k < length links) × (is_link_of parent number (link_at links k) ≡ true)
-
-pub found-at : (links : List Link) → IsRising links → (steps parent number digits here : ℕ) (side : Side) (k : ℕ) → spot_within links steps parent number digits here side ≡ Found k → IsFoundAt links parent number here k
-found-at links rising zero parent number digits here side k e = absurd (found_missing k here side (sym e))
-found-at links rising (suc steps) parent number digits here side k e =
-    ⊎_elim
-    (λ (none : behind (link_at links here) side ≡ 0). absurd (found_missing k here side (sym e ∙ step-missing links steps parent number digits here side none)))
-    (λ (some : behind (link_at links here) side ≢ 0).
-    let up = rising here side (omega (arith, some)) in
-    ⊎_elim
-    (λ (is : is_link_of parent number (link_at links (behind (link_at links here) side)) ≡ true).
-    let same : behind (link_at links here) side ≡ k = ap node_of (sym (step-found links steps parent number digits here side some is) ∙ e) in
-    subst (IsFoundAt links parent number here) same (up.0, up.1, is))
-    (λ (other : is_link_of parent number (link_at links (behind (link_at links here) side)) ≡ false).
-    let rest = found-at links rising steps parent number (digits / 4) (behind (link_at links here) side) (side_of digits) k (sym (step-on links steps parent number digits here side some other) ∙ e) in
-    (omega (arith, up.0, rest.0), rest.1, rest.2))
-    (cases_Bool (is_link_of parent number (link_at links (behind (link_at links here) side)))))
-    (cases_eq (behind (link_at links here) side) 0)
-
 -- ---- where a search ends that finds nothing
 
 pub missing-at : (links : List Link) → IsRising links → (steps parent number digits here : ℕ) (side : Side) (j : ℕ) (s : Side) → here < length links → length links ≤ steps + here

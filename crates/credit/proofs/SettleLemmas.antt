@@ -133,9 +133,6 @@ IsRunKnown-marked shares at new here time counted marked = record {
   entered = λ i up count e. marked.run up ∙ counted.entered i up count e;
 }
 
-not_longer : (k : ℕ) (up : List ℕ) → up ≡ k ∷ up → ⊥
-not_longer k up e = omega (arith, ap length e)
-
 -- a full node is marked, and its parent counts it
 pub IsSettling-parent : (shares : List (List Half)) (at new : List ℕ → Progress) (n : ℕ) (up : List ℕ) → IsSettling shares at (n ∷ up) → IsFull (at (n ∷ up)) → IsMarked at new (n ∷ up) (length shares)
     → (new up).held_children ≡ (at up).held_children + 1 → ((q : List ℕ) → q ≢ up → (new q).held_children ≡ (at q).held_children) → IsSettling shares new up

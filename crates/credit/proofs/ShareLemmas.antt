@@ -1,6 +1,6 @@
 -- What lists of halves begin with.
 use Rattle.std.proofs.Common.{◌≡◌, ℕ, ◌+◌, ◌<◌, ◌≤◌, Bool, true, cond, List, [], ◌∷◌, ◌++◌, length, refl, sym, ◌∙◌, ap, arith, ⊎_elim}
-use Rattle.std.specs.List.{starts_with, list_any, AllByRecursion as ByRecursion}
+use Rattle.std.specs.List.{list_any, AllByRecursion as ByRecursion}
 use Rattle.std.specs.Prelude.{count_by}
 use Rattle.std.proofs.lemmas.List.Sums.{sum_by-cons}
 use Rattle.std.proofs.lemmas.Bool.{and_parts, and_from, false≢true, or_cases, or_left, or_right}
@@ -65,23 +65,11 @@ begins_with-halves (Give ∷ l) (Give ∷ s) longer = begins_with-halves l s (om
 begins_with-halves (Keep ∷ l) (Give ∷ s) longer = refl
 begins_with-halves (Give ∷ l) (Keep ∷ s) longer = refl
 
-pub begins_with-part : (l s x : List Half) → begins_with l (s ++ x) ≡ true → begins_with l s ≡ true
-begins_with-part l s x e = begins_with_through l (s ++ x) s e (begins_with-longer s x)
-
 pub is_same_half-swap : (g h : Half) → is_same_half g h ≡ is_same_half h g
 is_same_half-swap Keep Keep = refl
 is_same_half-swap Keep Give = refl
 is_same_half-swap Give Keep = refl
 is_same_half-swap Give Give = refl
-
--- std's word, by a test of two halves that agrees with this crate's
-pub starts_with-begins_with : (same : Half → Half → Bool) → ((g h : Half) → same g h ≡ is_same_half g h) → (l s : List Half) → starts_with same l s ≡ begins_with l s
-starts_with-begins_with same agrees l [] = refl
-starts_with-begins_with same agrees [] (h ∷ s) = refl
-starts_with-begins_with same agrees (g ∷ l) (h ∷ s) =
-    let first : same h g ≡ is_same_half g h = agrees h g ∙ is_same_half-swap h g in
-    let rest = starts_with-begins_with same agrees l s in
-    cc
 
 -- a list with an element that passes has at least one of them
 pub count_by-some : {X : Type 0} (p : X → Bool) (xs : List X) → list_any p xs ≡ true → 1 ≤ count_by p xs

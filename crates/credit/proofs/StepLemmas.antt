@@ -113,12 +113,6 @@ module _ (shares : List (List Half)) (old new : Tree) (index : ℕ) (s : List Ha
   pub IsLinked-put : IsLinked new
   IsLinked-put = IsLinked-updated old new index (with_run (node_at old index) (record { keeps = (path_of s).1; time = length shares })) put-update linked
 
-  pub place-put : place (child new) (path_of s).0 ≡ Some index
-  place-put = updated-place old new index (with_run (node_at old index) (record { keeps = (path_of s).1; time = length shares })) put-update (path_of s).0 ∙ here
-
-  pub length-put : length new.nodes.items ≡ length old.nodes.items
-  length-put = updated-length old new index (with_run (node_at old index) (record { keeps = (path_of s).1; time = length shares })) put-update
-
   IsRunPut-put : IsRunPut (progress_at old) (progress_at new) (path_of s).0 (record { keeps = (path_of s).1; time = length shares })
   IsRunPut-put = record {
     put = ap (λ (p : Progress). p.run) (progress_at-updated old new index (with_run (node_at old index) (record { keeps = (path_of s).1; time = length shares })) put-update (path_of s).0 here);

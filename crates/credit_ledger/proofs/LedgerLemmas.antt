@@ -123,10 +123,6 @@ take-all_codes (e ∷ entries) (suc n) =
     ap (λ k. take k (all_codes (e ∷ entries))) more
     ∙ ap (λ rest. tree_code e.root (tree_share e) ∷ second_code e.root (parent_and_number e.path) e.part (tree_share e) ∷ rest) (take-all_codes entries n)
 
-pub all_codes-push : (entries : List Entry) (e : Entry) → all_codes (entries ++ e ∷ []) ≡ all_codes entries ++ tree_code e.root (tree_share e) ∷ second_code e.root (parent_and_number e.path) e.part (tree_share e) ∷ []
-all_codes-push [] e = refl
-all_codes-push (f ∷ entries) e = ap (λ rest. codes f ++ rest) (all_codes-push entries e)
-
 -- ---- what overlaps
 
 IsIn-codes : (f : Entry) (entries : List Entry) (test : Entry → Bool) → list_any test entries ≡ true → (P : Entry → Type 0) → ((g : Entry) → test g ≡ true → P g) → (g : Entry) × (P g) × ((x : List Half) → IsIn x (codes g) → IsIn x (all_codes entries))

@@ -15,10 +15,6 @@ pub every_weaker : {X : Type 0} (P Q : X → Type 0) → ((x : X) → P x → Q 
 every_weaker P Q weaker [] each = tt
 every_weaker P Q weaker (x ∷ xs) each = (weaker x each.0, every_weaker P Q weaker xs each.1)
 
-pub every_of_all : {X : Type 0} (P : X → Type 0) → ((x : X) → P x) → (xs : List X) → Every P xs
-every_of_all P all [] = tt
-every_of_all P all (x ∷ xs) = (all x, every_of_all P all xs)
-
 pub every_if : {X : Type 0} (P : X → Type 0) (b : Bool) (x : X) (l : List X) → (b ≡ true → P x) → Every P l → Every P (cond b (x ∷ l) l)
 every_if P true x l first each = (first refl, each)
 every_if P false x l first each = each

@@ -1,5 +1,5 @@
 -- What is known once causes are looked for one after another.
-use Rattle.std.proofs.Common.{◌≡◌, ℕ, zero, suc, ◌<◌, List, [], ◌∷◌, refl, sym, ap, subst, arith}
+use Rattle.std.proofs.Common.{ℕ, zero, suc, ◌<◌, List, [], ◌∷◌, refl, ap, subst, arith}
 use Rattle.std.specs.Prelude.{Contains}
 use Rattle.ompt_events.specs.declared.records.Record.{Record}
 use Rattle.ompt_events.specs.declared.cause.Cause.{Cause}
@@ -16,27 +16,6 @@ malformed_alone rs cause i first = record { sought_for = (0, omega arith, refl);
     alone : (other : Cause) → Contains (cause ∷ []) other → cause_number other < cause_number cause → IsFreeOf rs other
     alone other (zero, below, is) less = absurd (let e = ap cause_number is in omega arith)
     alone other (suc k, below, is) less = absurd (omega arith)
-
--- a cause that is looked for first, then others
-pub fault_first : (rs : List Record) (cause : Cause) (rest : List Cause) (fault : Fault) → ((other : Cause) → Contains rest other → cause_number other < cause_number cause → ⊥) → IsFault rs (cause ∷ []) fault → IsFault rs (cause ∷ rest) fault
-fault_first rs cause rest Memory above is = tt
-fault_first rs cause rest (Malformed i told) above is = record {
-  sought_for = one is.sought_for;
-  found = is.found;
-  least = λ other has less. least other has less;
-}
-  where
-    one : Contains (cause ∷ []) told → Contains (cause ∷ rest) told
-    one (zero, below, same) = (0, omega arith, same)
-    one (suc k, below, same) = absurd (omega arith)
-
-    told_is : Contains (cause ∷ []) told → cause ≡ told
-    told_is (zero, below, same) = same
-    told_is (suc k, below, same) = absurd (omega arith)
-
-    least : (other : Cause) → Contains (cause ∷ rest) other → cause_number other < cause_number told → IsFreeOf rs other
-    least other (zero, below, same) less = absurd (let e = ap cause_number (sym same) in let f = ap cause_number (sym (told_is is.sought_for)) in omega (arith, e, f, less))
-    least other (suc k, below, same) less = absurd (above other (k, omega arith, same) (let f = ap cause_number (told_is is.sought_for) in omega (arith, f, less)))
 
 -- a cause that is looked for once the one before it does not occur
 pub fault_next : (rs : List Record) (cause : Cause) (rest : List Cause) (fault : Fault) → IsFreeOf rs cause → IsFault rs rest fault → IsFault rs (cause ∷ rest) fault

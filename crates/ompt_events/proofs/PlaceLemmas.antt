@@ -54,10 +54,6 @@ thread_none {X} f rs i e = no_record f (slice_get rs i) e
 pub thread_index : (rs : List Record) (i : ℕ) (r : Record) → i < length rs → thread_at rs i ≡ Some (get_or rs i r).thread
 thread_index rs i r within = ap (option_map (λ (q : Record). q.thread)) (slice_get-get_or rs i r within)
 
--- the length that a record names, where the record was read
-pub seen_read : (rs : List Record) (i : ℕ) (r : Record) → i < length rs → r ≡ get_or rs i r → seen_at rs i ≡ r.seen
-seen_read rs i r within read = ap (λ (o : Option Record). option_map_or (λ (q : Record). q.seen) o 0) (read_get rs i r within read)
-
 -- a place that names a length is one of the places
 pub seen_within : (rs : List Record) (i n : ℕ) → n < seen_at rs i → i < length rs
 seen_within rs i n less = seen_there (slice_get rs i) refl less

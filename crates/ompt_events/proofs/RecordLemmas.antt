@@ -1,6 +1,6 @@
 -- How what single records say hangs together.
-use Rattle.std.proofs.Common.{◌≡◌, ℕ, List, Option, Some, None, refl, ap, ◌⊎◌, inl, inr, true}
-use Rattle.std.specs.Prelude.{slice_get, option_and_then, option_map, is_some, true}
+use Rattle.std.proofs.Common.{◌≡◌, ℕ, List, Option, Some, None, refl, ap, ◌⊎◌, inl, inr}
+use Rattle.std.specs.Prelude.{slice_get, option_and_then, option_map}
 use Rattle.std.proofs.lemmas.Option.{none-some, same_Some}
 use Rattle.ompt_events.specs.declared.records.Record.{Record}
 use Rattle.ompt_events.specs.declared.records.Body.{Body}
@@ -68,19 +68,6 @@ created_at_creation task rs i says = there (slice_get rs i) says
     there : (o : Option Record) → option_and_then (λ (r : Record). created r.body) o ≡ Some task → (parent : ℕ) × (option_and_then (λ (r : Record). creation r.body) o ≡ Some (parent, task))
     there None says = absurd (none-some task says)
     there (Some r) says = created_by task r.body says
-
--- a place that makes a task begins a root or creates
-pub made_at_cases : (rs : List Record) (i : ℕ) → is_some (at made rs i) ≡ true → (is_some (at begun_root rs i) ≡ true) ⊎ (is_some (at creation rs i) ≡ true)
-made_at_cases rs i makes = there (slice_get rs i) makes
-  where
-    here : (b : Body) → is_some (made b) ≡ true → (is_some (begun_root b) ≡ true) ⊎ (is_some (creation b) ≡ true)
-    here (ImplicitTask Begin actual index flags parallel root) is = inl refl
-    here (TaskCreate deps flags parent child) is = inr refl
-    here _ is = inl is
-
-    there : (o : Option Record) → is_some (option_and_then (λ (r : Record). made r.body) o) ≡ true → (is_some (option_and_then (λ (r : Record). begun_root r.body) o) ≡ true) ⊎ (is_some (option_and_then (λ (r : Record). creation r.body) o) ≡ true)
-    there None is = inl is
-    there (Some r) is = here r.body is
 
 -- a record of a region is its task's own
 pub region_running : (task : ℕ) (kind : SyncKind) (endpoint : Endpoint) (b : Body) → region b ≡ Some (task, kind, endpoint) → running b ≡ Some task

@@ -49,6 +49,3 @@ walks_more rs i r old new within read low walks is = record {
 -- the walk that was read is that of its thread
 pub walk_is : (walks : List Walk) (thread : ℕ) (walk : Walk) → thread < length walks → walk ≡ get_or walks thread walk → walk ≡ get_or walks thread at_start
 walk_is walks thread walk within read = read ∙ get_or_default walks thread walk at_start within
-
-pub walk_read : (rs : List Record) (i thread : ℕ) (walks : List Walk) (walk : Walk) → thread < 256 → AreWalks rs i walks → walk ≡ get_or walks thread walk → walk ≡ walk_of thread (take i rs)
-walk_read rs i thread walks walk low are read = walk_is walks thread walk (rw are.all low) read ∙ are.each thread low

@@ -2,15 +2,14 @@
 use Rattle.std.proofs.Common.{◌≡◌, ◌≢◌, ◌∙◌, ℕ, ◌<◌, ◌≤◌, ◌+◌, max, if◌then◌else◌, List, [], ◌∷◌, Option, Some, None, true, false, Bool, cond, refl, sym, ap, subst, arith, get_or, length, inl, inr}
 use Rattle.std.proofs.lemmas.Bool.{cases_eq}
 use Rattle.std.proofs.lemmas.Option.{none-some, same_Some, slice_get-get_or, slice_get_within}
-use Rattle.std.specs.Prelude.{◌==◌, ◌&&◌, not, slice_get, option_and_then, option_map, is_some, find, filter, fold, take}
+use Rattle.std.specs.Prelude.{◌==◌, slice_get, option_and_then, option_map, is_some, filter, fold, take}
 use Rattle.std.specs.Option.{option_map_or}
 use Rattle.ompt_events.specs.declared.records.Record.{Record}
 use Rattle.ompt_events.specs.declared.records.Turns.{Turns}
 use Rattle.ompt_events.specs.Records.{running, started, told_turns, begun_turn, next_turn, prior_turn}
-use Rattle.ompt_events.specs.Places.{at, places}
+use Rattle.ompt_events.specs.Places.{at}
 use Rattle.ompt_events.specs.Turns.{TellsNoTurns, turn_after, turn_in, turn_of, turn_at, turns_in}
 use Rattle.ompt_events.specs.Traces.{IsTraceOf, HasItsTurns}
-use Rattle.ompt_events.specs.States.{is_task, is_on, home_of, has_moved, all_moves_of, moves_of}
 use Rattle.ompt_events.specs.declared.cause.Cause.TheVariants.{TurnGap}
 use Rattle.ompt_events.proofs.EveryLemmas.{Every, every_filter, every_take, fold_most}
 use Rattle.ompt_events.specs.HappensBefore.{IsStart, IsResumption}
@@ -109,28 +108,6 @@ no_turn_gap rs i none (missing task turn tells never) = tells.0 (none i)
 
 pub free_of_gaps : (rs : List Record) → TellsNoTurns rs → IsFreeOf rs TurnGap
 free_of_gaps rs untold i (turn_gap gap) = no_turn_gap rs i untold gap
-
-find_none : {X : Type 0} (p : X → Bool) → ((x : X) → p x ≡ false) → (xs : List X) → is_some (find p xs) ≡ false
-find_none p never [] = refl
-find_none p never (x ∷ xs) = rw (never x) (find_none p never xs)
-
-pub never_moved : (rs : List Record) (task : ℕ) → TellsNoTurns rs → has_moved rs task ≡ false
-never_moved rs task none = find_none (λ i. is_task task (at started rs i) && is_some (at told_turns rs i) && not (is_on rs (home_of rs task) i)) never (places rs)
-  where
-    second : (a b c : Bool) → b ≡ false → (a && b && c) ≡ false
-    second true false c e = refl
-    second false b c e = refl
-    second true true c e = cc
-
-    never : (i : ℕ) → (is_task task (at started rs i) && is_some (at told_turns rs i) && not (is_on rs (home_of rs task) i)) ≡ false
-    never i = second (is_task task (at started rs i)) (is_some (at told_turns rs i)) (not (is_on rs (home_of rs task) i)) (ap is_some (none i))
-
-pub moves_untold : (rs : List Record) (task : ℕ) → TellsNoTurns rs → all_moves_of rs task ≡ moves_of rs task
-moves_untold rs task none = by (has_moved rs task) (never_moved rs task none)
-  where
-    by : (b : Bool) → b ≡ false → cond b (Rattle.ompt_events.specs.States.moved_moves rs task) (moves_of rs task) ≡ moves_of rs task
-    by false e = refl
-    by true e = cc
 
 -- a trace of version 1 tells none
 pub first_version_tells_none : (rs : List Record) → IsTraceOf 1 rs → TellsNoTurns rs

@@ -263,10 +263,6 @@ pub record IsMalformed (rs : List Record) (sought : List Cause) (i : ℕ) (cause
   pub least : (other : Cause) → Contains sought other → cause_number other < cause_number cause
       → IsFreeOf rs other
 
--- none of the causes that are looked for occurs
-abbrev pub IsWellFormed : List Record → List Cause → Type 0
-IsWellFormed rs sought = (cause : Cause) → Contains sought cause → IsFreeOf rs cause
-
 -- ---- the same, by what the trace shows
 
 -- no record shows the cause

@@ -2,7 +2,7 @@
 ghost use Rattle.std.specs.Prelude.{◌≡◌, option_map, option_copied};
 ghost use Rattle.ompt_events.specs.Flags as flag;
 ghost use Rattle.ompt_events.specs.Flags.{has_flag};
-ghost use Rattle.ompt_events.specs.Records.{begun_root, ended_root, joined, begun_initial, forked, region_named, creation, created, created_with_deps, dependences, made, schedule, started, told_turns, begun_turn, suspended_turn, ended_turn, fulfilled, wait_completed, discarded, running, region, flags, cancellation, claim, named, finish};
+ghost use Rattle.ompt_events.specs.Records.{begun_root, ended_root, joined, begun_initial, forked, region_named, creation, created, created_with_deps, dependences, made, schedule, started, told_turns, begun_turn, suspended_turn, ended_turn, fulfilled, wait_completed, discarded, running, region, flags, claim, named, finish};
 ghost use Rattle.ompt_events.specs.Regions.{ends_wait};
 
 use crate::deps::{Dep, Deps};
@@ -425,16 +425,6 @@ impl Body {
     {
         match self {
             Body::ImplicitTask { flags, .. } | Body::TaskCreate { flags, .. } => Some(*flags),
-            _ => None,
-        }
-    }
-
-    /// The flags of a cancellation.
-    pub fn cancellation(&self) -> Option<CancelFlags>
-        ensures { option_map (λ f. f.0) result ≡ cancellation self.now }
-    {
-        match self {
-            Body::Cancel { flags, .. } => Some(*flags),
             _ => None,
         }
     }

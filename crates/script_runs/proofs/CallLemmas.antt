@@ -1,5 +1,5 @@
 -- A call of a recorder adds one record, with that call.
-use Rattle.std.proofs.Common.{ℕ, length, ◌≡◌, ◌∙◌, ◌++◌, ◌∷◌, [], Some, None, Option, map, refl, ap}
+use Rattle.std.proofs.Common.{ℕ, length, ◌≡◌, ◌∙◌, ◌++◌, ◌∷◌, [], Some, None, Option, map, ap}
 use Rattle.std.proofs.Common.{arith}
 use Rattle.std.proofs.lemmas.List.{map-append}
 use Rattle.std.specs.Int.Bits.{bit_and, bit_or, or_add_and}
@@ -15,7 +15,7 @@ use Rattle.ompt_events.specs.Names.{status_part}
 use Rattle.credit_ledger.specs.declared.entry.Entry.{Entry}
 use Rattle.credit_ledger.specs.declared.view.View.{View}
 use Rattle.recorder.specs.Tasks.{TaskView}
-use Rattle.recorder.specs.Recorders.{RecorderView, recorded, with_record, IsConcluded}
+use Rattle.recorder.specs.Recorders.{RecorderView, recorded, IsConcluded}
 use Rattle.recorder.specs.Schedules.{ScheduleView, schedule_body, schedule_of, discard_body, IsStopped, IsStoppedBy}
 use Rattle.script_runs.specs.Calls.{called, recorded_calls}
 use Rattle.script_runs.specs.Parts.{IsCalled}
@@ -32,10 +32,6 @@ call_recorded old new seen seat body told is same = record {
   where
     added : Record
     added = record { thread = old.thread; seq = length old.records; seen = seen; body = body }
-
--- a call that asks no ledger
-pub call_alone : (old new : RecorderView) (body : Body) → new ≡ with_record old body → IsCalled old body new
-call_alone old new body is = call_recorded old new old.known old.seat body body is refl
 
 -- a schedule
 pub call_stopped : (part : Option Part) (old new : RecorderView) (s : ScheduleView) (told : Body)

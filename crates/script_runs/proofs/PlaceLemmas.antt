@@ -69,15 +69,6 @@ places_next steps n s before after is are added thread = elim (eqb_tells s.threa
 
 -- ---- a thread takes its steps
 
--- one step more is taken
-pub run_next : (steps : List Step) (row : List ℕ) (k at : ℕ) (old new : RecorderView)
-    → slice_get row k ≡ Some at → HasRunTo steps (take k row) old → IsTaken steps at old new
-    → HasRunTo steps (take (k + 1) row) new
-run_next steps row k at old new is before taken =
-    taken.calls ∙ ap (λ l. l ++ call_at steps at ∷ []) before
-    ∙ sym (map-append (call_at steps) (take k row) (at ∷ []))
-    ∙ ap (map (call_at steps)) (sym (take_next row k at is))
-
 -- all are
 pub run_all : (steps : List Step) (threads : List (Vec ℕ)) (thread k : ℕ) (row : List ℕ) (r : RecorderView)
     → ArePlaces steps (length steps) threads → row ≡ row_at threads thread → r.thread ≡ thread

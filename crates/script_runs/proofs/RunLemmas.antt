@@ -1,13 +1,12 @@
 -- The recorders of the threads, the last thread first.
-use Rattle.std.proofs.Common.{ℕ, ◌≡◌, ◌∙◌, ◌++◌, ◌∷◌, ◌+◌, ◌≤◌, ◌⊎◌, [], List, length, refl, ap, subst, inl, inr, arith}
-use Rattle.std.specs.Prelude.{All, Contains, slice_get}
+use Rattle.std.proofs.Common.{ℕ, ◌≡◌, ◌∙◌, ◌++◌, ◌∷◌, ◌+◌, ◌≤◌, ◌⊎◌, [], List, length, refl, ap, inl, inr, arith}
+use Rattle.std.specs.Prelude.{Contains, slice_get}
 use Rattle.std.specs.Global.{Vec}
 use Rattle.std.proofs.lemmas.Bool.{cases_order}
 use Rattle.std.proofs.lemmas.Option.{slice_get_past}
-use Rattle.std.proofs.lemmas.List.{nil_from_length}
 use Rattle.std.proofs.lemmas.List.Elements.{All-nil, All-cons, All-append, Contains-append_left, Contains-append_right}
 use Rattle.scripts.specs.declared.script.Step.{Step}
-use Rattle.task_states.specs.Rows.{row_items, row_at}
+use Rattle.task_states.specs.Rows.{row_items}
 use Rattle.recorder.specs.Recorders.{RecorderView}
 use Rattle.script_runs.specs.Calls.{calls_of}
 use Rattle.script_runs.specs.Parts.{ArePlaces, HasRun, HaveRun, IsAmong}
@@ -30,19 +29,6 @@ from_here first thread from = elim (cases_order first thread) [
   | inr (inr above) ↦ absurd (omega (arith, from, above))
 ]
 
--- a thread without a step needs no recorder
-pub none_here : (steps : List Step) (threads : List (Vec ℕ)) (first : ℕ) (recorders : List RecorderView)
-    → ArePlaces steps (length steps) threads → length (row_at threads first) ≡ 0
-    → HaveRun steps (first + 1) recorders → HaveRun steps first recorders
-none_here steps threads first recorders are empty run = record {
-  each = run.each;
-  all = λ thread from. elim (from_here first thread from) [
-    | inl same ↦ inl (subst (λ t. calls_of steps t ≡ []) same
-        (no_places steps threads first are (nil_from_length (row_at threads first) empty)))
-    | inr above ↦ run.all thread above
-  ];
-}
-
 -- the recorder of a thread comes to those of the later ones
 pub one_more : (steps : List Step) (first : ℕ) (recorders : List RecorderView) (r : RecorderView)
     → HasRun steps r → r.thread ≡ first → HaveRun steps (first + 1) recorders
@@ -60,8 +46,3 @@ one_more steps first recorders r own of run = record {
     further thread (inl none) = inl none
     further thread (inr (other, among, is)) =
         inr (other, Contains-append_left recorders (r ∷ []) other among, is)
-
--- of which all are of one ledger
-pub all_more : (P : RecorderView → Type 0) (recorders : List RecorderView) (r : RecorderView)
-    → All P recorders → P r → All P (recorders ++ r ∷ [])
-all_more P recorders r all one = All-append P recorders (r ∷ []) all (All-cons P r [] one (All-nil P))

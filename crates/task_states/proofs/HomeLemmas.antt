@@ -1,9 +1,9 @@
 -- On which thread each explicit task runs, of the first records.
 use Rattle.std.proofs.Common.{◌≡◌, ◌≢◌, ◌∙◌, ℕ, zero, suc, ◌<◌, ◌≤◌, ◌+◌, List, length, Option, Some, None, Bool, true, false, cond, refl, sym, ap, subst, arith, inl, inr, set}
 use Rattle.std.proofs.lemmas.Bool.{cases_eq, eq-eqb, ne_eqb, and_parts, false≢true}
-use Rattle.std.proofs.lemmas.Option.{none-some, same_Some, slice_get_within, slice_get-get_or}
-use Rattle.std.proofs.lemmas.List.{length-set, length-replicate, get_or-replicate}
-use Rattle.std.specs.Prelude.{◌↔◌, ◌==◌, ◌&&◌, not, is_some, find, replicate, slice_get, option_and_then}
+use Rattle.std.proofs.lemmas.Option.{none-some, same_Some, slice_get_within}
+use Rattle.std.proofs.lemmas.List.{length-set}
+use Rattle.std.specs.Prelude.{◌↔◌, ◌==◌, ◌&&◌, not, is_some, find, slice_get, option_and_then}
 use Rattle.std.specs.List.{range_with_len}
 use Rattle.std.specs.Option.{option_map_or}
 use Rattle.ompt_events.specs.declared.records.Record.{Record}
@@ -19,7 +19,7 @@ use Rattle.ompt_events.proofs.ListLemmas.{contains_get}
 use Rattle.task_tree.specs.Numbering.{AreApart}
 use Rattle.task_tree.specs.Family.{FamilyView, IsFamilyOf}
 use Rattle.task_tree.specs.Runs.{RunView, IsRun, IsIndexOf}
-use Rattle.task_tree.proofs.SubjectLemmas.{call_task, call_index}
+use Rattle.task_tree.proofs.SubjectLemmas.{call_task}
 use Rattle.task_tree.proofs.LinkLemmas.{get_set_same, get_set_other}
 use Rattle.task_states.specs.declared.homes.Home.{Home}
 use Rattle.task_states.specs.declared.homes.Home.TheVariants.{Nowhere, On, Many}
@@ -74,18 +74,6 @@ explicit_index rs family task are (i, creates) =
     let makes = created_at_made task rs i creates in
     contains_get family.tasks task (are.noted.each i task (at_within made rs i task makes) makes)
 
--- before the first record none has run
-pub homes_start : (rs : List Record) (tasks : List ℕ) (homes : List Home) → homes ≡ replicate (length tasks) Nowhere → AreHomes rs 0 tasks homes
-homes_start rs tasks homes are = record {
-  all = ap length are ∙ length-replicate (length tasks) Nowhere;
-  each = λ index task stands explicit.
-      let low : index < length tasks = slice_get_within tasks index task stands in (
-        Nowhere,
-        ap (λ l. slice_get l index) are ∙ slice_get-get_or (replicate (length tasks) Nowhere) index Nowhere (rw (length-replicate (length tasks) Nowhere) low) ∙ ap Some (get_or-replicate (length tasks) index Nowhere Nowhere low),
-        λ k below. absurd (omega arith),
-      );
-}
-
 -- the index that is found is that of the task, if it is explicit
 pub explicit_start_is : (run : RunView) (i index : ℕ) (found : Option ℕ) → IsRun run → IsIndexOf run started i found → found ≡ Some index → IsExplicitAt run.records run.family.tasks index → (k : ℕ) → (Some index ≡ Some k) ↔ IsExplicitStart run.records run.family.tasks i k
 explicit_start_is run i index found is calls same explicit k =
@@ -99,15 +87,6 @@ explicit_start_is run i index found is calls same explicit k =
       },
       λ start. ap Some (is.family.makers.apart index k task stands (start.indexed ∙ ap Some (same_Some start.task task (sym start.starts ∙ starts)))),
     )
-
--- a record that starts another task, or none, is no such start
-pub no_explicit_start : (run : RunView) (i : ℕ) (found : Option ℕ) → IsIndexOf run started i found → ((index task : ℕ) → found ≡ Some index → slice_get run.family.tasks index ≡ Some task → IsExplicit run.records task → ⊥) → (k : ℕ) → (None ≡ Some k) ↔ IsExplicitStart run.records run.family.tasks i k
-no_explicit_start run i found calls other k = (
-  λ is_k. absurd (none-some k is_k),
-  λ start.
-      let (index, is, stands) = call_index run.family.tasks (at started run.records i) found start.task calls start.starts in
-      absurd (other index start.task is stands start.explicit),
-)
 
 -- ---- the tests
 

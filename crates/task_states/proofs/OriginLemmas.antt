@@ -167,12 +167,6 @@ pub record IsFilled {X : Type 0} (says : ℕ → X → Type 0) (n : ℕ) (table 
   pub all : length table ≡ n
   pub each : (i : ℕ) (x : X) → slice_get table i ≡ Some x → says i x
 
-pub filled_none : {X : Type 0} (says : ℕ → X → Type 0) (table : List X) → table ≡ [] → IsFilled says 0 table
-filled_none says table empty = record {
-  all = ap length empty;
-  each = λ i x stands. absurd (none-some x (ap (λ l. slice_get l i) (sym empty) ∙ stands));
-}
-
 pub filled_more : {X : Type 0} (says : ℕ → X → Type 0) (n : ℕ) (table : List X) (x : X) → IsFilled says n table → says n x → IsFilled says (n + 1) (table ++ x ∷ [])
 filled_more says n table x filled here = record {
   all = length_push table x ∙ ap (λ m. m + 1) filled.all;

@@ -1,7 +1,7 @@
 -- What a pass over the records has read, one record on.
 use Rattle.std.proofs.Common.{◌≡◌, ◌∙◌, ℕ, zero, suc, ◌+◌, List, [], ◌∷◌, ◌++◌, length, Option, Some, None, Bool, true, false, cond, take, refl, sym, ap, subst, get_or, arith, inl, inr, ◌<◌}
 use Rattle.std.proofs.lemmas.Option.{slice_get-map, slice_get_within, slice_get-get_or, get_or_from_slice_get, none-some, same_Some}
-use Rattle.std.proofs.lemmas.Bool.{cases_eq, eq-eqb, ne_eqb, false≢true}
+use Rattle.std.proofs.lemmas.Bool.{cases_eq, false≢true}
 use Rattle.std.proofs.lemmas.List.{length-map, append-nil, append_assoc, take_more}
 use Rattle.std.proofs.lemmas.List.Elements.{All-push, filter-append}
 use Rattle.std.proofs.lemmas.Grind.{flat_map-append}
@@ -21,18 +21,16 @@ use Rattle.ompt_events.specs.States.{Move, Stopped, Started, Discarded, is_task,
 use Rattle.ompt_events.specs.Names.{demands_next}
 use Rattle.ompt_events.specs.Turns.{turns_in}
 use Rattle.ompt_events.proofs.PlaceLemmas.{range_more, at_within}
-use Rattle.task_tree.specs.Runs.{RunView, IsRun, IsIndexOf, IsSchedule, status as says_status}
-use Rattle.task_tree.specs.Subjects.{Calls}
+use Rattle.task_tree.specs.Runs.{RunView, IsRun, IsIndexOf, status as says_status}
 use Rattle.task_tree.proofs.SubjectLemmas.{call_task}
 use Rattle.task_states.specs.declared.moves.Nature as code
 use Rattle.task_states.specs.declared.moves.Move as steps
 use Rattle.task_states.specs.declared.moves.Move.TheVariants as step
 use Rattle.task_states.specs.declared.progress.Pass.{Pass}
 use Rattle.task_states.specs.declared.progress.Pass.TheVariants.{Early, Home, Rest}
-use Rattle.task_states.specs.Progress.{the_nature, the_move, is_home, is_switch, is_read, is_read_for, moves_in, turned, read_before, moves_read, moves_before, and_move, and_record, is_early_status, is_early_move, is_turn_move, fulfils_early, is_at, is_many, reads, IsMoveOf, IsReadWhole, AreLeft, AreNatures, HasCome}
+use Rattle.task_states.specs.Progress.{the_nature, is_home, is_switch, is_read, moves_in, turned, read_before, moves_read, moves_before, and_move, and_record, is_early_status, is_early_move, is_turn_move, fulfils_early, is_at, is_many, reads, IsMoveOf, IsReadWhole, AreLeft, AreNatures, HasCome}
 use Rattle.task_states.specs.declared.homes.Home as homes
 use Rattle.task_states.specs.Homes.{home_told, home_at, IsNeverEarly}
-use Rattle.task_states.proofs.ProgressLemmas.{come_same}
 
 -- ---- the record at a place
 
@@ -60,22 +58,6 @@ early_for task _ = false
 pub early_there : (rs : List Record) (i task : ℕ) (r : Record) → slice_get rs i ≡ Some r → is_early rs task i ≡ early_for task r.body
 early_there rs i task r stands = ap (λ (o : Option Record). option_map_or (λ (q : Record). early_for task q.body) o false) stands
 
--- of the prior task what the status says
-stop_early : (rs : List Record) (i task : ℕ) (status : Status) (next : Option ℕ) → at schedule rs i ≡ Some (status, task, next) → is_early rs task i ≡ is_early_status status
-stop_early rs i task status next says =
-    let (r, stands, is) = record_there schedule rs i (status, task, next) says in
-    early_there rs i task r stands ∙ of r.body is
-  where
-    by : (s : Status) (turns : _) (prior : ℕ) (follower : Option ℕ) (share : _) → prior ≡ task → early_for task (TaskSchedule s turns prior follower share) ≡ is_early_status s
-    by EarlyFulfill turns prior follower share same = eq-eqb prior task same
-    by _ turns prior follower share same = refl
-
-    of : (b : Body) → schedule b ≡ Some (status, task, next) → early_for task b ≡ is_early_status status
-    of (TaskSchedule s turns p n share) is =
-        let same : (s, p, n) ≡ (status, task, next) = same_Some (s, p, n) (status, task, next) is in
-        by s turns p n share (ap (λ (t : Status × ℕ × Option ℕ). t.1) same) ∙ ap (λ (t : Status × ℕ × Option ℕ). is_early_status t.0) same
-    of _ is = absurd (none-some (status, task, next) is)
-
 -- no start is: a trace has no next task where an event is fulfilled
 start_early : (rs : List Record) (i task : ℕ) → IsTrace rs → at started rs i ≡ Some task → is_early rs task i ≡ false
 start_early rs i task is_trace says =
@@ -102,18 +84,6 @@ discard_early rs i task says =
 pub switch_there : (rs : List Record) (i : ℕ) (r : Record) → slice_get rs i ≡ Some r → is_switch rs i ≡ option_map_or demands_next (says_status r.body) false
 switch_there rs i r stands = ap (λ (o : Option Status). option_map_or demands_next o false) (said_there says_status rs i r stands)
 
--- of the prior task what the status says
-stop_switch : (rs : List Record) (i task : ℕ) (status : Status) (next : Option ℕ) → at schedule rs i ≡ Some (status, task, next) → is_switch rs i ≡ demands_next status
-stop_switch rs i task status next says =
-    let (r, stands, is) = record_there schedule rs i (status, task, next) says in
-    switch_there rs i r stands ∙ of r.body is
-  where
-    of : (b : Body) → schedule b ≡ Some (status, task, next) → option_map_or demands_next (says_status b) false ≡ demands_next status
-    of (TaskSchedule s turns p n share) is =
-        let same : (s, p, n) ≡ (status, task, next) = same_Some (s, p, n) (status, task, next) is in
-        ap (λ (t : Status × ℕ × Option ℕ). demands_next t.0) same
-    of _ is = absurd (none-some (status, task, next) is)
-
 -- each start does: a trace has a next task where the status demands one alone
 start_switch : (rs : List Record) (i task : ℕ) → IsTrace rs → at started rs i ≡ Some task → is_switch rs i ≡ true
 start_switch rs i task is_trace says =
@@ -137,15 +107,6 @@ discard_switch rs i task says =
 
 -- ---- the moves as the code makes them
 
-pub stop_move : (run : RunView) (i index : ℕ) (status : Status) (next : Option ℕ) → IsSchedule run i status index next → IsMoveOf run i index (step.Stopped status)
-stop_move run i index status next is = record {
-  within = at_within schedule run.records i (status, is.task, is.follower) is.says;
-  task = is.task;
-  indexed = is.indexed;
-  early = stop_early run.records i is.task status is.follower is.says;
-  switch = stop_switch run.records i is.task status is.follower is.says;
-}
-
 pub start_move : (run : RunView) (i index : ℕ) (next : Option ℕ) → IsRun run → IsIndexOf run started i next → next ≡ Some index → IsMoveOf run i index step.Started
 start_move run i index next is calls same =
     let (task, says, stands) = call_task run.family.tasks (at started run.records i) next index calls same in
@@ -165,11 +126,6 @@ scheduled_next rs i status task next says =
     of : (b : Body) → schedule b ≡ Some (status, task, next) → started b ≡ next
     of (TaskSchedule s turns p n share) is = ap (λ (t : Status × ℕ × Option ℕ). t.2) (same_Some (s, p, n) (status, task, next) is)
     of _ is = absurd (none-some (status, task, next) is)
-
-pub next_calls : (run : RunView) (i index : ℕ) (status : Status) (next : Option ℕ) → IsSchedule run i status index next → IsIndexOf run started i next
-next_calls run i index status next is =
-    let P : Option ℕ → Type 0 = λ o. Calls run.family.tasks o next in
-    subst P (sym (scheduled_next run.records i status is.task is.follower is.says)) is.next_indexed
 
 -- whether a pass reads the record for a task
 home_here : (moved : Bool) (home on : Option ℕ) (thread : ℕ) → on ≡ Some thread → is_at (home_told moved home) thread ≡ not moved && option_map_or (λ h. option_map_or (λ t. t == h) on false) home false
@@ -207,20 +163,6 @@ read_told pass run task i index move home thread is stands same runs =
     of Early = refl
     of Home = refl
     of Rest = refl
-
--- ---- the task that a record names
-
--- where it names none, nothing moves
-nothing : (pass : Pass) (rs : List Record) (at : ℕ) (move : steps.Move) (moves : ℕ → List (ℕ × Move)) (task : ℕ) → and_move pass rs at None move moves task ≡ moves task
-nothing pass rs at move moves task = ap (λ b. moves task ++ cond b ((at, the_move move) ∷ []) []) (and_false (is_read pass rs task at)) ∙ append-nil (moves task)
-  where
-    and_false : (b : Bool) → b && false ≡ false
-    and_false true = refl
-    and_false false = refl
-
-pub come_unnamed : (pass : Pass) (rs : List Record) (tasks : List ℕ) (at : ℕ) (named : Option ℕ) (move : steps.Move) (moves : ℕ → List (ℕ × Move)) (progress : _) → named ≡ None → HasCome rs tasks moves progress → HasCome rs tasks (and_move pass rs at named move moves) progress
-come_unnamed pass rs tasks at named move moves progress none come =
-    come_same rs tasks moves (and_move pass rs at named move moves) progress (λ task. ap (λ o. and_move pass rs at o move moves task) none ∙ nothing pass rs at move moves task) come
 
 -- ---- what a record moves
 
@@ -284,56 +226,6 @@ no_moves pass rs i r moves stands no_schedule no_discard task = ap (λ l. moves 
 
 -- ---- the records that a pass reads for each of their tasks
 
--- where a pass reads the record for the task that was found, a task for which it does not is another
-read_apart : (reads : ℕ → Bool) (found : Option ℕ) (task : ℕ) → option_map_or reads found true ≡ true → reads task ≡ false → is_task task found ≡ false
-read_apart reads None task all off = refl
-read_apart reads (Some other) task all off = elim (cases_eq other task) [
-  | inl same ↦ absurd (false≢true (sym off ∙ ap reads (sym same) ∙ all))
-  | inr apart ↦ ne_eqb other task apart
-]
-
--- of a schedule these are two, or one
-schedule_whole : (pass : Pass) (rs : List Record) (i : ℕ) (r : Record) (status : Status) (prior : ℕ) (next : Option ℕ) → slice_get rs i ≡ Some r → schedule r.body ≡ Some (status, prior, next) → is_read_for pass rs (Some prior) i ≡ true → is_read_for pass rs next i ≡ true → IsReadWhole pass rs i
-schedule_whole pass rs i r status prior next stands says first second task off = moves_there rs i task r stands ∙ of r.body says
-  where
-    reads : ℕ → Bool
-    reads other = is_read pass rs other i
-
-    none_of : (s : Status) (a b : Bool) → a ≡ false → b ≡ false → map {B = ℕ × Move} (λ move. (i, move)) ((cond a (Stopped s ∷ []) [] ++ cond b (Started ∷ []) []) ++ []) ≡ []
-    none_of s true b first second = absurd (false≢true (sym first))
-    none_of s false true first second = absurd (false≢true (sym second))
-    none_of s false false first second = refl
-
-    of : (b : Body) → schedule b ≡ Some (status, prior, next) → map {B = ℕ × Move} (λ move. (i, move)) (moves_by task b) ≡ []
-    of (TaskSchedule s turns p n share) is =
-        let same : (s, p, n) ≡ (status, prior, next) = same_Some (s, p, n) (status, prior, next) is in
-        none_of s (p == task) (is_task task n)
-        (ap (λ (t : Status × ℕ × Option ℕ). is_task task (Some t.1)) same ∙ read_apart reads (Some prior) task first off)
-        (ap (λ (t : Status × ℕ × Option ℕ). is_task task t.2) same ∙ read_apart reads next task second off)
-    of _ is = absurd (none-some (status, prior, next) is)
-
--- of a cancellation at most one
-discard_whole : (pass : Pass) (rs : List Record) (i : ℕ) (r : Record) (named : ℕ) → slice_get rs i ≡ Some r → discarded r.body ≡ Some named → is_read_for pass rs (Some named) i ≡ true → IsReadWhole pass rs i
-discard_whole pass rs i r named stands says all task off = moves_there rs i task r stands ∙ of r.body says
-  where
-    reads : ℕ → Bool
-    reads other = is_read pass rs other i
-
-    of : (b : Body) → discarded b ≡ Some named → map {B = ℕ × Move} (λ move. (i, move)) (moves_by task b) ≡ []
-    of (Cancel flags t share) is =
-        ap (λ (b : Bool). map {B = ℕ × Move} (λ move. (i, move)) (cond b (Discarded ∷ []) []))
-        (ap (is_task task) is ∙ read_apart reads (Some named) task all off)
-    of _ is = absurd (none-some named is)
-
--- and of all others none
-still_whole : (pass : Pass) (rs : List Record) (i : ℕ) (r : Record) → slice_get rs i ≡ Some r → schedule r.body ≡ None → discarded r.body ≡ None → IsReadWhole pass rs i
-still_whole pass rs i r stands no_schedule no_discard task off = moves_there rs i task r stands ∙ of r.body no_schedule no_discard
-  where
-    of : (b : Body) → schedule b ≡ None → discarded b ≡ None → map {B = ℕ × Move} (λ move. (i, move)) (moves_by task b) ≡ []
-    of (TaskSchedule s turns p n share) is missing = absurd (none-some (s, p, n) (sym is))
-    of (Cancel flags t share) is missing = ap (λ (o : Option ℕ). map {B = ℕ × Move} (λ move. (i, move)) (cond (is_task task o) (Discarded ∷ []) [])) missing
-    of _ is missing = refl
-
 -- the same by what is said at the place
 pub schedule_moves_at : (pass : Pass) (rs : List Record) (i : ℕ) (status : Status) (prior : ℕ) (next : Option ℕ) (moves : ℕ → List (ℕ × Move)) → at schedule rs i ≡ Some (status, prior, next) → (task : ℕ)
     → and_record pass rs i moves task ≡ and_move pass rs i (at started rs i) step.Started (and_move pass rs i (Some prior) (step.Stopped status) moves) task
@@ -352,21 +244,6 @@ pub no_moves_at : (pass : Pass) (rs : List Record) (i : ℕ) (moves : ℕ → Li
 no_moves_at pass rs i moves within no_schedule no_discard =
     let (r, stands) = record_at rs i within in
     no_moves pass rs i r moves stands (sym (said_there schedule rs i r stands) ∙ no_schedule) (sym (said_there discarded rs i r stands) ∙ no_discard)
-
-pub schedule_whole_at : (pass : Pass) (rs : List Record) (i : ℕ) (status : Status) (prior : ℕ) (next : Option ℕ) → at schedule rs i ≡ Some (status, prior, next) → is_read pass rs prior i ≡ true → is_read_for pass rs (at started rs i) i ≡ true → IsReadWhole pass rs i
-schedule_whole_at pass rs i status prior next says first second =
-    let (r, stands, is) = record_there schedule rs i (status, prior, next) says in
-    schedule_whole pass rs i r status prior next stands is first (ap (λ o. is_read_for pass rs o i) (sym (scheduled_next rs i status prior next says)) ∙ second)
-
-pub discard_whole_at : (pass : Pass) (rs : List Record) (i named : ℕ) → at discarded rs i ≡ Some named → is_read pass rs named i ≡ true → IsReadWhole pass rs i
-discard_whole_at pass rs i named says all =
-    let (r, stands, is) = record_there discarded rs i named says in
-    discard_whole pass rs i r named stands is all
-
-pub still_whole_at : (pass : Pass) (rs : List Record) (i : ℕ) → i < length rs → at schedule rs i ≡ None → at discarded rs i ≡ None → IsReadWhole pass rs i
-still_whole_at pass rs i within no_schedule no_discard =
-    let (r, stands) = record_at rs i within in
-    still_whole pass rs i r stands (sym (said_there schedule rs i r stands) ∙ no_schedule) (sym (said_there discarded rs i r stands) ∙ no_discard)
 
 -- the last pass reads nothing of a record that the home pass read for each of its tasks
 pub whole_not_left : (rs : List Record) (i : ℕ) (moves : ℕ → List (ℕ × Move)) → IsReadWhole Home rs i → (task : ℕ) → and_record Rest rs i moves task ≡ moves task

@@ -1,7 +1,7 @@
 -- How far a task has come, one move on.
 use Rattle.std.proofs.Common.{◌≡◌, ◌≢◌, ◌∙◌, ℕ, ◌<◌, ◌≤◌, ◌+◌, List, [], ◌∷◌, ◌++◌, length, get_or, take, Option, Some, None, Bool, true, false, cond, refl, sym, ap, subst, arith, inl, inr, ◌⊎◌}
 use Rattle.std.proofs.lemmas.Bool.{cases_eq, cases_lt, eq-eqb, ne_eqb, false≢true, lt-ltb, le-ltb}
-use Rattle.std.proofs.lemmas.Option.{none-some, same_Some, slice_get_within, slice_get-get_or, get_or_from_slice_get}
+use Rattle.std.proofs.lemmas.Option.{none-some, same_Some, slice_get_within, get_or_from_slice_get}
 use Rattle.std.proofs.lemmas.List.{get_or_default, append-nil, length-set, length_push, take-append-le, take_all}
 use Rattle.std.proofs.Math.Seq.{take-length}
 use Rattle.std.proofs.lemmas.List.Sums.{fold_push}
@@ -14,11 +14,10 @@ use Rattle.ompt_events.proofs.ListLemmas.{get_pushed, get_last, pushed_cases}
 use Rattle.task_states.specs.declared.progress.Pass.{Pass}
 use Rattle.task_tree.specs.Numbering.{AreApart}
 use Rattle.task_tree.proofs.LinkLemmas.{get_set_same, get_set_other}
-use Rattle.task_states.specs.declared.homes.Home.{Home}
-use Rattle.task_states.specs.Homes.{home_at}
+
 use Rattle.task_states.specs.declared.moves.Nature as code
 use Rattle.task_states.specs.declared.moves.Move as steps
-use Rattle.task_states.specs.Progress.{the_nature, the_move, is_read, and_move, AreNatures, AreHomes, ProgressView, HasCome, IsRefused, earlier, refused_after}
+use Rattle.task_states.specs.Progress.{the_nature, the_move, is_read, and_move, ProgressView, HasCome, IsRefused, earlier, refused_after}
 
 -- ---- the first move that is refused
 
@@ -237,12 +236,3 @@ come_read pass rs tasks index task at nature step moves old new apart stands sam
 -- one that it does not read leaves all as it is
 pub come_unread : (pass : Pass) (rs : List Record) (tasks : List ℕ) (task at : ℕ) (step : steps.Move) (moves : ℕ → List (ℕ × Move)) (progress : ProgressView) → is_read pass rs task at ≡ false → HasCome rs tasks moves progress → HasCome rs tasks (and_move pass rs at (Some task) step moves) progress
 come_unread pass rs tasks task at step moves progress reads come = come_same rs tasks moves (and_move pass rs at (Some task) step moves) progress (read_off pass rs at task step moves reads) come
-
--- the entry of a table that was read
-pub home_read : (rs : List Record) (tasks : List ℕ) (homes : List Home) (index task : ℕ) (home : Home) → AreHomes rs tasks homes → slice_get tasks index ≡ Some task → index < length homes → home ≡ get_or homes index home → home ≡ home_at rs task
-home_read rs tasks homes index task home are stands within read = same_Some home (home_at rs task) (sym (slice_get-get_or homes index home within ∙ ap Some (sym read)) ∙ are index task stands)
-
-pub nature_read : (rs : List Record) (tasks : List ℕ) (natures : List code.Nature) (index task : ℕ) (nature : code.Nature) → AreNatures rs tasks natures → slice_get tasks index ≡ Some task → index < length natures → nature ≡ get_or natures index nature → the_nature nature ≡ nature_of rs task
-nature_read rs tasks natures index task nature are stands within read =
-    let (known, there, is) = are index task stands in
-    ap the_nature (same_Some nature known (sym (slice_get-get_or natures index nature within ∙ ap Some (sym read)) ∙ there)) ∙ is

@@ -4,8 +4,8 @@ use Rattle.std.proofs.Common.{◌≡◌, ◌≢◌, ◌∙◌, ℕ, ◌<◌, ◌
 use Rattle.std.proofs.Math.Nat.{min-le_left, min-le_right, min-eq_left, min-eq_right}
 use Rattle.std.proofs.lemmas.Bool.{cases_eq, cases_lt, false≢true}
 use Rattle.std.proofs.lemmas.Option.{none-some, same_Some, slice_get_within, slice_get-get_or}
-use Rattle.std.proofs.lemmas.List.{length-set, get_or-set_same, get_or-set_other, length-replicate, get_or-replicate}
-use Rattle.std.specs.Prelude.{◌↔◌, IsTrue, MatchOption, slice_get, slice_index_or, replicate}
+use Rattle.std.proofs.lemmas.List.{length-set, get_or-set_same, get_or-set_other}
+use Rattle.std.specs.Prelude.{◌↔◌, IsTrue, MatchOption, slice_get, slice_index_or}
 use Rattle.ompt_events.specs.declared.records.Record.{Record}
 use Rattle.ompt_events.specs.declared.names.Endpoint.{Endpoint}
 use Rattle.ompt_events.specs.declared.names.Endpoint.TheVariants.{Begin, End, BeginEnd}
@@ -48,14 +48,6 @@ pub record AreOpen (rs : List Record) (n : ℕ) (tasks : List ℕ) (innermost li
   pub tops : length innermost ≡ length tasks
   pub stacks : (index task : ℕ) → slice_get tasks index ≡ Some task → IsStack links n (top_of innermost index) (open_regions rs task n)
   pub linked : AreLinkedOrNot rs n links
-
-pub open_start : (rs : List Record) (tasks : List ℕ) (innermost links : List (Option ℕ)) → innermost ≡ replicate (length tasks) None → links ≡ replicate (length rs) None → AreOpen rs 0 tasks innermost links
-open_start rs tasks innermost links none empty = record {
-  all = ap length empty ∙ length-replicate (length rs) None;
-  tops = ap length none ∙ length-replicate (length tasks) None;
-  stacks = λ index task is. ap (λ l. slice_index_or l index None) none ∙ get_or-replicate (length tasks) index None None (slice_get_within tasks index task is);
-  linked = λ i task kind below. absurd (omega arith);
-}
 
 -- the innermost open region of a task is at the top of its stack
 top_first : (links : List (Option ℕ)) (n : ℕ) (top : Option ℕ) (stack : List ℕ) → IsStack links n top stack → top ≡ slice_get stack 0
@@ -211,16 +203,6 @@ earliest_still own cause n (Some place) none is = record {
 pub earliest_silent : (own : OwnView) (n : ℕ) (found : Option ℕ) → at region own.run.records n ≡ None → IsEarliest own RegionOrder n found → IsEarliest own RegionOrder (n + 1) found
 earliest_silent own n found none is = earliest_still own RegionOrder n found (no_region_here own.run.records n none) is
 
--- the first one that has it
-pub earlier_first : (own : OwnView) (cause : Cause) (n place : ℕ) → slice_get own.places n ≡ Some place → HasCause own.run.records n cause → IsEarliest own cause n None → IsEarliestPlace own cause (n + 1) place
-earlier_first own cause n place stands has free = record {
-  has = (n, stands, has);
-  least = λ number other below there has'. elim (cases_eq number n) [
-    | inl same ↦ let e = same_Some other place (sym there ∙ ap (slice_get own.places) same ∙ stands) in omega (arith, e)
-    | inr apart ↦ absurd (free number (omega (arith, below, apart)) has')
-  ];
-}
-
 -- another one that has it
 pub earlier_other : (own : OwnView) (cause : Cause) (n before place : ℕ) → slice_get own.places n ≡ Some place → HasCause own.run.records n cause → IsEarliestPlace own cause n before → IsEarliestPlace own cause (n + 1) (min before place)
 earlier_other own cause n before place stands has is = record {
@@ -271,15 +253,6 @@ later_begin rs i own begin kind says ends task other endpoint there =
     let P : ℕ → Type 0 = λ t. IsRegion rs i t other begin in
     let Q : SyncKind → Type 0 = λ k. IsRegion rs i own k begin in
     subst P same.0 (subst Q same.1 (ended ends))
-
--- a begin ends nothing, nor does a record of no region
-pub begin_ends_none : (rs : List Record) (i own : ℕ) (kind : SyncKind) → at region rs i ≡ Some (own, kind, Begin) → (task begin : ℕ) (other : SyncKind) → IsRegion rs i task other begin → ⊥
-begin_ends_none rs i own kind says task begin other (ended ends) = let same = (same_says rs i own task kind other Begin End says ends.ends).2 in cc
-begin_ends_none rs i own kind says task begin other (at_once once) = let same = (same_says rs i own task kind other Begin BeginEnd says once).2 in cc
-
-pub silent_ends_none : (rs : List Record) (i : ℕ) → at region rs i ≡ None → (task begin : ℕ) (other : SyncKind) → IsRegion rs i task other begin → ⊥
-silent_ends_none rs i none task begin other (ended ends) = none-some (task, other, End) (sym none ∙ ends.ends)
-silent_ends_none rs i none task begin other (at_once once) = none-some (task, other, BeginEnd) (sym none ∙ once)
 
 -- the begin of an end stands in the table
 pub linked_begin : (regions : RegionsView) (i own : ℕ) (kind : SyncKind) (found : Option ℕ) → AreRegions regions → at region regions.own.run.records i ≡ Some (own, kind, End) → found ≡ slice_index_or regions.begins i None → MatchOption found ((task begin : ℕ) (other : SyncKind) → IsRegion regions.own.run.records i task other begin → ⊥) (IsBeginOf regions.own.run.records i)

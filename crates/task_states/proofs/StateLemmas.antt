@@ -35,7 +35,7 @@ use Rattle.task_tree.specs.Families.{IsOwnOf}
 use Rattle.task_tree.proofs.ShownLemmas.{own_fault}
 use Rattle.task_states.proofs.ShownFaultLemmas.{shown_alone, shown_before, shown_after}
 use Rattle.task_states.specs.Progress.{ProgressView, HasCome, IsRefused}
-use Rattle.task_states.specs.States.{StatesView, AreStates, IsStates, IsLast}
+use Rattle.task_states.specs.States.{StatesView, IsStates, IsLast}
 use Rattle.task_states.proofs.OriginLemmas.{is_the_task, the_task}
 
 -- ---- a task that moves is one that a record makes
@@ -294,9 +294,6 @@ fault_region rs own fault of all current stay gapless ordered found =
     behind_gap rs fault current stay gapless (shown_after rs StatusOrder (RegionOrder ∷ []) fault ordered (own_fault rs own RegionOrder fault of_regions of all found))
 
 -- ---- the states after all records
-
-pub states_are : (rs : List Record) (tasks : List ℕ) (progress : ProgressView) (states : List (Option State)) → states ≡ progress.states → HasCome rs tasks (all_moves_of rs) progress → AreStates rs tasks states
-states_are rs tasks progress states same come n task stands = ap (λ l. slice_get l n) same ∙ come.each n task stands
 
 -- the state that was read
 pub last_is : (states : StatesView) (task index : ℕ) (read : Option State) → IsStates states → slice_get states.run.family.tasks index ≡ Some task → slice_get states.states index ≡ Some read → IsLast states.run.records task read

@@ -1,8 +1,7 @@
 -- Whether the path that is climbed from a task is another one.
-use Rattle.std.proofs.Common.{◌≡◌, ◌≢◌, ◌∙◌, ℕ, suc, ◌<◌, ◌≤◌, ◌+◌, ◌-◌, Bool, List, [], ◌∷◌, ◌++◌, length, drop, get_or, reverse, Option, Some, None, refl, sym, ap, subst, arith, length-append}
+use Rattle.std.proofs.Common.{◌≡◌, ◌≢◌, ◌∙◌, ℕ, suc, ◌<◌, ◌+◌, ◌-◌, Bool, List, [], ◌∷◌, ◌++◌, length, drop, get_or, reverse, Option, Some, None, refl, sym, ap, subst, arith, length-append}
 use Rattle.std.proofs.lemmas.Option.{none-some, same_Some}
 use Rattle.std.proofs.lemmas.List.{reverse-reverse, reverse-append}
-use Rattle.std.proofs.Math.ListN.{drop_of_length-le}
 use Rattle.std.proofs.Math.Seq.{drop-cons}
 use Rattle.std.specs.Prelude.{◌↔◌, IsTrue, slice_get}
 use Rattle.ompt_events.specs.declared.records.Record.{Record}
@@ -12,7 +11,7 @@ use Rattle.task_tree.specs.declared.roots.Standing.{Standing}
 use Rattle.task_tree.specs.Family.{FamilyView, IsFamilyOf}
 use Rattle.task_tree.specs.Paths.{IsClimbed}
 use Rattle.task_tree.proofs.FamilyLemmas.{one_path, standing_here}
-use Rattle.task_tree.proofs.PathLemmas.{climb_start, climb_more, climb_link, climbed_all, root_known}
+use Rattle.task_tree.proofs.PathLemmas.{climb_more, climb_link, root_known}
 
 -- so many steps are climbed, and the numbers that were passed are the last ones of the path
 pub record IsClimbing (rs : List Record) (tasks : List ℕ) (root : ℕ) (whole path : List ℕ) (steps index : ℕ) : Type 0 where
@@ -23,10 +22,6 @@ pub record IsClimbing (rs : List Record) (tasks : List ℕ) (root : ℕ) (whole 
 get_mid : (xs ys : List ℕ) (y d : ℕ) → get_or (xs ++ y ∷ ys) (length xs) d ≡ y
 get_mid [] ys y d = refl
 get_mid (x ∷ xs) ys y d = get_mid xs ys y d
-
-pub climbing_start : (rs : List Record) (tasks : List ℕ) (root task index : ℕ) (whole path : List ℕ) → slice_get tasks index ≡ Some task → HasPath rs root task whole → IsClimbing rs tasks root whole path 0 index
-climbing_start rs tasks root task index whole path here stands =
-    record { numbers = []; climbed = climb_start rs tasks root task index whole [] here stands refl; same = sym (drop_of_length-le path (omega arith)) }
 
 -- the number at which a step arrives
 pub climbing_more : (rs : List Record) (family : FamilyView) (root index steps d : ℕ) (whole path : List ℕ) (link : Link) → IsFamilyOf rs family → length whole ≡ length path → steps < length path → slice_get family.links index ≡ Some (Some link) → link.number ≡ get_or path (length path - 1 - steps) d → IsClimbing rs family.tasks root whole path steps index → IsClimbing rs family.tasks root whole path (steps + 1) link.parent
@@ -43,12 +38,6 @@ climbing_more rs family root index steps d whole path link are long short is sam
       ∙ sym (drop-cons path k d (omega (arith, short)))
       ∙ ap (λ j. drop j path) after;
 }
-
-pub climbing_end : (rs : List Record) (tasks : List ℕ) (root index steps : ℕ) (whole path : List ℕ) → length whole ≡ length path → length path ≤ steps → IsClimbing rs tasks root whole path steps index → whole ≡ path
-climbing_end rs tasks root index steps whole path long enough climbing =
-    let none : length path - steps ≡ 0 = omega (arith, enough) in
-    sym (climbed_all rs tasks root index steps whole climbing.numbers climbing.climbed (omega (arith, long, enough)))
-    ∙ climbing.same ∙ ap (λ j. drop j path) none
 
 -- a step that arrives elsewhere shows another path
 pub climbing_other : (rs : List Record) (family : FamilyView) (root index steps d : ℕ) (whole path : List ℕ) (link : Link) → IsFamilyOf rs family → length whole ≡ length path → steps < length path → slice_get family.links index ≡ Some (Some link) → link.number ≢ get_or path (length path - 1 - steps) d → IsClimbing rs family.tasks root whole path steps index → whole ≡ path → ⊥

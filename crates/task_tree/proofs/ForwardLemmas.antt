@@ -13,15 +13,7 @@ use Rattle.task_tree.specs.declared.links.Link.{Link}
 use Rattle.task_tree.specs.declared.roots.Standing.{Standing}
 use Rattle.task_tree.specs.Makers.{AreMade}
 use Rattle.task_tree.specs.Links.{AreLinks}
-use Rattle.task_tree.specs.Roots.{AreRoots}
 use Rattle.task_tree.specs.Forward.{IsStood, AreStanding, StandsBelow}
-
-pub standing_start : (rs : List Record) (tasks : List ℕ) (roots : List (Option Standing)) → roots ≡ [] → AreStanding rs 0 tasks roots
-standing_start rs tasks roots empty = record {
-  all = ap length empty;
-  each = λ index task standing is stands. absurd (none-some (Some standing) (ap (λ l. slice_get l index) (sym empty) ∙ stands));
-  known = λ index none. absurd (none-some None (ap (λ l. slice_get l index) (sym empty) ∙ none));
-}
 
 pub standing_more : (rs : List Record) (n : ℕ) (found : Standing) (tasks : List ℕ) (roots : List (Option Standing)) → AreStanding rs n tasks roots → ((task : ℕ) → slice_get tasks n ≡ Some task → IsStood rs n task found) → AreStanding rs (n + 1) tasks (roots ++ Some found ∷ [])
 standing_more rs n found tasks roots are stood = record {
@@ -71,14 +63,6 @@ made_stood rs n place event tasks places (Some found) are at_place is_event (beg
     let maker = are.each n task is in
     let same : maker.0 ≡ place = same_Some maker.0 place (sym maker.1 ∙ at_place) in
     root_stood rs place n task found (ap (at made rs) (sym same) ∙ maker.3) (ap (option_and_then (λ (r : Record). begun_root r.body)) is_event ∙ begins) flat
-
--- where each task is known, none is without a root
-pub standing_roots : (rs : List Record) (tasks : List ℕ) (roots : List (Option Standing)) → AreStanding rs (length tasks) tasks roots → AreRoots rs tasks roots
-standing_roots rs tasks roots are = record {
-  all = are.all;
-  rooted = λ index task standing is stands. (are.each index task standing is stands).stands;
-  unrooted = λ index task is none rooted. are.known index none;
-}
 
 -- what is known is near the top where there are few tasks
 pub above_shallow : (rs : List Record) (n index : ℕ) (tasks : List ℕ) (roots : List (Option Standing)) (above : Standing) → AreStanding rs n tasks roots → n ≤ length tasks → slice_get roots index ≡ Some (Some above) → above.depth ≤ n

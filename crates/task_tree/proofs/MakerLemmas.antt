@@ -16,13 +16,6 @@ use Rattle.ompt_events.proofs.ListLemmas.{get_pushed, get_last, get_contains, co
 use Rattle.task_tree.specs.Numbering.{IsNoted, AreApart}
 use Rattle.task_tree.specs.Makers.{AreNoted, AreInOrder, AreMade, AreGathered, AreForkedOnce, AreMadeOnce, forked_region}
 
--- nothing is noted of no records
-pub noted_none : (says : Body → Option ℕ) (rs : List Record) (ids : List ℕ) → ids ≡ [] → AreNoted says rs 0 ids
-noted_none says rs ids empty = record {
-  each = λ i id below. absurd (omega arith);
-  only = λ id found. absurd (let P : List ℕ → Type 0 = λ l. Contains l id in let none : Contains [] id = subst P empty found in let below = none.1 in omega arith);
-}
-
 -- one record more
 pub noted_more : (says : Body → Option ℕ) (rs : List Record) (i : ℕ) (old new : List ℕ) (found : Option ℕ) (again : Bool) → AreNoted says rs i old → at says rs i ≡ found → IsNoted old new found again → AreNoted says rs (i + 1) new
 noted_more says rs i old new None again are is (same, none) = record {
@@ -117,12 +110,6 @@ free_of_twice rs n none all i has = none i (let inside = twice_within rs i has i
 
 -- ---- places in their order
 
-in_order_none : (places : List ℕ) → places ≡ [] → AreInOrder 0 places
-in_order_none places none = record {
-  below = λ index place is. absurd (none-some place (sym (ap (λ l. slice_get l index) none) ∙ is));
-  rising = λ a b place later less is. absurd (none-some place (sym (ap (λ l. slice_get l a) none) ∙ is));
-}
-
 in_order_still : (n : ℕ) (places : List ℕ) → AreInOrder n places → AreInOrder (n + 1) places
 in_order_still n places are = record {
   below = λ index place is. let low = are.below index place is in omega (arith, low);
@@ -148,15 +135,6 @@ in_order_more n places are = record {
 }
 
 -- ---- where each task is made
-
-pub made_none : (rs : List Record) (tasks places : List ℕ) → tasks ≡ [] → places ≡ [] → AreMade rs 0 tasks places
-made_none rs tasks places empty none = record {
-  all = ap length none ∙ sym (ap length empty);
-  few = let zero_long = ap length empty in omega (arith, zero_long);
-  apart = λ a b id is. absurd (none-some id (sym (ap (λ l. slice_get l a) empty) ∙ is));
-  each = λ index task is. absurd (none-some task (sym (ap (λ l. slice_get l index) empty) ∙ is));
-  in_order = in_order_none places none;
-}
 
 -- a record that makes none
 pub made_other : (rs : List Record) (i : ℕ) (found : Option ℕ) (old new places : List ℕ) → AreMade rs i old places → at made rs i ≡ found → is_some found ≡ false → IsNoted old new found false → AreMade rs (i + 1) new places
@@ -193,15 +171,6 @@ made_more rs i (Some task) old new places are makes some (same, fresh) = rw same
 })
 
 -- ---- tasks that are gathered before it is known whether one is made again
-
-pub gathered_none : (rs : List Record) (tasks places : List ℕ) → tasks ≡ [] → places ≡ [] → AreGathered rs 0 tasks places
-gathered_none rs tasks places empty none = record {
-  all = ap length none ∙ sym (ap length empty);
-  few = let zero_long = ap length empty in omega (arith, zero_long);
-  each = λ i task below. absurd (omega arith);
-  only = λ index task place is. absurd (none-some task (sym (ap (λ l. slice_get l index) empty) ∙ is));
-  in_order = in_order_none places none;
-}
 
 pub gathered_other : (rs : List Record) (n : ℕ) (tasks places : List ℕ) → AreGathered rs n tasks places → at made rs n ≡ None → AreGathered rs (n + 1) tasks places
 gathered_other rs n tasks places are none = record {

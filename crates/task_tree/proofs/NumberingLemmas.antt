@@ -12,18 +12,6 @@ use Rattle.task_tree.specs.Ranking.{IsRanked, IsUnranked}
 use Rattle.task_tree.specs.Numbering.{AreIndices, AreApart}
 use Rattle.task_tree.proofs.RankingLemmas.{ranked_apart, order_kept}
 
--- before the first id
-pub indices_none : (ids order : List ℕ) (indices : BTreeMap ℕ ℕ) → ids ≡ [] → order ≡ [] → ((id : ℕ) → get nat_cmp indices id ≡ None) → AreIndices ids order indices
-indices_none ids order indices empty unranked none = record {
-  apart = λ a b id is. absurd (none-some id (sym (ap (λ l. slice_get l a) empty) ∙ is));
-  ranked = record {
-    within = λ rank inside. absurd (let nothing = ap length unranked in omega (arith, inside, nothing));
-    rising = λ a b less inside. absurd (let nothing = ap length unranked in omega (arith, inside, nothing));
-  };
-  noted_right = λ id index found. absurd (none-some index (sym (none id) ∙ found));
-  all = λ index id is. absurd (none-some id (sym (ap (λ l. slice_get l index) empty) ∙ is));
-}
-
 -- ids that were ranked at once
 pub indices_ranked : (ids order : List ℕ) (indices : BTreeMap ℕ ℕ) → IsRanked ids order → ((id : ℕ) → get nat_cmp indices id ≡ None) → AreIndices ids order indices
 indices_ranked ids order indices are none = record {

@@ -1,16 +1,13 @@
 -- What the records of a run in its tasks' own order say, as the trace is read in that order.
-use Rattle.std.proofs.Common.{◌≡◌, ◌∙◌, ℕ, ◌<◌, List, length, Option, Some, sym, ap}
+use Rattle.std.proofs.Common.{◌≡◌, ℕ, ◌<◌, List, length, Option, Some, ap}
 use Rattle.std.proofs.lemmas.Option.{slice_get-get_or}
 use Rattle.std.specs.Prelude.{◌↔◌, option_and_then, slice_get}
 use Rattle.ompt_events.specs.declared.records.Record.{Record}
 use Rattle.ompt_events.specs.declared.records.Body.{Body}
-use Rattle.ompt_events.specs.Records.{created}
 use Rattle.ompt_events.specs.Places.{at}
-use Rattle.ompt_events.specs.Tree.{IsExplicit}
 use Rattle.ompt_events.specs.Turns.{in_own_order, own_place}
 use Rattle.ompt_events.specs.Coverage.{Covers}
 use Rattle.ompt_events.specs.Dependences.{IsPredecessor}
-use Rattle.ompt_events.proofs.PlaceLemmas.{at_within}
 use Rattle.task_tree.specs.OwnOrder.{AreAllPlaces}
 use Rattle.task_tree.specs.Own.{OwnView}
 use Rattle.task_tree.specs.Families.{IsOwnOf, own_in_file, own_by_turn}
@@ -36,17 +33,6 @@ place_of_number rs own all number below = (_, slice_get-get_or own.places number
 
 pub number_of_place : (rs : List Record) (own : OwnView) → IsOwnOf rs own → AreAllPlaces own.places (length own.run.records) → (place : ℕ) → place < length rs → (number : ℕ) × (slice_get own.places number ≡ Some place)
 number_of_place rs own of all place below = all.each place (rw (own_long rs own of) below)
-
--- the same tasks are created
-pub own_explicit : (rs : List Record) (own : OwnView) → IsOwnOf rs own → AreAllPlaces own.places (length own.run.records) → (task : ℕ) → IsExplicit own.run.records task ↔ IsExplicit rs task
-own_explicit rs own of all task = (
-  λ (number, says).
-      let there = place_of_number rs own all number (at_within created own.run.records number task says) in
-      (there.0, sym (own_says created rs own of number there.0 there.1) ∙ says),
-  λ (place, says).
-      let there = number_of_place rs own of all place (at_within created rs place task says) in
-      (there.0, own_says created rs own of there.0 place there.1 ∙ says),
-)
 
 -- the end of a region waits for the same tasks
 pub own_covers : (rs : List Record) (own : OwnView) → IsOwnOf rs own → (number place : ℕ) → slice_get own.places number ≡ Some place → (task : ℕ) → Covers own.run.records number task ↔ Covers (in_own_order rs) (own_place rs place) task

@@ -20,10 +20,6 @@ pub ranked_append : {X : Type 0} (R : X → X → Type 0) (xs ys : List X) → R
 ranked_append R [] ys first second across = second
 ranked_append R (x ∷ xs) ys first second across = (every_append (R x) xs ys first.0 across.0, ranked_append R xs ys first.1 second across.1)
 
-pub ranked_weaker : {X : Type 0} (R S : X → X → Type 0) → ((x y : X) → R x y → S x y) → (xs : List X) → Ranked R xs → Ranked S xs
-ranked_weaker R S weaker [] ranked = tt
-ranked_weaker R S weaker (x ∷ xs) ranked = (every_weaker (R x) (S x) (weaker x) xs ranked.0, ranked_weaker R S weaker xs ranked.1)
-
 ranked_if : {X : Type 0} (R : X → X → Type 0) (b : Bool) (x : X) (l : List X) → Every (R x) l → Ranked R l → Ranked R (cond b (x ∷ l) l)
 ranked_if R true x l each ranked = (each, ranked)
 ranked_if R false x l each ranked = ranked

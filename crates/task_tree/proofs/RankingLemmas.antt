@@ -1,5 +1,5 @@
 -- How ids are put in the order of their values and found there.
-use Rattle.std.proofs.Common.{◌≡◌, ◌≢◌, ◌∙◌, ℕ, zero, suc, ◌<◌, ◌≤◌, ◌+◌, ◌-◌, List, [], ◌∷◌, ◌++◌, length, Some, sym, ap, subst, arith, inl, inr}
+use Rattle.std.proofs.Common.{◌≡◌, ◌∙◌, ℕ, zero, suc, ◌<◌, ◌≤◌, ◌+◌, ◌-◌, List, [], ◌∷◌, ◌++◌, length, Some, sym, ap, subst, arith, inl, inr}
 use Rattle.std.proofs.lemmas.Bool.{cases_eq, cases_order}
 use Rattle.std.proofs.lemmas.Option.{same_Some, slice_get_within, slice_get-get_or}
 use Rattle.std.proofs.lemmas.List.FromFn.{length-range_with_len, get_or-range_with_len}
@@ -8,7 +8,7 @@ use Rattle.std.proofs.lemmas.List.{get_or_append_left, length_push}
 use Rattle.std.specs.List.{range_with_len}
 use Rattle.std.specs.Prelude.{slice_get, slice_index, Contains, IsPermutation}
 use Rattle.task_tree.specs.Numbering.{AreApart}
-use Rattle.task_tree.specs.Ranking.{AreWithin, ranked_id, IsRising, IsOrder, IsRanked, IsUnranked}
+use Rattle.task_tree.specs.Ranking.{AreWithin, ranked_id, IsRising, IsOrder, IsRanked}
 
 -- ---- the orders that are tried
 
@@ -110,52 +110,3 @@ pub record IsBetween (ids order : List ℕ) (id low high : ℕ) : Type 0 where
   pub within : high ≤ length order
   pub below : (k : ℕ) → k < low → ranked_id ids order k < id
   pub above : (k : ℕ) → high ≤ k → k < length order → id ≤ ranked_id ids order k
-
-pub between_start : (ids order : List ℕ) (id : ℕ) → IsBetween ids order id 0 (length order)
-between_start ids order id = record {
-  ordered = omega arith;
-  within = omega arith;
-  below = λ k low. absurd (omega (arith, low));
-  above = λ k past inside. absurd (omega (arith, inside, past));
-}
-
-pub between_above : (ids order : List ℕ) (id low high middle : ℕ) → IsOrder ids order → IsBetween ids order id low high → low ≤ middle → middle < high → ranked_id ids order middle < id → IsBetween ids order id (middle + 1) high
-between_above ids order id low high middle are between from_low to_high less = record {
-  ordered = omega (arith, to_high);
-  within = between.within;
-  below = λ k before. elim (cases_eq k middle) [
-    | inl same ↦ let P : ℕ → Type 0 = λ r. ranked_id ids order r < id in subst P (sym same) less
-    | inr apart ↦
-        let lower = are.rising k middle (omega (arith, before, apart)) (let all = between.within in omega (arith, all, to_high)) in
-        omega (arith, lower, less)
-  ];
-  above = between.above;
-}
-
-pub between_below : (ids order : List ℕ) (id low high middle : ℕ) → IsOrder ids order → IsBetween ids order id low high → low ≤ middle → middle < high → id ≤ ranked_id ids order middle → IsBetween ids order id low middle
-between_below ids order id low high middle are between from_low to_high more = record {
-  ordered = from_low;
-  within = let all = between.within in omega (arith, all, to_high);
-  below = between.below;
-  above = λ k past inside. elim (cases_eq k middle) [
-    | inl same ↦ let P : ℕ → Type 0 = λ r. id ≤ ranked_id ids order r in subst P (sym same) more
-    | inr apart ↦
-        let higher = are.rising middle k (omega (arith, past, apart)) inside in
-        omega (arith, higher, more)
-  ];
-}
-
--- the end of the search: all below are less, and the one there is another
-pub not_there : (ids order : List ℕ) (id low : ℕ) → IsOrder ids order → IsBetween ids order id low low → (low < length order → ranked_id ids order low ≢ id) → IsUnranked ids order id
-not_there ids order id low are between other index has is =
-    let place = rank_of order index has in
-    let same_id = at_rank ids order index id place.0 place.2 is in
-    elim (cases_order place.0 low) [
-      | inl same ↦ other (let inside = place.1 in omega (arith, inside, same)) (ap (ranked_id ids order) (sym same) ∙ same_id)
-      | inr (inl less) ↦ let lower = between.below place.0 less in omega (arith, lower, same_id)
-      | inr (inr more) ↦
-          let inside = place.1 in
-          let lower = between.above low (omega arith) (omega (arith, inside, more)) in
-          let higher = are.rising low place.0 more inside in
-          omega (arith, lower, higher, same_id)
-    ]

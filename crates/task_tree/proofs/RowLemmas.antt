@@ -93,9 +93,6 @@ counted_fit counts offsets links are counted index link stands =
 
 -- ---- how they are filled
 
-pub filled_none : (tasks : List ℕ) (links : List (Option Link)) (offsets ids : List ℕ) → AreFilled 0 tasks links offsets ids
-filled_none tasks links offsets ids index task link below = absurd (omega arith)
-
 pub filled_other : (n : ℕ) (tasks : List ℕ) (links : List (Option Link)) (offsets ids : List ℕ) → AreFilled n tasks links offsets ids → slice_get links n ≡ Some None → AreFilled (n + 1) tasks links offsets ids
 filled_other n tasks links offsets ids filled none index task link below is stands = elim (cases_eq index n) [
   | inl same ↦ absurd (none-some link (same_Some None (Some link) (sym none ∙ ap (slice_get links) (sym same) ∙ stands)))

@@ -16,10 +16,6 @@ use Rattle.task_tree.specs.Links.{IsSlotOf}
 use Rattle.task_tree.proofs.NumberingLemmas.{index_is}
 use Rattle.task_tree.specs.Subjects.{subject, object, Finds, Calls, AreFound, AreFoundUpTo}
 
--- what a look-up of the task gives
-pub finds_no_task : (tasks : List ℕ) → Finds tasks None None
-finds_no_task tasks task is = absurd (none-some task is)
-
 pub finds_none : (tasks : List ℕ) (task : ℕ) (index : Option ℕ) → ((k : ℕ) → (index ≡ Some k) ↔ (slice_get tasks k ≡ Some task)) → index ≡ None → Finds tasks (Some task) None
 finds_none tasks task index is none other same has =
     let stands = contains_get tasks other has in

@@ -1,11 +1,11 @@
 -- What is kept of turns while the records are gone over thread by thread.
-use Rattle.std.proofs.Common.{◌≡◌, ◌≢◌, ◌∙◌, ℕ, ◌<◌, ◌≤◌, ◌+◌, ◌-◌, ◌⊎◌, zero, suc, List, length, get_or, Option, Some, None, true, false, Bool, cond, refl, sym, ap, subst, arith, inl, inr, set, map}
+use Rattle.std.proofs.Common.{◌≡◌, ◌≢◌, ◌∙◌, ℕ, ◌<◌, ◌≤◌, ◌+◌, ◌-◌, ◌⊎◌, zero, suc, List, length, get_or, Option, Some, None, true, cond, refl, sym, ap, subst, arith, inl, inr, set, map}
 use Rattle.std.proofs.lemmas.Bool.{cases_eq, cases_lt, eq-eqb, ne_eqb}
 use Rattle.std.proofs.lemmas.Option.{none-some, same_Some, slice_get_within, slice_get_cases}
-use Rattle.std.proofs.lemmas.List.{length-set, length-replicate, length-map}
+use Rattle.std.proofs.lemmas.List.{length-set, length-map}
 use Rattle.std.proofs.lemmas.List.FromFn.{length-range_with_len}
 use Rattle.std.proofs.lemmas.List.Sums.{fold_push}
-use Rattle.std.specs.Prelude.{◌==◌, slice_get, option_and_then, option_map, replicate}
+use Rattle.std.specs.Prelude.{slice_get, option_and_then, option_map}
 use Rattle.ompt_events.specs.declared.records.Record.{Record}
 use Rattle.ompt_events.specs.Records.{running, begun_turn}
 use Rattle.ompt_events.specs.Places.{at, thread_at, places}
@@ -16,36 +16,19 @@ use Rattle.task_tree.proofs.LinkLemmas.{get_set_same, get_set_other}
 use Rattle.task_tree.specs.Chains.{IsFirstFrom}
 use Rattle.task_tree.specs.declared.turn_table.Mark.{Mark}
 use Rattle.task_tree.specs.declared.turn_table.Walk.{Walk}
-use Rattle.task_tree.specs.TurnTable.{AreTurns, TurnsBeginInOrder, no_mark, turn_on, AreMarks, IsPassed, BeginsNoEarlier, IsWalkAt}
-use Rattle.task_tree.proofs.ChainLemmas.{replicate_get, thread_within}
+use Rattle.task_tree.specs.TurnTable.{AreTurns, TurnsBeginInOrder, turn_on, AreMarks, IsPassed, BeginsNoEarlier, IsWalkAt}
+use Rattle.task_tree.proofs.ChainLemmas.{thread_within}
 use Rattle.task_tree.proofs.RisingPassLemmas.{silent, after_own, after_other, turn_here}
 use Rattle.task_tree.proofs.SuspendedLemmas.{part_of, part_own, part_other}
 use Rattle.task_tree.proofs.SortedLemmas.{map_range, same_by_index}
 
 -- ---- the marks
 
-on_none : (thread : ℕ) → turn_on no_mark thread ≡ 0
-on_none thread = by (0 == thread)
-  where
-    by : (b : Bool) → ◌≡◌ {A = ℕ} (cond b 0 0) 0
-    by true = refl
-    by false = refl
-
 pub on_same : (turn thread : ℕ) → turn_on (record { turn = turn; thread = thread }) thread ≡ turn
 on_same turn thread = ap (λ b. cond b turn 0) (eq-eqb thread thread refl)
 
 on_other : (turn thread other : ℕ) → thread ≢ other → turn_on (record { turn = turn; thread = thread }) other ≡ 0
 on_other turn thread other apart = ap (λ b. cond b turn 0) (ne_eqb thread other apart)
-
-marks_none : (rs : List Record) (tasks : List ℕ) (marks : List Mark) → marks ≡ replicate (length tasks) no_mark → AreMarks rs tasks 0 0 marks
-marks_none rs tasks marks fresh = record {
-  all = ap length fresh ∙ length-replicate (length tasks) no_mark;
-  here = λ index task mark stands is. ap (λ m. turn_on m 0) (no index mark is) ∙ on_none 0;
-  later = λ index other mark is below. ap (λ m. turn_on m other) (no index mark is) ∙ on_none other;
-}
-  where
-    no : (index : ℕ) (mark : Mark) → slice_get marks index ≡ Some mark → mark ≡ no_mark
-    no index mark is = replicate_get (length tasks) index no_mark mark (sym (ap (λ l. slice_get l index) fresh) ∙ is)
 
 -- the thread has no record between two places
 skipped : (rs : List Record) (thread n d m : ℕ) → m ≡ n + d → m ≤ length rs → ((k : ℕ) → n ≤ k → k < m → thread_at rs k ≡ Some thread → ⊥) → part_of rs thread m ≡ part_of rs thread n
@@ -158,18 +141,6 @@ walk_next rs tasks thread n walk past is = record {
       | inl same ↦ inr (same, (let within = thread_within rs i own by_thread in omega (arith, within, past)))
       | inr apart ↦ inl (omega (arith, less, apart))
     ]
-
-pub walk_none : (rs : List Record) (tasks : List ℕ) (walk : Walk) → walk.turns.items ≡ replicate (length rs) 0 → walk.marks.items ≡ replicate (length tasks) no_mark → IsWalkAt rs tasks 0 0 walk
-walk_none rs tasks walk turns marks = record {
-  marks = marks_none rs tasks walk.marks.items marks;
-  all = ap length turns ∙ length-replicate (length rs) 0;
-  turns = λ i own by_thread passed. absurd (nothing i own passed);
-  order = λ ordered i own by_thread passed. absurd (nothing i own passed);
-}
-  where
-    nothing : (i own : ℕ) → IsPassed 0 0 own i → ⊥
-    nothing i own (inl less) = absurd (omega (arith, less))
-    nothing i own (inr (same, below)) = absurd (omega (arith, below))
 
 passed_one : (rs : List Record) (thread n own i : ℕ) → IsPassed thread (n + 1) own i → (IsPassed thread n own i) ⊎ ((own ≡ thread) × (i ≡ n))
 passed_one rs thread n own i (inl less) = inl (inl less)

@@ -107,13 +107,6 @@ impl Numbering {
         index < self.ids.len() && self.ids[index] == id
     }
 
-    /// Whether the id was noted, looked for here first.
-    pub(crate) fn contains_near(&self, id: u64, near: usize) -> bool
-        ensures { IsTrue result ↔ Contains self.now id }
-    {
-        self.index_near(id, near).is_some()
-    }
-
     /// Whether the id was noted.
     pub fn contains(&self, id: u64) -> bool
         ensures { IsTrue result ↔ Contains self.now id }

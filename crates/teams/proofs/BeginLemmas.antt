@@ -2,12 +2,12 @@
 use Rattle.std.proofs.Common.{◌≡◌, ◌∙◌, ℕ, zero, suc, ◌<◌, ◌≤◌, ◌+◌, List, [], ◌∷◌, ◌++◌, length, Option, Some, None, Bool, true, false, cond, refl, sym, ap, subst, arith, inl, inr, ◌⊎◌, add-one}
 use Rattle.std.proofs.lemmas.Bool.{cases_eq, cases_lt, eq-eqb, ne_eqb}
 use Rattle.std.proofs.lemmas.Option.{none-some, same_Some, slice_get_within}
-use Rattle.std.proofs.lemmas.List.{length_push, length-set, length-replicate, append-nil}
+use Rattle.std.proofs.lemmas.List.{length_push, length-set, append-nil}
 use Rattle.std.proofs.lemmas.List.Elements.{filter-append}
 use Rattle.std.proofs.Math.ListN.{set}
 use Rattle.std.specs.Global.{Vec}
 use Rattle.std.specs.Option.{option_map_or}
-use Rattle.std.specs.Prelude.{◌==◌, slice_get, filter, replicate}
+use Rattle.std.specs.Prelude.{◌==◌, slice_get, filter}
 use Rattle.ompt_events.specs.declared.records.Record.{Record}
 use Rattle.ompt_events.specs.declared.names.Endpoint.{Endpoint}
 use Rattle.ompt_events.specs.declared.names.Endpoint.TheVariants.{Begin, End, BeginEnd}
@@ -19,9 +19,7 @@ use Rattle.ompt_events.proofs.ListLemmas.{get_pushed, get_last}
 use Rattle.ompt_events.proofs.PlaceLemmas.{own_more}
 use Rattle.ompt_events.proofs.RecordLemmas.{at_through, region_running}
 use Rattle.task_tree.specs.Numbering.{AreApart}
-use Rattle.task_tree.specs.Subjects.{subject}
 use Rattle.task_tree.proofs.LinkLemmas.{get_set_same, get_set_other}
-use Rattle.task_tree.proofs.NamedLemmas.{region_subject}
 use Rattle.teams.specs.Begins.{AreNumbered, IsPlaceAdded}
 use Rattle.task_states.specs.Rows.{row_at}
 use Rattle.teams.specs.Teams.{begins_before, AreBegins, IsNumberOf, AreBeginNumbers}
@@ -49,11 +47,6 @@ begun_region None task is = absurd (none-some task is)
 begun_region (Some (own, kind, End)) task is = absurd (none-some task is)
 begun_region (Some (own, kind, Begin)) task is = if_begun own task kind Begin (is_barrier kind) refl is
 begun_region (Some (own, kind, BeginEnd)) task is = if_begun own task kind BeginEnd (is_barrier kind) refl is
-
-pub begun_subject : (rs : List Record) (i task : ℕ) → barrier_begun (at region rs i) ≡ Some task → at subject rs i ≡ Some task
-begun_subject rs i task begins =
-    let is = begun_region (at region rs i) task begins in
-    at_through region subject (task, is.kind, is.endpoint) task rs i (region_subject task is.kind is.endpoint) is.is
 
 begun_own : (rs : List Record) (task i : ℕ) → barrier_begun (at region rs i) ≡ Some task → is_own rs task i ≡ true
 begun_own rs task i begins =
@@ -133,12 +126,6 @@ begun_number rs task n within begins =
 
 -- ---- the tables
 
-pub begins_start : (rs : List Record) (tasks : List ℕ) (begins : List (Vec ℕ)) → begins ≡ [] → AreBegins rs 0 tasks begins
-begins_start rs tasks begins none = record {
-  within = let long = ap length none in omega (arith, long);
-  each = λ index task is_task. ap (λ rows. row_at rows index) none;
-}
-
 pub begins_other : (rs : List Record) (n : ℕ) (tasks : List ℕ) (begins : List (Vec ℕ)) → AreBegins rs n tasks begins → barrier_begun (at region rs n) ≡ None → AreBegins rs (n + 1) tasks begins
 begins_other rs n tasks begins are none = record {
   within = are.within;
@@ -171,16 +158,6 @@ number_here rs n own parent number tasks begins are within is_own begun is = λ 
     let Q : ℕ → Type 0 = λ k. IsBarrierBegin rs parent k n in
     let is_number : number ≡ length (begins_before rs parent n) = is ∙ ap length (are.each own parent is_own) in
     subst P same (subst Q (sym is_number) (begun_number rs parent n within begun))
-
-pub numbered_none : (rs : List Record) (numbers : List ℕ) → numbers ≡ replicate (length rs) 0 → AreNumbered rs 0 numbers
-numbered_none rs numbers empty = record {
-  all = ap length empty ∙ length-replicate {A = ℕ} (length rs) 0;
-  each = λ i number below stands. absurd (omega (arith, below));
-}
-
-pub never_begun : (found : Option ℕ) → ((task : ℕ) → found ≡ Some task → ⊥) → found ≡ None
-never_begun None never = refl
-never_begun (Some task) never = absurd (never task refl)
 
 pub numbered_other : (rs : List Record) (n : ℕ) (numbers : List ℕ) → AreNumbered rs n numbers → barrier_begun (at region rs n) ≡ None → AreNumbered rs (n + 1) numbers
 numbered_other rs n numbers are none = record {

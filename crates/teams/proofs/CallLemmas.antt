@@ -1,19 +1,16 @@
 -- What the slots of a record's tasks say, and what is read at an index.
 use Rattle.std.proofs.Common.{◌≡◌, ◌∙◌, ℕ, ◌<◌, List, length, get_or, Option, Some, None, sym, ap, arith, true, false, refl}
 use Rattle.std.proofs.lemmas.Bool.{false≢true}
-use Rattle.std.proofs.lemmas.Option.{none-some, same_Some, slice_get-get_or, slice_get_within}
+use Rattle.std.proofs.lemmas.Option.{same_Some, slice_get-get_or, slice_get_within}
 use Rattle.std.specs.Prelude.{is_some, slice_get}
 use Rattle.task_tree.specs.Subjects.{Calls}
-use Rattle.task_tree.proofs.SubjectLemmas.{call_task, call_index, call_none}
+use Rattle.task_tree.proofs.SubjectLemmas.{call_task, call_index}
 
 -- a task that is called stands at the index in its slot
 pub call_same : (tasks : List ℕ) (found slot : Option ℕ) (index task : ℕ) → Calls tasks found slot → slot ≡ Some index → found ≡ Some task → slice_get tasks index ≡ Some task
 call_same tasks found slot index task calls is says =
     let called = call_index tasks found slot task calls says in
     ap (slice_get tasks) (same_Some index called.0 (sym is ∙ called.1)) ∙ called.2
-
-pub call_never : (tasks : List ℕ) (found slot : Option ℕ) (task : ℕ) → Calls tasks found slot → slot ≡ None → found ≡ Some task → ⊥
-call_never tasks found slot task calls none says = none-some task (sym (call_none tasks found slot calls none) ∙ says)
 
 pub index_within : {X : Type 0} (tasks : List ℕ) (table : List X) (found slot : Option ℕ) (index : ℕ) → Calls tasks found slot → slot ≡ Some index → length table ≡ length tasks → index < length table
 index_within tasks table found slot index calls is all =

@@ -1,7 +1,7 @@
 -- What the begin or end of a region that waits for tasks says of barriers.
 use Rattle.std.proofs.Common.{◌≡◌, ◌∙◌, ℕ, List, Option, Some, None, Bool, true, false, refl, sym, ap}
 use Rattle.std.proofs.lemmas.Option.{none-some, same_Some}
-use Rattle.std.specs.Prelude.{if◌then◌else◌, slice_get}
+use Rattle.std.specs.Prelude.{if◌then◌else◌}
 use Rattle.ompt_events.specs.declared.names.Endpoint.{Endpoint}
 use Rattle.ompt_events.specs.declared.names.Endpoint.TheVariants.{Begin, End, BeginEnd}
 use Rattle.ompt_events.specs.declared.names.SyncKind.{SyncKind}
@@ -10,7 +10,7 @@ use Rattle.ompt_events.specs.declared.names.WaitKind.{WaitKind}
 use Rattle.ompt_events.specs.declared.names.WaitKind.TheVariants.{Barrier as ForBarrier}
 use Rattle.ompt_events.specs.Records.{region}
 use Rattle.ompt_events.specs.Places.{at}
-use Rattle.ompt_events.specs.Regions.{IsRegion, is_barrier, barrier_begun}
+use Rattle.ompt_events.specs.Regions.{is_barrier, barrier_begun}
 use Rattle.ompt_events.specs.Waits.{wait_kind}
 use Rattle.task_tree.specs.Runs.{RunView, IsWaitEvent, IsNoWaitEvent}
 use Rattle.task_tree.specs.Subjects.{Calls}
@@ -71,30 +71,8 @@ called_none : (tasks : List ℕ) (found : Option ℕ) → found ≡ None → Cal
 called_none tasks None is = refl
 called_none tasks (Some task) is = absurd (none-some task (sym is))
 
-called_some : (tasks : List ℕ) (found : Option ℕ) (index task : ℕ) → found ≡ Some task → slice_get tasks index ≡ Some task → Calls tasks found (Some index)
-called_some tasks None index task is here = absurd (none-some task is)
-called_some tasks (Some own) index task is here = (index, refl, here ∙ sym is)
-
 pub no_event_begun : (run : RunView) (i : ℕ) → IsNoWaitEvent run i → Calls run.family.tasks (barrier_begun (at region run.records i)) None
 no_event_begun run i silent = called_none run.family.tasks (barrier_begun (at region run.records i)) (begun_none (at region run.records i) (λ task sync endpoint says. no_wait sync (silent task sync endpoint says)))
-
--- what a wait for another kind of region says
-same_sync : (run : RunView) (i index : ℕ) (kind : WaitKind) (endpoint : Endpoint) (event : IsWaitEvent run i index kind endpoint) (task : ℕ) (sync : SyncKind) (another : Endpoint) → at region run.records i ≡ Some (task, sync, another) → event.sync ≡ sync
-same_sync run i index kind endpoint event task sync another says = ap (λ (p : ℕ × SyncKind × Endpoint). p.1) (same_Some (event.task, event.sync, endpoint) (task, sync, another) (sym event.says ∙ says))
-
-pub other_event_begun : (run : RunView) (i index : ℕ) (kind : WaitKind) (endpoint : Endpoint) → IsWaitEvent run i index kind endpoint → (kind ≡ ForBarrier → ⊥) → Calls run.family.tasks (barrier_begun (at region run.records i)) None
-other_event_begun run i index kind endpoint event apart = called_none run.family.tasks (barrier_begun (at region run.records i)) (begun_none (at region run.records i) (λ task sync another says. ap is_barrier (sym (same_sync run i index kind endpoint event task sync another says)) ∙ other_wait event.sync kind event.waits apart))
-
-pub ended_event_begun : (run : RunView) (i index : ℕ) (kind : WaitKind) (endpoint : Endpoint) → IsWaitEvent run i index kind endpoint → endpoint ≡ End → Calls run.family.tasks (barrier_begun (at region run.records i)) None
-ended_event_begun run i index kind endpoint event ends = called_none run.family.tasks (barrier_begun (at region run.records i)) (ap barrier_begun event.says ∙ ap (λ e. barrier_begun (Some (event.task, event.sync, e))) ends)
-
-event_begins : (task : ℕ) (sync : SyncKind) (endpoint : Endpoint) → is_barrier sync ≡ true → (endpoint ≡ End → ⊥) → barrier_begun (Some (task, sync, endpoint)) ≡ Some task
-event_begins task sync End barrier begins = absurd (begins refl)
-event_begins task sync Begin barrier begins = ap (λ b. if b then Some task else None) barrier
-event_begins task sync BeginEnd barrier begins = ap (λ b. if b then Some task else None) barrier
-
-pub event_begun : (run : RunView) (i index : ℕ) (kind : WaitKind) (endpoint : Endpoint) → IsWaitEvent run i index kind endpoint → kind ≡ ForBarrier → (endpoint ≡ End → ⊥) → Calls run.family.tasks (barrier_begun (at region run.records i)) (Some index)
-event_begun run i index kind endpoint event is begins = called_some run.family.tasks (barrier_begun (at region run.records i)) index event.task (ap barrier_begun event.says ∙ event_begins event.task event.sync endpoint (barrier_kind event.sync (event.waits ∙ ap Some is)) begins) event.indexed
 
 -- ---- the end of a barrier
 
@@ -105,9 +83,6 @@ no_event_end run i silent = λ task begin sync ends barrier.
 
 pub other_event_end : (run : RunView) (i index : ℕ) (kind : WaitKind) (endpoint : Endpoint) → IsWaitEvent run i index kind endpoint → (kind ≡ ForBarrier → ⊥) → EndsNoBarrier run.records i
 other_event_end run i index kind endpoint event apart = other_kind run.records i event.task event.sync endpoint event.says (other_wait event.sync kind event.waits apart)
-
-pub no_begin_end : (run : RunView) (i : ℕ) → ((task begin : ℕ) (sync : SyncKind) → IsRegion run.records i task sync begin → ⊥) → EndsNoBarrier run.records i
-no_begin_end run i never = λ task begin sync ends barrier. never task begin sync ends
 
 pub event_end : (run : RunView) (i index begin : ℕ) (kind : WaitKind) (endpoint : Endpoint) → IsWaitEvent run i index kind endpoint → kind ≡ ForBarrier → IsBeginOf run.records i begin → IsBarrierEnd run i index begin
 event_end run i index begin kind endpoint event is begins = record {

@@ -1,27 +1,14 @@
 -- The least number of barriers that a member of a team begins.
-use Rattle.std.proofs.Common.{◌≡◌, ◌∙◌, ℕ, ◌<◌, ◌≤◌, ◌+◌, List, length, Option, Some, None, sym, ap, subst, arith, inl, inr, ◌⊎◌}
+use Rattle.std.proofs.Common.{◌≡◌, ◌∙◌, ℕ, ◌≤◌, ◌+◌, List, length, Option, Some, None, sym, ap, subst, arith, inl, inr, ◌⊎◌}
 use Rattle.std.proofs.lemmas.Bool.{cases_eq, cases_lt}
-use Rattle.std.proofs.lemmas.Option.{none-some, same_Some, slice_get_within, slice_get-get_or}
-use Rattle.std.proofs.lemmas.List.{length-set, length-replicate, get_or-replicate}
+use Rattle.std.proofs.lemmas.Option.{none-some, same_Some, slice_get_within}
+use Rattle.std.proofs.lemmas.List.{length-set}
 use Rattle.std.proofs.Math.ListN.{set}
 use Rattle.std.specs.Global.{Vec}
-use Rattle.std.specs.Prelude.{slice_get, replicate, min}
+use Rattle.std.specs.Prelude.{slice_get, min}
 use Rattle.task_tree.proofs.LinkLemmas.{get_set_same, get_set_other}
 use Rattle.teams.specs.Fewest.{IsReached, AreFewest}
 use Rattle.task_states.specs.Rows.{row_at}
-
-pub fewest_start : (teams : List (Option ℕ)) (begins : List (Vec ℕ)) (fewest : List ℕ) → fewest ≡ replicate (length teams) 4294967295 → AreFewest teams begins 0 fewest
-fewest_start teams begins fewest is = record {
-  all = ap length is ∙ length-replicate (length teams) 4294967295;
-  low = λ index team count before. absurd (omega (arith, before));
-  reached = λ team count stands.
-      let most : ℕ = 4294967295 in
-      let long : length fewest ≡ length teams = ap length is ∙ length-replicate (length teams) most in
-      let inside = slice_get_within fewest team count stands in
-      let within : team < length teams = omega (arith, inside, long) in
-      let same : count ≡ 4294967295 = same_Some count 4294967295 (sym stands ∙ ap (λ t. slice_get t team) is ∙ slice_get-get_or (replicate (length teams) 4294967295) team 4294967295 (rw (length-replicate (length teams) most) within) ∙ ap Some (get_or-replicate (length teams) team 4294967295 4294967295 within)) in
-      inl (omega (arith, same));
-}
 
 reached_later : (teams : List (Option ℕ)) (begins : List (Vec ℕ)) (n team count : ℕ) → (4294967295 ≤ count) ⊎ IsReached teams begins n team count → (4294967295 ≤ count) ⊎ IsReached teams begins (n + 1) team count
 reached_later teams begins n team count (inl most) = inl most

@@ -1,14 +1,14 @@
 -- The teams of tasks, their leads and their members.
 use Rattle.std.proofs.Common.{◌≡◌, ◌∙◌, ℕ, zero, suc, ◌<◌, ◌≤◌, ◌+◌, List, [], ◌∷◌, ◌++◌, length, get_or, Option, Some, None, Bool, true, false, cond, refl, sym, ap, subst, arith, inl, inr, ◌⊎◌, add-one}
-use Rattle.std.proofs.lemmas.Bool.{cases_eq, cases_order, eq-eqb, ne_eqb, false≢true}
+use Rattle.std.proofs.lemmas.Bool.{cases_eq, cases_order, eq-eqb, ne_eqb}
 use Rattle.std.proofs.lemmas.Option.{none-some, same_Some, slice_get_within, slice_get-get_or}
-use Rattle.std.proofs.lemmas.List.{length_push, length-set, append-nil, length-replicate, get_or-replicate}
+use Rattle.std.proofs.lemmas.List.{length_push, length-set, append-nil}
 use Rattle.std.proofs.lemmas.List.Elements.{filter-append, filter_map-append, Contains-push, Contains-push_cases, Contains-append_left}
 use Rattle.std.proofs.Math.ListN.{set}
 use Rattle.std.specs.Ordering.{nat_cmp}
 use Rattle.std.specs.BTreeMap.{BTreeMap, get}
 use Rattle.std.specs.List.{filter_map, range_with_len, cons_option}
-use Rattle.std.specs.Prelude.{◌==◌, slice_get, filter, is_some, Contains, MatchOption, option_and_then, replicate, if◌then◌else◌}
+use Rattle.std.specs.Prelude.{◌==◌, slice_get, filter, Contains, MatchOption, option_and_then, if◌then◌else◌}
 use Rattle.ompt_events.specs.declared.records.Record.{Record}
 use Rattle.ompt_events.specs.declared.records.Body.{Body}
 use Rattle.ompt_events.specs.declared.records.Body.TheVariants.{ImplicitTask}
@@ -22,7 +22,6 @@ use Rattle.ompt_events.specs.Places.{at}
 use Rattle.ompt_events.specs.Causes.{IsFreeOf}
 use Rattle.ompt_events.specs.Teams.{members_before, IsInitial, IsTeammate, alone, together}
 use Rattle.ompt_events.proofs.ListLemmas.{contains_get}
-use Rattle.ompt_events.proofs.NumberMaps.{updated_here, updated_there}
 use Rattle.ompt_events.proofs.PlaceLemmas.{range_more, at_within}
 use Rattle.ompt_events.proofs.RecordLemmas.{at_through}
 use Rattle.task_tree.specs.Makers.{AreNoted}
@@ -41,11 +40,6 @@ use Rattle.teams.specs.Teams.{AreTeams}
 none_of : {X : Type 0} (o : Option X) → ((x : X) → o ≡ Some x → ⊥) → o ≡ None
 none_of None never = refl
 none_of (Some x) never = absurd (never x refl)
-
--- what a record says, by a test of it
-pub some_at : {X : Type 0} (f : Body → Option X) (rs : List Record) (i : ℕ) (found : Option X) → at f rs i ≡ found → is_some found ≡ true → (x : X) × (at f rs i ≡ Some x)
-some_at f rs i None is there = absurd (false≢true there)
-some_at f rs i (Some x) is there = (x, is)
 
 pub never_of : {X : Type 0} (o : Option X) (x : X) → o ≡ None → o ≡ Some x → ⊥
 never_of o x none is = none-some x (sym none ∙ is)
@@ -236,21 +230,6 @@ lead_other rs tasks parallel other lead free lp lq =
     let same = joined_once rs lp.place lq.place lp.first lq.first free lp.joins lq.joins (same_Some lp.first.member lq.first.member (sym lp.here ∙ lq.here)) in
     sym lp.same ∙ ap (λ (m : Membership). m.parallel) same.1 ∙ lq.same
 
-pub leads_empty : (rs : List Record) (tasks : List ℕ) (leads : BTreeMap ℕ ℕ) → ((parallel : ℕ) → get nat_cmp leads parallel ≡ None) → AreLeads rs 0 tasks leads
-leads_empty rs tasks leads empty = record {
-  known = λ parallel lead is. absurd (never_of (get nat_cmp leads parallel) lead (empty parallel) is);
-  none = λ parallel k m missing below. absurd (omega (arith, below));
-}
-
-pub leads_same : (rs : List Record) (n : ℕ) (tasks : List ℕ) (leads : BTreeMap ℕ ℕ) → AreLeads rs n tasks leads → ((m : Membership) → at joined rs n ≡ Some m → ⊥) → AreLeads rs (n + 1) tasks leads
-leads_same rs n tasks leads are never = record {
-  known = are.known;
-  none = λ parallel k m missing below joins is. elim (cases_eq k n) [
-    | inl same ↦ never m (ap (at joined rs) (sym same) ∙ joins)
-    | inr apart ↦ are.none parallel k m missing (omega (arith, below, apart)) joins is
-  ];
-}
-
 lead_new : (rs : List Record) (n : ℕ) (tasks : List ℕ) (leads : BTreeMap ℕ ℕ) (m : Membership) (index : ℕ) → AreLeads rs n tasks leads → at joined rs n ≡ Some m → slice_get tasks index ≡ Some m.member → get nat_cmp leads m.parallel ≡ None → IsLead rs tasks m.parallel index
 lead_new rs n tasks leads m index are joins here missing = record {
   place = n;
@@ -265,53 +244,11 @@ pub lead_of_is : (rs : List Record) (n : ℕ) (tasks : List ℕ) (old new : BTre
 lead_of_is rs n tasks old new m index lead are joins here (old_lead found same) = are.known m.parallel lead found
 lead_of_is rs n tasks old new m index lead are joins here (new_lead missing is updates) = let P : ℕ → Type 0 = IsLead rs tasks m.parallel in subst P (sym is) (lead_new rs n tasks old m index are joins here missing)
 
-pub leads_more : (rs : List Record) (n : ℕ) (tasks : List ℕ) (old new : BTreeMap ℕ ℕ) (m : Membership) (index lead : ℕ) → AreLeads rs n tasks old → at joined rs n ≡ Some m → slice_get tasks index ≡ Some m.member → IsLeadOf old new m.parallel index lead → AreLeads rs (n + 1) tasks new
-leads_more rs n tasks old new m index lead are joins here (old_lead found same) = let P : BTreeMap ℕ ℕ → Type 0 = AreLeads rs (n + 1) tasks in subst P (sym same) (record {
-  known = are.known;
-  none = λ parallel k e missing below joins' is. elim (cases_eq k n) [
-    | inl last ↦
-        let is_m : m ≡ e = same_Some m e (sym joins ∙ ap (at joined rs) (sym last) ∙ joins') in
-        never_of (get nat_cmp old parallel) lead missing (ap (get nat_cmp old) (sym is ∙ ap (λ (x : Membership). x.parallel) (sym is_m)) ∙ found)
-    | inr apart ↦ are.none parallel k e missing (omega (arith, below, apart)) joins' is
-  ];
-})
-leads_more rs n tasks old new m index lead are joins here (new_lead missing is_lead updates) = record {
-  known = λ parallel other found. elim (cases_eq parallel m.parallel) [
-    | inl same ↦
-        let is_index : index ≡ other = same_Some index other (sym (updated_here old new m.parallel (Some index) updates) ∙ ap (get nat_cmp new) (sym same) ∙ found) in
-        let P : ℕ → Type 0 = λ p. IsLead rs tasks p other in
-        let Q : ℕ → Type 0 = IsLead rs tasks m.parallel in
-        subst P (sym same) (subst Q is_index (lead_new rs n tasks old m index are joins here missing))
-    | inr apart ↦ are.known parallel other (sym (updated_there old new m.parallel (Some index) updates parallel apart) ∙ found)
-  ];
-  none = λ parallel k e missing_new below joins' is. elim (cases_eq parallel m.parallel) [
-    | inl same ↦ never_of (get nat_cmp new parallel) index missing_new (ap (get nat_cmp new) same ∙ updated_here old new m.parallel (Some index) updates)
-    | inr apart ↦ elim (cases_eq k n) [
-      | inl last ↦ apart (sym is ∙ ap (λ (x : Membership). x.parallel) (same_Some e m (sym joins' ∙ ap (at joined rs) last ∙ joins)))
-      | inr earlier ↦ are.none parallel k e (sym (updated_there old new m.parallel (Some index) updates parallel apart) ∙ missing_new) (omega (arith, below, earlier)) joins' is
-    ]
-  ];
-}
-
 -- ---- the teams of tasks
 
 in_later : (rs : List Record) (n : ℕ) (tasks : List ℕ) (index task team : ℕ) → IsInTeam rs n tasks index task team → IsInTeam rs (n + 1) tasks index task team
 in_later rs n tasks index task team (in_own i below is same) = in_own i (omega (arith, below)) is same
 in_later rs n tasks index task team (in_joined i m below joins is leads) = in_joined i m (omega (arith, below)) joins is leads
-
-pub teams_start : (rs : List Record) (tasks : List ℕ) (teams : List (Option ℕ)) → teams ≡ replicate (length tasks) None → AreInTeams rs 0 tasks teams
-teams_start rs tasks teams is = record {
-  all = ap length is ∙ length-replicate (length tasks) None;
-  known = λ index task team is_task stands.
-      let within = slice_get_within tasks index task is_task in
-      let nothing : Option ℕ = None in
-      let none : slice_get teams index ≡ Some None = ap (λ l. slice_get l index) is ∙ slice_get-get_or (replicate (length tasks) None) index None (rw (length-replicate (length tasks) nothing) within) ∙ ap Some (get_or-replicate (length tasks) index None None within) in
-      absurd (none-some team (same_Some None (Some team) (sym none ∙ stands)));
-  none = λ index task is_task stands. record {
-    not_initial = λ i below. absurd (omega (arith, below));
-    not_joined = λ i m below. absurd (omega (arith, below));
-  };
-}
 
 none_more : (rs : List Record) (n task : ℕ) → IsInNone rs n task → (at begun_initial rs n ≡ Some task → ⊥) → ((m : Membership) → at joined rs n ≡ Some m → m.member ≡ task → ⊥) → IsInNone rs (n + 1) task
 none_more rs n task old no_initial no_joined = record {
@@ -459,21 +396,6 @@ teams_are rs tasks teams free apart are = record {
 
 -- ---- how many members a team has
 
-pub sizes_start : (rs : List Record) (tasks sizes : List ℕ) → sizes ≡ replicate (length tasks) 0 → AreSizes rs 0 tasks sizes
-sizes_start rs tasks sizes is = record {
-  all = ap length is ∙ length-replicate (length tasks) 0;
-  each = λ parallel lead size leads stands. zero_at lead size stands;
-  only = λ index size stands more. absurd (let none = zero_at index size stands in omega (arith, none, more));
-}
-  where
-    zero_at : (index size : ℕ) → slice_get sizes index ≡ Some size → size ≡ 0
-    zero_at index size stands =
-        let none : ℕ = 0 in
-        let long : length sizes ≡ length tasks = ap length is ∙ length-replicate (length tasks) none in
-        let inside = slice_get_within sizes index size stands in
-        let within : index < length tasks = omega (arith, inside, long) in
-        same_Some size 0 (sym stands ∙ ap (λ t. slice_get t index) is ∙ slice_get-get_or (replicate (length tasks) 0) index 0 (rw (length-replicate (length tasks) none) within) ∙ ap Some (get_or-replicate (length tasks) index 0 0 within))
-
 pub sizes_same : (rs : List Record) (n : ℕ) (tasks sizes : List ℕ) → AreSizes rs n tasks sizes → at joined rs n ≡ None → AreSizes rs (n + 1) tasks sizes
 sizes_same rs n tasks sizes are none = record {
   all = are.all;
@@ -523,9 +445,6 @@ members_none run n members are none = record {
   teams = teams_same run.records n run.family.tasks members.teams.items are.teams (λ task is. never_of (at begun_root run.records n) task none (initial_at_root run.records n task is)) (λ m joins. never_of (at begun_root run.records n) m.member none (joined_at_root run.records n m joins));
   sizes = sizes_same run.records n run.family.tasks members.sizes.items are.sizes (none_of (at joined run.records n) (λ m joins. never_of (at begun_root run.records n) m.member none (joined_at_root run.records n m joins)));
 }
-
-pub leads_none : (rs : List Record) (n : ℕ) (tasks : List ℕ) (leads : BTreeMap ℕ ℕ) → AreLeads rs n tasks leads → at joined rs n ≡ None → AreLeads rs (n + 1) tasks leads
-leads_none rs n tasks leads are none = leads_same rs n tasks leads are (λ m joins. never_of (at joined rs n) m none joins)
 
 -- the team of the root that begins there, alone or with the members of its region
 pub team_put : (rs : List Record) (n own task team : ℕ) (slot : Option ℕ) (tasks : List ℕ) (teams : List (Option ℕ)) → AreApart tasks → AreInTeams rs n tasks teams → slice_get tasks own ≡ Some task → at begun_root rs n ≡ Some task → IsTeamThere rs tasks n own (Some team) → slot ≡ Some team → AreInTeams rs (n + 1) tasks (set teams own slot)

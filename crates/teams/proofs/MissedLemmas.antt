@@ -2,7 +2,7 @@
 use Rattle.std.proofs.Common.{◌≡◌, ◌∙◌, ℕ, zero, suc, ◌<◌, ◌≤◌, ◌+◌, ◌^◌, List, [], ◌∷◌, ◌++◌, length, get_or, Option, Some, None, true, false, cond, refl, sym, ap, subst, arith, inl, inr, ◌⊎◌, add-one}
 use Rattle.std.proofs.lemmas.Bool.{cases_lt, false≢true}
 use Rattle.std.proofs.lemmas.Option.{none-some, same_Some, slice_get_within, slice_get-get_or}
-use Rattle.std.specs.Prelude.{slice_get, MatchOption, option_map}
+use Rattle.std.specs.Prelude.{slice_get, option_map}
 use Rattle.ompt_events.specs.declared.records.Record.{Record}
 use Rattle.ompt_events.specs.declared.names.Endpoint.{Endpoint}
 use Rattle.ompt_events.specs.declared.names.SyncKind.{SyncKind}
@@ -11,15 +11,12 @@ use Rattle.ompt_events.specs.Places.{at}
 use Rattle.ompt_events.specs.Regions.{is_barrier, barrier_begun, barrier_begins, IsBarrierBegin, IsRegion, ended, at_once}
 use Rattle.ompt_events.specs.Teams.{IsTeammate}
 use Rattle.ompt_events.proofs.ListLemmas.{pushed_cases}
-use Rattle.ompt_events.proofs.RecordLemmas.{at_through}
 use Rattle.ompt_events.proofs.RegionLemmas.{own_begin}
 use Rattle.task_tree.specs.Makers.{AreNoted}
-use Rattle.task_tree.specs.Subjects.{subject}
-use Rattle.task_tree.proofs.NamedLemmas.{region_subject}
+
 use Rattle.task_states.specs.Rows.{row_at}
 use Rattle.teams.specs.Teams.{AreTeams, AreBegins, AreBeginNumbers, begins_before}
 use Rattle.std.specs.Global.{Vec}
-use Rattle.task_states.specs.Regions.{IsBeginOf}
 use Rattle.teams.specs.Missed.{EndsBarrier, EndsNoBarrier, IsMissed}
 use Rattle.teams.specs.Fewest.{AreFewest, AreTeamsWithin}
 use Rattle.teams.proofs.BeginLemmas.{begins_cases, begins_few}
@@ -28,18 +25,11 @@ use Rattle.teams.proofs.MemberLemmas.{mate_index}
 
 -- ---- where a barrier began that ends
 
-pub region_none : (rs : List Record) (i : ℕ) → at region rs i ≡ None → EndsNoBarrier rs i
-region_none rs i none = λ task begin kind ends barrier. let is = ends_at rs i task begin kind ends in none-some (task, kind, is.endpoint) (sym none ∙ is.says)
-
 pub other_kind : (rs : List Record) (i own : ℕ) (kind : SyncKind) (endpoint : Endpoint) → at region rs i ≡ Some (own, kind, endpoint) → is_barrier kind ≡ false → EndsNoBarrier rs i
 other_kind rs i own kind endpoint says no_barrier = λ task begin another ends barrier.
     let is = ends_at rs i task begin another ends in
     let same : kind ≡ another = ap (λ (p : ℕ × SyncKind × Endpoint). p.1) (same_Some (own, kind, endpoint) (task, another, is.endpoint) (sym says ∙ is.says)) in
     false≢true (sym no_barrier ∙ ap is_barrier same ∙ barrier)
-
-pub found_barrier : (rs : List Record) (i own : ℕ) (kind : SyncKind) (endpoint : Endpoint) (found : Option ℕ) → at region rs i ≡ Some (own, kind, endpoint) → is_barrier kind ≡ true → MatchOption found ((task begin : ℕ) (another : SyncKind) → IsRegion rs i task another begin → ⊥) (IsBeginOf rs i) → MatchOption found (EndsNoBarrier rs i) (EndsBarrier rs i)
-found_barrier rs i own kind endpoint None says barrier none = λ task begin another ends is. none task begin another ends
-found_barrier rs i own kind endpoint (Some begin) says barrier is = record { task = own; kind = kind; ends = is own kind endpoint says; barrier = barrier }
 
 -- the begin of a barrier begins it
 begun_there : (rs : List Record) (i task begin : ℕ) (kind : SyncKind) → IsRegion rs i task kind begin → is_barrier kind ≡ true → barrier_begun (at region rs begin) ≡ Some task
@@ -54,9 +44,6 @@ begun_there rs i task begin kind (at_once says) barrier = ap barrier_begun says 
 
 pub begin_within : (rs : List Record) (i task begin : ℕ) (kind : SyncKind) → IsRegion rs i task kind begin → begin < length rs
 begin_within rs i task begin kind ends = let is = ends_at rs i task begin kind ends in let below = is.below in let inside = is.inside in omega (arith, below, inside)
-
-pub barrier_subject : (rs : List Record) (i task begin : ℕ) (kind : SyncKind) → IsRegion rs i task kind begin → at subject rs i ≡ Some task
-barrier_subject rs i task begin kind ends = let is = ends_at rs i task begin kind ends in at_through region subject (task, kind, is.endpoint) task rs i (region_subject task kind is.endpoint) is.says
 
 -- ---- the numbers of barriers
 
@@ -162,6 +149,3 @@ missed_few rs tasks teams fewest numbers i begin index team count number c m =
 -- a task of no team has no teammate that could miss its barrier
 pub no_team_missed : (rs : List Record) (tasks : List ℕ) (teams : List (Option ℕ)) (i begin index : ℕ) (b : EndsBarrier rs i begin) → AreTeams rs tasks teams → slice_get tasks index ≡ Some b.task → slice_get teams index ≡ Some None → IsMissed rs i → ⊥
 no_team_missed rs tasks teams i begin index b are is_task none m = are.none index b.task m.member is_task none (missed_mate rs i begin b m).0
-
-pub no_barrier_missed : (rs : List Record) (i : ℕ) → EndsNoBarrier rs i → IsMissed rs i → ⊥
-no_barrier_missed rs i none m = none m.barrier.task m.begin m.barrier.kind m.barrier.ends m.barrier.barrier

@@ -245,12 +245,6 @@ first_other rs tasks sizes index seats are (empty task size is_task not_initial 
       inl (no_length seats (omega (arith, long, none)))
 ]
 
-pub rosters_none : (rs : List Record) (tasks sizes : List ℕ) (rosters : List (Vec (Option ℕ))) → rosters ≡ [] → AreFirstRosters rs tasks sizes 0 rosters
-rosters_none rs tasks sizes rosters is = record {
-  all = ap length is;
-  each = λ index roster stands. absurd (none-some roster (sym (ap (λ l. slice_get l index) is) ∙ stands));
-}
-
 pub rosters_more : (rs : List Record) (tasks sizes : List ℕ) (n : ℕ) (rosters : List (Vec (Option ℕ))) (last : Vec (Option ℕ)) → AreFirstRosters rs tasks sizes n rosters → AreFirstSeats rs tasks sizes n last.items → AreFirstRosters rs tasks sizes (n + 1) (rosters ++ last ∷ [])
 rosters_more rs tasks sizes n rosters last are here = record {
   all = length_push rosters last ∙ ap (λ k. k + 1) are.all;

@@ -151,11 +151,6 @@ free_short own is whole none = λ i has.
 missed_at : (own : OwnView) (place : ℕ) → IsMissedAt own place → HasCauseAt own TeamShort place
 missed_at own place there = (there.0, there.1, team_short (missed_short own.run.records there.0 there.2))
 
--- where the search for a missed barrier ends
-pub end_within : (own : OwnView) (rosters : List (Vec (Option ℕ))) (lacking : Option ℕ) → IsOwn own → IsSeated own rosters lacking → unwrap_or lacking (length own.run.records) ≤ length own.run.records
-end_within own rosters None is seated = omega arith
-end_within own rosters (Some place) is lack = let below = is.places.below lack.number place lack.stands in omega (arith, below)
-
 -- the lesser of both places
 pub searched : (own : OwnView) (rosters : List (Vec (Option ℕ))) (lacking found : Option ℕ) → IsOwn own → IsSeated own rosters lacking → FindsMissed own (unwrap_or lacking (length own.run.records)) found → IsSearched own rosters (option_or found lacking)
 searched own rosters None None is seated none = (free_short own is seated.0 none, seated.1)

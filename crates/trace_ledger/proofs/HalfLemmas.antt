@@ -78,10 +78,6 @@ goes (suc m) (Keep ∷ r) = more (goes m r)
 
 -- ---- what is held
 
-short_from_all : (l : List Half) (xs : List (List Half)) → ((x : List Half) → IsIn x xs → length x ≤ length l) → ByRecursion (IsShort l) xs
-short_from_all l [] all = tt
-short_from_all l (x ∷ xs) all = (all x (inl refl), short_from_all l xs (λ y there. all y (inr there)))
-
 all_short : (l : List Half) (xs : List (List Half)) → ByRecursion (IsShort l) xs → (x : List Half) → IsIn x xs → length x ≤ length l
 all_short l [] h x there = absurd there
 all_short l (y ∷ xs) h x there = elim there [

@@ -2,9 +2,9 @@
 use Rattle.std.proofs.Common.{◌≡◌, ◌∙◌, ℕ, ◌<◌, ◌≤◌, ◌+◌, List, [], ◌∷◌, ◌++◌, length, get_or, Option, Some, None, refl, sym, ap, subst, arith, inl, inr, ◌⊎◌}
 use Rattle.std.proofs.lemmas.Bool.{cases_eq}
 use Rattle.std.proofs.lemmas.Option.{none-some, same_Some, slice_get_within, slice_get-get_or}
-use Rattle.std.proofs.lemmas.List.{length_push, length-set, get_or-replicate, length-replicate}
+use Rattle.std.proofs.lemmas.List.{length_push, length-set}
 use Rattle.std.proofs.Math.ListN.{set}
-use Rattle.std.specs.Prelude.{max, slice_get, replicate}
+use Rattle.std.specs.Prelude.{max, slice_get}
 use Rattle.std.specs.Option.{option_map_or}
 use Rattle.ompt_events.specs.Records.{creation}
 use Rattle.ompt_events.specs.Places.{at}
@@ -100,24 +100,6 @@ gathers nodes head rest begin limit falls are inside stopped = record {
         stopped first.0 first.1 (omega (arith, less, low))
 
 -- ---- the chains of all tasks
-
-pub chains_start : (done : DoneView) (nodes : List Node) (heads : List (Option ℕ)) → nodes ≡ [] → heads ≡ replicate (length (tasks_of done)) None → AreChains done nodes heads
-chains_start done nodes heads empty is = record {
-  all = ap length is ∙ length-replicate (length (tasks_of done)) None;
-  known = λ index head stands. absurd (nothing index head stands);
-  falling = λ place next node there falls. absurd (let inside = slice_get_within nodes place node there in let none = ap length empty in omega (arith, inside, none));
-  each = λ index task c child head is_task stands less creates. absurd (let none = ap length empty in omega (arith, less, none));
-}
-  where
-    empty_slot : Option ℕ
-    empty_slot = None
-
-    nothing : (index head : ℕ) → slice_get heads index ≡ Some (Some head) → ⊥
-    nothing index head stands =
-        let inside = slice_get_within heads index (Some head) stands in
-        let count = ap length is ∙ length-replicate (length (tasks_of done)) None in
-        let there : slice_get heads index ≡ Some None = ap (λ h. slice_get h index) is ∙ slice_get-get_or (replicate (length (tasks_of done)) None) index None (rw (length-replicate (length (tasks_of done)) empty_slot) (omega (arith, inside, count))) ∙ ap Some (get_or-replicate (length (tasks_of done)) index None None (omega (arith, inside, count))) in
-        none-some head (same_Some None (Some head) (sym there ∙ stands))
 
 -- each link of the pushed list is to an earlier node
 falls_on : (nodes : List Node) (new : Node) → AreFalling nodes → ((next : ℕ) → new.previous ≡ Some next → next < length nodes) → AreFalling (nodes ++ new ∷ [])

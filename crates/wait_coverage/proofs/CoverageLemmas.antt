@@ -315,12 +315,6 @@ teamless_spans rs tasks teams task own number list are is_own no_team empty = re
   all = λ place member numbered. absurd (are.none task own member is_own no_team (mate_of_number rs own place member numbered));
 }
 
-pub roster_start : (rs : List Record) (tasks : List ℕ) (number : ℕ) (roster : List (Option ℕ)) (list : List Span) → list ≡ [] → AreRosterSpans rs tasks number roster 0 list
-roster_start rs tasks number roster list empty = record {
-  count = ap length empty;
-  each = λ place index member span here is there. absurd (let inside = slice_get_within list place span there in let none = ap length empty in omega (arith, inside, none));
-}
-
 pub roster_more : (rs : List Record) (tasks : List ℕ) (number n index : ℕ) (roster : List (Option ℕ)) (list : List Span) (last : Span) → AreRosterSpans rs tasks number roster n list → slice_get roster n ≡ Some (Some index) → ((id : ℕ) → slice_get tasks index ≡ Some id → IsMemberSpan rs id number last) → AreRosterSpans rs tasks number roster (n + 1) (list ++ last ∷ [])
 roster_more rs tasks number n index roster list last are here is = record {
   count = length_push list last ∙ ap (λ k. k + 1) are.count;
@@ -350,17 +344,6 @@ held_complete coverage entries end seen cover list is right ledger are names hel
   where
     AreHeldBelow : ℕ → Type 0
     AreHeldBelow n = (span : Span) → Contains list span → IsSpanHeld (take n entries) span cover
-
--- what an end waits for stands at its index
-pub wait_at_end : (coverage : CoverageView) (index end : ℕ) (wait : Wait) → IsCoverage coverage → wait ≡ get_or coverage.waits index wait → IsEndNumber coverage index end → IsWaitAt coverage.teams.run.records coverage.teams.run.family.tasks end wait
-wait_at_end coverage index end wait is read (place, here, stands) =
-    let inside = slice_get_within coverage.ends index place here in
-    let all = is.waits.all in
-    is.waits.each index place end wait here stands (slice_get-get_or coverage.waits index wait (omega (arith, inside, all)) ∙ ap Some (sym read))
-
--- the end is at a place of the file
-pub end_within : (coverage : CoverageView) (index place : ℕ) → IsCoverage coverage → index < length coverage.ends → place ≡ get_or coverage.ends index place → place < length coverage.teams.run.records
-end_within coverage index place is below read = (is.ends.only index place (slice_get-get_or coverage.ends index place below ∙ ap Some (sym read))).0
 
 -- one record is the end with an index
 pub one_number_of : (coverage : CoverageView) (index end other : ℕ) → IsCoverage coverage → IsEndNumber coverage index end → IsEndNumber coverage index other → end ≡ other

@@ -1,30 +1,25 @@
 -- From which ledger length on a task is finished.
-use Rattle.std.proofs.Common.{◌≡◌, ◌∙◌, ℕ, ◌<◌, ◌≤◌, ◌+◌, ◌^◌, List, length, get_or, Option, Some, None, true, refl, sym, ap, subst, arith, inl, inr, ◌⊎◌}
-use Rattle.std.proofs.lemmas.Bool.{false≢true, cases_eq, cases_lt}
+use Rattle.std.proofs.Common.{◌≡◌, ◌∙◌, ℕ, ◌<◌, ◌≤◌, ◌+◌, ◌^◌, List, length, get_or, Some, None, refl, sym, ap, subst, arith, inl, inr, ◌⊎◌}
+use Rattle.std.proofs.lemmas.Bool.{cases_eq, cases_lt}
 use Rattle.std.proofs.lemmas.Option.{none-some, same_Some, slice_get-get_or, slice_get_within, slice_get_cases}
 use Rattle.std.proofs.lemmas.List.{length-set, length-replicate, get_or-replicate}
 use Rattle.std.proofs.Math.ListN.{set}
-use Rattle.std.specs.Option.{option_map_or}
-use Rattle.std.specs.Prelude.{is_some, min, slice_get, slice_index_or, replicate}
+use Rattle.std.specs.Prelude.{min, slice_get, slice_index_or, replicate}
 use Rattle.ompt_events.specs.declared.records.Record.{Record}
 use Rattle.ompt_events.specs.declared.records.Part.{Part}
 use Rattle.ompt_events.specs.declared.records.Part.TheVariants.{Whole, Body as BodyPart, Event}
-use Rattle.ompt_events.specs.declared.names.Endpoint.{Endpoint}
-use Rattle.ompt_events.specs.declared.names.SyncKind.{SyncKind}
-use Rattle.ompt_events.specs.Records.{creation, finish, region}
+
+use Rattle.ompt_events.specs.Records.{finish}
 use Rattle.ompt_events.specs.Places.{at, seen_at}
 use Rattle.ompt_events.specs.Completion.{IsPartFinished}
 use Rattle.ompt_events.specs.Traces.{IsTrace}
 use Rattle.credit_ledger.specs.declared.entry.Entry.{Entry}
 use Rattle.ompt_events.proofs.PlaceLemmas.{at_within}
-use Rattle.ompt_events.proofs.RecordLemmas.{at_through}
 use Rattle.task_tree.specs.Family.{FamilyView, IsFamilyOf}
 use Rattle.task_tree.specs.Numbering.{AreApart}
-use Rattle.task_tree.specs.Subjects.{subject, object, Calls}
 use Rattle.task_tree.proofs.LinkLemmas.{get_set_same, get_set_other}
 use Rattle.task_tree.proofs.LookupLemmas.{subject_calls}
-use Rattle.task_tree.proofs.NamedLemmas.{finish_subject, region_subject, creation_subject, creation_object, subject_index, object_index}
-use Rattle.teams.proofs.CallLemmas.{call_same, call_never}
+use Rattle.task_tree.proofs.NamedLemmas.{finish_subject, subject_index}
 use Rattle.trace_ledger.specs.Entries.{IsDone, IsLedgerOf}
 use Rattle.trace_ledger.proofs.EntryLemmas.{entry_says, entry_made}
 use Rattle.wait_coverage.specs.declared.lengths.Lengths.{Lengths}
@@ -246,35 +241,3 @@ all_entered rs entries trace are k task part finishes =
 
 pub all_recorded : (rs : List Record) → AllCount rs (λ k. k < length rs)
 all_recorded rs k task part finishes = at_within finish rs k (task, part) finishes
-
--- ---- what a record names
-
--- the tasks of a record that creates one
-pub child_index : (rs : List Record) (tasks : List ℕ) (i index parent child : ℕ) (slot : Option ℕ) → Calls tasks (at object rs i) slot → slot ≡ Some index → at creation rs i ≡ Some (parent, child) → slice_get tasks index ≡ Some child
-child_index rs tasks i index parent child slot calls is creates =
-    let called = object_index creation (parent, child) child rs i tasks slot (creation_object parent child) calls creates in
-    ap (slice_get tasks) (same_Some index called.0 (sym is ∙ called.1)) ∙ called.2
-
-pub parent_index : (rs : List Record) (tasks : List ℕ) (i index parent child : ℕ) (slot : Option ℕ) → Calls tasks (at subject rs i) slot → slot ≡ Some index → at creation rs i ≡ Some (parent, child) → slice_get tasks index ≡ Some parent
-parent_index rs tasks i index parent child slot calls is creates =
-    let called = subject_index creation (parent, child) parent rs i tasks slot (creation_subject parent child) calls creates in
-    ap (slice_get tasks) (same_Some index called.0 (sym is ∙ called.1)) ∙ called.2
-
--- the task that does what a region's record says
-pub region_index : (rs : List Record) (tasks : List ℕ) (i index own : ℕ) (kind : SyncKind) (endpoint : Endpoint) (slot : Option ℕ) → Calls tasks (at subject rs i) slot → slot ≡ Some index → at region rs i ≡ Some (own, kind, endpoint) → slice_get tasks index ≡ Some own
-region_index rs tasks i index own kind endpoint slot calls is says = call_same tasks (at subject rs i) slot index own calls is (at_through region subject (own, kind, endpoint) own rs i (region_subject own kind endpoint) says)
-
--- a record that creates has both tasks called
-pub some_creation : (rs : List Record) (i : ℕ) {found : Option (ℕ × ℕ)} → at creation rs i ≡ found → is_some found ≡ true → (parent child : ℕ) × (at creation rs i ≡ Some (parent, child))
-some_creation rs i {found = None} is there = absurd (false≢true there)
-some_creation rs i {found = Some (parent, child)} is there = (parent, child, is)
-
-pub creates_subject : (rs : List Record) (tasks : List ℕ) (i parent child : ℕ) (slot : Option ℕ) → Calls tasks (at subject rs i) slot → slot ≡ None → at creation rs i ≡ Some (parent, child) → ⊥
-creates_subject rs tasks i parent child slot calls none creates = call_never tasks (at subject rs i) slot parent calls none (at_through creation subject (parent, child) parent rs i (creation_subject parent child) creates)
-
-pub creates_object : (rs : List Record) (tasks : List ℕ) (i parent child : ℕ) (slot : Option ℕ) → Calls tasks (at object rs i) slot → slot ≡ None → at creation rs i ≡ Some (parent, child) → ⊥
-creates_object rs tasks i parent child slot calls none creates = call_never tasks (at object rs i) slot child calls none (at_through creation object (parent, child) child rs i (creation_object parent child) creates)
-
--- the length that a record names that was read in place
-pub seen_index : (rs : List Record) (i : ℕ) (r : Record) → i < length rs → seen_at rs i ≡ (get_or rs i r).seen
-seen_index rs i r within = ap (λ (o : Option Record). option_map_or (λ (q : Record). q.seen) o 0) (slice_get-get_or rs i r within)

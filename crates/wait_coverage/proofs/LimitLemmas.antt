@@ -2,9 +2,9 @@
 use Rattle.std.proofs.Common.{◌≡◌, ◌≢◌, ◌∙◌, ℕ, ◌<◌, ◌≤◌, ◌+◌, ◌^◌, false, true, List, [], ◌∷◌, ◌++◌, length, get_or, Option, Some, None, refl, sym, ap, subst, arith, inl, inr, ◌⊎◌}
 use Rattle.std.proofs.lemmas.Bool.{cases_eq, cases_lt, false≢true}
 use Rattle.std.proofs.lemmas.Option.{none-some, same_Some, slice_get_within, slice_get-get_or}
-use Rattle.std.proofs.lemmas.List.{length_push, length-set, length-replicate}
+use Rattle.std.proofs.lemmas.List.{length_push, length-set}
 use Rattle.std.proofs.Math.ListN.{set}
-use Rattle.std.specs.Prelude.{max, slice_get, replicate, option_and_then, option_map, Contains}
+use Rattle.std.specs.Prelude.{max, slice_get, option_and_then, option_map, Contains}
 use Rattle.ompt_events.specs.declared.records.Record.{Record}
 use Rattle.ompt_events.specs.declared.records.Body.{Body}
 use Rattle.ompt_events.specs.declared.records.Body.TheVariants.{TaskCreate}
@@ -109,12 +109,6 @@ covers_cases rs i task (synchronised {own = own} {begin = begin} {member = membe
     inr (inr record { own = own; begin = begin; kind = kind; number = number; member = member; start = start; child = child; place = place.0; is_region = there; barrier = barrier; begins = begins; mate = mate; starts = starts; before = place.1; creates = place.2; of = of })
 
 -- ---- one record more
-
-pub latest_start : (done : DoneView) (latest : List ℕ) → latest ≡ replicate (length (tasks_of done)) 0 → AreLatest done 0 latest
-latest_start done latest is = record {
-  all = ap length is ∙ length-replicate (length (tasks_of done)) 0;
-  each = λ index task limit is_task stands m c child small low below. absurd (omega arith);
-}
 
 latest_other : (done : DoneView) (n : ℕ) (latest : List ℕ) → AreLatest done n latest → at creation (records_of done) n ≡ None → AreLatest done (n + 1) latest
 latest_other done n latest are none = record {

@@ -1,5 +1,5 @@
 -- Tasks in an order in which each stands behind its parent.
-use Rattle.std.proofs.Common.{◌≡◌, ◌∙◌, ℕ, zero, suc, [], ◌∷◌, ◌++◌, ◌<◌, ◌≤◌, ◌+◌, List, length, get_or, Some, Result, Ok, refl, sym, ap, subst, arith, inl, inr}
+use Rattle.std.proofs.Common.{◌≡◌, ◌∙◌, ℕ, zero, suc, [], ◌∷◌, ◌++◌, ◌<◌, ◌≤◌, ◌+◌, List, length, get_or, Some, refl, sym, ap, subst, arith, inl, inr}
 use Rattle.std.proofs.lemmas.Bool.{cases_lt, cases_eq}
 use Rattle.std.proofs.lemmas.Option.{none-some, same_Some, slice_get_within, slice_get-get_or}
 use Rattle.std.proofs.lemmas.List.Elements.{Contains-push, Contains-push_cases, Contains-append_left}
@@ -7,17 +7,13 @@ use Rattle.std.proofs.lemmas.List.FromFn.{length-range_with_len, get_or-range_wi
 use Rattle.std.proofs.lemmas.List.Sorted.{Contains-permutation, IsPermutation-sym}
 use Rattle.std.specs.List.{range_with_len}
 use Rattle.std.specs.List.Sorted.{IsPermutation, IsNonDecreasingBy}
-use Rattle.std.specs.Prelude.{OnOk, slice_get, map, option_map}
+use Rattle.std.specs.Prelude.{slice_get, map, option_map}
 use Rattle.ompt_events.specs.declared.records.Record.{Record}
 use Rattle.ompt_events.proofs.ListLemmas.{get_contains, contains_get}
 use Rattle.task_tree.specs.Family.{FamilyView, IsFamilyOf}
 use Rattle.task_tree.specs.Lineage.{parent_index, depth_in}
 use Rattle.task_tree.proofs.LineageLemmas.{parent_depth}
 use Rattle.wait_coverage.specs.Done.{IsParentsFirst, AreRanked}
-
--- what holds where a call succeeds, after one that did
-pub from_ok : {A E : Type 0} {P : Type 0} (r : Result A E) (v : A) → r ≡ Ok v → OnOk r P → P
-from_ok r v is holds = rw is at holds
 
 -- ---- the indices as they are
 

@@ -1,5 +1,5 @@
 -- What the end of a region waits for, and which of it is unfinished.
-use Rattle.std.proofs.Common.{◌≡◌, ◌≢◌, ◌∙◌, ℕ, ◌<◌, ◌≤◌, ◌+◌, Bool, false, List, [], ◌∷◌, length, get_or, Option, Some, None, refl, sym, ap, subst, arith, inl, inr, ◌⊎◌}
+use Rattle.std.proofs.Common.{◌≡◌, ◌∙◌, ℕ, ◌<◌, ◌≤◌, ◌+◌, Bool, false, List, [], ◌∷◌, length, get_or, Option, Some, None, refl, sym, ap, subst, arith, inl, inr, ◌⊎◌}
 use Rattle.std.proofs.lemmas.Bool.{cases_eq, false≢true}
 use Rattle.std.proofs.lemmas.Option.{none-some, same_Some, slice_get_within, slice_get-get_or}
 use Rattle.std.proofs.lemmas.List.{length-set, get_or-set_same, get_or-set_other}
@@ -7,14 +7,13 @@ use Rattle.std.proofs.Math.ListN.{set}
 use Rattle.std.specs.Prelude.{◌↔◌, IsTrue, slice_get, slice_index_or}
 use Rattle.ompt_events.specs.declared.records.Record.{Record}
 use Rattle.ompt_events.specs.declared.names.Endpoint.{Endpoint}
-use Rattle.ompt_events.specs.declared.names.Endpoint.TheVariants.{Begin, End, BeginEnd}
 use Rattle.ompt_events.specs.declared.names.SyncKind.{SyncKind}
 use Rattle.ompt_events.specs.declared.names.WaitKind.{WaitKind}
 use Rattle.ompt_events.specs.declared.names.WaitKind.TheVariants.{Taskwait as TaskwaitKind, Taskgroup as TaskgroupKind, Barrier as BarrierKind}
-use Rattle.ompt_events.specs.Records.{made, creation, region}
+use Rattle.ompt_events.specs.Records.{made, creation}
 use Rattle.ompt_events.specs.Places.{at}
 use Rattle.ompt_events.specs.Tree.{child, deeper}
-use Rattle.ompt_events.specs.Regions.{IsRegion, ended, at_once}
+use Rattle.ompt_events.specs.Regions.{IsRegion}
 use Rattle.ompt_events.specs.Coverage.{IsFamily}
 use Rattle.task_tree.specs.Family.{FamilyView, IsFamilyOf}
 use Rattle.task_tree.specs.Lineage.{parent_index, IsParentAt}
@@ -33,7 +32,7 @@ use Rattle.teams.proofs.BarrierLemmas.{barrier_begins_at}
 use Rattle.task_tree.specs.Numbering.{AreApart}
 use Rattle.ompt_events.specs.Teams.{IsTeammate}
 use Rattle.teams.proofs.EventLemmas.{barrier_kind}
-use Rattle.teams.proofs.RegionEndLemmas.{ends_at, says_same}
+use Rattle.teams.proofs.RegionEndLemmas.{ends_at}
 use Rattle.wait_coverage.proofs.DoneLemmas.{indices_of}
 use Rattle.wait_coverage.proofs.WaitKindLemmas.{taskwait_sync, taskgroup_sync, silent_sync}
 
@@ -186,11 +185,6 @@ marked_all rs family wait order n marks first all are = record {
 }
 
 -- ---- the record that ends a wait
-
--- a region that ends does not begin there alone
-pub not_begin : (rs : List Record) (i task begin own : ℕ) (kind other : SyncKind) (endpoint : Endpoint) → IsRegion rs i task kind begin → at region rs i ≡ Some (own, other, endpoint) → endpoint ≢ Begin
-not_begin rs i task begin own kind other endpoint (ended ends) says same = let e = (says_same rs i task own kind other End endpoint ends.ends says).2 in let never : End ≡ Begin = e ∙ same in cc
-not_begin rs i task begin own kind other endpoint (at_once once) says same = let e = (says_same rs i task own kind other BeginEnd endpoint once says).2 in let never : BeginEnd ≡ Begin = e ∙ same in cc
 
 pub no_wait_there : (run : RunView) (i : ℕ) → IsNoWaitEvent run i → EndsNoWaitAt run.records i
 no_wait_there run i silent = λ task begin kind demands there.

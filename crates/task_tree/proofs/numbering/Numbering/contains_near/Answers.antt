@@ -1,9 +1,0 @@
-use Rattle.std.proofs.Common.{◌∙◌, sym}
-use Rattle.task_tree.proofs.NumberingLemmas.{index_noted, noted_index}
-use Rattle.task_tree.proofs.numbering.Numbering.contains_near.Goals as goal
-
-pub returns : goal.returns
-returns c = (
-  λ found. index_noted c.args.self.now c.args.id c.index_near.result c.index_near.ensures (sym c.is_some.ensures ∙ found),
-  λ noted. c.is_some.ensures ∙ noted_index c.args.self.now c.args.id c.index_near.result c.index_near.ensures noted,
-)
