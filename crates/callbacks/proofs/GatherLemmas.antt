@@ -1,18 +1,17 @@
 -- Where a record of the gathered trace stands in the buffer of its thread.
-use Rattle.std.proofs.Common.{◌≡◌, ◌∙◌, ℕ, zero, suc, ◌+◌, ◌<◌, ◌⊎◌, Bool, true, false, cond, List, [], ◌∷◌}
-use Rattle.std.proofs.Common.{◌++◌, length, take, get_or, Option, Some, None, refl, sym, ap, subst, arith}
+use Rattle.std.proofs.Common.{◌≡◌, ◌∙◌, ℕ, zero, suc, ◌+◌, ◌<◌, ◌⊎◌, Bool, true, false, List, [], ◌∷◌}
+use Rattle.std.proofs.Common.{◌++◌, length, take, get_or, Option, Some, refl, sym, ap, subst, arith}
 use Rattle.std.proofs.Common.{inl, inr}
-use Rattle.std.specs.Prelude.{◌==◌, All, slice_get, filter, option_and_then, option_map}
+use Rattle.std.specs.Prelude.{◌==◌, All, slice_get, filter}
 use Rattle.std.specs.Option.{option_map_or}
 use Rattle.std.proofs.lemmas.Bool.{cases_order, eq-eqb, ne_eqb}
 use Rattle.std.proofs.lemmas.Option.{none-some, same_Some, slice_get_within, slice_get-get_or}
-use Rattle.std.proofs.lemmas.Option.{get_or_from_slice_get}
 use Rattle.std.proofs.lemmas.List.{append_assoc, length-append, take-append-le}
 use Rattle.std.proofs.lemmas.List.Elements.{filter-append}
 use Rattle.std.proofs.Math.Seq.{take-append-add}
 use Rattle.ompt_events.specs.declared.records.Record.{Record}
-use Rattle.ompt_events.specs.declared.records.Body.{Body}
-use Rattle.ompt_events.specs.Places.{at, thread_at, seen_at}
+use Rattle.ompt_events.specs.Places.{seen_at}
+use Rattle.ompt_events.proofs.ListLemmas.{all_get, filter_none, filter_all}
 use Rattle.thread_buffers.specs.Buffers.{BufferView}
 use Rattle.trace_ledger.proofs.EntryLemmas.{get_take}
 use Rattle.recorder.specs.Logs.{Follows}
@@ -20,10 +19,6 @@ use Rattle.callbacks.specs.Closed.{ClosedView, IsBuffer, AreClosed}
 use Rattle.callbacks.specs.Gathered.{gathered, AreApart}
 
 -- ---- lists
-
-pub all_get : {X : Type 0} (P : X → Type 0) (xs : List X) (i : ℕ) (x : X) → All P xs
-    → slice_get xs i ≡ Some x → P x
-all_get P xs i x all is = subst P (get_or_from_slice_get xs i x x is) (all i x (slice_get_within xs i x is))
 
 pub all_from_get : {X : Type 0} (P : X → Type 0) (xs : List X)
     → ((i : ℕ) (x : X) → slice_get xs i ≡ Some x → P x) → All P xs
@@ -53,20 +48,6 @@ get_cases (z ∷ xs) ys (suc i) x is = elim (get_cases xs ys i x is) [
   | inl first ↦ inl first
   | inr second ↦ inr (second.0, omega (arith, second.1), second.2)
 ]
-
-filter_none : {X : Type 0} (p : X → Bool) (xs : List X)
-    → ((i : ℕ) (x : X) → slice_get xs i ≡ Some x → p x ≡ false) → filter p xs ≡ []
-filter_none p [] none = refl
-filter_none p (x ∷ xs) none =
-    ap (λ b. cond b (x ∷ filter p xs) (filter p xs)) (none 0 x refl)
-    ∙ filter_none p xs (λ i y is. none (suc i) y is)
-
-filter_all : {X : Type 0} (p : X → Bool) (xs : List X)
-    → ((i : ℕ) (x : X) → slice_get xs i ≡ Some x → p x ≡ true) → filter p xs ≡ xs
-filter_all p [] each = refl
-filter_all p (x ∷ xs) each =
-    ap (λ b. cond b (x ∷ filter p xs) (filter p xs)) (each 0 x refl)
-    ∙ ap (λ l. x ∷ l) (filter_all p xs (λ i y is. each (suc i) y is))
 
 -- ---- records
 
@@ -133,26 +114,8 @@ in_gathered (c ∷ buffers) (suc number) place b r stands is =
 
 -- ---- what stands at a place
 
-pub at_get : {X : Type 0} (f : Body → Option X) (rs : List Record) (i : ℕ) (r : Record)
-    → slice_get rs i ≡ Some r → at f rs i ≡ f r.body
-at_get f rs i r is = ap (option_and_then (λ (q : Record). f q.body)) is
-
-pub thread_get : (rs : List Record) (i : ℕ) (r : Record) → slice_get rs i ≡ Some r
-    → thread_at rs i ≡ Some r.thread
-thread_get rs i r is = ap (option_map (λ (q : Record). q.thread)) is
-
 pub seen_get : (rs : List Record) (i : ℕ) (r : Record) → slice_get rs i ≡ Some r → seen_at rs i ≡ r.seen
 seen_get rs i r is = ap (λ (o : Option Record). option_map_or (λ (q : Record). q.seen) o 0) is
-
--- where a record says something, there is one
-pub get_at : {X : Type 0} (f : Body → Option X) (rs : List Record) (i : ℕ) (x : X) → at f rs i ≡ Some x
-    → (r : Record) × (slice_get rs i ≡ Some r) × (f r.body ≡ Some x)
-get_at {X} f rs i x says = of (slice_get rs i) refl says
-  where
-    of : (o : Option Record) → slice_get rs i ≡ o → option_and_then (λ (q : Record). f q.body) o ≡ Some x
-        → (r : Record) × (slice_get rs i ≡ Some r) × (f r.body ≡ Some x)
-    of None is says = absurd (none-some x says)
-    of (Some r) is says = (r, is, says)
 
 -- ---- buffers that are apart
 

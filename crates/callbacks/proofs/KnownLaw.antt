@@ -8,7 +8,7 @@ use Rattle.std.proofs.lemmas.Option.{none-some, same_Some, slice_get_within, get
 use Rattle.std.proofs.lemmas.List.{take_more, take_all}
 use Rattle.ompt_events.specs.declared.records.Record.{Record}
 use Rattle.ompt_events.specs.declared.records.Body.{Body}
-use Rattle.ompt_events.specs.declared.records.Body.TheVariants.{TaskCreate, TaskSchedule}
+use Rattle.ompt_events.specs.declared.records.Body.TheVariants.{TaskSchedule}
 use Rattle.ompt_events.specs.declared.names.Status.TheVariants.{Yield, Switch}
 use Rattle.ompt_events.specs.declared.cause.Cause.TheVariants.{LengthBack}
 use Rattle.ompt_events.specs.Records.{created, suspended_turn, finish}
@@ -16,13 +16,15 @@ use Rattle.ompt_events.specs.Places.{at, thread_at, seen_at}
 use Rattle.ompt_events.specs.HappensBefore.{IsProgramStep, thread_order, creation, resumption, discard}
 use Rattle.ompt_events.specs.HappensBefore.{fulfilment}
 use Rattle.ompt_events.specs.Causes.{IsFreeOf, known_after, length_back}
+use Rattle.ompt_events.proofs.PlaceLemmas.{get_at, thread_get}
+use Rattle.ompt_events.proofs.ListLemmas.{all_get, get_within}
+use Rattle.ompt_events.proofs.RecordLemmas.{created_unfinished}
 use Rattle.recorder.specs.Logs.{known_from, known_of, AreOrderly}
 use Rattle.recorder.proofs.LogLemmas.{known-pushed}
-use Rattle.trace_ledger.proofs.MakerLemmas.{record_at}
 use Rattle.callbacks.specs.Closed.{ClosedView, IsBuffer, AreClosed}
 use Rattle.callbacks.specs.Gathered.{gathered, AreApart, AreHandedOver, started, was_discarded, was_fulfilled}
 use Rattle.callbacks.specs.Gathered.{runs_on}
-use Rattle.callbacks.proofs.GatherLemmas.{all_get, of_one, get_at, thread_get, seen_get}
+use Rattle.callbacks.proofs.GatherLemmas.{of_one, seen_get}
 
 -- ---- along one thread
 
@@ -46,7 +48,7 @@ seen_known seen body = of (is_some (finish body))
 known_grows : (thread : ℕ) (own : List Record) (k : ℕ) → AreOrderly thread own → k < length own
     → known_of (take k own) ≤ known_of (take (suc k) own)
 known_grows thread own k orderly within =
-    let (r, is) = record_at own k within in
+    let (r, is) = get_within own k within in
     let rises = (orderly k r is).seen_rises in
     let on : suc k ≡ k + 1 = omega arith in
     let more = ap (λ n. known_of (take n own)) on in
@@ -108,18 +110,14 @@ not_back_in_thread : (closed : ClosedView) (k i : ℕ) → AreClosed closed → 
     → known_after (gathered closed.buffers) k ≤ seen_at (gathered closed.buffers) i
 not_back_in_thread closed k i are apart less within same =
     let rs = gathered closed.buffers in
-    let (q, first) = record_at rs k (omega (arith, less, within)) in
-    let (r, second) = record_at rs i within in
+    let (q, first) = get_within rs k (omega (arith, less, within)) in
+    let (r, second) = get_within rs i within in
     let thread : q.thread ≡ r.thread =
     same_Some q.thread r.thread (sym (thread_get rs k q first) ∙ same ∙ thread_get rs i r second) in
     let later = known_later closed k i q r are apart less first second thread in
     omega (arith, later, after_get rs k q first, seen_get rs i r second)
 
 -- ---- a record that hands a task over makes no entry
-
-created_unfinished : (body : Body) (task : ℕ) → created body ≡ Some task → finish body ≡ None
-created_unfinished (TaskCreate deps flags parent child) task is = refl
-created_unfinished _ task is = absurd (none-some task is)
 
 suspended_unfinished : (body : Body) (t : ℕ × ℕ) → suspended_turn body ≡ Some t → finish body ≡ None
 suspended_unfinished (TaskSchedule Yield turns prior next share) t is = refl

@@ -23,16 +23,16 @@ use Rattle.ompt_events.specs.Threads as threads
 use Rattle.ompt_events.specs.Threads.{Walk, after_body, after_record, walk_of}
 use Rattle.ompt_events.specs.Causes.{IsNested, IsFreeOf, created_twice, nested_parallel, forked_inside}
 use Rattle.ompt_events.specs.Causes.{joined_inside, initial_inside}
-use Rattle.ompt_events.proofs.PlaceLemmas.{none_from_test}
+use Rattle.ompt_events.proofs.PlaceLemmas.{none_from_test, at_get, get_at}
+use Rattle.ompt_events.proofs.ListLemmas.{get_within}
 use Rattle.recorder.specs.declared.standing.Standing.{Standing}
 use Rattle.recorder.specs.Standing.{innermost, next_standing, is_outside}
 use Rattle.recorder.specs.Logs.{standing_of, AreOrderly}
 use Rattle.recorder.proofs.LogLemmas.{standing-pushed}
-use Rattle.trace_ledger.proofs.MakerLemmas.{record_at}
 use Rattle.callbacks.specs.Closed.{ClosedView, AreClosed}
 use Rattle.callbacks.specs.Gathered.{gathered, AreApart}
 use Rattle.callbacks.proofs.GatherLemmas.{IsGathered, from_buffer, in_gathered, buffer_of, follows_of}
-use Rattle.callbacks.proofs.GatherLemmas.{own_before, at_get, get_at}
+use Rattle.callbacks.proofs.GatherLemmas.{own_before}
 use Rattle.callbacks.proofs.KnownLaw.{take_next}
 use Rattle.callbacks.proofs.ThreadLaws.{allowed_outside}
 
@@ -130,7 +130,7 @@ roots_along : (thread : ℕ) (own : List Record) (k : ℕ) → AreOrderly thread
     → (fold after_record threads.at_start (take k own)).roots ≡ open_roots (standing_of (take k own))
 roots_along thread own zero orderly low = refl
 roots_along thread own (suc k) orderly low =
-    let (r, is) = record_at own k (omega (arith, low)) in
+    let (r, is) = get_within own k (omega (arith, low)) in
     let before = roots_along thread own k orderly (omega (arith, low)) in
     let outside = allowed_outside (standing_of (take k own)) r.body (orderly k r is).allowed in
     ap (λ l. (fold after_record threads.at_start l).roots) (next_place own k r is)
@@ -145,7 +145,7 @@ initial_along : (own : List Record) (k task : ℕ) → k ≤ length own
     → (p : ℕ) × (q : Record) × (slice_get own p ≡ Some q) × (begun_initial q.body ≡ Some task)
 initial_along own zero task low is = absurd (none-some task is)
 initial_along own (suc k) task low is =
-    let (r, here) = record_at own k (omega (arith, low)) in
+    let (r, here) = get_within own k (omega (arith, low)) in
     let now = sym (ap (λ (s : Standing). s.initial) (standing_next own k r here)) ∙ is in
     elim (initial_next (standing_of (take k own)) r.body task now) [
       | inl begins ↦ (k, r, here, begins)

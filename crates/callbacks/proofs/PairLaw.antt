@@ -15,9 +15,9 @@ use Rattle.ompt_events.specs.HappensBefore.{IsFinishing}
 use Rattle.ompt_events.specs.Causes.{IsAhead, IsFreeOf, RepeatsEntry, entries_in, entry_twice, length_ahead}
 use Rattle.ompt_events.specs.Causes.{entry, ledger_length}
 use Rattle.ompt_events.proofs.PlaceLemmas.{seen_within}
+use Rattle.ompt_events.proofs.ListLemmas.{get_within}
 use Rattle.credit_ledger.specs.declared.entry.Entry.{Entry}
 use Rattle.trace_ledger.specs.Entries.{claimed_entry, entry_of, IsEntryAt}
-use Rattle.trace_ledger.proofs.MakerLemmas.{record_at}
 use Rattle.recorder.specs.Logs.{known_from}
 use Rattle.callbacks.specs.Closed.{ClosedView, AreClosed}
 use Rattle.callbacks.specs.Gathered.{gathered, AreApart, ArePaired}
@@ -210,7 +210,7 @@ not_ahead closed i are many (entry finishing past) =
     omega (arith, within, many, past, seen_get (gathered closed.buffers) i r is)
 not_ahead closed i are many (ledger_length past) =
     let rs = gathered closed.buffers in
-    let (r, is) = record_at rs i (seen_within rs i (entries_in rs) past) in
+    let (r, is) = get_within rs i (seen_within rs i (entries_in rs) past) in
     omega (arith, known_below closed i r are is, many, past, seen_get rs i r is)
 
 pub none_ahead : (closed : ClosedView) → AreClosed closed → AreApart closed.buffers → ArePaired closed

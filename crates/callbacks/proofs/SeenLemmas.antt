@@ -2,7 +2,7 @@
 use Rattle.std.proofs.Common.{◌≡◌, ◌∙◌, ℕ, zero, suc, ◌<◌, Bool, true, false, cond, eqb, List, [], ◌∷◌}
 use Rattle.std.proofs.Common.{length, Some, refl, sym, ap, arith, inl, inr}
 use Rattle.std.specs.Prelude.{◌||◌, slice_get, filter, map, is_some}
-use Rattle.std.specs.List.{AllByRecursion, IsDistinct, list_any}
+use Rattle.std.specs.List.{IsDistinct, list_any}
 use Rattle.std.proofs.lemmas.Bool.{true≢false, false≢true, cases_Bool, or_cases, eqb-true, eq-eqb}
 use Rattle.std.proofs.lemmas.Option.{none-some, same_Some}
 use Rattle.std.proofs.lemmas.List.{length-map}
@@ -11,6 +11,7 @@ use Rattle.std.proofs.lemmas.Map.Steps.{length-le_from_distinct_below}
 use Rattle.ompt_events.specs.declared.records.Record.{Record}
 use Rattle.ompt_events.specs.Records.{finish}
 use Rattle.ompt_events.specs.Causes.{entries_in}
+use Rattle.ompt_events.proofs.ListLemmas.{none_equal}
 
 -- ---- different numbers
 
@@ -26,11 +27,6 @@ or_second : (x y : Bool) → y ≡ true → (x || y) ≡ true
 or_second true y is = refl
 or_second false y is = is
 
-all_other : (q : ℕ) (xs : List ℕ) → list_any (eqb q) xs ≡ false → AllByRecursion (λ y. eqb q y ≡ false) xs
-all_other q [] none = tt
-all_other q (x ∷ xs) none =
-    let (first, rest) = or_none (eqb q x) (list_any (eqb q) xs) none in (first, all_other q xs rest)
-
 distinct_none : IsDistinct eqb []
 unfolding IsDistinct
 distinct_none = tt
@@ -38,7 +34,7 @@ distinct_none = tt
 distinct_more : (q : ℕ) (xs : List ℕ) → list_any (eqb q) xs ≡ false → IsDistinct eqb xs
     → IsDistinct eqb (q ∷ xs)
 unfolding IsDistinct
-distinct_more q xs none apart = (all_other q xs none, apart)
+distinct_more q xs none apart = (none_equal q xs none, apart)
 
 -- n different numbers below n are all of these
 pub all_taken : (xs : List ℕ) (n q : ℕ) → IsDistinct eqb xs → ((p : ℕ) → list_any (eqb p) xs ≡ true → p < n)

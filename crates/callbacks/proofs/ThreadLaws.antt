@@ -13,13 +13,14 @@ use Rattle.ompt_events.specs.Flags.{has_flag}
 use Rattle.ompt_events.specs.Records.{made, flags}
 use Rattle.ompt_events.specs.Causes.{HasSeqGap, MakesTarget, IsFreeOf, seq_gap, target_task}
 use Rattle.ompt_events.specs.Traces.{IsSoundIn, IsInRange, IsTraceOf}
+use Rattle.ompt_events.proofs.PlaceLemmas.{at_get, get_at}
 use Rattle.recorder.specs.declared.standing.Standing.{Standing}
 use Rattle.recorder.specs.Standing.{is_in_place, runs_its_task, ends_innermost, is_outside, is_on_host}
 use Rattle.recorder.specs.Standing.{allows}
 use Rattle.recorder.specs.Logs.{standing_of}
 use Rattle.callbacks.specs.Closed.{ClosedView, AreClosed}
 use Rattle.callbacks.specs.Gathered.{gathered, AreApart, IsWithin}
-use Rattle.callbacks.proofs.GatherLemmas.{all_from_get, from_buffer, follows_of, own_before, at_get, get_at}
+use Rattle.callbacks.proofs.GatherLemmas.{all_from_get, from_buffer, follows_of, own_before}
 
 -- ---- numbers in a thread
 

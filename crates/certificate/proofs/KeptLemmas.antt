@@ -7,7 +7,7 @@ use Rattle.std.proofs.lemmas.List.Sums.{sum_by_push, sum_by-append}
 use Rattle.ompt_events.specs.declared.records.Record.{Record}
 use Rattle.ompt_events.specs.Records.{made}
 use Rattle.ompt_events.specs.Limits.{max_records, max_tasks}
-use Rattle.ompt_events.specs.Traces.{IsSoundIn, HasItsTurns, IsInRange, IsSound, IsTrace, IsTraceOf, tasks_in}
+use Rattle.ompt_events.specs.Traces.{IsSoundIn, HasItsTurns, IsInRange, IsSound, IsTrace, tasks_in}
 use Rattle.certificate.specs.Keeping.{IsKept}
 
 pub IsKept-more : (version : ℕ) (rs : List Record) (r : Record) (tasks more : ℕ) → IsKept version rs tasks → IsSoundIn version r.body → IsInRange r → length rs < max_records → more ≡ tasks + cond (is_some (made r.body)) 1 0 → more ≤ max_tasks → IsKept version (rs ++ r ∷ []) more
@@ -36,10 +36,3 @@ IsTrace-take n rs trace =
       sound = All-take (λ (x : Record). IsSound x.body) n rs trace.sound;
       in_range = All-take IsInRange n rs trace.in_range;
     }
-
-pub IsTraceOf-take : (version n : ℕ) (rs : List Record) → IsTraceOf version rs → IsTraceOf version (take n rs)
-IsTraceOf-take version n rs trace = record {
-  known = trace.known;
-  is_trace = IsTrace-take n rs trace.is_trace;
-  turns = All-take (λ (x : Record). HasItsTurns version x.body) n rs trace.turns;
-}

@@ -5,7 +5,7 @@ use Rattle.std.specs.List.{list_any}
 use Rattle.std.specs.Option.{option_map_or, unwrap_or}
 use Rattle.std.specs.Ordering.{nat_cmp}
 use Rattle.std.specs.BTreeMap.{BTreeMap, get}
-use Rattle.std.proofs.lemmas.Bool.{cases_Bool, cases_eq, eqb-true, eq-eqb, ne_eqb, true≢false, false≢true}
+use Rattle.std.proofs.lemmas.Bool.{cases_Bool, cases_eq, eq-eqb, ne_eqb, true≢false}
 use Rattle.std.proofs.lemmas.List.{length-take-le}
 use Rattle.std.proofs.lemmas.List.Folds.{list_any_more}
 use Rattle.std.proofs.lemmas.List.Sums.{count_by_more_yes, count_by_more_no, count_by-le-length, fold-append}
@@ -22,22 +22,10 @@ use Rattle.ompt_events.specs.Places.{at, thread_at}
 use Rattle.ompt_events.specs.States.{is_task, is_made_so}
 use Rattle.certificate.specs.declared.task_turns.TaskTurns.{TaskTurns}
 use Rattle.ompt_events.specs.Upgrades.{Moves, turn_counted, telling}
+use Rattle.ompt_events.proofs.PlaceLemmas.{at_get, thread_get, is_the_task, the_task}
 use Rattle.certificate.specs.TaskTurns.{no_turns, first_turn, noted, with_begin, with_start, with_turn, one_later, turn_ended, IsElsewhere, IsAtHome, AreHomes, AreTurns, AreEnded, turns_told, told_by}
 
 -- ---- single records
-
-is_the_task : (task : ℕ) (found : Option ℕ) → is_task task found ≡ true → found ≡ Some task
-is_the_task task None is = absurd (false≢true is)
-is_the_task task (Some other) is = ap Some (eqb-true other task is)
-
-the_task : (task : ℕ) (found : Option ℕ) → found ≡ Some task → is_task task found ≡ true
-the_task task found is = ap (is_task task) is ∙ eq-eqb task task refl
-
-says : {X : Type 0} (f : Body → Option X) (rs : List Record) (i : ℕ) (r : Record) → slice_get rs i ≡ Some r → at f rs i ≡ f r.body
-says f rs i r stands = ap (option_and_then (λ (q : Record). f q.body)) stands
-
-thread_is : (rs : List Record) (i : ℕ) (r : Record) → slice_get rs i ≡ Some r → thread_at rs i ≡ Some r.thread
-thread_is rs i r stands = ap (option_map (λ (q : Record). q.thread)) stands
 
 -- a place where a task runs next has a thread
 no_thread : (rs : List Record) (k task : ℕ) → at started rs k ≡ Some task → thread_at rs k ≡ None → ⊥
@@ -45,7 +33,7 @@ no_thread rs k task ran none = by (slice_get rs k) refl
   where
     by : (o : Option Record) → slice_get rs k ≡ o → ⊥
     by None e = none-some task (sym (ap (option_and_then (λ (q : Record). started q.body)) e) ∙ ran)
-    by (Some r) e = none-some r.thread (sym none ∙ thread_is rs k r e)
+    by (Some r) e = none-some r.thread (sym none ∙ thread_get rs k r e)
 
 -- ---- the first pass
 
@@ -97,19 +85,19 @@ pub homes_more : (rs : List Record) (i : ℕ) (r : Record) (old mid new : BTreeM
 homes_more rs i r old mid new stands are begins stays starts = record {
   at_home = λ task k below ran. elim (cases_Bool (is_task task (started r.body))) [
     | inl is ↦ elim (cases_eq k i) [
-      | inl same ↦ ap (thread_at rs) same ∙ thread_is rs i r stands ∙ sym (home_here task is)
+      | inl same ↦ ap (thread_at rs) same ∙ thread_get rs i r stands ∙ sym (home_here task is)
       | inr apart ↦ elim (stays task (is_the_task task (started r.body) is)) [
         | inl nowhere ↦ absurd (no_thread rs k task ran (are.at_home task k (omega (arith, below, apart)) ran ∙ sym (mid_home task) ∙ nowhere))
         | inr home ↦ are.at_home task k (omega (arith, below, apart)) ran ∙ sym (mid_home task) ∙ home ∙ sym (home_here task is)
       ]
     ]
     | inr never ↦ elim (cases_eq k i) [
-      | inl same ↦ absurd (true≢false (sym (the_task task (started r.body) (sym (says started rs i r stands) ∙ ap (at started rs) (sym same) ∙ ran)) ∙ never))
+      | inl same ↦ absurd (true≢false (sym (the_task task (started r.body) (sym (at_get started rs i r stands) ∙ ap (at started rs) (sym same) ∙ ran)) ∙ never))
       | inr apart ↦ are.at_home task k (omega (arith, below, apart)) ran ∙ sym (home_there task never)
     ]
   ];
   ran = λ task home lives. elim (cases_Bool (is_task task (started r.body))) [
-    | inl is ↦ (i, omega arith, says started rs i r stands ∙ is_the_task task (started r.body) is, thread_is rs i r stands ∙ sym (home_here task is) ∙ lives)
+    | inl is ↦ (i, omega arith, at_get started rs i r stands ∙ is_the_task task (started r.body) is, thread_get rs i r stands ∙ sym (home_here task is) ∙ lives)
     | inr never ↦
         let before = are.ran task home (sym (home_there task never) ∙ lives) in
         (before.0, omega (arith, before.1), before.2, before.3)
@@ -140,11 +128,11 @@ moves rs i r old mid stands are begins elsewhere =
     let before = are.ran task elsewhere.home (sym (begin_home task r (noted old task)) ∙ ap (λ (t : TaskTurns). t.home) (sym (begins task)) ∙ elsewhere.lives) in
     record {
       task = task;
-      next = says started rs i r stands ∙ elsewhere.runs;
+      next = at_get started rs i r stands ∙ elsewhere.runs;
       earlier = before.0;
       before = before.1;
       next_before = before.2;
-      elsewhere = λ same. elsewhere.apart (same_Some elsewhere.home r.thread (sym before.3 ∙ same ∙ thread_is rs i r stands));
+      elsewhere = λ same. elsewhere.apart (same_Some elsewhere.home r.thread (sym before.3 ∙ same ∙ thread_get rs i r stands));
     }
 
 -- and one that is noted to run on this thread, or on none, does not
@@ -152,9 +140,9 @@ pub stays_home : (rs : List Record) (i : ℕ) (r : Record) (old mid : BTreeMap �
 stays_home rs i r old mid stands are begins stays move =
     let task = move.task in
     let home : thread_at rs move.earlier ≡ (noted mid task).home = are.at_home task move.earlier move.before move.next_before ∙ sym (ap (λ (t : TaskTurns). t.home) (begins task) ∙ begin_home task r (noted old task)) in
-    elim (stays task (sym (says started rs i r stands) ∙ move.next)) [
+    elim (stays task (sym (at_get started rs i r stands) ∙ move.next)) [
       | inl nowhere ↦ no_thread rs move.earlier task move.next_before (home ∙ nowhere)
-      | inr here ↦ move.elsewhere (home ∙ here ∙ sym (thread_is rs i r stands))
+      | inr here ↦ move.elsewhere (home ∙ here ∙ sym (thread_get rs i r stands))
     ]
 
 -- ---- the second pass
@@ -219,7 +207,7 @@ pub is_noted : (rs : List Record) (i : ℕ) (r : Record) (table : BTreeMap ℕ T
 is_noted rs i r table stands are task runs = by (get nat_cmp table task) refl
   where
     by : (o : Option TaskTurns) → get nat_cmp table task ≡ o → IsSome o
-    by None e = absurd (no_thread rs i task (says started rs i r stands ∙ runs) (are.at_home task i (says started rs i r stands ∙ runs) ∙ ap (λ (o : Option TaskTurns). (unwrap_or o no_turns).home) e))
+    by None e = absurd (no_thread rs i task (at_get started rs i r stands ∙ runs) (are.at_home task i (at_get started rs i r stands ∙ runs) ∙ ap (λ (o : Option TaskTurns). (unwrap_or o no_turns).home) e))
     by (Some t) e = refl
 
 -- ---- the turns that end
@@ -273,7 +261,7 @@ ended_by rs n r old new stands are begins task thread b at_thread = by (started 
     ]
 
     home : (next : ℕ) → started r.body ≡ Some next → next ≡ task → (noted old task).home ≡ Some r.thread
-    home next runs is = sym (are.at_home task n (says started rs n r stands ∙ runs ∙ ap Some is)) ∙ thread_is rs n r stands
+    home next runs is = sym (are.at_home task n (at_get started rs n r stands ∙ runs ∙ ap Some is)) ∙ thread_get rs n r stands
 
     here : (next : ℕ) → started r.body ≡ Some next → next ≡ task → (c : Bool) → (r.thread == thread) ≡ c → fold (turn_after task) (turn_ended (noted old task) thread) (cond c (told_by old r ∷ []) []) ≡ cond c ((noted old task).next + 1 - 1) 0
     here next runs is true here_too =

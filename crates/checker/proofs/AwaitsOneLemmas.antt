@@ -24,11 +24,13 @@ use Rattle.ompt_events.specs.Causes.{IsFreeOf, moved, turn_gap, begun_again, fal
 use Rattle.ompt_events.proofs.TurnLemmas.{first_version_tells_none, begun_started, is_start_untold, start_starts, no_resumption}
 use Rattle.ompt_events.proofs.PlaceLemmas.{at_within}
 use Rattle.ompt_events.proofs.RecordLemmas.{begun_at_made}
+use Rattle.ompt_events.proofs.ListLemmas.{all_get}
 use Rattle.task_tree.specs.Family.{FamilyView, IsFamilyOf}
 use Rattle.task_tree.proofs.OnceLemmas.{made_once}
 use Rattle.task_tree.proofs.RankedLemmas.{Every, every_get}
-use Rattle.task_tree.proofs.SuspendedLemmas.{all_get, no_misfit, runs_there, part_of, part_keeps, told_right, turn_is, begun_told, Suspended, suspended_parts, suspended_once}
+use Rattle.task_tree.proofs.SuspendedLemmas.{no_misfit, runs_there, part_of, part_keeps, told_right, begun_told, Suspended, suspended_parts, suspended_once, after_roots}
 use Rattle.task_tree.specs.Runs.{RunView}
+use Rattle.task_tree.proofs.RisingPassLemmas.{turn_here}
 use Rattle.checker.specs.Search.{IsSound as IsSoundRun}
 use Rattle.checker.specs.Schedule.{IsEarlierOnThread, EachAwaitsOne}
 use Rattle.checker.proofs.ScheduleLemmas.{begun_root_or_explicit}
@@ -111,17 +113,6 @@ BeginsOn rs thread task = (k : ℕ) × (thread_at rs k ≡ Some thread) × (at b
 every_rest : {X : Type 0} (P : X → Type 0) (xs : List X) → Every P xs → Every P (Rattle.std.specs.Prelude.drop 1 xs)
 every_rest P [] each = tt
 every_rest P (x ∷ xs) each = each.1
-
-after_roots : (P : ℕ → Type 0) (walk : Walk) (b : Body) → ((task : ℕ) → begun_root b ≡ Some task → P task) → Every P walk.roots → Every P (after_body walk b).roots
-after_roots P walk (ImplicitTask Begin actual index flags parallel task) new each = (new task refl, each)
-after_roots P walk (ImplicitTask End actual index flags parallel task) new each = every_rest P walk.roots each
-after_roots P walk (ImplicitTask BeginEnd actual index flags parallel task) new each = each
-after_roots P walk (TaskSchedule status turns prior next share) new each = by (demands_next status)
-  where
-    by : (d : Bool) → Every P (Rattle.std.specs.Prelude.cond d (record { roots = walk.roots; current = next }) walk).roots
-    by true = each
-    by false = each
-after_roots P walk b new each = each
 
 after_current : (P : ℕ → Type 0) (walk : Walk) (b : Body) → ((task : ℕ) → begun_root b ≡ Some task → P task) → ((task : ℕ) → started b ≡ Some task → P task)
     → Every P walk.roots → ((task : ℕ) → walk.current ≡ Some task → P task) → (task : ℕ) → (after_body walk b).current ≡ Some task → P task
@@ -250,7 +241,7 @@ root_runs_on rs a b trace once current gap again root = by (slice_get rs a) (sli
         let on : thread_at rs a ≡ Some r.thread = ap (option_map (λ (x : Record). x.thread)) e in
         let on_b : thread_at rs b ≡ Some r.thread = ap (option_map (λ (x : Record). x.thread)) f ∙ sym threads in
         let there : turn_in task (part_of rs r.thread a) ≡ turn =
-        sym (turn_is rs a task r e parts.runs)
+        sym (turn_here rs a task r e parts.runs)
         ∙ sym (told_right rs a parts.told gap (ap (option_and_then (λ (x : Record). told_turns x.body)) e ∙ parts.tells)) ∙ parts.turn_told in
         record {
           earlier = elim (cases_order a b) [

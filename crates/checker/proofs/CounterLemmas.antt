@@ -24,11 +24,11 @@ use Rattle.checker.specs.Verdicts.{ShowsNone, IsUnfinished}
 use Rattle.checker.specs.Search.{ClearView, IsClearView}
 use Rattle.checker.specs.Counter.{AreBounds, IsEarliestOrder, IsCounterOrderBy, IsBelow, is_below}
 use Rattle.checker.specs.Merge.{AreInTurn, IsGreedyBehind}
-use Rattle.checker.proofs.MergeLemmas.{thread_of}
 use Rattle.checker.proofs.MergingLemmas.{each_more}
 use Rattle.checker.proofs.EarlierLemmas.{earlier_first, earlier_cases, earlier_right, earlier_across, earlier_append_cases, earlier_to, earlier_apart, order_apart, filter_holds}
 use Rattle.checker.proofs.MissedLemmas.{before_known, known_finish}
 use Rattle.checker.proofs.ReadingLemmas.{shows_none}
+use Rattle.task_tree.proofs.GapFreeLemmas.{thread_there}
 
 -- ---- some of a greedy order
 
@@ -121,7 +121,7 @@ below_before rs i bounds are a = (to (thread_at rs a) refl, from)
 
     from : HappensBefore rs a i → is_below rs bounds a ≡ true
     from before =
-        let runs = thread_of rs a (before_from rs a i before) in
+        let runs = thread_there rs a (before_from rs a i before) in
         rw runs.1 (lt-ltb a (slice_index bounds runs.0) ((are.each a runs.0 runs.1).1 before))
 
 -- nothing happens before itself

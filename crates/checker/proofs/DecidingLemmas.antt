@@ -1,5 +1,5 @@
 -- What is decided of one record, and the first of several.
-use Rattle.std.proofs.Common.{◌≡◌, ℕ, ◌<◌, ◌≤◌, List, length, Some, None, sym, subst, arith, inl, inr}
+use Rattle.std.proofs.Common.{◌≡◌, ℕ, ◌<◌, ◌≤◌, List, length, Some, sym, subst, arith, inl, inr}
 use Rattle.std.proofs.lemmas.Bool.{cases_lt}
 use Rattle.std.specs.Prelude.{slice_get}
 use Rattle.ompt_events.specs.declared.records.Record.{Record}
@@ -15,7 +15,7 @@ use Rattle.wait_coverage.specs.Shown.{IsCompleteShown, IsFirstOpenShown}
 use Rattle.wait_coverage.specs.Spans.{IsCoverComplete}
 use Rattle.wait_coverage.specs.Waits.{IsFirstOpen}
 use Rattle.wait_coverage.proofs.OpenLemmas.{EndsWaitAt, covers_at}
-use Rattle.wait_coverage.proofs.ShownLemmas.{open_shown}
+use Rattle.wait_coverage.proofs.ShownLemmas.{open_shown, all_shown}
 use Rattle.checker.specs.declared.verdict.Why.{Why}
 use Rattle.checker.specs.declared.verdict.Why.TheVariants.{Unfinished, Predecessor}
 use Rattle.checker.specs.Readings.{Reading, by_task}
@@ -41,10 +41,6 @@ violation_by_open rs own number place task of is stands first =
         | inr late ↦ (of_tasks rs).apart place task other shown.open_there.covered late.0
       ];
     }
-
--- what the end with this number covers is complete at its place
-pub covered_there : (rs : List Record) (own : OwnView) (number place : ℕ) → IsOwnOf rs own → IsOwn own → slice_get own.places number ≡ Some place → IsCoverComplete own.run.records number → IsCompleteShown rs place
-covered_there rs own number place of is stands complete = open_shown rs own number place None of is stands complete
 
 -- a predecessor that is unfinished, where nothing that ends is open
 pub violation_by_late : (rs : List Record) (place task : ℕ) → IsCompleteShown rs place → IsFirstLateAt rs place task → IsViolationAt (by_task rs) place (Predecessor task)
@@ -99,14 +95,14 @@ open_decided view own done number place task clear same teams credit stands find
 
 pub covered_decided : (view : ClearView) (own : OwnView) (done : DoneView) (number place : ℕ) → IsClearView view → own ≡ view.own → own_of done.teams ≡ view.own → AreCreditLengths done → slice_get own.places number ≡ Some place → Finds done (λ o. IsCoverComplete o.run.records number) → IsCompleteShown view.run.records place
 covered_decided view own done number place clear same teams credit stands finds =
-    covered_there view.run.records view.own number place clear.one.of_file clear.one.is_own (stands_there view own number place same stands)
+    all_shown view.run.records view.own number place clear.one.of_file clear.one.is_own (stands_there view own number place same stands)
     (found_there view done (λ o. IsCoverComplete o.run.records number) clear teams credit finds)
 
 -- where no wait ends
 pub no_end_decided : (view : ClearView) (own : OwnView) (done : DoneView) (number place : ℕ) → IsClearView view → own ≡ view.own → own_of done.teams ≡ view.own → slice_get own.places number ≡ Some place → (IsEnd (records_of done) number → ⊥) → IsCompleteShown view.run.records place
 no_end_decided view own done number place clear same teams stands ends_none =
     let P : OwnView → Type 0 = λ o. IsEnd o.run.records number → ⊥ in
-    covered_there view.run.records view.own number place clear.one.of_file clear.one.is_own (stands_there view own number place same stands)
+    all_shown view.run.records view.own number place clear.one.of_file clear.one.is_own (stands_there view own number place same stands)
     (end_complete view.own.run.records number (subst P teams ends_none))
 
 -- ---- the first violation

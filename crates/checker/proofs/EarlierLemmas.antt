@@ -12,6 +12,7 @@ use Rattle.ompt_events.specs.declared.records.Record.{Record}
 use Rattle.ompt_events.specs.Places.{places}
 use Rattle.ompt_events.specs.Linearization.{IsEarlier}
 use Rattle.ompt_events.proofs.PlaceLemmas.{Contains-filter}
+use Rattle.ompt_events.proofs.ListLemmas.{contains_first}
 
 -- ---- a list with a first place
 
@@ -58,9 +59,6 @@ earlier_never a b e = let within = e.within in absurd (omega (arith, within))
 
 contains_never : (a : ℕ) → Contains {X = ℕ} [] a → ⊥
 contains_never a (k, below, is) = absurd (omega (arith, below))
-
-contains_first : (x : ℕ) (xs : List ℕ) → Contains (x ∷ xs) x
-contains_first x xs = (0, omega arith, refl)
 
 contains_behind : (x : ℕ) (xs : List ℕ) (a : ℕ) → Contains xs a → Contains (x ∷ xs) a
 contains_behind x xs a (k, below, is) = (suc k, omega (arith, below), is)

@@ -1,27 +1,20 @@
 -- Which entries are named, and which record is the first that names one again or one past the end.
-use Rattle.std.proofs.Common.{◌≡◌, ◌∙◌, ℕ, ◌<◌, ◌≤◌, ◌+◌, ◌==◌, Bool, true, false, cond, ltb, List, [], length, Some, None, Result, Ok, Err, refl, sym, ap, arith, inl, inr}
-use Rattle.std.specs.Prelude.{◌||◌, IfOk, OnOk, is_some, slice_index, slice_set}
+use Rattle.std.proofs.Common.{◌≡◌, ◌∙◌, ℕ, ◌<◌, ◌≤◌, ◌+◌, ◌==◌, Bool, true, false, cond, ltb, List, [], length, Result, Ok, Err, refl, sym, ap, arith, inl, inr}
+use Rattle.std.specs.Prelude.{◌||◌, IfOk, OnOk, slice_index, slice_set}
 use Rattle.std.proofs.lemmas.List.{length-set}
 use Rattle.std.specs.Ordering.{nat_cmp}
 use Rattle.std.specs.BTreeSet.{contains}
 use Rattle.std.proofs.lemmas.Bool.{false≢true, cases_eq, cases_lt, lt-ltb, eqb-true, eq-eqb, or_cases, or_left, or_right}
 use Rattle.ompt_events.specs.declared.records.Record.{Record}
 use Rattle.ompt_events.specs.declared.cause.Cause.TheVariants.{EntryTwice, LengthAhead}
-use Rattle.ompt_events.specs.Records.{finish}
-use Rattle.ompt_events.specs.Places.{at, seen_at}
+use Rattle.ompt_events.specs.Places.{seen_at}
 use Rattle.ompt_events.specs.HappensBefore.{IsFinishing}
 use Rattle.ompt_events.specs.Causes.{HasCause, RepeatsEntry, entry_twice, entries_in, IsAhead, entry, ledger_length, length_ahead, IsFreeOf, IsFirstWith}
-use Rattle.ompt_events.proofs.PlaceLemmas.{at_within, seen_within}
+use Rattle.ompt_events.proofs.PlaceLemmas.{seen_within}
+use Rattle.ompt_events.proofs.HappensBeforeLemmas.{finishing_within}
 use Rattle.checker.specs.declared.makers.Named.{Named}
 use Rattle.checker.specs.Makers.{is_named, IsMadeBelow, AreNamed, IsNaming}
 use Rattle.checker.proofs.MakerLemmas.{makers_more}
-
-pub finishing_within : (rs : List Record) (i : ℕ) → IsFinishing rs i → i < length rs
-finishing_within rs i finishes = there (at finish rs i) refl finishes
-  where
-    there : (o : _) → at finish rs i ≡ o → is_some o ≡ true → i < length rs
-    there None e is = absurd (false≢true is)
-    there (Some f) e is = at_within finish rs i f e
 
 -- ---- one record more
 

@@ -10,15 +10,17 @@ use Rattle.std.specs.Option.{option_map_or}
 use Rattle.std.specs.Prelude.{Contains, IsPermutation, slice_get, slice_index, option_map}
 use Rattle.ompt_events.specs.declared.records.Record.{Record}
 use Rattle.ompt_events.specs.Places.{thread_at, seen_at}
+use Rattle.ompt_events.proofs.ListLemmas.{contains_first}
 use Rattle.checker.specs.declared.suspensions.Suspensions.{Suspensions}
 use Rattle.checker.specs.Schedule.{Awaits}
 use Rattle.checker.specs.Merge.{AreStanding, Stands, IsUnplaced, MayFollow, AreHeads, IsFront, IsReadyHead, AreOffered, AreMore, IsTaken, length_of}
 use Rattle.task_tree.specs.Family.{FamilyView}
 use Rattle.task_tree.specs.Runs.{RunView}
+use Rattle.task_tree.proofs.GapFreeLemmas.{thread_there}
 use Rattle.checker.specs.Entries.{MakersView, IsLedger}
 use Rattle.checker.proofs.MakerLemmas.{low_reached}
 use Rattle.checker.proofs.ScheduleLemmas.{awaits_or_not}
-use Rattle.checker.proofs.MergeLemmas.{may_follow, ready_head, is_head, thread_of}
+use Rattle.checker.proofs.MergeLemmas.{may_follow, ready_head, is_head}
 use Rattle.checker.proofs.MergingLemmas.{standing_closed, stands_here, stands_still, stands_cases}
 
 -- ---- the test
@@ -30,9 +32,6 @@ pub passes : (rs : List Record) (family : FamilyView) (known : Suspensions) (pla
 passes rs family known placed heads low i front may = ready_head rs placed low i front.suspended.facts front.closed front.is_low may
 
 -- ---- the queue
-
-contains_first : (x : ℕ) (xs : List ℕ) → Contains (x ∷ xs) x
-contains_first x xs = (0, omega arith, refl)
 
 contains_behind : (x y : ℕ) (xs : List ℕ) → Contains xs x → Contains (y ∷ xs) x
 contains_behind x y xs c = Contains-append_right (y ∷ []) xs x c
@@ -101,7 +100,7 @@ ready_taken rs placed place old new moved missing least ready = record {
 -- each record that may stand next is the head of its thread
 pub head_of : (rs : List Record) (placed : List Bool) (heads : List ℕ) (i : ℕ) → AreHeads rs placed heads → MayFollow rs placed i → (thread : ℕ) × (thread < length heads) × (slice_index heads thread ≡ i)
 head_of rs placed heads i are may =
-    let thread = thread_of rs i may.within in
+    let thread = thread_there rs i may.within in
     (thread.0, are.all i thread.0 thread.1, is_head rs placed heads i thread.0 are thread.1 may)
 
 -- ---- one record more
@@ -110,7 +109,7 @@ length_named : (rs : List Record) (i : ℕ) → i < length rs → length_of rs i
 length_named rs i within = named (slice_get rs i) refl
   where
     named : (o : Option Record) → slice_get rs i ≡ o → length_of rs i ≡ Some (seen_at rs i)
-    named None e = absurd (none-some (thread_of rs i within).0 (sym (ap (option_map (λ (r : Record). r.thread)) e) ∙ (thread_of rs i within).1))
+    named None e = absurd (none-some (thread_there rs i within).0 (sym (ap (option_map (λ (r : Record). r.thread)) e) ∙ (thread_there rs i within).1))
     named (Some r) e = ap (option_map (λ (q : Record). q.seen)) e ∙ ap Some (sym (ap (λ (o : Option Record). option_map_or (λ (q : Record). q.seen) o 0) e))
 
 -- one that may stand next once the place does could do so before, or follows it in its thread, or awaits it,
@@ -122,7 +121,7 @@ let_stand rs family known placed heads low now_low place thread next i before af
 ]
   where
     own : (t : ℕ) × (thread_at rs i ≡ Some t)
-    own = thread_of rs i may.within
+    own = thread_there rs i may.within
 
     head_is : slice_index (set heads thread next) own.0 ≡ i
     head_is = is_head rs (set placed place true) (set heads thread next) i own.0 after.are_heads own.1 may

@@ -20,9 +20,10 @@ use Rattle.checker.specs.Schedule.{Awaits, awaits_creation, awaits_end, EachAwai
 use Rattle.checker.specs.Suspensions.{IsEndOf}
 use Rattle.task_tree.specs.Rising.{IsStartOf}
 use Rattle.ompt_events.specs.Tree.{IsExplicit}
+use Rattle.ompt_events.proofs.HappensBeforeLemmas.{finishing_within}
 use Rattle.checker.proofs.ScheduleLemmas.{later_awaits_none}
 use Rattle.checker.specs.InOrder.{entries_before, FitsBehind, AreLast}
-use Rattle.checker.proofs.EntryLemmas.{finishing_within, free_of_repeats, free_of_ahead}
+use Rattle.checker.proofs.EntryLemmas.{free_of_repeats, free_of_ahead}
 
 -- ---- how many entries there are before a record
 

@@ -2,7 +2,7 @@
 use Rattle.std.proofs.Common.{zero, suc, ◌≡◌, ◌∙◌, ℕ, ◌<◌, List, [], ◌∷◌, length, Option, Some, None, Bool, true, false, refl, sym, ap, arith, inl, inr, ◌⊎◌}
 use Rattle.std.proofs.lemmas.Bool.{cases_eq, cases_lt}
 use Rattle.std.proofs.lemmas.Option.{none-some, same_Some}
-use Rattle.std.specs.Prelude.{slice_get, slice_index, option_map}
+use Rattle.std.specs.Prelude.{slice_get, slice_index}
 use Rattle.ompt_events.specs.declared.records.Record.{Record}
 use Rattle.ompt_events.specs.Places.{thread_at, seen_at}
 use Rattle.ompt_events.specs.HappensBefore.{thread_order, IsStep, program, ledger, HappensBefore, step, chain}
@@ -76,11 +76,3 @@ no_get : (rs : List Record) (i : ℕ) → i < length rs → slice_get rs i ≡ N
 no_get [] i within e = absurd (omega arith)
 no_get (r ∷ rs) zero within e = none-some r (sym e)
 no_get (r ∷ rs) (suc i) within e = no_get rs i (omega arith) e
-
--- each record has a thread
-pub thread_of : (rs : List Record) (i : ℕ) → i < length rs → (thread : ℕ) × (thread_at rs i ≡ Some thread)
-thread_of rs i within = found (slice_get rs i) refl
-  where
-    found : (o : Option Record) → slice_get rs i ≡ o → (thread : ℕ) × (thread_at rs i ≡ Some thread)
-    found None e = absurd (no_get rs i within e)
-    found (Some r) e = (r.thread, ap (option_map (λ (q : Record). q.thread)) e)

@@ -20,6 +20,7 @@ use Rattle.ompt_events.specs.declared.cause.Cause.TheVariants.{CreatedTwice, Tur
 use Rattle.ompt_events.specs.Causes.{IsFreeOf, ShowsNowhere, IsShownMalformed, share_wrong}
 use Rattle.ompt_events.proofs.PlaceLemmas.{at_within}
 use Rattle.ompt_events.proofs.TurnLemmas.{first_version_tells_none}
+use Rattle.ompt_events.proofs.ListLemmas.{turned}
 use Rattle.task_tree.specs.Rising.{TurnsRise}
 use Rattle.task_tree.proofs.OwnOrderLemmas.{own_place_iff, arranged_get, arranged_length}
 use Rattle.task_tree.proofs.RenamingLemmas.{renamed_covers, renamed_predecessor}
@@ -67,9 +68,6 @@ pub record AreAlike (a b : Reading) : Type 0 where
   pub earliest : (i : ℕ) (order : List ℕ) → IsEarliestOrder a.records i order ↔ IsEarliestOrder b.records i order
   pub complete_at : (task i : ℕ) → IsCompleteAt a.records task i ↔ IsCompleteAt b.records task i
   pub complete_in : (order : List ℕ) (task i : ℕ) → IsCompleteIn a.records order task i ↔ IsCompleteIn b.records order task i
-
-turned : {A B : Type 0} → A ↔ B → B ↔ A
-turned (there, back) = (back, there)
 
 same : {A : Type 0} → A ↔ A
 same = (λ x. x, λ x. x)

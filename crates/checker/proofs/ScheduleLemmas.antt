@@ -17,7 +17,7 @@ use Rattle.ompt_events.specs.HappensBefore.{IsResumption, IsFinishing, IsProgram
 use Rattle.ompt_events.specs.Causes.{known_after}
 use Rattle.ompt_events.proofs.TurnLemmas.{begun_started}
 use Rattle.ompt_events.proofs.PlaceLemmas.{at_within}
-use Rattle.ompt_events.proofs.RecordLemmas.{at_through, made_cases}
+use Rattle.ompt_events.proofs.RecordLemmas.{at_through, made_cases, created_unfinished}
 use Rattle.task_tree.specs.Numbering.{AreApart}
 use Rattle.task_tree.specs.Subjects.{object, Calls}
 use Rattle.task_tree.specs.Family.{FamilyView, IsFamilyOf}
@@ -90,10 +90,6 @@ created_goes_on : (b : Body) (task : ℕ) → created b ≡ Some task → suspen
 created_goes_on (TaskCreate deps flags own child) task creates = refl
 created_goes_on _ task creates = absurd (none-some task creates)
 
-created_finishes : (b : Body) (task : ℕ) → created b ≡ Some task → finish b ≡ None
-created_finishes (TaskCreate deps flags own child) task creates = refl
-created_finishes _ task creates = absurd (none-some task creates)
-
 suspended_finishes : (b : Body) (task turn : ℕ) → suspended_turn b ≡ Some (task, turn) → finish b ≡ None
 suspended_finishes (TaskSchedule status.Yield turns prior next share) task turn suspends = refl
 suspended_finishes (TaskSchedule status.Switch turns prior next share) task turn suspends = refl
@@ -149,7 +145,7 @@ known_unfinished rs c none = ap (λ o. cond (is_some o) (seen_at rs c + 1) (seen
 
 -- a record that is awaited knows the length that it names
 pub known_awaited : (rs : List Record) (i c : ℕ) → Awaits rs i c → known_after rs c ≡ seen_at rs c
-known_awaited rs i c (awaits_creation task waits creates) = known_unfinished rs c (silent created finish task rs c (λ b. created_finishes b task) creates)
+known_awaited rs i c (awaits_creation task waits creates) = known_unfinished rs c (silent created finish task rs c (λ b. created_unfinished b task) creates)
 known_awaited rs i c (awaits_end again explicit) = known_unfinished rs c (silent suspended_turn finish (again.task, again.turn) rs c (λ b. suspended_finishes b again.task again.turn) again.suspends)
 
 pub awaits_within : (rs : List Record) (i c : ℕ) → Awaits rs i c → c < length rs

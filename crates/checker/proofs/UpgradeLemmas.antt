@@ -18,10 +18,11 @@ use Rattle.ompt_events.specs.Turns.{TellsNoTurns, turn_at}
 use Rattle.ompt_events.specs.States.{is_task, is_made_so}
 use Rattle.ompt_events.specs.Causes.{HasCause, BeginsTurn, runs, is_root, HasTurnGap, other_turn, begun_again, falling, of_root, missing, moved}
 use Rattle.ompt_events.specs.Upgrades.{MovesNowhere, turn_counted, telling, body_upgraded, IsUpgrade}
-use Rattle.ompt_events.proofs.ListLemmas.{get_contains, contains_get}
+use Rattle.ompt_events.proofs.ListLemmas.{get_contains, contains_get, take_past}
 use Rattle.ompt_events.proofs.TurnLemmas.{begun_started}
+use Rattle.ompt_events.proofs.PlaceLemmas.{is_the_task, the_task}
 use Rattle.task_tree.specs.Renaming.{untold}
-use Rattle.task_states.proofs.OriginLemmas.{found_some, found_passes, is_the_task, the_task}
+use Rattle.task_states.proofs.OriginLemmas.{found_some, found_passes}
 use Rattle.task_tree.proofs.BlindLemmas.{blind_begun_root}
 use Rattle.checker.proofs.BlindBodyLemmas.{blind_started}
 use Rattle.checker.proofs.TwinLemmas.{AreTwins, blank, twin_says, twin_thread, twins_back}
@@ -80,12 +81,6 @@ starts_here rs task k starts = elim (slice_get_cases rs k).1 [
       omega (arith, more)
   | inr (past, none) ↦ absurd (none-some task (sym (ap (option_and_then (λ (q : Record). started q.body)) none) ∙ starts))
 ]
-
-take_past : {X : Type 0} (xs : List X) (n : ℕ) → length xs ≤ n → take n xs ≡ xs
-take_past [] zero past = refl
-take_past [] (suc n) past = refl
-take_past (x ∷ xs) zero past = absurd (omega arith)
-take_past (x ∷ xs) (suc n) past = ap (λ l. x ∷ l) (take_past xs n (omega arith))
 
 -- where it does not, it stays
 starts_elsewhere : (rs : List Record) (task k : ℕ) → at started rs k ≢ Some task → turn_counted rs (k + 1) task ≡ turn_counted rs k task

@@ -21,13 +21,14 @@ use Rattle.ompt_events.specs.States.{is_task, is_on, home_of, has_moved}
 use Rattle.ompt_events.specs.Causes.{BeginsTurn, runs, is_root}
 use Rattle.ompt_events.specs.Traces.{HasItsNext, IsSound, IsTraceOf}
 use Rattle.ompt_events.specs.Upgrades.{turn_counted, IsUpgrade}
-use Rattle.ompt_events.proofs.PlaceLemmas.{at_within, contains_place}
+use Rattle.ompt_events.proofs.PlaceLemmas.{at_within, contains_place, is_the_task, the_task}
 use Rattle.ompt_events.proofs.TurnLemmas.{begun_started, start_first, is_start_untold, no_resumption}
+use Rattle.ompt_events.proofs.ListLemmas.{all_get}
 use Rattle.task_tree.specs.Rising.{TurnsRise, AreInOrder}
 use Rattle.task_tree.proofs.BlindLemmas.{blind_running, blind_begun_root}
-use Rattle.task_tree.proofs.SuspendedLemmas.{all_get, part_of, part_keeps}
-use Rattle.task_tree.proofs.RisingPassLemmas.{turn_here, in_order_rise}
-use Rattle.task_states.proofs.OriginLemmas.{found_some, found_passes, is_the_task, the_task, root_home, explicit_home, explicit_not_root}
+use Rattle.task_tree.proofs.SuspendedLemmas.{part_of, part_keeps}
+use Rattle.task_tree.proofs.RisingPassLemmas.{turn_here, in_order_rise, explicit_not_root}
+use Rattle.task_states.proofs.OriginLemmas.{found_some, found_passes, root_home, explicit_home}
 use Rattle.task_states.proofs.HomeLemmas.{has_not_moved, on_thread}
 use Rattle.checker.proofs.BlindBodyLemmas.{blind_suspended}
 use Rattle.checker.proofs.TwinLemmas.{AreTwins, twins_back, twin_says, twin_thread}

@@ -1,6 +1,6 @@
 -- Where no record speaks for a task that its thread does not run, a task runs on the thread on which it began or ran
 -- next; so where no task moves, on one thread alone.
-use Rattle.std.proofs.Common.{◌≡◌, ◌≢◌, ◌∙◌, ℕ, ◌<◌, ◌+◌, List, [], ◌∷◌, ◌++◌, drop, Option, Some, None, Bool, true, false, refl, sym, ap, subst, arith, inl, inr, ◌⊎◌}
+use Rattle.std.proofs.Common.{◌≡◌, ◌≢◌, ◌∙◌, ℕ, ◌<◌, ◌+◌, List, [], ◌∷◌, ◌++◌, Option, Some, None, Bool, true, false, refl, sym, ap, subst, arith, inl, inr, ◌⊎◌}
 use Rattle.std.proofs.lemmas.Bool.{cases_eq, cases_order}
 use Rattle.std.proofs.lemmas.Option.{none-some, same_Some}
 use Rattle.std.proofs.lemmas.List.Sums.{fold_push}
@@ -17,8 +17,9 @@ use Rattle.ompt_events.specs.Tree.{IsRoot}
 use Rattle.ompt_events.specs.Threads.{Walk, at_start, after_body, after_record, walk_of, other_root}
 use Rattle.ompt_events.specs.Causes.{IsFreeOf}
 use Rattle.ompt_events.specs.Upgrades.{MovesNowhere}
-use Rattle.ompt_events.proofs.EveryLemmas.{Every, every_weaker, every_get}
+use Rattle.ompt_events.proofs.EveryLemmas.{Every, every_weaker, every_get, every_rest}
 use Rattle.ompt_events.proofs.RecordLemmas.{begun_at_made}
+use Rattle.ompt_events.proofs.PlaceLemmas.{get_at}
 use Rattle.task_tree.proofs.OnceLemmas.{made_once}
 use Rattle.task_tree.proofs.SuspendedLemmas.{no_misfit, runs_there, part_of, part_keeps}
 
@@ -38,10 +39,6 @@ record IsWalkFrom (rs : List Record) (thread n : ℕ) (walk : Walk) : Type 0 whe
 record AddsTo (rs : List Record) (thread n : ℕ) (b : Body) : Type 0 where
   begins : (task : ℕ) → begun_root b ≡ Some task → BeganOn rs thread (n + 1) task
   starts : (task : ℕ) → started b ≡ Some task → RanOn rs thread (n + 1) task
-
-every_rest : {X : Type 0} (P : X → Type 0) (xs : List X) → Every P xs → Every P (drop 1 xs)
-every_rest P [] each = tt
-every_rest P (x ∷ xs) each = each.1
 
 began_more : (rs : List Record) (thread n task : ℕ) → BeganOn rs thread n task → BeganOn rs thread (n + 1) task
 began_more rs thread n task (k, below, begins, there) = (k, omega (arith, below), begins, there)
@@ -95,16 +92,9 @@ pub record IsThere (rs : List Record) (i : ℕ) (known : ℕ → Type 0) : Type 
   pub on : thread_at rs i ≡ Some thread
   pub is_known : known thread
 
-record_there : {X : Type 0} (f : Body → Option X) (rs : List Record) (i : ℕ) (x : X) → at f rs i ≡ Some x → (r : Record) × (slice_get rs i ≡ Some r) × (f r.body ≡ Some x)
-record_there {X} f rs i x says = by (slice_get rs i) refl says
-  where
-    by : (o : Option Record) → slice_get rs i ≡ o → option_and_then (λ (r : Record). f r.body) o ≡ Some x → (r : Record) × (slice_get rs i ≡ Some r) × (f r.body ≡ Some x)
-    by None e is = absurd (none-some x is)
-    by (Some r) e is = (r, e, is)
-
 pub running_from : (rs : List Record) (i task : ℕ) → IsFreeOf rs NotCurrent → at running rs i ≡ Some task → IsThere rs i (λ thread. BeganOn rs thread i task ⊎ RanOn rs thread i task)
 running_from rs i task current says =
-    let (r, stands, is) = record_there running rs i task says in
+    let (r, stands, is) = get_at running rs i task says in
     record {
       thread = r.thread;
       on = ap (option_map (λ (q : Record). q.thread)) stands;
@@ -114,7 +104,7 @@ running_from rs i task current says =
 -- a root that runs next began on the thread before
 pub root_from : (rs : List Record) (i task : ℕ) → IsFreeOf rs NotCurrent → IsRoot rs task → at started rs i ≡ Some task → IsThere rs i (λ thread. BeganOn rs thread i task)
 root_from rs i task current root says =
-    let (r, stands, is) = record_there started rs i task says in
+    let (r, stands, is) = get_at started rs i task says in
     record {
       thread = r.thread;
       on = ap (option_map (λ (q : Record). q.thread)) stands;

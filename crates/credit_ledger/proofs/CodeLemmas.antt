@@ -20,7 +20,7 @@ pub run-begun : (a b : ℕ) (y z : List Half) → begins_with (replicate a Keep 
 run-begun a b y z e =
     let parts = and_parts (eqb b a) (begins_with y z) (sym (begins_with-both a b y z) ∙ e) in (sym (eqb-true b a parts.0), parts.1)
 
-start-cons : (n : ℕ) (runs : List ℕ) (y : List Half) → start_share (n ∷ runs) ++ y ≡ replicate n Keep ++ Give ∷ (start_share runs ++ y)
+pub start-cons : (n : ℕ) (runs : List ℕ) (y : List Half) → start_share (n ∷ runs) ++ y ≡ replicate n Keep ++ Give ∷ (start_share runs ++ y)
 start-cons n runs y = simp append_assoc
 
 pub start-begun : (a b : ℕ) (runs others : List ℕ) (y z : List Half) → begins_with (start_share (a ∷ runs) ++ y) (start_share (b ∷ others) ++ z) ≡ true → (a ≡ b) × (begins_with (start_share runs ++ y) (start_share others ++ z) ≡ true)

@@ -24,6 +24,7 @@ use Rattle.credit_ledger.specs.declared.view.Step.{Step}
 use Rattle.credit_ledger.specs.Entries.{part_halves, tree_share, tree_shares, is_overlap, IsSpanHeld}
 use Rattle.credit_ledger.specs.Histories.{after_call, IsPossible, IsLegalFrom, IsUnder, IsOver}
 use Rattle.credit_ledger.proofs.RegionLemmas.{IsIn, IsIn-append_cases, Passes, passes, Passes-list_any}
+use Rattle.credit_ledger.proofs.CodeLemmas.{cond_in}
 
 -- ---- the shares of a root's entries
 
@@ -34,15 +35,10 @@ HasEntry entries e = (k : ℕ) × (slice_get entries k ≡ Some e)
 pub has_later : (f e : Entry) (entries : List Entry) → HasEntry entries e → HasEntry (f ∷ entries) e
 has_later f e entries (k, is) = (suc k, is)
 
-pub in_cond : (b : Bool) (x s : List Half) → IsIn x (cond b (s ∷ []) []) → (b ≡ true) × (x ≡ s)
-in_cond true x s (inl is) = (refl, is)
-in_cond true x s (inr none) = absurd none
-in_cond false x s none = absurd none
-
 pub from_tree : (root : ℕ) (entries : List Entry) (x : List Half) → IsIn x (tree_shares root entries) → (e : Entry) × HasEntry entries e × (e.root ≡ root) × (x ≡ tree_share e)
 from_tree root [] x there = absurd there
 from_tree root (f ∷ entries) x there = elim (IsIn-append_cases x (cond (f.root == root) (tree_share f ∷ []) []) (tree_shares root entries) there) [
-  | inl here ↦ let is = in_cond (f.root == root) x (tree_share f) here in (f, (0, refl), eqb-true f.root root is.0, is.1)
+  | inl here ↦ let is = cond_in (f.root == root) x (tree_share f) here in (f, (0, refl), eqb-true f.root root is.0, is.1)
   | inr rest ↦ let found = from_tree root entries x rest in (found.0, has_later f found.0 entries found.1, found.2, found.3)
 ]
 

@@ -6,7 +6,7 @@ use Rattle.std.proofs.lemmas.List.{take-append-le, take_all, get_or_push, get_or
 use Rattle.std.proofs.lemmas.List.Elements.{Contains-append_left, Contains-push}
 use Rattle.std.proofs.lemmas.Map.Keys.{IsDistinct-cons}
 use Rattle.std.proofs.lemmas.Map.Steps.{length-le_from_distinct_below}
-use Rattle.std.specs.List.{IsDistinct, AllByRecursion, list_any}
+use Rattle.std.specs.List.{IsDistinct, list_any}
 use Rattle.std.specs.Prelude.{is_some, slice_index, Contains, ◌||◌}
 use Rattle.ompt_events.specs.declared.records.Record.{Record}
 use Rattle.ompt_events.specs.Records.{created, begun_turn, suspended_turn, discarded, fulfilled, finish}
@@ -16,6 +16,7 @@ use Rattle.ompt_events.specs.Linearization.{IsGrounded, IsDue}
 use Rattle.ompt_events.specs.Causes.{HasNoOrder}
 use Rattle.ompt_events.proofs.HappensBeforeLemmas.{step_from}
 use Rattle.ompt_events.proofs.LinearizationLemmas.{IsClosed, due_from_steps, grounded_rising}
+use Rattle.ompt_events.proofs.ListLemmas.{none_equal}
 
 -- ---- whether one record is a step before another
 
@@ -186,14 +187,6 @@ record IsTrail (rs : List Record) (i x : ℕ) (path : List ℕ) : Type 0 where
   below : (q : ℕ) → list_any (eqb q) (x ∷ path) ≡ true → q < length rs
   leads : (q : ℕ) → list_any (eqb q) path ≡ true → HappensBefore rs x q
   ends : (x ≡ i) ⊎ HappensBefore rs x i
-
-none_equal : (y : ℕ) (xs : List ℕ) → list_any (eqb y) xs ≡ false → AllByRecursion (λ z. eqb y z ≡ false) xs
-none_equal y [] none = tt
-none_equal y (x ∷ xs) none = split (none_equal y xs) (eqb y x) refl none
-  where
-    split : (list_any (eqb y) xs ≡ false → AllByRecursion (λ z. eqb y z ≡ false) xs) → (b : Bool) → eqb y x ≡ b → (b || list_any (eqb y) xs) ≡ false → AllByRecursion (λ z. eqb y z ≡ false) (x ∷ xs)
-    split later false is e = (is, later e)
-    split later true is e = absurd (false≢true (sym e))
 
 first_or_later : (q x : ℕ) (xs : List ℕ) → list_any (eqb q) (x ∷ xs) ≡ true → (q ≡ x) ⊎ (list_any (eqb q) xs ≡ true)
 first_or_later q x xs found = split (eqb q x) refl found

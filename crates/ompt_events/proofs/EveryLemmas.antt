@@ -1,5 +1,5 @@
 -- Facts of each element of a list.
-use Rattle.std.proofs.Common.{◌≡◌, ℕ, ◌≤◌, zero, suc, List, [], ◌∷◌, ◌++◌, true, false, Bool, cond, refl, subst, arith, max}
+use Rattle.std.proofs.Common.{◌≡◌, ℕ, ◌≤◌, zero, suc, List, [], ◌∷◌, ◌++◌, true, false, Bool, cond, refl, subst, arith, max, drop}
 use Rattle.std.proofs.lemmas.Option.{none-some, same_Some}
 use Rattle.std.specs.Prelude.{⊤, Some, slice_get, filter, fold, take}
 
@@ -44,3 +44,7 @@ fold_most f [] a = (omega arith, tt)
 fold_most f (x ∷ xs) a =
     let rest = fold_most f xs (max a (f x)) in
     (omega (arith, rest.0), (omega (arith, rest.0), rest.1))
+
+pub every_rest : {X : Type 0} (P : X → Type 0) (xs : List X) → Every P xs → Every P (drop 1 xs)
+every_rest P [] each = each
+every_rest P (x ∷ xs) each = each.1

@@ -1,11 +1,12 @@
 -- What stands at a place, and what a loop that reads a record knows of its place.
-use Rattle.std.proofs.Common.{sym, ◌≡◌, ℕ, ◌<◌, List, length, get_or, Some, None, Option, refl, ap, zero, suc, ◌∙◌, ◌+◌, ◌≤◌, [], ◌∷◌, ◌++◌, false, cond, eqb, arith, inl, inr, true, Bool}
-use Rattle.std.specs.Prelude.{slice_get, option_and_then, option_map, is_some, false, ◌==◌, Contains, sum_by, All, filter}
-use Rattle.std.proofs.lemmas.Option.{slice_get_read, slice_get_within, slice_get-get_or, none-some}
+use Rattle.std.proofs.Common.{sym, ◌≡◌, ℕ, ◌<◌, List, length, get_or, Some, None, Option, refl, ap, zero, suc, ◌∙◌, ◌+◌, ◌≤◌, [], ◌∷◌, ◌++◌, false, cond, eqb, arith, inl, inr, true, Bool, subst}
+use Rattle.std.specs.Prelude.{slice_get, option_and_then, option_map, is_some, false, ◌==◌, Contains, sum_by, All, filter, IsSomeAnd}
+use Rattle.std.proofs.lemmas.Option.{slice_get_read, slice_get_within, slice_get-get_or, none-some, same_Some}
 use Rattle.ompt_events.specs.declared.records.Record.{Record}
 use Rattle.ompt_events.specs.declared.records.Body.{Body}
 use Rattle.ompt_events.specs.Places.{at, thread_at, places, seen_at, is_own, own_before}
-use Rattle.std.proofs.lemmas.Bool.{cases_eq, eq-eqb, ne_eqb}
+use Rattle.ompt_events.specs.States.{is_task}
+use Rattle.std.proofs.lemmas.Bool.{cases_eq, eq-eqb, ne_eqb, eqb-true, false≢true}
 use Rattle.std.proofs.lemmas.List.{map-id}
 use Rattle.std.proofs.lemmas.List.FromFn.{map-range_with_len_more, length-range_with_len, get_or-range_with_len}
 use Rattle.std.proofs.lemmas.List.Elements.{Contains-append_right, All-filter, All-contains, filter-append}
@@ -158,3 +159,47 @@ own_below rs task n c own = All-contains (λ k. k < n) (own_before rs task n) c 
     below k d within =
         let short : k < n = rw (length-range_with_len 0 n) at within in
         rw (get_or-range_with_len 0 n k d short) (omega arith)
+
+pub at_get : {X : Type 0} (f : Body → Option X) (rs : List Record) (i : ℕ) (r : Record)
+    → slice_get rs i ≡ Some r → at f rs i ≡ f r.body
+at_get f rs i r is = ap (option_and_then (λ (q : Record). f q.body)) is
+
+-- where a record says something, there is one
+pub get_at : {X : Type 0} (f : Body → Option X) (rs : List Record) (i : ℕ) (x : X) → at f rs i ≡ Some x
+    → (r : Record) × (slice_get rs i ≡ Some r) × (f r.body ≡ Some x)
+get_at {X} f rs i x says = of (slice_get rs i) refl says
+  where
+    of : (o : Option Record) → slice_get rs i ≡ o → option_and_then (λ (q : Record). f q.body) o ≡ Some x
+        → (r : Record) × (slice_get rs i ≡ Some r) × (f r.body ≡ Some x)
+    of None is says = absurd (none-some x says)
+    of (Some r) is says = (r, is, says)
+
+pub thread_get : (rs : List Record) (i : ℕ) (r : Record) → slice_get rs i ≡ Some r
+    → thread_at rs i ≡ Some r.thread
+thread_get rs i r is = ap (option_map (λ (q : Record). q.thread)) is
+
+pub is_the_task : (task : ℕ) (found : Option ℕ) → is_task task found ≡ true → found ≡ Some task
+is_the_task task None is = absurd (false≢true is)
+is_the_task task (Some other) is = ap Some (eqb-true other task is)
+
+pub the_task : (task : ℕ) (found : Option ℕ) → found ≡ Some task → is_task task found ≡ true
+the_task task found is = ap (is_task task) is ∙ eq-eqb task task refl
+
+pub some_and : {X : Type 0} (o : Option X) (P : X → Type 0) → IsSomeAnd o P → (x : X) × (o ≡ Some x) × P x
+some_and None P h = absurd h
+some_and (Some x) P h = (x, refl, h)
+
+pub and_some : {X : Type 0} (o : Option X) (P : X → Type 0) (x : X) → o ≡ Some x → P x → IsSomeAnd o P
+and_some None P x e h = absurd (none-some x e)
+and_some (Some y) P x e h = let Q = P in subst Q (sym (same_Some y x e)) h
+
+pub some_of : {X : Type 0} (o : Option X) → is_some o ≡ true → (x : X) × (o ≡ Some x)
+some_of None e = absurd (false≢true e)
+some_of (Some x) e = (x, refl)
+
+pub some_within : {X : Type 0} (f : Body → Option X) (rs : List Record) (i : ℕ) → is_some (at f rs i) ≡ true → i < length rs
+some_within {X} f rs i some = by (at f rs i) refl some
+  where
+    by : (o : Option X) → at f rs i ≡ o → is_some o ≡ true → i < length rs
+    by None e is = cc
+    by (Some x) e is = at_within f rs i x e

@@ -1,15 +1,17 @@
 -- How what single records say hangs together.
-use Rattle.std.proofs.Common.{◌≡◌, ℕ, List, Option, Some, None, refl, ap, ◌⊎◌, inl, inr}
+use Rattle.std.proofs.Common.{◌≡◌, ℕ, List, Option, Some, None, refl, ap, ◌⊎◌, inl, inr, Bool, true, false, cond}
 use Rattle.std.specs.Prelude.{slice_get, option_and_then, option_map}
 use Rattle.std.proofs.lemmas.Option.{none-some, same_Some}
 use Rattle.ompt_events.specs.declared.records.Record.{Record}
 use Rattle.ompt_events.specs.declared.records.Body.{Body}
 use Rattle.ompt_events.specs.declared.records.Body.TheVariants.{ImplicitTask, TaskCreate, SyncRegion}
 use Rattle.ompt_events.specs.declared.names.Endpoint.TheVariants.{Begin}
-use Rattle.ompt_events.specs.Records.{begun_root, created, creation, made, running, region, started}
+use Rattle.ompt_events.specs.Records.{begun_root, created, creation, made, running, region, started, finish, joined, begun_initial}
 use Rattle.ompt_events.specs.Places.{at}
 use Rattle.ompt_events.specs.declared.names.Endpoint.{Endpoint}
 use Rattle.ompt_events.specs.declared.names.SyncKind.{SyncKind}
+use Rattle.ompt_events.specs.declared.records.Membership.{Membership}
+use Rattle.ompt_events.specs.Flags.{has_flag}
 
 -- what follows for each record follows at a place
 pub at_through : {X Y : Type 0} (f : Body → Option X) (g : Body → Option Y) (x : X) (y : Y) (rs : List Record) (i : ℕ) → ((b : Body) → f b ≡ Some x → g b ≡ Some y) → at f rs i ≡ Some x → at g rs i ≡ Some y
@@ -78,3 +80,31 @@ region_running task kind endpoint _ says = absurd (none-some (task, kind, endpoi
 pub region_starts : (task : ℕ) (kind : SyncKind) (endpoint : Endpoint) (b : Body) → region b ≡ Some (task, kind, endpoint) → started b ≡ None
 region_starts task kind endpoint (SyncRegion k e parallel own) says = refl
 region_starts task kind endpoint _ says = absurd (none-some (task, kind, endpoint) says)
+
+pub created_unfinished : (body : Body) (task : ℕ) → created body ≡ Some task → finish body ≡ None
+created_unfinished (TaskCreate deps flags parent child) task is = refl
+created_unfinished _ task is = absurd (none-some task is)
+
+pub member_made : (m : Membership) (b : Body) → joined b ≡ Some m → made b ≡ Some m.member
+member_made m (ImplicitTask Begin actual index flags parallel task) says = begins (has_flag flags.0 flag.initial) says
+  where
+    begins : (b : Bool) → cond b None (Some (record { parallel = parallel; actual = actual; index = index; member = task })) ≡ Some m → Some task ≡ Some m.member
+    begins true is = absurd (none-some m is)
+    begins false is = ap Some (ap (λ (x : Membership). x.member) (same_Some (record { parallel = parallel; actual = actual; index = index; member = task }) m is))
+member_made m _ says = absurd (none-some m says)
+
+pub initial_made : (task : ℕ) (b : Body) → begun_initial b ≡ Some task → made b ≡ Some task
+initial_made task (ImplicitTask Begin actual index flags parallel root) says = begins (has_flag flags.0 flag.initial) says
+  where
+    begins : (b : Bool) → cond b (Some root) None ≡ Some task → Some root ≡ Some task
+    begins true is = is
+    begins false is = absurd (none-some task is)
+initial_made task _ says = absurd (none-some task says)
+
+pub member_begun : (m : Membership) (b : Body) → joined b ≡ Some m → begun_root b ≡ Some m.member
+member_begun m (ImplicitTask Begin actual index flags parallel task) says = member_made m (ImplicitTask Begin actual index flags parallel task) says
+member_begun m _ says = absurd (none-some m says)
+
+pub initial_begun : (task : ℕ) (b : Body) → begun_initial b ≡ Some task → begun_root b ≡ Some task
+initial_begun task (ImplicitTask Begin actual index flags parallel root) says = initial_made task (ImplicitTask Begin actual index flags parallel root) says
+initial_begun task _ says = absurd (none-some task says)

@@ -99,3 +99,8 @@ own_begin rs i task begin kind is_end =
 
 pub begin_before : (rs : List Record) (i task begin : ℕ) (kind : SyncKind) → EndsRegion rs i task kind begin → begin < i
 begin_before rs i task begin kind is_end = (own_begin rs i task begin kind is_end).before
+
+pub same_says : (rs : List Record) (i own task : ℕ) (kind other : SyncKind) (first second : Endpoint) → at region rs i ≡ Some (own, kind, first) → at region rs i ≡ Some (task, other, second) → (own ≡ task) × (kind ≡ other) × (first ≡ second)
+same_says rs i own task kind other first second says there =
+    let same : (own, kind, first) ≡ (task, other, second) = same_Some (own, kind, first) (task, other, second) (sym says ∙ there) in
+    (ap (λ (r : ℕ × SyncKind × Endpoint). r.0) same, ap (λ (r : ℕ × SyncKind × Endpoint). r.1) same, ap (λ (r : ℕ × SyncKind × Endpoint). r.2) same)

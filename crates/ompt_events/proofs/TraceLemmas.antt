@@ -1,9 +1,9 @@
 -- How a list stays a trace while records are added.
-use Rattle.std.proofs.Common.{◌≡◌, ℕ, ◌+◌, ◌<◌, ◌≤◌, List, length, take, get_or, arith, true, false, sym, ◌∙◌, subst}
-use Rattle.std.specs.Prelude.{is_some}
-use Rattle.std.proofs.lemmas.List.{length-take, get_or-take}
-use Rattle.std.proofs.lemmas.List.Sums.{count_by_more_yes, count_by_more_no}
-use Rattle.std.proofs.lemmas.List.Elements.{All-more}
+use Rattle.std.proofs.Common.{◌≡◌, ℕ, ◌+◌, ◌<◌, ◌≤◌, List, length, take, get_or, arith, true, false, sym, ◌∙◌, subst, cond, ap}
+use Rattle.std.specs.Prelude.{is_some, drop}
+use Rattle.std.proofs.lemmas.List.{length-take, get_or-take, take-append-drop}
+use Rattle.std.proofs.lemmas.List.Sums.{count_by_more_yes, count_by_more_no, sum_by-append}
+use Rattle.std.proofs.lemmas.List.Elements.{All-more, All-take}
 use Rattle.ompt_events.specs.declared.records.Record.{Record}
 use Rattle.ompt_events.specs.Records.{made}
 use Rattle.ompt_events.specs.Limits.{max_records, max_tasks}
@@ -42,3 +42,19 @@ IsTraceOf-unsound version rs i r within read unsound trace =
     let last : IsSoundIn version (get_or (take (i + 1) rs) i r).body =
     (trace.is_trace.sound i r (omega (arith, length-take (i + 1) rs)), trace.turns i r (omega (arith, length-take (i + 1) rs))) in
     unsound (subst (λ (x : Record). IsSoundIn version x.body) (get_or-take (i + 1) rs i r (omega arith) ∙ sym read) last)
+
+-- the first records of a trace are a trace
+pub IsTraceOf-take : (version n : ℕ) (rs : List Record) → IsTraceOf version rs → IsTraceOf version (take n rs)
+IsTraceOf-take version n rs trace = record {
+  known = trace.known;
+  is_trace = record {
+    few_records = omega (arith, length-take n rs, trace.is_trace.few_records);
+    few_tasks = omega (arith, both, trace.is_trace.few_tasks);
+    sound = All-take (λ (r : Record). IsSound r.body) n rs trace.is_trace.sound;
+    in_range = All-take IsInRange n rs trace.is_trace.in_range;
+  };
+  turns = All-take (λ (r : Record). HasItsTurns version r.body) n rs trace.turns;
+}
+  where
+    both : tasks_in (take n rs) + tasks_in (drop n rs) ≡ tasks_in rs
+    both = sym (sum_by-append (λ (r : Record). cond (is_some (made r.body)) 1 0) (take n rs) (drop n rs)) ∙ ap (λ (l : List Record). tasks_in l) (take-append-drop n rs)

@@ -1,6 +1,6 @@
 -- The records of each thread in the trace that is gathered.
-use Rattle.std.proofs.Common.{ℕ, zero, suc, ◌≡◌, ◌≢◌, ◌∙◌, ◌++◌, ◌∷◌, ◌+◌, ◌⊎◌, [], List, Some, None, Option, Bool, true, false, map, refl, ap, sym, cond, inl, inr, arith}
-use Rattle.std.specs.Prelude.{◌==◌, Contains, filter, slice_get, option_map}
+use Rattle.std.proofs.Common.{ℕ, zero, suc, ◌≡◌, ◌≢◌, ◌∙◌, ◌++◌, ◌∷◌, ◌+◌, ◌⊎◌, [], List, Some, None, Option, map, refl, ap, sym, inl, inr, arith}
+use Rattle.std.specs.Prelude.{◌==◌, Contains, slice_get, option_map}
 use Rattle.std.specs.List.Sorted.{IsPermutation}
 use Rattle.std.proofs.lemmas.Bool.{eq-eqb, ne_eqb}
 use Rattle.std.proofs.lemmas.Bool.Decides.{eqb_tells}
@@ -10,32 +10,17 @@ use Rattle.std.proofs.lemmas.List.Concat.{flat_map-cons}
 use Rattle.std.proofs.lemmas.List.Elements.{filter-append}
 use Rattle.std.proofs.lemmas.List.Sorted.{Contains-permutation, IsPermutation-sym}
 use Rattle.ompt_events.specs.declared.records.Record.{Record}
-use Rattle.ompt_events.proofs.ListLemmas.{get_contains, contains_get}
+use Rattle.ompt_events.proofs.ListLemmas.{get_contains, contains_get, all_get, filter_none, filter_all}
 use Rattle.scripts.specs.declared.script.Step.{Step}
 use Rattle.thread_buffers.specs.Buffers.{BufferView}
 use Rattle.recorder.specs.Logs.{AreOrderly}
 use Rattle.recorder.specs.Recorders.{RecorderView}
 use Rattle.callbacks.specs.Closed.{ClosedView, IsBuffer, AreClosed, thread_of, recorded_by}
 use Rattle.callbacks.specs.Gathered.{gathered, AreApart}
-use Rattle.callbacks.proofs.GatherLemmas.{all_get}
 use Rattle.script_runs.specs.Calls.{records_of, recorded_calls, calls_of}
 use Rattle.script_runs.specs.Parts.{HasRun, HaveRun, IsAmong}
 
 -- ---- lists
-
-filter_none : {X : Type 0} (p : X → Bool) (xs : List X)
-    → ((i : ℕ) (x : X) → slice_get xs i ≡ Some x → p x ≡ false) → filter p xs ≡ []
-filter_none p [] none = refl
-filter_none p (x ∷ xs) none =
-    ap (λ b. cond b (x ∷ filter p xs) (filter p xs)) (none 0 x refl)
-    ∙ filter_none p xs (λ i y is. none (suc i) y is)
-
-filter_all : {X : Type 0} (p : X → Bool) (xs : List X)
-    → ((i : ℕ) (x : X) → slice_get xs i ≡ Some x → p x ≡ true) → filter p xs ≡ xs
-filter_all p [] each = refl
-filter_all p (x ∷ xs) each =
-    ap (λ b. cond b (x ∷ filter p xs) (filter p xs)) (each 0 x refl)
-    ∙ ap (λ l. x ∷ l) (filter_all p xs (λ i y is. each (suc i) y is))
 
 -- what a mapped list has comes from an element
 mapped_from : {X Y : Type 0} (f : X → Y) (xs : List X) (y : Y) → Contains (map f xs) y

@@ -16,7 +16,8 @@ use Rattle.ompt_events.specs.Places.{thread_at}
 use Rattle.ompt_events.specs.Tree.{IsRoot, IsExplicit}
 use Rattle.ompt_events.specs.Threads.{Walk, walk_of, Misfits, not_running, not_innermost, other_root, other_parent, MisfitsAt}
 use Rattle.ompt_events.specs.Causes.{HasCause, not_current, IsFirstWith, IsFreeOf}
-use Rattle.ompt_events.proofs.ListLemmas.{contains_get}
+use Rattle.ompt_events.proofs.ListLemmas.{contains_get, get_within}
+use Rattle.ompt_events.proofs.PlaceLemmas.{some_and}
 use Rattle.task_tree.specs.Numbering.{AreApart}
 use Rattle.task_tree.specs.Subjects.{Calls}
 use Rattle.task_tree.specs.Lineage.{parent_index}
@@ -28,12 +29,7 @@ use Rattle.task_tree.proofs.LineageLemmas.{parent_is_at, parent_at_is}
 use Rattle.task_tree.proofs.LookupLemmas.{root_or_explicit, root_is}
 use Rattle.task_tree.proofs.SubjectLemmas.{call_index, call_task}
 use Rattle.task_states.specs.Walks.{IsNotCreated, EventMisfits}
-use Rattle.task_states.proofs.PassLemmas.{record_at}
 use Rattle.task_states.proofs.WalkLemmas.{IsIndexed, Tells, TellsNothing, told_there, nothing_there, thread_there}
-
-pub some_and : {X : Type 0} (o : Option X) (P : X → Type 0) → IsSomeAnd o P → (x : X) × (o ≡ Some x) × P x
-some_and None P h = absurd h
-some_and (Some x) P h = (x, refl, h)
 
 and_some : (o : Option ℕ) (P : ℕ → Type 0) (x : ℕ) → o ≡ Some x → P x → IsSomeAnd o P
 and_some None P x e h = absurd (none-some x e)
@@ -174,7 +170,7 @@ misplaced rs i (not_current h) = h.misfits
 pub misfits_here : (run : RunView) (i thread : ℕ) (walk : Walk) (event : ThreadEvent) → IsRun run → i < length run.records → thread_at run.records i ≡ Some thread → IsThreadEvent run i event → IsIndexed run.family.tasks walk (walk_of thread (take i run.records)) → ((k : ℕ) → k < i → MisfitsAt run.records k → ⊥) → EventMisfits run walk event → IsFirstWith run.records NotCurrent i
 misfits_here run i thread walk event is within runs tells at_w free h =
     let rs = run.records in
-    let (r, stands) = record_at rs i within in
+    let (r, stands) = get_within rs i within in
     let P : ℕ → Type 0 = λ t. IsIndexed run.family.tasks walk (walk_of t (take i rs)) in
     let misfit : Misfits rs (walk_of r.thread (take i rs)) r.body = event_misfits run walk (walk_of r.thread (take i rs)) event r.body is (told_there run i r event stands tells) (subst P (sym (thread_there run i thread r stands runs)) at_w) h in
     record {

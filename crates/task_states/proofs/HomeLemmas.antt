@@ -13,7 +13,7 @@ use Rattle.ompt_events.specs.Places.{at, thread_at, places}
 use Rattle.ompt_events.specs.Tree.{IsExplicit}
 use Rattle.ompt_events.specs.States.{is_task, is_on, home_of, has_moved}
 use Rattle.ompt_events.specs.Causes.{IsMoved, HasCause, moved, IsFirstWith, IsFreeOf}
-use Rattle.ompt_events.proofs.PlaceLemmas.{at_within, contains_place, none_from_test}
+use Rattle.ompt_events.proofs.PlaceLemmas.{at_within, contains_place, none_from_test, is_the_task, the_task}
 use Rattle.ompt_events.proofs.RecordLemmas.{created_at_made}
 use Rattle.ompt_events.proofs.ListLemmas.{contains_get}
 use Rattle.task_tree.specs.Numbering.{AreApart}
@@ -21,10 +21,11 @@ use Rattle.task_tree.specs.Family.{FamilyView, IsFamilyOf}
 use Rattle.task_tree.specs.Runs.{RunView, IsRun, IsIndexOf}
 use Rattle.task_tree.proofs.SubjectLemmas.{call_task}
 use Rattle.task_tree.proofs.LinkLemmas.{get_set_same, get_set_other}
+use Rattle.task_tree.proofs.RisingPassLemmas.{explicit_not_root}
 use Rattle.task_states.specs.declared.homes.Home.{Home}
 use Rattle.task_states.specs.declared.homes.Home.TheVariants.{Nowhere, On, Many}
 use Rattle.task_states.specs.Homes.{home_told, home_at, home_after, told_move, IsExplicitStart, AreRunOn}
-use Rattle.task_states.proofs.OriginLemmas.{found_some, found_none, is_the_task, the_task, explicit_home, explicit_not_root}
+use Rattle.task_states.proofs.OriginLemmas.{found_some, found_none, explicit_home}
 
 -- the task with the index is explicit
 abbrev pub IsExplicitAt : List Record → List ℕ → ℕ → Type 0

@@ -12,16 +12,15 @@ use Rattle.ompt_events.specs.Records.{made, forked, joined, begun_initial, begun
 use Rattle.ompt_events.specs.declared.records.Body.{Body}
 use Rattle.ompt_events.specs.declared.records.Body.TheVariants.{ImplicitTask, TaskSchedule}
 use Rattle.ompt_events.specs.declared.names.Endpoint.TheVariants.{Begin, End}
-use Rattle.ompt_events.specs.Flags as flag
-use Rattle.ompt_events.specs.Flags.{has_flag}
-use Rattle.ompt_events.proofs.RecordLemmas.{at_through}
+use Rattle.ompt_events.proofs.RecordLemmas.{at_through, member_made, initial_made, member_begun, initial_begun}
 use Rattle.ompt_events.specs.Places.{at, thread_at}
 use Rattle.ompt_events.specs.Teams.{IsInitial, IsMember}
 use Rattle.ompt_events.specs.Names.{demands_next}
 use Rattle.ompt_events.specs.Threads.{Walk, at_start, after_body, walk_of}
 use Rattle.ompt_events.specs.Causes.{IsWalkAt, IsNested, forked_inside, joined_inside, initial_inside, HasCause, nested_parallel, IsFirstWith, IsFreeOf}
-use Rattle.ompt_events.proofs.PlaceLemmas.{at_within}
+use Rattle.ompt_events.proofs.PlaceLemmas.{at_within, at_get, get_at, some_and, and_some, some_of}
 use Rattle.ompt_events.proofs.ThreadLemmas.{AreWalks, walks_more, walk_is}
+use Rattle.ompt_events.proofs.ListLemmas.{get_within}
 use Rattle.task_tree.specs.Subjects.{Calls}
 use Rattle.task_tree.specs.Runs.{RunView, IsRun, IsIndexOf}
 use Rattle.task_tree.specs.declared.run.ThreadEvent.{ThreadEvent}
@@ -30,43 +29,9 @@ use Rattle.task_tree.proofs.OnceLemmas.{made_once}
 use Rattle.task_tree.proofs.SubjectLemmas.{call_index, call_task, call_none}
 use Rattle.task_states.specs.Nesting.{IsRootEvent, IsNoRootEvent, IsMemberAt, ForksInside, BeginsInside}
 use Rattle.task_states.specs.Walks.{after_event}
-use Rattle.task_states.proofs.PassLemmas.{record_at, record_there}
-use Rattle.task_states.proofs.WalkLemmas.{AreCalled, called_push, called_drop, called_there, uncalled_there, said_there, begin_after, end_after, thread_there, thread_low, stands_none}
-use Rattle.task_states.proofs.CurrentLemmas.{some_and}
-
-and_some : {X : Type 0} (o : Option X) (P : X → Type 0) (x : X) → o ≡ Some x → P x → IsSomeAnd o P
-and_some None P x e h = absurd (none-some x e)
-and_some (Some y) P x e h = let Q = P in subst Q (sym (same_Some y x e)) h
-
-some_of : {X : Type 0} (o : Option X) → is_some o ≡ true → (x : X) × (o ≡ Some x)
-some_of None e = absurd (false≢true e)
-some_of (Some x) e = (x, refl)
+use Rattle.task_states.proofs.WalkLemmas.{AreCalled, called_push, called_drop, called_there, uncalled_there, begin_after, end_after, thread_there, thread_low, stands_none}
 
 -- ---- what the record that makes a task says of it
-
-member_made : (m : Membership) (b : Body) → joined b ≡ Some m → made b ≡ Some m.member
-member_made m (ImplicitTask Begin actual index flags parallel task) says = begins (has_flag flags.0 flag.initial) says
-  where
-    begins : (b : Bool) → cond b None (Some (record { parallel = parallel; actual = actual; index = index; member = task })) ≡ Some m → Some task ≡ Some m.member
-    begins true is = absurd (none-some m is)
-    begins false is = ap Some (ap (λ (x : Membership). x.member) (same_Some (record { parallel = parallel; actual = actual; index = index; member = task }) m is))
-member_made m _ says = absurd (none-some m says)
-
-initial_made : (task : ℕ) (b : Body) → begun_initial b ≡ Some task → made b ≡ Some task
-initial_made task (ImplicitTask Begin actual index flags parallel root) says = begins (has_flag flags.0 flag.initial) says
-  where
-    begins : (b : Bool) → cond b (Some root) None ≡ Some task → Some root ≡ Some task
-    begins true is = is
-    begins false is = absurd (none-some task is)
-initial_made task _ says = absurd (none-some task says)
-
-member_begun : (m : Membership) (b : Body) → joined b ≡ Some m → begun_root b ≡ Some m.member
-member_begun m (ImplicitTask Begin actual index flags parallel task) says = member_made m (ImplicitTask Begin actual index flags parallel task) says
-member_begun m _ says = absurd (none-some m says)
-
-initial_begun : (task : ℕ) (b : Body) → begun_initial b ≡ Some task → begun_root b ≡ Some task
-initial_begun task (ImplicitTask Begin actual index flags parallel root) says = initial_made task (ImplicitTask Begin actual index flags parallel root) says
-initial_begun task _ says = absurd (none-some task says)
 
 -- this record makes the task, and no other does
 abbrev pub IsMaker : List Record → ℕ → Record → Type 0
@@ -100,13 +65,13 @@ made_here : (run : RunView) (index task place : ℕ) → IsRun run → at made r
 made_here run index task place is is_made stands =
     let rs = run.records in
     let makes : at made rs place ≡ Some task = is_made ∙ stands in
-    let (r, there, says) = record_there made rs place task makes in
+    let (r, there, says) = get_at made rs place task makes in
     (r, there, (says, λ i makes_too. ap (slice_get rs) (made_once rs task i place is.family.once makes_too makes) ∙ there, (place, there)))
 
 pub initial_at : (run : RunView) (index task place : ℕ) (found : Option ℕ) → IsRun run → at made run.records place ≡ slice_get run.family.tasks index → slice_get run.family.tasks index ≡ Some task → IsIndexOf run begun_initial place found → (is_some found ≡ true) ↔ IsInitial run.records task
 initial_at run index task place found is is_made stands calls =
     let (r, there, maker) = made_here run index task place is is_made stands in
-    let same : is_some found ≡ is_some (begun_initial r.body) = found_same run.family.tasks (at begun_initial run.records place) found calls ∙ ap is_some (said_there begun_initial run.records place r there) in
+    let same : is_some found ≡ is_some (begun_initial r.body) = found_same run.family.tasks (at begun_initial run.records place) found calls ∙ ap is_some (at_get begun_initial run.records place r there) in
     let both = initial_by run.records task r maker in
     (λ yes. both.0 (sym same ∙ yes), λ initial. same ∙ both.1 initial)
 
@@ -115,7 +80,7 @@ member_at run index place found is within is_made joins =
     let task = get_or run.family.tasks index 0 in
     let stands = slice_get-get_or run.family.tasks index 0 within in
     let (r, there, maker) = made_here run index task place is is_made stands in
-    let same : is_some found ≡ is_some (joined r.body) = ap is_some (joins ∙ said_there joined run.records place r there) in
+    let same : is_some found ≡ is_some (joined r.body) = ap is_some (joins ∙ at_get joined run.records place r there) in
     let both = member_by run.records task r maker in (
       λ yes. (task, stands, both.0 (sym same ∙ yes)),
       λ (own, stands_own, member). let P : ℕ → Type 0 = IsMember run.records in same ∙ both.1 (subst P (same_Some own task (sym stands_own ∙ stands)) member),
@@ -162,7 +127,7 @@ roots_kept w _ no_begin no_end = refl
 
 -- the thread of a record goes on by it
 pub roots_more : (run : RunView) (i thread : ℕ) (event : ThreadEvent) (old new : List Walk) → IsRun run → i < length run.records → thread_at run.records i ≡ Some thread → IsRootEvent run i event → AreRoots run i old → new ≡ set old thread (after_event (get_or old thread at_start) event) → AreRoots run (i + 1) new
-roots_more run i thread event old new is_run within runs tells are is = more (record_at run.records i within)
+roots_more run i thread event old new is_run within runs tells are is = more (get_within run.records i within)
   where
     next : Walk
     next = after_event (get_or old thread at_start) event
@@ -202,7 +167,7 @@ roots_more run i thread event old new is_run within runs tells are is = more (re
 
 -- and need not where the record leaves its roots
 pub roots_same : (run : RunView) (i : ℕ) (walks : List Walk) → IsRun run → i < length run.records → IsNoRootEvent run i → AreRoots run i walks → AreRoots run (i + 1) walks
-roots_same run i walks is_run within (no_begin, no_end) are = still (record_at run.records i within)
+roots_same run i walks is_run within (no_begin, no_end) are = still (get_within run.records i within)
   where
     still : (r : Record) × (slice_get run.records i ≡ Some r) → AreRoots run (i + 1) walks
     still (r, stands) = record {
@@ -260,7 +225,7 @@ forks_nested run i h =
 -- where the thread stands after its part of the records
 walk_here : (run : RunView) (i thread : ℕ) → i < length run.records → thread_at run.records i ≡ Some thread → IsWalkAt run.records i (walk_of thread (take i run.records))
 walk_here run i thread within runs =
-    let (r, stands) = record_at run.records i within in
+    let (r, stands) = get_within run.records i within in
     (r, stands, ap (λ t. walk_of t (take i run.records)) (sym (thread_there run i thread r stands runs)))
 
 pub begins_nested : (run : RunView) (i thread : ℕ) (walk : Walk) → i < length run.records → thread_at run.records i ≡ Some thread → AreCalled run.family.tasks walk.roots (walk_of thread (take i run.records)).roots → BeginsInside run walk i → IsNested run.records i

@@ -18,11 +18,11 @@ use Rattle.ompt_events.specs.Records.{begun_root, created, made, flags as says_f
 use Rattle.ompt_events.specs.Places.{at, thread_at, places}
 use Rattle.ompt_events.specs.Tree.{IsRoot, IsExplicit}
 use Rattle.ompt_events.specs.States.{Nature, Root, Wait, Plain, is_task, creates_wait, is_made_so, nature_of, begun_on, run_on, home_of}
-use Rattle.ompt_events.proofs.PlaceLemmas.{thread_none, contains_place, at_within}
+use Rattle.ompt_events.proofs.PlaceLemmas.{thread_none, contains_place, at_within, at_get, is_the_task, the_task}
 use Rattle.ompt_events.proofs.RecordLemmas.{begun_made, made_cases, begun_at_made}
 use Rattle.ompt_events.proofs.ListLemmas.{pushed_cases, contains_get}
 use Rattle.task_tree.proofs.OnceLemmas.{made_once}
-use Rattle.task_tree.proofs.LookupLemmas.{root_or_explicit}
+use Rattle.task_tree.proofs.RisingPassLemmas.{explicit_not_root}
 use Rattle.task_states.specs.declared.homes.Home.{Home}
 use Rattle.task_states.specs.declared.homes.Home.TheVariants.{Nowhere}
 use Rattle.task_states.specs.Homes.{home_at}
@@ -59,20 +59,10 @@ found_none p xs none = of (find p xs) refl
 
 -- ---- what a task is
 
-read_made : {X : Type 0} (f : Body → Option X) (rs : List Record) (i : ℕ) (r : Record) → slice_get rs i ≡ Some r → at f rs i ≡ f r.body
-read_made f rs i r stands = ap (option_and_then (λ (q : Record). f q.body)) stands
-
-pub is_the_task : (task : ℕ) (found : Option ℕ) → is_task task found ≡ true → found ≡ Some task
-is_the_task task None is = absurd (false≢true is)
-is_the_task task (Some other) is = ap Some (eqb-true other task is)
-
-pub the_task : (task : ℕ) (found : Option ℕ) → found ≡ Some task → is_task task found ≡ true
-the_task task found is = ap (is_task task) is ∙ eq-eqb task task refl
-
 -- only the record that makes a task begins or creates it
 same_record : (rs : List Record) (task place i : ℕ) (r q : Record) → IsFreeOf rs CreatedTwice → slice_get rs place ≡ Some r → slice_get rs i ≡ Some q → made r.body ≡ Some task → made q.body ≡ Some task → r ≡ q
 same_record rs task place i r q once stands stands' makes makes' =
-    let same : place ≡ i = made_once rs task place i once (read_made made rs place r stands ∙ makes) (read_made made rs i q stands' ∙ makes') in
+    let same : place ≡ i = made_once rs task place i once (at_get made rs place r stands ∙ makes) (at_get made rs i q stands' ∙ makes') in
     same_Some r q (sym stands ∙ ap (slice_get rs) same ∙ stands')
 
 contains_record : (rs : List Record) (i : ℕ) (r : Record) → slice_get rs i ≡ Some r → Contains rs r
@@ -194,10 +184,6 @@ homes_are rs tasks n homes filled all index task stands =
 pub made_within : (rs : List Record) (tasks : List ℕ) (index place : ℕ) → index < length tasks → at made rs place ≡ slice_get tasks index → place < length rs
 made_within rs tasks index place within is = at_within made rs place (get_or tasks index 0) (is ∙ slice_get-get_or tasks index 0 within)
 
--- a task is explicit, or its maker begins it
-pub explicit_not_root : (rs : List Record) (task : ℕ) → IsFreeOf rs CreatedTwice → IsExplicit rs task → IsRoot rs task → ⊥
-explicit_not_root rs task once explicit root = root_or_explicit rs task once root explicit
-
 begun_nature : (task : ℕ) (b : Body) → begun_root b ≡ Some task → nature_made b ≡ Root
 begun_nature task (ImplicitTask Begin actual index flags parallel own) is = refl
 begun_nature task _ is = absurd (none-some task is)
@@ -212,10 +198,10 @@ root_nature rs tasks index task place once is is_task not_explicit = there (slic
     there : (o : Option Record) → slice_get rs place ≡ o → nature_of rs task ≡ Root
     there None e = absurd (none-some task (sym (ap (option_and_then (λ (r : Record). made r.body)) e) ∙ is ∙ is_task))
     there (Some r) e =
-        let makes : made r.body ≡ Some task = sym (read_made made rs place r e) ∙ is ∙ is_task in
+        let makes : made r.body ≡ Some task = sym (at_get made rs place r e) ∙ is ∙ is_task in
         nature_is rs task place r once e makes ∙ elim (made_cases task r.body makes) [
           | inl begins ↦ begun_nature task r.body begins
-          | inr creates ↦ absurd (not_explicit (place, read_made created rs place r e ∙ creates))
+          | inr creates ↦ absurd (not_explicit (place, at_get created rs place r e ∙ creates))
         ]
 
 pub explicit_nature : (rs : List Record) (tasks : List ℕ) (index task place : ℕ) (wait : Bool) → IsFreeOf rs CreatedTwice → at made rs place ≡ slice_get tasks index → slice_get tasks index ≡ Some task → IsExplicit rs task → is_wait_made rs place ≡ wait → nature_of rs task ≡ (if wait then Wait else Plain)
@@ -224,11 +210,11 @@ explicit_nature rs tasks index task place wait once is is_task explicit waits = 
     there : (o : Option Record) → slice_get rs place ≡ o → nature_of rs task ≡ (if wait then Wait else Plain)
     there None e = absurd (none-some task (sym (ap (option_and_then (λ (r : Record). made r.body)) e) ∙ is ∙ is_task))
     there (Some r) e =
-        let makes : made r.body ≡ Some task = sym (read_made made rs place r e) ∙ is ∙ is_task in
+        let makes : made r.body ≡ Some task = sym (at_get made rs place r e) ∙ is ∙ is_task in
         nature_is rs task place r once e makes ∙ elim (made_cases task r.body makes) [
-          | inl begins ↦ absurd (explicit_not_root rs task once explicit (place, read_made begun_root rs place r e ∙ begins))
+          | inl begins ↦ absurd (explicit_not_root rs task once explicit (place, at_get begun_root rs place r e ∙ begins))
           | inr creates ↦ created_nature task r.body creates
-              ∙ ap (λ o. if option_map_or (λ bits. has_flag bits flag.taskwait) o false then Wait else Plain) (sym (read_made says_flags rs place r e))
+              ∙ ap (λ o. if option_map_or (λ bits. has_flag bits flag.taskwait) o false then Wait else Plain) (sym (at_get says_flags rs place r e))
               ∙ ap (λ c. if c then Wait else Plain) waits
         ]
 
@@ -237,9 +223,9 @@ root_made rs task place makes not = there (slice_get rs place) refl
   where
     there : (o : Option Record) → slice_get rs place ≡ o → at begun_root rs place ≡ Some task
     there None e = absurd (none-some task (sym (ap (option_and_then (λ (r : Record). made r.body)) e) ∙ makes))
-    there (Some r) e = elim (made_cases task r.body (sym (read_made made rs place r e) ∙ makes)) [
-      | inl begins ↦ read_made begun_root rs place r e ∙ begins
-      | inr creates ↦ absurd (not (read_made created rs place r e ∙ creates))
+    there (Some r) e = elim (made_cases task r.body (sym (at_get made rs place r e) ∙ makes)) [
+      | inl begins ↦ at_get begun_root rs place r e ∙ begins
+      | inr creates ↦ absurd (not (at_get created rs place r e ∙ creates))
     ]
 
 pub root_begins : (rs : List Record) (tasks : List ℕ) (index task place : ℕ) → at made rs place ≡ slice_get tasks index → slice_get tasks index ≡ Some task → (IsExplicit rs task → ⊥) → at begun_root rs place ≡ Some task

@@ -1,6 +1,6 @@
 -- What a pass over the records has read, one record on.
-use Rattle.std.proofs.Common.{◌≡◌, ◌∙◌, ℕ, zero, suc, ◌+◌, List, [], ◌∷◌, ◌++◌, length, Option, Some, None, Bool, true, false, cond, take, refl, sym, ap, subst, get_or, arith, inl, inr, ◌<◌}
-use Rattle.std.proofs.lemmas.Option.{slice_get-map, slice_get_within, slice_get-get_or, get_or_from_slice_get, none-some, same_Some}
+use Rattle.std.proofs.Common.{◌≡◌, ◌∙◌, ℕ, zero, suc, ◌+◌, List, [], ◌∷◌, ◌++◌, length, Option, Some, None, Bool, true, false, cond, take, refl, sym, ap, subst, arith, inl, inr, ◌<◌}
+use Rattle.std.proofs.lemmas.Option.{slice_get-map, slice_get_within, get_or_from_slice_get, none-some, same_Some}
 use Rattle.std.proofs.lemmas.Bool.{cases_eq, false≢true}
 use Rattle.std.proofs.lemmas.List.{length-map, append-nil, append_assoc, take_more}
 use Rattle.std.proofs.lemmas.List.Elements.{All-push, filter-append}
@@ -20,7 +20,8 @@ use Rattle.ompt_events.specs.Traces.{IsTrace, HasItsNext}
 use Rattle.ompt_events.specs.States.{Move, Stopped, Started, Discarded, is_task, is_early, home_of, has_moved, moves_by, moves_at, first_state}
 use Rattle.ompt_events.specs.Names.{demands_next}
 use Rattle.ompt_events.specs.Turns.{turns_in}
-use Rattle.ompt_events.proofs.PlaceLemmas.{range_more, at_within}
+use Rattle.ompt_events.proofs.PlaceLemmas.{range_more, at_within, at_get, get_at}
+use Rattle.ompt_events.proofs.ListLemmas.{get_within}
 use Rattle.task_tree.specs.Runs.{RunView, IsRun, IsIndexOf, status as says_status}
 use Rattle.task_tree.proofs.SubjectLemmas.{call_task}
 use Rattle.task_states.specs.declared.moves.Nature as code
@@ -33,20 +34,6 @@ use Rattle.task_states.specs.declared.homes.Home as homes
 use Rattle.task_states.specs.Homes.{home_told, home_at, IsNeverEarly}
 
 -- ---- the record at a place
-
-pub record_at : (rs : List Record) (i : ℕ) → i < length rs → (r : Record) × (slice_get rs i ≡ Some r)
-record_at [] i within = absurd (omega (arith, within))
-record_at (r ∷ rest) i within = (get_or (r ∷ rest) i r, slice_get-get_or (r ∷ rest) i r within)
-
-pub record_there : {X : Type 0} (f : Body → Option X) (rs : List Record) (i : ℕ) (x : X) → at f rs i ≡ Some x → (r : Record) × (slice_get rs i ≡ Some r) × (f r.body ≡ Some x)
-record_there {X} f rs i x says = of (slice_get rs i) refl says
-  where
-    of : (o : Option Record) → slice_get rs i ≡ o → option_and_then (λ (q : Record). f q.body) o ≡ Some x → (r : Record) × (slice_get rs i ≡ Some r) × (f r.body ≡ Some x)
-    of None e is = absurd (none-some x is)
-    of (Some r) e is = (r, e, is)
-
-said_there : {X : Type 0} (f : Body → Option X) (rs : List Record) (i : ℕ) (r : Record) → slice_get rs i ≡ Some r → at f rs i ≡ f r.body
-said_there f rs i r stands = ap (option_and_then (λ (q : Record). f q.body)) stands
 
 -- ---- which moves are early
 
@@ -61,7 +48,7 @@ early_there rs i task r stands = ap (λ (o : Option Record). option_map_or (λ (
 -- no start is: a trace has no next task where an event is fulfilled
 start_early : (rs : List Record) (i task : ℕ) → IsTrace rs → at started rs i ≡ Some task → is_early rs task i ≡ false
 start_early rs i task is_trace says =
-    let (r, stands, is) = record_there started rs i task says in
+    let (r, stands, is) = get_at started rs i task says in
     let P : Record → Type 0 = λ q. HasItsNext q.body in
     let sound : HasItsNext r.body = subst P (get_or_from_slice_get rs i r r stands) (is_trace.sound i r (slice_get_within rs i r stands)).next in
     early_there rs i task r stands ∙ of r.body sound is
@@ -72,7 +59,7 @@ start_early rs i task is_trace says =
 
 discard_early : (rs : List Record) (i task : ℕ) → at discarded rs i ≡ Some task → is_early rs task i ≡ false
 discard_early rs i task says =
-    let (r, stands, is) = record_there discarded rs i task says in
+    let (r, stands, is) = get_at discarded rs i task says in
     early_there rs i task r stands ∙ of r.body is
   where
     of : (b : Body) → discarded b ≡ Some task → early_for task b ≡ false
@@ -82,12 +69,12 @@ discard_early rs i task says =
 -- ---- which moves begin or end a turn
 
 pub switch_there : (rs : List Record) (i : ℕ) (r : Record) → slice_get rs i ≡ Some r → is_switch rs i ≡ option_map_or demands_next (says_status r.body) false
-switch_there rs i r stands = ap (λ (o : Option Status). option_map_or demands_next o false) (said_there says_status rs i r stands)
+switch_there rs i r stands = ap (λ (o : Option Status). option_map_or demands_next o false) (at_get says_status rs i r stands)
 
 -- each start does: a trace has a next task where the status demands one alone
 start_switch : (rs : List Record) (i task : ℕ) → IsTrace rs → at started rs i ≡ Some task → is_switch rs i ≡ true
 start_switch rs i task is_trace says =
-    let (r, stands, is) = record_there started rs i task says in
+    let (r, stands, is) = get_at started rs i task says in
     let P : Record → Type 0 = λ q. HasItsNext q.body in
     let sound : HasItsNext r.body = subst P (get_or_from_slice_get rs i r r stands) (is_trace.sound i r (slice_get_within rs i r stands)).next in
     switch_there rs i r stands ∙ of r.body sound is
@@ -98,7 +85,7 @@ start_switch rs i task is_trace says =
 
 discard_switch : (rs : List Record) (i task : ℕ) → at discarded rs i ≡ Some task → is_switch rs i ≡ false
 discard_switch rs i task says =
-    let (r, stands, is) = record_there discarded rs i task says in
+    let (r, stands, is) = get_at discarded rs i task says in
     switch_there rs i r stands ∙ of r.body is
   where
     of : (b : Body) → discarded b ≡ Some task → option_map_or demands_next (says_status b) false ≡ false
@@ -120,8 +107,8 @@ discard_move run i index found calls same =
 -- the task that runs next is that of the schedule
 scheduled_next : (rs : List Record) (i : ℕ) (status : Status) (task : ℕ) (next : Option ℕ) → at schedule rs i ≡ Some (status, task, next) → at started rs i ≡ next
 scheduled_next rs i status task next says =
-    let (r, stands, is) = record_there schedule rs i (status, task, next) says in
-    said_there started rs i r stands ∙ of r.body is
+    let (r, stands, is) = get_at schedule rs i (status, task, next) says in
+    at_get started rs i r stands ∙ of r.body is
   where
     of : (b : Body) → schedule b ≡ Some (status, task, next) → started b ≡ next
     of (TaskSchedule s turns p n share) is = ap (λ (t : Status × ℕ × Option ℕ). t.2) (same_Some (s, p, n) (status, task, next) is)
@@ -230,20 +217,20 @@ no_moves pass rs i r moves stands no_schedule no_discard task = ap (λ l. moves 
 pub schedule_moves_at : (pass : Pass) (rs : List Record) (i : ℕ) (status : Status) (prior : ℕ) (next : Option ℕ) (moves : ℕ → List (ℕ × Move)) → at schedule rs i ≡ Some (status, prior, next) → (task : ℕ)
     → and_record pass rs i moves task ≡ and_move pass rs i (at started rs i) step.Started (and_move pass rs i (Some prior) (step.Stopped status) moves) task
 schedule_moves_at pass rs i status prior next moves says task =
-    let (r, stands, is) = record_there schedule rs i (status, prior, next) says in
+    let (r, stands, is) = get_at schedule rs i (status, prior, next) says in
     schedule_moves pass rs i r status prior next moves stands is task
     ∙ ap (λ o. and_move pass rs i o step.Started (and_move pass rs i (Some prior) (step.Stopped status) moves) task) (sym (scheduled_next rs i status prior next says))
 
 pub discard_moves_at : (pass : Pass) (rs : List Record) (i named : ℕ) (moves : ℕ → List (ℕ × Move)) → at discarded rs i ≡ Some named → (task : ℕ)
     → and_record pass rs i moves task ≡ and_move pass rs i (Some named) step.Discarded moves task
 discard_moves_at pass rs i named moves says =
-    let (r, stands, is) = record_there discarded rs i named says in
+    let (r, stands, is) = get_at discarded rs i named says in
     discard_moves pass rs i r named moves stands is
 
 pub no_moves_at : (pass : Pass) (rs : List Record) (i : ℕ) (moves : ℕ → List (ℕ × Move)) → i < length rs → at schedule rs i ≡ None → at discarded rs i ≡ None → (task : ℕ) → and_record pass rs i moves task ≡ moves task
 no_moves_at pass rs i moves within no_schedule no_discard =
-    let (r, stands) = record_at rs i within in
-    no_moves pass rs i r moves stands (sym (said_there schedule rs i r stands) ∙ no_schedule) (sym (said_there discarded rs i r stands) ∙ no_discard)
+    let (r, stands) = get_within rs i within in
+    no_moves pass rs i r moves stands (sym (at_get schedule rs i r stands) ∙ no_schedule) (sym (at_get discarded rs i r stands) ∙ no_discard)
 
 -- the last pass reads nothing of a record that the home pass read for each of its tasks
 pub whole_not_left : (rs : List Record) (i : ℕ) (moves : ℕ → List (ℕ × Move)) → IsReadWhole Home rs i → (task : ℕ) → and_record Rest rs i moves task ≡ moves task

@@ -17,13 +17,14 @@ use Rattle.ompt_events.specs.Places.{at}
 use Rattle.ompt_events.specs.Tree.{IsExplicit}
 use Rattle.ompt_events.specs.Regions.{after_region, open_regions, kind_at, is_called_barrier, EndsRegion, IsRegion, ended, at_once}
 use Rattle.ompt_events.specs.Causes.{HasCause, region_order, barrier_order, IsFreeOf}
-use Rattle.ompt_events.proofs.RegionLemmas.{open_none, open_other, open_own}
+use Rattle.ompt_events.proofs.RegionLemmas.{open_none, open_other, open_own, same_says}
 use Rattle.ompt_events.proofs.PlaceLemmas.{at_within}
 use Rattle.task_tree.specs.Numbering.{AreApart}
 use Rattle.task_tree.proofs.LinkLemmas.{get_set_same, get_set_other}
 use Rattle.task_tree.specs.OwnOrder.{AreAllPlaces}
 use Rattle.task_tree.specs.Own.{OwnView, HasCauseAt, IsFirstPlaceWith}
 use Rattle.task_tree.specs.Runs.{RunView, IsRegionEvent}
+use Rattle.task_tree.proofs.RenamedCauseLemmas.{order_within}
 use Rattle.task_states.specs.Regions.{RegionsView, AreRegions, IsLinked, IsBeginOf, below_of, top_after, IsStack, IsInnermost, IsInPlace, IsJudged, AreLinkedOrNot, IsEarliestPlace, IsEarliest}
 
 -- a stack stays when one more link is written, or none
@@ -121,10 +122,6 @@ open_more_own run n index kind endpoint innermost links link misplaced apart_all
     own_one = let P : Option ℕ → Type 0 = λ t. IsStack links n t (open_regions run.records own.task n) in subst P (sym is_top) (are.stacks index own.task own.indexed)
 
 -- ---- the cause
-
-order_within : (rs : List Record) (i : ℕ) → HasCause rs i RegionOrder → i < length rs
-order_within rs i (region_order (task, kind, h)) = at_within region rs i (task, kind, End) h.ends
-order_within rs i (barrier_order (task, kind, endpoint, says, called, explicit)) = at_within region rs i (task, kind, endpoint) says
 
 -- an end that misses its begin
 pub misses_here : (run : RunView) (i index : ℕ) (kind : SyncKind) (endpoint : Endpoint) (link : Option ℕ) → IsRegionEvent run i index kind endpoint → IsInnermost run i index link → (endpoint ≡ End) × ((begin : ℕ) → link ≡ Some begin → kind_at run.records begin ≢ Some kind) → HasCause run.records i RegionOrder
@@ -234,11 +231,6 @@ earliest_first own cause n place all last is = record {
 }
 
 -- ---- where a region began
-
-same_says : (rs : List Record) (i own task : ℕ) (kind other : SyncKind) (first second : Endpoint) → at region rs i ≡ Some (own, kind, first) → at region rs i ≡ Some (task, other, second) → (own ≡ task) × (kind ≡ other) × (first ≡ second)
-same_says rs i own task kind other first second says there =
-    let same : (own, kind, first) ≡ (task, other, second) = same_Some (own, kind, first) (task, other, second) (sym says ∙ there) in
-    (ap (λ (r : ℕ × SyncKind × Endpoint). r.0) same, ap (λ (r : ℕ × SyncKind × Endpoint). r.1) same, ap (λ (r : ℕ × SyncKind × Endpoint). r.2) same)
 
 -- a begin and end in one began there
 pub once_begin : (rs : List Record) (i own : ℕ) (kind : SyncKind) → at region rs i ≡ Some (own, kind, BeginEnd) → IsBeginOf rs i i

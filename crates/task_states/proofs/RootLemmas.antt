@@ -1,5 +1,5 @@
 -- A root runs on the thread on which it begins, and where each task runs.
-use Rattle.std.proofs.Common.{◌≡◌, ◌≢◌, ◌∙◌, ℕ, zero, suc, ◌<◌, ◌+◌, List, [], ◌∷◌, take, drop, Option, Some, None, Bool, true, false, refl, sym, ap, arith, inl, inr}
+use Rattle.std.proofs.Common.{◌≡◌, ◌≢◌, ◌∙◌, ℕ, zero, suc, ◌+◌, List, [], ◌∷◌, take, Option, Some, None, Bool, true, false, refl, sym, ap, arith, inl, inr}
 use Rattle.std.proofs.lemmas.Bool.{cases_eq, eq-eqb, eqb-true, or_parts, false≢true}
 use Rattle.std.proofs.lemmas.Option.{none-some, same_Some}
 use Rattle.std.specs.Prelude.{◌==◌, if◌then◌else◌, filter, fold, slice_get, option_and_then, option_map}
@@ -12,29 +12,27 @@ use Rattle.ompt_events.specs.declared.cause.Cause.TheVariants.{NotCurrent, Creat
 use Rattle.ompt_events.specs.Names.{demands_next}
 use Rattle.ompt_events.specs.Records.{made, started, begun_root}
 use Rattle.ompt_events.specs.Places.{at, thread_at}
-use Rattle.ompt_events.specs.Threads.{Walk, at_start, after_body, after_record, walk_of, MisfitsAt, other_root}
+use Rattle.ompt_events.specs.Threads.{Walk, at_start, after_body, after_record, walk_of, other_root}
 use Rattle.ompt_events.specs.Tree.{IsRoot, IsExplicit}
 use Rattle.ompt_events.specs.States.{is_on, home_of, has_moved}
-use Rattle.ompt_events.specs.Causes.{IsFreeOf, not_current}
-use Rattle.ompt_events.proofs.EveryLemmas.{Every, every_filter, every_take, every_passes, every_weaker, every_get}
+use Rattle.ompt_events.specs.Causes.{IsFreeOf}
+use Rattle.ompt_events.proofs.EveryLemmas.{Every, every_filter, every_take, every_passes, every_weaker, every_get, every_rest}
+use Rattle.ompt_events.proofs.PlaceLemmas.{get_at}
 use Rattle.task_tree.specs.Family.{FamilyView, IsFamilyOf}
 use Rattle.task_tree.specs.Subjects.{object}
 use Rattle.task_tree.proofs.SubjectLemmas.{call_index}
 use Rattle.task_tree.proofs.LookupLemmas.{object_calls}
+use Rattle.task_tree.proofs.SuspendedLemmas.{no_misfit_below}
+use Rattle.task_tree.proofs.NamedLemmas.{started_object}
 use Rattle.task_states.specs.declared.homes.Home.{Home}
 use Rattle.task_states.specs.declared.homes.Home.TheVariants.{On}
 use Rattle.task_states.specs.Homes.{home_told, home_at}
 use Rattle.task_states.specs.Progress.{is_many, AreHomes}
 use Rattle.task_states.proofs.OriginLemmas.{root_home, root_begins, home_there}
-use Rattle.task_states.proofs.PassLemmas.{record_there, many_is}
+use Rattle.task_states.proofs.PassLemmas.{many_is}
 use Rattle.task_states.proofs.HomeLemmas.{has_not_moved, on_thread}
 
 -- ---- no record misfits
-
--- a record that misfits is the first of its thread that does, or comes after one
-no_misfit_below : (rs : List Record) → IsFreeOf rs NotCurrent → (n i : ℕ) → i < n → MisfitsAt rs i → ⊥
-no_misfit_below rs free zero i below misfits = absurd (omega arith)
-no_misfit_below rs free (suc n) i below misfits = free i (not_current (record { misfits = misfits; first = λ k less same earlier. no_misfit_below rs free n k (omega arith) earlier }))
 
 -- ---- the open roots of a thread began on it
 
@@ -45,10 +43,6 @@ IsBegunOn rs thread task = (i : ℕ) × (at begun_root rs i ≡ Some task) × (t
 -- a record of the thread stands in the list, and if it begins a root, the root begins on the thread
 abbrev BeginsOn : List Record → ℕ → Record → Type 0
 BeginsOn rs thread r = (task : ℕ) → begun_root r.body ≡ Some task → IsBegunOn rs thread task
-
-every_drop : {X : Type 0} (P : X → Type 0) (xs : List X) → Every P xs → Every P (drop 1 xs)
-every_drop P [] each = each
-every_drop P (x ∷ xs) each = each.1
 
 every_zip : {X : Type 0} (P Q : X → Type 0) (xs : List X) → Every P xs → Every Q xs → Every (λ x. P x × Q x) xs
 every_zip P Q [] first second = first
@@ -61,7 +55,7 @@ every_placed (r ∷ rs) = ((0, refl), every_weaker (λ q. (i : ℕ) × (slice_ge
 
 roots_after : (rs : List Record) (thread : ℕ) (walk : Walk) (b : Body) → Every (IsBegunOn rs thread) walk.roots → ((task : ℕ) → begun_root b ≡ Some task → IsBegunOn rs thread task) → Every (IsBegunOn rs thread) (after_body walk b).roots
 roots_after rs thread walk (ImplicitTask Begin actual index flags parallel task) each begins = (begins task refl, each)
-roots_after rs thread walk (ImplicitTask End actual index flags parallel task) each begins = every_drop (IsBegunOn rs thread) walk.roots each
+roots_after rs thread walk (ImplicitTask End actual index flags parallel task) each begins = every_rest (IsBegunOn rs thread) walk.roots each
 roots_after rs thread walk (TaskSchedule status turns prior next share) each begins = by (demands_next status)
   where
     by : (b : Bool) → Every (IsBegunOn rs thread) (if b then record { roots = walk.roots; current = next } else walk).roots
@@ -95,7 +89,7 @@ walk_begun rs thread i =
 -- a root that runs next is the innermost open one, which began on the thread
 pub root_runs_home : (rs : List Record) (task i : ℕ) → IsFreeOf rs NotCurrent → IsFreeOf rs CreatedTwice → IsRoot rs task → at started rs i ≡ Some task → is_on rs (home_of rs task) i ≡ true
 root_runs_home rs task i current once root starts =
-    let (r, stands, is) = record_there started rs i task starts in
+    let (r, stands, is) = get_at started rs i task starts in
     let roots = (walk_of r.thread (take i rs)).roots in
     let misfit = λ (other : slice_get roots 0 ≢ Some task).
     no_misfit_below rs current (i + 1) i (omega arith) (record { the_record = r; stands = stands; misfits = other_root task is root other }) in
@@ -125,14 +119,10 @@ not_any p [] i x none stands = absurd (none-some x stands)
 not_any p (y ∷ ys) zero x none stands = ap p (sym (same_Some y x stands)) ∙ (or_parts (p y) (list_any p ys) none).0
 not_any p (y ∷ ys) (suc i) x none stands = not_any p ys i x (or_parts (p y) (list_any p ys) none).1 stands
 
-started_object : (task : ℕ) (b : Body) → started b ≡ Some task → object b ≡ Some task
-started_object task (TaskSchedule status turns prior next share) is = is
-started_object task _ is = absurd (none-some task is)
-
 -- a task that runs next has an index
 started_index : (rs : List Record) (family : FamilyView) (i task : ℕ) → IsFamilyOf rs family → at started rs i ≡ Some task → (index : ℕ) × (slice_get family.tasks index ≡ Some task)
 started_index rs family i task are starts =
-    let (r, stands, is) = record_there started rs i task starts in
+    let (r, stands, is) = get_at started rs i task starts in
     let (index, found, there) = call_index family.tasks (at object rs i) _ task (object_calls rs family i are) (ap (option_and_then (λ (q : Record). object q.body)) stands ∙ started_object task r.body is) in
     (index, there)
 

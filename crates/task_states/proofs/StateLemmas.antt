@@ -20,7 +20,7 @@ use Rattle.ompt_events.specs.Flags.{has_flag}
 use Rattle.ompt_events.specs.Records.{made, started, begun_turn, ended_turn, discarded}
 use Rattle.ompt_events.specs.Places.{at, places}
 use Rattle.ompt_events.specs.States.{Move, Stopped, Started, Discarded, is_task, stops, moves_by, moves_at, places_of, moves_of, has_moved, turn_starts_at, turn_ends_at, turn_moves, moves_by_file, moved_moves, all_moves_of, is_early_move, is_apart, nature_of, state_of}
-use Rattle.ompt_events.proofs.PlaceLemmas.{at_within}
+use Rattle.ompt_events.proofs.PlaceLemmas.{at_within, is_the_task, the_task}
 use Rattle.ompt_events.proofs.TurnLemmas.{begun_started}
 use Rattle.ompt_events.proofs.ListLemmas.{get_contains, contains_get}
 use Rattle.task_tree.specs.Family.{FamilyView, IsFamilyOf}
@@ -36,7 +36,7 @@ use Rattle.task_tree.proofs.ShownLemmas.{own_fault}
 use Rattle.task_states.proofs.ShownFaultLemmas.{shown_alone, shown_before, shown_after}
 use Rattle.task_states.specs.Progress.{ProgressView, HasCome, IsRefused}
 use Rattle.task_states.specs.States.{StatesView, IsStates, IsLast}
-use Rattle.task_states.proofs.OriginLemmas.{is_the_task, the_task}
+
 
 -- ---- a task that moves is one that a record makes
 

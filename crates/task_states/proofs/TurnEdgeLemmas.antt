@@ -19,7 +19,7 @@ use Rattle.ompt_events.specs.Records.{schedule, started, stopped, begun_turn, en
 use Rattle.ompt_events.specs.Places.{at, places}
 use Rattle.ompt_events.specs.Turns.{is_turn}
 use Rattle.ompt_events.specs.States.{Move, Stopped, Started, stops, has_moved, turn_starts_at, turn_ends_at, turn_moves}
-use Rattle.ompt_events.proofs.PlaceLemmas.{range_more}
+use Rattle.ompt_events.proofs.PlaceLemmas.{range_more, get_at}
 use Rattle.ompt_events.proofs.EveryLemmas.{every_get, every_passes}
 use Rattle.task_states.specs.declared.turn_edges.Edge.{Edge}
 use Rattle.task_states.specs.declared.turn_edges.Edge.TheVariants.{Begins, Ends}
@@ -27,7 +27,7 @@ use Rattle.task_states.specs.Progress.{turned}
 use Rattle.task_states.specs.Rows.{row_at, AreSameRows}
 use Rattle.task_states.proofs.RowLemmas.{row_here, row_set_same, row_set_other}
 use Rattle.task_states.specs.TurnEdges.{edge_turn, moved_turn, is_edge, edge_moves, AreEdges, IsNoted, IsNoEdge}
-use Rattle.task_states.proofs.PassLemmas.{record_there}
+
 
 -- ---- the turn at a place
 
@@ -142,7 +142,7 @@ edge_is edge rs i turn here = of (at (edge_turn edge) rs i) refl here
 pub start_alone : (rs : List Record) (i task turn other : ℕ) → at started rs i ≡ Some task → is_edge Begins rs turn i ≡ true → turn_starts_at rs other turn i ≡ cond (task == other) ((i, Started) ∷ []) []
 start_alone rs i task turn other starts here =
     let (own, says, moves) = edge_is Begins rs i turn here in
-    let (r, stands, begins) = record_there begun_turn rs i (own, turn) says in
+    let (r, stands, begins) = get_at begun_turn rs i (own, turn) says in
     let same : own ≡ task = begun_own r.body task (sym (ap (option_and_then (λ (q : Record). started q.body)) stands) ∙ starts) (own, turn) begins in
     ap (λ o. cond (is_turn other turn o) ((i, Started) ∷ []) []) says
     ∙ ap (λ b. cond ((own == other) && b) ((i, Started) ∷ []) []) (eq-eqb turn turn refl)
@@ -156,7 +156,7 @@ start_alone rs i task turn other starts here =
 pub end_alone : (rs : List Record) (i prior turn other : ℕ) (status : Status) (next : Option ℕ) → at schedule rs i ≡ Some (status, prior, next) → is_edge Ends rs turn i ≡ true → turn_ends_at rs other turn i ≡ cond (prior == other) ((i, Stopped status) ∷ []) []
 end_alone rs i prior turn other status next says here =
     let (own, ends, moves) = edge_is Ends rs i turn here in
-    let (r, stands, is) = record_there schedule rs i (status, prior, next) says in
+    let (r, stands, is) = get_at schedule rs i (status, prior, next) says in
     let same : own ≡ prior = ended_own r.body prior status next is (own, turn) (sym (said Ends rs i r stands) ∙ ends) in
     ap (λ o. cond (is_turn other turn o) (stopped_there (slice_get rs i)) []) ends
     ∙ ap (λ b. cond ((own == other) && b) (stopped_there (slice_get rs i)) []) (eq-eqb turn turn refl)

@@ -3,7 +3,7 @@ use Rattle.std.proofs.Common.{◌≡◌, ◌∙◌, ℕ, zero, suc, ◌<◌, ◌
 use Rattle.std.proofs.lemmas.Bool.{cases_eq}
 use Rattle.std.proofs.lemmas.Option.{none-some, same_Some, slice_get_within, get_or_from_slice_get}
 use Rattle.std.proofs.lemmas.List.{length-set, length-replicate, get_or-replicate, get_or-set_same, get_or-set_other}
-use Rattle.std.specs.Prelude.{if◌then◌else◌, slice_get, replicate, option_and_then, option_map}
+use Rattle.std.specs.Prelude.{if◌then◌else◌, slice_get, replicate, option_map}
 use Rattle.ompt_events.specs.declared.records.Record.{Record}
 use Rattle.ompt_events.specs.declared.records.Body.{Body}
 use Rattle.ompt_events.specs.declared.records.Body.TheVariants.{ImplicitTask, TaskSchedule}
@@ -14,13 +14,15 @@ use Rattle.ompt_events.specs.Records.{schedule, begun_root, ended_root, running}
 use Rattle.ompt_events.specs.Places.{at, thread_at}
 use Rattle.ompt_events.specs.Threads.{Walk, at_start, after_body, walk_of}
 use Rattle.ompt_events.proofs.ThreadLemmas.{AreWalks, walks_none, walks_more, walk_is}
+use Rattle.ompt_events.proofs.PlaceLemmas.{at_get}
+use Rattle.ompt_events.proofs.ListLemmas.{get_within}
 use Rattle.task_tree.specs.Subjects.{Calls}
 use Rattle.task_tree.specs.Runs.{RunView, IsRun, IsThreadEvent, IsNoThreadEvent}
 use Rattle.task_tree.specs.declared.run.ThreadEvent.{ThreadEvent}
 use Rattle.task_tree.specs.declared.run.ThreadEvent.TheVariants.{Scheduled, RootBegin, RootEnd, Running}
 use Rattle.task_tree.proofs.SubjectLemmas.{call_task, call_none}
 use Rattle.task_states.specs.Walks.{after_event}
-use Rattle.task_states.proofs.PassLemmas.{record_at}
+
 
 -- ---- indices for tasks
 
@@ -45,9 +47,6 @@ called_drop tasks (index ∷ indices) (task ∷ named) are k = are (suc k)
 
 -- ---- what a body says, where the event is that of its record
 
-pub said_there : {X : Type 0} (f : Body → Option X) (rs : List Record) (i : ℕ) (r : Record) → slice_get rs i ≡ Some r → at f rs i ≡ f r.body
-said_there f rs i r stands = ap (option_and_then (λ (q : Record). f q.body)) stands
-
 abbrev pub Tells : List ℕ → Body → ThreadEvent → Type 0
 Tells tasks b (Scheduled event) =
     (task : ℕ) × (follower : Option ℕ) × (schedule b ≡ Some (event.status, task, follower))
@@ -64,17 +63,17 @@ TellsNothing b = (schedule b ≡ None) × (begun_root b ≡ None) × (ended_root
 pub called_there : (f : Body → Option ℕ) (run : RunView) (i index : ℕ) (r : Record) → slice_get run.records i ≡ Some r → Calls run.family.tasks (at f run.records i) (Some index) → (task : ℕ) × (f r.body ≡ Some task) × (slice_get run.family.tasks index ≡ Some task)
 called_there f run i index r stands calls =
     let (task, says, is) = call_task run.family.tasks (at f run.records i) (Some index) index calls refl in
-    (task, sym (said_there f run.records i r stands) ∙ says, is)
+    (task, sym (at_get f run.records i r stands) ∙ says, is)
 
 pub uncalled_there : (f : Body → Option ℕ) (run : RunView) (i : ℕ) (r : Record) → slice_get run.records i ≡ Some r → Calls run.family.tasks (at f run.records i) None → f r.body ≡ None
-uncalled_there f run i r stands calls = sym (said_there f run.records i r stands) ∙ call_none run.family.tasks (at f run.records i) None calls refl
+uncalled_there f run i r stands calls = sym (at_get f run.records i r stands) ∙ call_none run.family.tasks (at f run.records i) None calls refl
 
 pub told_there : (run : RunView) (i : ℕ) (r : Record) (event : ThreadEvent) → slice_get run.records i ≡ Some r → IsThreadEvent run i event → Tells run.family.tasks r.body event
-told_there run i r (Scheduled event) stands is = (is.task, is.follower, sym (said_there schedule run.records i r stands) ∙ is.says, is.indexed, is.next_indexed)
+told_there run i r (Scheduled event) stands is = (is.task, is.follower, sym (at_get schedule run.records i r stands) ∙ is.says, is.indexed, is.next_indexed)
 told_there run i r (RootBegin index) stands is = called_there begun_root run i index r stands is
 told_there run i r (RootEnd index) stands is = called_there ended_root run i index r stands is
 told_there run i r (Running index) stands (none, no_begin, no_end, runs) = (
-  sym (said_there schedule run.records i r stands) ∙ none,
+  sym (at_get schedule run.records i r stands) ∙ none,
   uncalled_there begun_root run i r stands no_begin,
   uncalled_there ended_root run i r stands no_end,
   called_there running run i index r stands runs,
@@ -82,7 +81,7 @@ told_there run i r (Running index) stands (none, no_begin, no_end, runs) = (
 
 pub nothing_there : (run : RunView) (i : ℕ) (r : Record) → slice_get run.records i ≡ Some r → IsNoThreadEvent run i → TellsNothing r.body
 nothing_there run i r stands (none, no_begin, no_end, no_run) = (
-  sym (said_there schedule run.records i r stands) ∙ none,
+  sym (at_get schedule run.records i r stands) ∙ none,
   uncalled_there begun_root run i r stands no_begin,
   uncalled_there ended_root run i r stands no_end,
   uncalled_there running run i r stands no_run,
@@ -181,7 +180,7 @@ thread_low run i r is stands =
 
 pub stands_more : (run : RunView) (i thread : ℕ) (event : ThreadEvent) (old new : List Walk) → IsRun run → i < length run.records → thread_at run.records i ≡ Some thread → IsThreadEvent run i event → AreStanding run i old → new ≡ set old thread (after_event (get_or old thread at_start) event) → AreStanding run (i + 1) new
 stands_more run i thread event old new is_run within runs tells are is =
-    let (r, stands) = record_at run.records i within in
+    let (r, stands) = get_within run.records i within in
     let same = thread_there run i thread r stands runs in
     let low : thread < 256 = let P : ℕ → Type 0 = λ t. t < 256 in subst P same (thread_low run i r is_run stands) in
     goes_on run i thread r old new (after_event (get_or old thread at_start) event) within stands same low are is
@@ -189,7 +188,7 @@ stands_more run i thread event old new is_run within runs tells are is =
 
 -- a record that says nothing of them leaves all walks as they are
 pub stands_still : (run : RunView) (i : ℕ) (walks : List Walk) → IsRun run → i < length run.records → IsNoThreadEvent run i → AreStanding run i walks → AreStanding run (i + 1) walks
-stands_still run i walks is_run within nothing are = still (record_at run.records i within)
+stands_still run i walks is_run within nothing are = still (get_within run.records i within)
   where
     still : (r : Record) × (slice_get run.records i ≡ Some r) → AreStanding run (i + 1) walks
     still (r, stands) = record {

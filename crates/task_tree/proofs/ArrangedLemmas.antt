@@ -2,12 +2,12 @@
 use Rattle.std.proofs.Common.{◌≡◌, ◌≢◌, ◌∙◌, zero, suc, zero-add, ℕ, Bool, ◌<◌, ◌≤◌, ◌+◌, cond, List, [], ◌∷◌, ◌++◌, length, take, Option, Some, None, refl, sym, ap, subst, arith, inl, inr}
 use Rattle.std.proofs.lemmas.Bool.{cases_lt}
 use Rattle.std.proofs.lemmas.Option.{none-some, same_Some, slice_get-get_or, slice_get_within, get_or_from_slice_get}
-use Rattle.std.proofs.lemmas.List.{length-take, take_more, take_all, take-append-drop, map-id}
-use Rattle.std.proofs.lemmas.List.Elements.{All-take, filter_map-append}
+use Rattle.std.proofs.lemmas.List.{take_more, take_all, map-id}
+use Rattle.std.proofs.lemmas.List.Elements.{filter_map-append}
 use Rattle.std.proofs.lemmas.List.FromFn.{map-range_with_len_more}
 use Rattle.std.proofs.lemmas.List.Sums.{sum_by-append}
 use Rattle.std.proofs.lemmas.List.Sorted.{sum_by-IsPermutation}
-use Rattle.std.specs.Prelude.{All, Contains, count_by, IfErr, IsOk, Result, Ok, Err, slice_get, slice_index_or, is_some, option_and_then, drop}
+use Rattle.std.specs.Prelude.{All, Contains, count_by, IfErr, IsOk, Result, Ok, Err, slice_get, slice_index_or, is_some, option_and_then}
 use Rattle.std.specs.List.{filter_map, range_with_len, sum_by}
 use Rattle.std.specs.Option.{option_map_or}
 use Rattle.std.specs.Global.{Vec}
@@ -26,6 +26,7 @@ use Rattle.ompt_events.specs.Turns.{in_own_order, own_places}
 use Rattle.ompt_events.specs.Tree.{IsRooted, root, child}
 use Rattle.ompt_events.specs.Causes.{HasCause, IsFreeOf, unmade, unrooted, no_region, created_twice, forked_twice, rootless}
 use Rattle.ompt_events.proofs.PlaceLemmas.{at_within}
+use Rattle.ompt_events.proofs.TraceLemmas.{IsTraceOf-take}
 use Rattle.task_tree.proofs.OwnOrderLemmas.{own_permuted, own_length, own_has, own_within, own_place_of, arranged_at, arranged_length}
 
 -- ---- a trace
@@ -126,22 +127,6 @@ arranged_trace version rs trace = record {
   turns = all_arranged (λ r. HasItsTurns version r.body) rs trace.turns;
 }
 
--- the first records of a trace are a trace
-pub first_trace : (version n : ℕ) (rs : List Record) → IsTraceOf version rs → IsTraceOf version (take n rs)
-first_trace version n rs trace = record {
-  known = trace.known;
-  is_trace = record {
-    few_records = omega (arith, length-take n rs, trace.is_trace.few_records);
-    few_tasks = omega (arith, both, trace.is_trace.few_tasks);
-    sound = All-take (λ (r : Record). IsSound r.body) n rs trace.is_trace.sound;
-    in_range = All-take IsInRange n rs trace.is_trace.in_range;
-  };
-  turns = All-take (λ (r : Record). HasItsTurns version r.body) n rs trace.turns;
-}
-  where
-    both : tasks_in (take n rs) + tasks_in (drop n rs) ≡ tasks_in rs
-    both = sym (sum_by-append (λ (r : Record). cond (is_some (made r.body)) 1 0) (take n rs) (drop n rs)) ∙ ap (λ (l : List Record). tasks_in l) (take-append-drop n rs)
-
 -- ---- the same tasks
 
 -- what a record says stands where the record does
@@ -211,7 +196,7 @@ pub accepted_arranged : (rs copies : List Record) (result : Result Trace (Vec Re
 accepted_arranged rs copies (Ok trace) are is refused = refl
 accepted_arranged rs copies (Err refusal) are is refused =
     let P : List Record → Type 0 = IsTraceOf 2 in
-    absurd (refused.1.refused (first_trace 2 (refusal.1 + 1) copies (subst P (sym are) (arranged_trace 2 rs is))))
+    absurd (refused.1.refused (IsTraceOf-take 2 (refusal.1 + 1) copies (subst P (sym are) (arranged_trace 2 rs is))))
 
 -- and their family fails for memory alone
 pub memory_arranged : (rs copies : List Record) (fault : Fault) → copies ≡ in_own_order rs → IsFreeOf rs CreatedTwice → IsFreeOf rs Rootless → IsFault copies (CreatedTwice ∷ Rootless ∷ []) fault → fault ≡ Memory

@@ -13,13 +13,13 @@ use Rattle.ompt_events.specs.Turns.{in_own_order, own_places}
 use Rattle.ompt_events.specs.declared.cause.Cause.TheVariants.{TurnGap}
 use Rattle.ompt_events.specs.Causes.{IsFreeOf}
 use Rattle.ompt_events.specs.Faults.{FindsFirst}
+use Rattle.ompt_events.proofs.ListLemmas.{range_get}
 use Rattle.task_tree.specs.Rising.{TurnsRise}
 use Rattle.task_tree.specs.Family.{IsFamilyOf}
 use Rattle.task_tree.specs.Runs.{RunView, IsRun}
 use Rattle.task_tree.specs.OwnOrder.{AreAllPlaces}
 use Rattle.task_tree.specs.Own.{KeepsMembers}
 use Rattle.task_tree.specs.Families.{FamiliesView, AreFamiliesOf, AreArranged, as_in_file, by_turn}
-use Rattle.task_tree.proofs.OwnLemmas.{place_in_file}
 use Rattle.task_tree.proofs.OwnOrderLemmas.{own_all_places, own_within, own_order, own_place_of, arranged_at, arranged_length}
 use Rattle.task_tree.proofs.RisingLemmas.{joined_zero}
 
@@ -28,14 +28,14 @@ within rs number place is = rw (length-range_with_len 0 (length rs)) at (slice_g
 
 -- a record of the file has its place for its number
 pub file_place : (rs : List Record) (number place : ℕ) → slice_get (places rs) number ≡ Some place → number ≡ place
-file_place rs number place is = same_Some number place (sym (place_in_file (length rs) number (within rs number place is)) ∙ is)
+file_place rs number place is = same_Some number place (sym (range_get (length rs) number (within rs number place is)) ∙ is)
 
 -- the places of a file are all places
 pub file_all_places : (rs : List Record) → AreAllPlaces (places rs) (length rs)
 file_all_places rs = record {
   all = length-range_with_len 0 (length rs);
   below = λ number place is. let e = file_place rs number place is in let b = within rs number place is in omega (arith, e, b);
-  each = λ place below. (place, place_in_file (length rs) place below);
+  each = λ place below. (place, range_get (length rs) place below);
   apart = λ number other place one another. file_place rs number place one ∙ sym (file_place rs other place another);
 }
 

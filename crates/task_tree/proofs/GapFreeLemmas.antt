@@ -36,7 +36,7 @@ next_of_begun rs task turn k later begins = record {
 
 -- ---- all records
 
-thread_there : (rs : List Record) (i : ℕ) → i < length rs → (thread : ℕ) × (thread_at rs i ≡ Some thread)
+pub thread_there : (rs : List Record) (i : ℕ) → i < length rs → (thread : ℕ) × (thread_at rs i ≡ Some thread)
 thread_there rs i within = elim (slice_get_cases rs i).1 [
   | inl (r, inside, stands, read) ↦ (r.thread, ap (option_map (λ (q : Record). q.thread)) stands)
   | inr (past, stands) ↦ absurd (omega (arith, past, within))

@@ -9,6 +9,7 @@ use Rattle.std.specs.List.{range_with_len}
 use Rattle.std.specs.Prelude.{slice_get, slice_index, Contains, IsPermutation}
 use Rattle.task_tree.specs.Numbering.{AreApart}
 use Rattle.task_tree.specs.Ranking.{AreWithin, ranked_id, IsRising, IsOrder, IsRanked}
+use Rattle.ompt_events.proofs.ListLemmas.{contains_range}
 
 -- ---- the orders that are tried
 
@@ -19,10 +20,6 @@ range_longer a (suc n) = let e : a + suc n ≡ a + 1 + n = omega arith in let f 
 
 pub range_more : (n : ℕ) → range_with_len 0 n ++ n ∷ [] ≡ range_with_len 0 (n + 1)
 range_more n = let e : n ≡ 0 + n = omega arith in ap (λ k. range_with_len 0 n ++ k ∷ []) e ∙ range_longer 0 n
-
--- the indices below n are the numbers below n
-in_range : (n index : ℕ) → index < n → Contains (range_with_len 0 n) index
-in_range n index low = let e : 0 + index ≡ index = omega arith in (index, rw (length-range_with_len 0 n) low, get_or-range_with_len 0 n index index low ∙ e)
 
 below_range : (n index : ℕ) → Contains (range_with_len 0 n) index → index < n
 below_range n index (k, inside, is) =
@@ -47,13 +44,13 @@ permutation_within ids order moved rank inside =
 pub range_ranked : (ids : List ℕ) → IsRising ids (range_with_len 0 (length ids)) (length (range_with_len 0 (length ids))) → IsRanked ids (range_with_len 0 (length ids))
 range_ranked ids rising = record {
   known = record { within = range_within ids; rising = rising };
-  all = λ index low. in_range (length ids) index low;
+  all = λ index low. contains_range (length ids) index low;
 }
 
 pub permutation_ranked : (ids order : List ℕ) → IsPermutation (range_with_len 0 (length ids)) order → IsRising ids order (length order) → IsRanked ids order
 permutation_ranked ids order moved rising = record {
   known = record { within = permutation_within ids order moved; rising = rising };
-  all = λ index low. Contains-permutation (range_with_len 0 (length ids)) order index moved (in_range (length ids) index low);
+  all = λ index low. Contains-permutation (range_with_len 0 (length ids)) order index moved (contains_range (length ids) index low);
 }
 
 -- one id more is greater than the last, and so than all before it

@@ -36,7 +36,7 @@ moved_is_short {to = to} {back = back} r i (missed task member begin number kind
     missed task member (to begin) number kind (moved_region r i task kind begin ends) barrier (moved_barrier_begin r task number begin numbered) (moved_teammate r task member mate)
     (λ start starts. never (back start) (moved_barrier_begin (reordered_back r) member number start starts))
 
-short_within : (rs : List Record) (i : ℕ) → IsShort rs i → i < length rs
+pub short_within : (rs : List Record) (i : ℕ) → IsShort rs i → i < length rs
 short_within rs i (outside m joins out) = at_within joined rs i m joins
 short_within rs i (same_index m e joins has same) = at_within joined rs i m joins
 short_within rs i (other_size m e joins has different) = at_within joined rs i m joins

@@ -8,7 +8,7 @@ use Rattle.ompt_events.specs.declared.records.Record.{Record}
 use Rattle.ompt_events.specs.declared.records.Body.{Body}
 use Rattle.ompt_events.specs.Records.{running, joined}
 use Rattle.ompt_events.specs.Places.{at, is_own, own_before}
-use Rattle.ompt_events.proofs.PlaceLemmas.{at_within}
+use Rattle.ompt_events.proofs.PlaceLemmas.{at_within, some_within}
 use Rattle.task_tree.specs.Renaming.{IsRenaming, SayAlike, untold}
 use Rattle.task_tree.proofs.BlindLemmas.{IsBlind, blind_at, blind_running, blind_joined}
 use Rattle.task_tree.proofs.RisingListLemmas.{IsIn, filter_in, IsCut, IsSameTest, cut_at, cut_places}
@@ -52,13 +52,6 @@ own_within rs task i own = there (at running rs i) refl own
     there : (o : Option ℕ) → at running rs i ≡ o → option_map_or (λ t. t == task) o false ≡ true → i < length rs
     there None e is = absurd (false≢true is)
     there (Some t) e is = at_within running rs i t e
-
-pub some_within : {X : Type 0} (f : Body → Option X) (rs : List Record) (i : ℕ) → is_some (at f rs i) ≡ true → i < length rs
-some_within {X} f rs i says = there (at f rs i) refl says
-  where
-    there : (o : Option X) → at f rs i ≡ o → is_some o ≡ true → i < length rs
-    there None e is = absurd (false≢true is)
-    there (Some x) e is = at_within f rs i x e
 
 -- ---- the other way round
 

@@ -11,9 +11,10 @@ use Rattle.ompt_events.specs.Tree.{IsRoot, IsExplicit, IsCreatedAt, IsRooted, ro
 use Rattle.ompt_events.specs.Dependences.{DependsOn, IsPredecessor}
 use Rattle.ompt_events.specs.Teams.{members_before, members, IsMember, IsInitial, IsTeammate, alone, together}
 use Rattle.ompt_events.specs.Coverage.{IsFamily}
+use Rattle.ompt_events.proofs.PlaceLemmas.{some_within}
 use Rattle.task_tree.proofs.RisingListLemmas.{filter_in, IsCut, IsSameTest, cut_at, cut_places, filter_map-map, filter_map-filter}
 use Rattle.task_tree.proofs.BlindLemmas.{blind_begun_initial, blind_begun_root, blind_created, blind_creation, blind_dependences, blind_joined}
-use Rattle.task_tree.proofs.RenamedPlaceLemmas.{IsReordered, same_at, moved_at, own_within, some_within, past_cut, own_before_cut, own_in, reordered_back}
+use Rattle.task_tree.proofs.RenamedPlaceLemmas.{IsReordered, same_at, moved_at, own_within, past_cut, own_before_cut, own_in, reordered_back}
 
 -- ---- the tree
 

@@ -12,7 +12,7 @@ use Rattle.ompt_events.specs.declared.records.Turns.{Turns}
 use Rattle.ompt_events.specs.Records.{running, joined, started, told_turns, next_turn}
 use Rattle.ompt_events.specs.Places.{at, is_own}
 use Rattle.ompt_events.specs.Turns.{TellsNoTurns, turn_in, turn_of, turn_at, own_places, in_own_order, own_place}
-use Rattle.ompt_events.proofs.PlaceLemmas.{at_within}
+use Rattle.ompt_events.proofs.PlaceLemmas.{at_within, some_within}
 use Rattle.task_tree.specs.Renaming.{IsRenaming}
 use Rattle.task_tree.proofs.BlindLemmas.{alike_same}
 use Rattle.task_tree.specs.Rising.{TurnsRise}
@@ -41,13 +41,6 @@ joined_zero rs i some = by (slice_get rs i) some
     by : (o : Option Record) → is_some (option_and_then (λ (r : Record). joined r.body) o) ≡ true → option_map_or (λ (r : Record). turn_of rs r i) o 0 ≡ 0
     by None is = refl
     by (Some r) is = ap (λ (t : Option ℕ). option_map_or (λ task. turn_in task (filter (λ q. q.thread == r.thread) (take i rs))) t 0) (joined_none r.body is)
-
-some_within : {X : Type 0} (f : Body → Option X) (rs : List Record) (i : ℕ) → is_some (at f rs i) ≡ true → i < length rs
-some_within {X} f rs i some = by (at f rs i) refl some
-  where
-    by : (o : Option X) → at f rs i ≡ o → is_some o ≡ true → i < length rs
-    by None e is = cc
-    by (Some x) e is = at_within f rs i x e
 
 -- ---- the renaming
 

@@ -19,7 +19,7 @@ use Rattle.ompt_events.specs.Turns.{TellsNoTurns, turn_after, turn_in, turn_of, 
 use Rattle.ompt_events.specs.Causes.{HasTurnGap, other_turn, begun_again, falling, of_root, missing, TellsStart, BeginsTurn, runs, turn_gap, IsFreeOf}
 use Rattle.ompt_events.proofs.PlaceLemmas.{read_get, at_within}
 use Rattle.ompt_events.proofs.RecordLemmas.{begun_at_made, created_at_made, made_cases, root_or_created}
-use Rattle.ompt_events.proofs.TurnLemmas.{begun_zero, no_turn_gap}
+use Rattle.ompt_events.proofs.TurnLemmas.{begun_zero}
 use Rattle.ompt_events.proofs.ListLemmas.{get_contains}
 use Rattle.task_tree.specs.Numbering.{AreApart}
 use Rattle.task_tree.specs.Family.{FamilyView, IsFamilyOf}
@@ -546,6 +546,3 @@ all_in_order rs n past order i = elim (cases_lt i n) [
     nothing : (task turn : ℕ) → (at begun_turn rs i ≡ Some (task, turn)) ⊎ ((turn ≡ 0) × (at begun_root rs i ≡ Some task)) → n ≤ i → ⊥
     nothing task turn (inl is) beyond = let within = at_within begun_turn rs i (task, turn) is in absurd (omega (arith, within, past, beyond))
     nothing task turn (inr (first, root)) beyond = let within = at_within begun_root rs i task root in absurd (omega (arith, within, past, beyond))
-
-pub untold_free : (rs : List Record) → TellsNoTurns rs → IsFreeOf rs TurnGap
-untold_free rs untold i (turn_gap gap) = no_turn_gap rs i untold gap

@@ -9,7 +9,7 @@ use Rattle.ompt_events.specs.Records.{made, named, created, claim, region_named}
 use Rattle.ompt_events.specs.Places.{at}
 use Rattle.ompt_events.specs.Tree.{IsRoot, IsRooted, root as root_rooted, child as child_rooted, HasPath, top, below}
 use Rattle.ompt_events.specs.Causes.{IsMade, IsForked, HasNoRoot, unmade, unrooted, no_region, HasCause, rootless, IsFirstWith, IsFreeOf}
-use Rattle.ompt_events.proofs.PlaceLemmas.{read_get, at_read, at_within}
+use Rattle.ompt_events.proofs.PlaceLemmas.{read_get, at_read, at_within, some_and, and_some}
 use Rattle.ompt_events.proofs.RecordLemmas.{begun_at_made, created_at_made}
 use Rattle.ompt_events.proofs.TreeLemmas.{child_place}
 use Rattle.ompt_events.proofs.ListLemmas.{contains_get, get_contains}
@@ -49,14 +49,6 @@ noted_forked rs regions region are has =
     let from = are.only region has in
     let by = forked_at rs from.0 region from.2 in
     (from.0, by.0, by.1)
-
-some_and : {X : Type 0} (o : Option X) (P : X → Type 0) → IsSomeAnd o P → (x : X) × (o ≡ Some x) × P x
-some_and None P h = absurd h
-some_and (Some x) P h = (x, refl, h)
-
-and_some : {X : Type 0} (o : Option X) (P : X → Type 0) (x : X) → o ≡ Some x → P x → IsSomeAnd o P
-and_some None P x e h = absurd (none-some x e)
-and_some (Some y) P x e h = let Q = P in subst Q (sym (same_Some y x e)) h
 
 -- what a test of the record finds is that its place has the cause
 pub rootless_here : (rs : List Record) (tasks regions : List ℕ) (roots : List (Option Standing)) (i : ℕ) (r : Record) → AreNoted made rs (length rs) tasks → AreNoted forked_region rs (length rs) regions → AreRoots rs tasks roots → i < length rs → r ≡ get_or rs i r → IsRootless tasks regions roots r.body → HasNoRoot rs i

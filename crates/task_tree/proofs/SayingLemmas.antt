@@ -6,12 +6,10 @@ use Rattle.ompt_events.specs.declared.cause.Cause.{Cause}
 use Rattle.ompt_events.specs.declared.cause.Cause.TheVariants.{RegionOrder, TeamShort, ShareWrong}
 use Rattle.ompt_events.specs.Violations.{IsRequired, covered, preceding, awaited, MustBeComplete, wait_ends, dependent_starts, taskwait_completes}
 use Rattle.ompt_events.specs.Causes.{HasCause, Shows}
+use Rattle.ompt_events.proofs.ListLemmas.{turned}
 use Rattle.task_tree.specs.Rising.{TurnsRise}
 use Rattle.task_tree.proofs.RenamingLemmas.{renamed_covers, renamed_predecessor, renamed_order, renamed_short, renamed_share}
 use Rattle.task_tree.proofs.RisingLemmas.{own_renaming}
-
-turned : {A B : Type 0} → A ↔ B → B ↔ A
-turned (there, back) = (back, there)
 
 pub shows_has : (rs : List Record) → TurnsRise rs → (i : ℕ) (cause : Cause) → Shows rs i cause ↔ HasCause rs i cause
 shows_has rs rise i RegionOrder = turned (renamed_order (own_renaming rs rise) i)

@@ -1,6 +1,6 @@
 -- A created task is suspended at most once in each of its turns: what a thread runs is the task that the last
 -- start on it began.
-use Rattle.std.proofs.Common.{◌≡◌, ◌≢◌, ◌∙◌, ℕ, ◌<◌, ◌≤◌, ◌+◌, zero, suc, List, [], ◌∷◌, ◌++◌, Option, Some, None, true, false, Bool, cond, if◌then◌else◌, refl, sym, ap, subst, arith, length, inl, inr, append-nil, true≢false}
+use Rattle.std.proofs.Common.{◌≡◌, ◌≢◌, ◌∙◌, ℕ, ◌<◌, ◌+◌, zero, suc, List, [], ◌∷◌, ◌++◌, Option, Some, None, true, false, Bool, cond, if◌then◌else◌, refl, sym, ap, subst, arith, inl, inr, append-nil, true≢false}
 use Rattle.std.proofs.lemmas.Option.{none-some, same_Some, slice_get_within, get_or_from_slice_get, slice_get_cases, some_pair_parts}
 use Rattle.std.proofs.lemmas.Bool.{cases_order, cases_eq, eq-eqb, ne_eqb}
 use Rattle.std.proofs.lemmas.List.Sums.{fold-append}
@@ -15,25 +15,23 @@ use Rattle.ompt_events.specs.declared.names.Endpoint.TheVariants.{Begin, End, Be
 use Rattle.ompt_events.specs.declared.names.Status.TheVariants.{Yield, Switch}
 use Rattle.ompt_events.specs.declared.cause.Cause.TheVariants.{CreatedTwice, NotCurrent, TurnGap}
 use Rattle.ompt_events.specs.Names.{demands_next}
-use Rattle.ompt_events.specs.Records.{begun_root, created, running, started, stopped, suspended_turn, told_turns, next_turn, begun_turn}
+use Rattle.ompt_events.specs.Records.{begun_root, running, started, stopped, suspended_turn, told_turns, next_turn, begun_turn}
 use Rattle.ompt_events.specs.Places.{at, thread_at}
-use Rattle.ompt_events.specs.Turns.{turn_after, turn_in, turn_of, turn_at}
+use Rattle.ompt_events.specs.Turns.{turn_after, turn_in, turn_at}
 use Rattle.ompt_events.specs.Tree.{IsRoot, IsExplicit}
 use Rattle.ompt_events.specs.Threads.{Walk, at_start, after_body, after_record, walk_of, MisfitsAt, not_running}
 use Rattle.ompt_events.specs.HappensBefore.{IsResumption}
 use Rattle.ompt_events.specs.Traces.{IsTraceOf, IsSound, HasItsNext, HasItsTurns}
-use Rattle.ompt_events.specs.Causes.{IsFreeOf, created_twice, not_current, turn_gap, other_turn, begun_again}
-use Rattle.ompt_events.proofs.RecordLemmas.{begun_at_made, created_at_made, root_or_created}
+use Rattle.ompt_events.specs.Causes.{IsFreeOf, not_current, turn_gap, other_turn, begun_again}
 use Rattle.ompt_events.proofs.TurnLemmas.{begun_started}
+use Rattle.ompt_events.proofs.ListLemmas.{all_get, take_past}
 use Rattle.task_tree.proofs.RankedLemmas.{Every, every_get}
+use Rattle.task_tree.proofs.RisingPassLemmas.{explicit_not_root, turn_here}
 
 -- ---- what no record has
 
-pub all_get : {X : Type 0} (P : X → Type 0) (xs : List X) (i : ℕ) (x : X) → All P xs → slice_get xs i ≡ Some x → P x
-all_get P xs i x all is = subst P (get_or_from_slice_get xs i x x is) (all i x (slice_get_within xs i x is))
-
 -- a record that misfits is the first of its thread that does, or comes after one
-no_misfit_below : (rs : List Record) → IsFreeOf rs NotCurrent → (n i : ℕ) → i < n → MisfitsAt rs i → ⊥
+pub no_misfit_below : (rs : List Record) → IsFreeOf rs NotCurrent → (n i : ℕ) → i < n → MisfitsAt rs i → ⊥
 no_misfit_below rs none zero i below misfits = absurd (omega arith)
 no_misfit_below rs none (suc n) i below misfits = none i (not_current (record { misfits = misfits; first = λ k less same earlier. no_misfit_below rs none n k (omega arith) earlier }))
 
@@ -54,18 +52,6 @@ runs_there rs i task r none stands runs = by (walk_of r.thread (take i rs)).curr
       | inr apart ↦ absurd (misfit (λ is. apart (same_Some t task (sym e ∙ is))))
     ]
 
--- a task that another created is no root
-not_root : (rs : List Record) (task : ℕ) → IsFreeOf rs CreatedTwice → IsExplicit rs task → IsRoot rs task → ⊥
-not_root rs task once (i, creates) (k, begins) = elim (cases_order i k) [
-  | inl same ↦ both (slice_get rs i) creates (ap (at begun_root rs) same ∙ begins)
-  | inr (inl less) ↦ once k (created_twice (task, i, less, created_at_made task rs i creates, begun_at_made task rs k begins))
-  | inr (inr more) ↦ once i (created_twice (task, k, more, begun_at_made task rs k begins, created_at_made task rs i creates))
-]
-  where
-    both : (o : Option Record) → option_and_then (λ (r : Record). created r.body) o ≡ Some task → option_and_then (λ (r : Record). begun_root r.body) o ≡ Some task → ⊥
-    both None one other = none-some task one
-    both (Some r) one other = root_or_created task task r.body other one
-
 -- ---- one record of a thread more
 
 abbrev pub part_of : List Record → ℕ → ℕ → List Record
@@ -81,12 +67,6 @@ part_own rs thread n r stands same = part_more rs thread n r stands ∙ ap (λ b
 
 pub part_other : (rs : List Record) (thread n : ℕ) (r : Record) → slice_get rs n ≡ Some r → r.thread ≢ thread → part_of rs thread (n + 1) ≡ part_of rs thread n
 part_other rs thread n r stands apart = part_more rs thread n r stands ∙ ap (λ b. part_of rs thread n ++ cond b (r ∷ []) []) (ne_eqb r.thread thread apart) ∙ append-nil (part_of rs thread n)
-
-take_past : {X : Type 0} (xs : List X) (n : ℕ) → length xs ≤ n → take n xs ≡ xs
-take_past [] zero past = refl
-take_past [] (suc n) past = refl
-take_past (x ∷ xs) zero past = absurd (omega arith)
-take_past (x ∷ xs) (suc n) past = ap (λ l. x ∷ l) (take_past xs n (omega arith))
 
 -- what holds at the start and is kept by each record of the thread holds of all that it has recorded
 pub part_keeps : (rs : List Record) (thread : ℕ) (P : ℕ → List Record → Type 0) → P 0 []
@@ -110,7 +90,7 @@ every_rest : {X : Type 0} (P : X → Type 0) (xs : List X) → Every P xs → Ev
 every_rest P [] each = tt
 every_rest P (x ∷ xs) each = each.1
 
-after_roots : (P : ℕ → Type 0) (walk : Walk) (b : Body) → ((task : ℕ) → begun_root b ≡ Some task → P task) → Every P walk.roots → Every P (after_body walk b).roots
+pub after_roots : (P : ℕ → Type 0) (walk : Walk) (b : Body) → ((task : ℕ) → begun_root b ≡ Some task → P task) → Every P walk.roots → Every P (after_body walk b).roots
 after_roots P walk (ImplicitTask Begin actual index flags parallel task) new each = (new task refl, each)
 after_roots P walk (ImplicitTask End actual index flags parallel task) new each = every_rest P walk.roots each
 after_roots P walk (ImplicitTask BeginEnd actual index flags parallel task) new each = each
@@ -197,8 +177,8 @@ last_start rs thread sound once n = part_keeps rs thread P (λ task explicit is.
     }
 
     step : (m : ℕ) (r : Record) → slice_get rs m ≡ Some r → r.thread ≡ thread → P m (part_of rs thread m) → (task : ℕ) → IsExplicit rs task → Runs (walk_of thread (take m rs)) r.body task → LastStart rs thread (m + 1) task (turn_in task (part_of rs thread m ++ r ∷ []))
-    step m r stands same before task explicit (root_begins is) = absurd (not_root rs task once explicit (m, ap (option_and_then (λ (q : Record). begun_root q.body)) stands ∙ is))
-    step m r stands same before task explicit (uncovered is) = absurd (not_root rs task once explicit (every_get (IsRoot rs) (walk_of thread (take m rs)).roots 1 task (roots_are rs thread m) is))
+    step m r stands same before task explicit (root_begins is) = absurd (explicit_not_root rs task once explicit (m, ap (option_and_then (λ (q : Record). begun_root q.body)) stands ∙ is))
+    step m r stands same before task explicit (uncovered is) = absurd (explicit_not_root rs task once explicit (every_get (IsRoot rs) (walk_of thread (take m rs)).roots 1 task (roots_are rs thread m) is))
     step m r stands same before task explicit (is_started is) = record {
       place = m;
       earlier = omega arith;
@@ -259,11 +239,6 @@ told_right rs i told gap tells = elim (cases_eq told.prior (turn_at rs i)) [
   | inr apart ↦ absurd (gap i (turn_gap (other_turn told tells apart)))
 ]
 
-pub turn_is : (rs : List Record) (i task : ℕ) (r : Record) → slice_get rs i ≡ Some r → running r.body ≡ Some task → turn_at rs i ≡ turn_in task (part_of rs r.thread i)
-turn_is rs i task r stands runs =
-    ap (λ (o : Option Record). option_map_or (λ (q : Record). turn_of rs q i) o 0) stands
-    ∙ ap (λ (t : Option ℕ). option_map_or (λ u. turn_in u (part_of rs r.thread i)) t 0) runs
-
 suspension : (rs : List Record) → IsTraceOf 2 rs → IsFreeOf rs CreatedTwice → IsFreeOf rs NotCurrent → IsFreeOf rs TurnGap → (task turn i : ℕ) → IsExplicit rs task → at suspended_turn rs i ≡ Some (task, turn) → Suspension rs i task turn
 suspension rs trace once current gap task turn i explicit suspends = by (slice_get rs i) refl suspends
   where
@@ -274,7 +249,7 @@ suspension rs trace once current gap task turn i explicit suspends = by (slice_g
         let turned : HasItsTurns 2 r.body = all_get (λ (q : Record). HasItsTurns 2 q.body) rs i r trace.turns stands in
         let parts = suspended_parts r.body task turn fits.next turned is in
         let same : turn_in task (part_of rs r.thread i) ≡ turn =
-        sym (turn_is rs i task r stands parts.runs)
+        sym (turn_here rs i task r stands parts.runs)
         ∙ sym (told_right rs i parts.told gap (ap (option_and_then (λ (q : Record). told_turns q.body)) stands ∙ parts.tells)) ∙ parts.turn_told in
         record {
           thread = r.thread;

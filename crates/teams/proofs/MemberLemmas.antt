@@ -23,7 +23,7 @@ use Rattle.ompt_events.specs.Causes.{IsFreeOf}
 use Rattle.ompt_events.specs.Teams.{members_before, IsInitial, IsTeammate, alone, together}
 use Rattle.ompt_events.proofs.ListLemmas.{contains_get}
 use Rattle.ompt_events.proofs.PlaceLemmas.{range_more, at_within}
-use Rattle.ompt_events.proofs.RecordLemmas.{at_through}
+use Rattle.ompt_events.proofs.RecordLemmas.{at_through, member_made, initial_made, member_begun, initial_begun}
 use Rattle.task_tree.specs.Makers.{AreNoted}
 use Rattle.task_tree.specs.Numbering.{AreApart}
 use Rattle.task_tree.specs.Subjects.{subject}
@@ -44,14 +44,6 @@ none_of (Some x) never = absurd (never x refl)
 pub never_of : {X : Type 0} (o : Option X) (x : X) → o ≡ None → o ≡ Some x → ⊥
 never_of o x none is = none-some x (sym none ∙ is)
 
-joined_made : (m : Membership) (b : Body) → joined b ≡ Some m → made b ≡ Some m.member
-joined_made m (ImplicitTask Begin actual number flags parallel own) is = joined_subject m (ImplicitTask Begin actual number flags parallel own) is
-joined_made m _ is = absurd (none-some m is)
-
-initial_made : (task : ℕ) (b : Body) → begun_initial b ≡ Some task → made b ≡ Some task
-initial_made task (ImplicitTask Begin actual number flags parallel own) is = begun_initial_subject task (ImplicitTask Begin actual number flags parallel own) is
-initial_made task _ is = absurd (none-some task is)
-
 not_both : (m x : Membership) (task own : ℕ) (b : Bool) → (if b then None else Some x) ≡ Some m → (if b then Some own else None) ≡ Some task → ⊥
 not_both m x task own true is is' = none-some m is
 not_both m x task own false is is' = none-some task is'
@@ -68,7 +60,7 @@ joined_or_initial rs i task m is is' = there (slice_get rs i) is is'
     there (Some r) says says' = not_both_body m task r.body says says'
 
 pub joined_at_made : (rs : List Record) (i : ℕ) (m : Membership) → at joined rs i ≡ Some m → at made rs i ≡ Some m.member
-joined_at_made rs i m = at_through joined made m m.member rs i (joined_made m)
+joined_at_made rs i m = at_through joined made m m.member rs i (member_made m)
 
 pub initial_at_made : (rs : List Record) (i task : ℕ) → at begun_initial rs i ≡ Some task → at made rs i ≡ Some task
 initial_at_made rs i task = at_through begun_initial made task task rs i (initial_made task)
@@ -78,15 +70,6 @@ joined_at_subject rs i m = at_through joined subject m m.member rs i (joined_sub
 
 pub initial_at_subject : (rs : List Record) (i task : ℕ) → at begun_initial rs i ≡ Some task → at subject rs i ≡ Some task
 initial_at_subject rs i task = at_through begun_initial subject task task rs i (begun_initial_subject task)
-
--- the root that begins is a member, or an initial task
-joined_root : (m : Membership) (b : Body) → joined b ≡ Some m → begun_root b ≡ Some m.member
-joined_root m (ImplicitTask Begin actual number flags parallel own) is = joined_subject m (ImplicitTask Begin actual number flags parallel own) is
-joined_root m _ is = absurd (none-some m is)
-
-initial_root : (task : ℕ) (b : Body) → begun_initial b ≡ Some task → begun_root b ≡ Some task
-initial_root task (ImplicitTask Begin actual number flags parallel own) is = begun_initial_subject task (ImplicitTask Begin actual number flags parallel own) is
-initial_root task _ is = absurd (none-some task is)
 
 root_subject : (task : ℕ) (b : Body) → begun_root b ≡ Some task → subject b ≡ Some task
 root_subject task (ImplicitTask Begin actual number flags parallel own) is = is
@@ -101,10 +84,10 @@ root_initial task (ImplicitTask Begin actual number flags parallel own) is none 
 root_initial task _ is none = absurd (none-some task is)
 
 pub joined_at_root : (rs : List Record) (i : ℕ) (m : Membership) → at joined rs i ≡ Some m → at begun_root rs i ≡ Some m.member
-joined_at_root rs i m = at_through joined begun_root m m.member rs i (joined_root m)
+joined_at_root rs i m = at_through joined begun_root m m.member rs i (member_begun m)
 
 pub initial_at_root : (rs : List Record) (i task : ℕ) → at begun_initial rs i ≡ Some task → at begun_root rs i ≡ Some task
-initial_at_root rs i task = at_through begun_initial begun_root task task rs i (initial_root task)
+initial_at_root rs i task = at_through begun_initial begun_root task task rs i (initial_begun task)
 
 pub root_at_subject : (rs : List Record) (i task : ℕ) → at begun_root rs i ≡ Some task → at subject rs i ≡ Some task
 root_at_subject rs i task = at_through begun_root subject task task rs i (root_subject task)

@@ -1,19 +1,17 @@
 -- Barriers that end and that a member of the team doesn't begin.
-use Rattle.std.proofs.Common.{◌≡◌, ◌∙◌, ℕ, zero, suc, ◌<◌, ◌≤◌, ◌+◌, ◌^◌, List, [], ◌∷◌, ◌++◌, length, get_or, Option, Some, None, true, false, cond, refl, sym, ap, subst, arith, inl, inr, ◌⊎◌, add-one}
+use Rattle.std.proofs.Common.{◌≡◌, ◌∙◌, ℕ, zero, suc, ◌<◌, ◌≤◌, ◌+◌, ◌^◌, List, [], ◌∷◌, ◌++◌, length, get_or, Option, Some, None, false, sym, ap, subst, arith, inl, inr, ◌⊎◌, add-one}
 use Rattle.std.proofs.lemmas.Bool.{cases_lt, false≢true}
 use Rattle.std.proofs.lemmas.Option.{none-some, same_Some, slice_get_within, slice_get-get_or}
-use Rattle.std.specs.Prelude.{slice_get, option_map}
+use Rattle.std.specs.Prelude.{slice_get}
 use Rattle.ompt_events.specs.declared.records.Record.{Record}
 use Rattle.ompt_events.specs.declared.names.Endpoint.{Endpoint}
 use Rattle.ompt_events.specs.declared.names.SyncKind.{SyncKind}
 use Rattle.ompt_events.specs.Records.{region, made}
 use Rattle.ompt_events.specs.Places.{at}
-use Rattle.ompt_events.specs.Regions.{is_barrier, barrier_begun, barrier_begins, IsBarrierBegin, IsRegion, ended, at_once}
+use Rattle.ompt_events.specs.Regions.{is_barrier, barrier_begins, IsBarrierBegin, IsRegion}
 use Rattle.ompt_events.specs.Teams.{IsTeammate}
-use Rattle.ompt_events.proofs.ListLemmas.{pushed_cases}
-use Rattle.ompt_events.proofs.RegionLemmas.{own_begin}
+use Rattle.ompt_events.proofs.ListLemmas.{pushed_cases, get_within}
 use Rattle.task_tree.specs.Makers.{AreNoted}
-
 use Rattle.task_states.specs.Rows.{row_at}
 use Rattle.teams.specs.Teams.{AreTeams, AreBegins, AreBeginNumbers, begins_before}
 use Rattle.std.specs.Global.{Vec}
@@ -22,6 +20,7 @@ use Rattle.teams.specs.Fewest.{AreFewest, AreTeamsWithin}
 use Rattle.teams.proofs.BeginLemmas.{begins_cases, begins_few}
 use Rattle.teams.proofs.RegionEndLemmas.{ends_at, one_region}
 use Rattle.teams.proofs.MemberLemmas.{mate_index}
+use Rattle.teams.proofs.BarrierLemmas.{barrier_begins_at, one_number}
 
 -- ---- where a barrier began that ends
 
@@ -30,17 +29,6 @@ other_kind rs i own kind endpoint says no_barrier = λ task begin another ends b
     let is = ends_at rs i task begin another ends in
     let same : kind ≡ another = ap (λ (p : ℕ × SyncKind × Endpoint). p.1) (same_Some (own, kind, endpoint) (task, another, is.endpoint) (sym says ∙ is.says)) in
     false≢true (sym no_barrier ∙ ap is_barrier same ∙ barrier)
-
--- the begin of a barrier begins it
-begun_there : (rs : List Record) (i task begin : ℕ) (kind : SyncKind) → IsRegion rs i task kind begin → is_barrier kind ≡ true → barrier_begun (at region rs begin) ≡ Some task
-begun_there rs i task begin kind (ended ends) barrier =
-    let own = own_begin rs i task begin kind ends in
-    let same : own.kind ≡ kind = same_Some own.kind kind (sym (ap kind_of own.begins) ∙ ends.same_kind) in
-    ap barrier_begun own.begins ∙ ap (λ b. cond b (Some task) None) (ap is_barrier same ∙ barrier)
-  where
-    kind_of : Option (ℕ × SyncKind × Endpoint) → Option SyncKind
-    kind_of o = option_map (λ (r : ℕ × SyncKind × Endpoint). r.1) o
-begun_there rs i task begin kind (at_once says) barrier = ap barrier_begun says ∙ ap (λ b. cond b (Some task) None) barrier
 
 pub begin_within : (rs : List Record) (i task begin : ℕ) (kind : SyncKind) → IsRegion rs i task kind begin → begin < length rs
 begin_within rs i task begin kind ends = let is = ends_at rs i task begin kind ends in let below = is.below in let inside = is.inside in omega (arith, below, inside)
@@ -58,15 +46,6 @@ begin_number rs task (suc n) number start is = let P : ℕ → Type 0 = λ m. sl
       | inl there ↦ let old = before there in let less = old.0 in (omega (arith, less), old.1)
       | inr last ↦ let same = last.1 in (omega (arith, same), last.0 ∙ ap (λ k. length (begins_before rs task k)) last.1)
     ]
-
-pub one_barrier : (rs : List Record) (task number other start : ℕ) → IsBarrierBegin rs task number start → IsBarrierBegin rs task other start → number ≡ other
-one_barrier rs task number other start is is' = (begin_number rs task (length rs) number start is).1 ∙ sym (begin_number rs task (length rs) other start is').1
-
--- what stands within a list
-pub get_within : {X : Type 0} (xs : List X) (i : ℕ) → i < length xs → (x : X) × (slice_get xs i ≡ Some x)
-get_within [] i below = absurd (omega (arith, below))
-get_within (x ∷ xs) zero below = (x, refl)
-get_within (x ∷ xs) (suc i) below = get_within xs i (omega (arith, below))
 
 -- ---- a member that begins too few
 
@@ -90,7 +69,7 @@ pub record IsCompared (rs : List Record) (tasks : List ℕ) (teams : List (Optio
   pub is_number : slice_get numbers begin ≡ Some number
 
 numbered_there : (rs : List Record) (tasks : List ℕ) (teams : List (Option ℕ)) (fewest numbers : List ℕ) (i begin index team count number : ℕ) (c : IsCompared rs tasks teams fewest numbers i begin index team count number) → IsBarrierBegin rs c.barrier.task number begin
-numbered_there rs tasks teams fewest numbers i begin index team count number c = c.are_numbers.each begin number c.is_number c.barrier.task (begun_there rs i c.barrier.task begin c.barrier.kind c.barrier.ends c.barrier.barrier)
+numbered_there rs tasks teams fewest numbers i begin index team count number c = c.are_numbers.each begin number c.is_number c.barrier.task (barrier_begins_at rs i c.barrier.task begin c.barrier.kind c.barrier.ends c.barrier.barrier)
 
 pub too_few : (rs : List Record) (tasks : List ℕ) (teams : List (Option ℕ)) (fewest numbers : List ℕ) (i begin index team count number : ℕ) → IsCompared rs tasks teams fewest numbers i begin index team count number → count ≤ number → IsMissed rs i
 too_few rs tasks teams fewest numbers i begin index team count number c less = elim (c.are_fewest.are_fewest.reached team count c.is_count) [
@@ -134,7 +113,7 @@ missed_mate rs i begin b m =
 pub missed_few : (rs : List Record) (tasks : List ℕ) (teams : List (Option ℕ)) (fewest numbers : List ℕ) (i begin index team count number : ℕ) → IsCompared rs tasks teams fewest numbers i begin index team count number → IsMissed rs i → count ≤ number
 missed_few rs tasks teams fewest numbers i begin index team count number c m =
     let mate = missed_mate rs i begin c.barrier m in
-    let same : number ≡ m.number = one_barrier rs c.barrier.task number m.number begin (numbered_there rs tasks teams fewest numbers i begin index team count number c) mate.1 in
+    let same : number ≡ m.number = one_number rs c.barrier.task number m.number begin (numbered_there rs tasks teams fewest numbers i begin index team count number c) mate.1 in
     let member = mate_index rs tasks index c.barrier.task m.member c.made_all c.is_task mate.0 in
     let in_team = (c.are_teams.mates index member.0 c.barrier.task m.member team c.is_task member.1 c.is_team).1 mate.0 in
     let inside = slice_get_within tasks member.0 m.member member.1 in

@@ -1,5 +1,5 @@
 -- What the record that ends a region says of it.
-use Rattle.std.proofs.Common.{◌≡◌, ◌∙◌, ℕ, ◌<◌, ◌≤◌, List, length, Some, refl, sym, ap, subst, arith}
+use Rattle.std.proofs.Common.{◌≡◌, ◌∙◌, ℕ, ◌<◌, ◌≤◌, List, length, Some, refl, sym, subst, arith}
 use Rattle.std.specs.Prelude.{slice_get}
 use Rattle.std.proofs.lemmas.Option.{same_Some}
 use Rattle.ompt_events.specs.declared.records.Record.{Record}
@@ -10,7 +10,7 @@ use Rattle.ompt_events.specs.Records.{region}
 use Rattle.ompt_events.specs.Places.{at}
 use Rattle.ompt_events.specs.Regions.{IsRegion, ended, at_once, EndsRegion}
 use Rattle.ompt_events.proofs.PlaceLemmas.{at_within}
-use Rattle.ompt_events.proofs.RegionLemmas.{begin_before}
+use Rattle.ompt_events.proofs.RegionLemmas.{begin_before, same_says}
 
 -- ---- one region ends at a record
 
@@ -32,21 +32,15 @@ pub record IsSameRegion (task other begin start : ℕ) (kind another : SyncKind)
   pub kind_is : kind ≡ another
   pub begin_is : begin ≡ start
 
--- what two readings of one record say
-pub says_same : (rs : List Record) (i task other : ℕ) (kind another : SyncKind) (e f : Endpoint) → at region rs i ≡ Some (task, kind, e) → at region rs i ≡ Some (other, another, f) → (task ≡ other) × (kind ≡ another) × (e ≡ f)
-says_same rs i task other kind another e f here there =
-    let same = same_Some (task, kind, e) (other, another, f) (sym here ∙ there) in
-    (ap (λ (p : ℕ × SyncKind × Endpoint). p.0) same, ap (λ (p : ℕ × SyncKind × Endpoint). p.1) same, ap (λ (p : ℕ × SyncKind × Endpoint). p.2) same)
-
 pub one_region : (rs : List Record) (i task other begin start : ℕ) (kind another : SyncKind) → IsRegion rs i task kind begin → IsRegion rs i other another start → IsSameRegion task other begin start kind another
 one_region rs i task other begin start kind another (ended here) (ended there) =
-    let same = says_same rs i task other kind another End End here.ends there.ends in
+    let same = same_says rs i task other kind another End End here.ends there.ends in
     let P : ℕ → Type 0 = λ t. slice_get (Rattle.ompt_events.specs.Regions.open_regions rs t i) 0 ≡ Some start in
     record { task_is = same.0; kind_is = same.1; begin_is = same_Some begin start (sym here.innermost ∙ subst P (sym same.0) there.innermost) }
 one_region rs i task other begin start kind another (ended here) (at_once there) =
-    let same = says_same rs i task other kind another End BeginEnd here.ends there in absurd (cc)
+    let same = same_says rs i task other kind another End BeginEnd here.ends there in absurd (cc)
 one_region rs i task other begin start kind another (at_once here) (ended there) =
-    let same = says_same rs i task other kind another BeginEnd End here there.ends in absurd (cc)
+    let same = same_says rs i task other kind another BeginEnd End here there.ends in absurd (cc)
 one_region rs i task other begin start kind another (at_once here) (at_once there) =
-    let same = says_same rs i task other kind another BeginEnd BeginEnd here there in
+    let same = same_says rs i task other kind another BeginEnd BeginEnd here there in
     record { task_is = same.0; kind_is = same.1; begin_is = refl }

@@ -20,6 +20,7 @@ use Rattle.ompt_events.specs.Teams.{IsInitial}
 use Rattle.ompt_events.proofs.PlaceLemmas.{at_within}
 use Rattle.task_tree.specs.Numbering.{AreApart}
 use Rattle.task_tree.specs.Own.{OwnView, IsOwn, HasCauseAt, IsFirstPlaceWith}
+use Rattle.task_tree.proofs.RenamedCauseLemmas.{short_within}
 use Rattle.teams.specs.Tables.{TablesView, AreTables, tables_own}
 use Rattle.teams.specs.Fewest.{AreTeamsWithin, AreShort}
 use Rattle.teams.specs.Members.{IsInTeam, in_own, in_joined, AreInTeams}
@@ -87,13 +88,6 @@ not_short rs i fine begins (missed task member begin number kind ends barrier nu
 
 missed_short : (rs : List Record) (i : ℕ) → IsMissed rs i → IsShort rs i
 missed_short rs i m = missed m.barrier.task m.member m.begin m.number m.barrier.kind m.barrier.ends m.barrier.barrier m.numbered m.mate m.never
-
-short_within : (rs : List Record) (i : ℕ) → IsShort rs i → i < length rs
-short_within rs i (outside m joins out) = at_within joined rs i m joins
-short_within rs i (same_index m e joins has same) = at_within joined rs i m joins
-short_within rs i (other_size m e joins has different) = at_within joined rs i m joins
-short_within rs i (few m joins less) = at_within joined rs i m joins
-short_within rs i (missed task member begin number kind ends barrier numbered mate never) = (ends_at rs i task begin kind ends).inside
 
 of_cause : (rs : List Record) (i : ℕ) → HasCause rs i TeamShort → IsShort rs i
 of_cause rs i (team_short is) = is

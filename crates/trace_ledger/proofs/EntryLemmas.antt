@@ -2,7 +2,7 @@
 use Rattle.std.proofs.Common.{◌≡◌, ◌∙◌, ℕ, zero, suc, ◌<◌, true, false, cond, List, [], ◌∷◌, length, take, get_or, Option, Some, None, refl, sym, ap, subst, arith, inl, inr}
 use Rattle.std.specs.Prelude.{◌==◌, is_some, slice_get}
 use Rattle.std.specs.Option.{option_map, option_and_then}
-use Rattle.std.proofs.lemmas.Bool.{and_from, false≢true, eqb-true, eq-eqb}
+use Rattle.std.proofs.lemmas.Bool.{false≢true, eqb-true, eq-eqb}
 use Rattle.std.proofs.lemmas.Option.{none-some, same_Some, slice_get_within, get_or_from_slice_get}
 use Rattle.ompt_events.specs.declared.records.Record.{Record}
 use Rattle.ompt_events.specs.declared.records.Claim.{Claim}
@@ -16,8 +16,8 @@ use Rattle.ompt_events.specs.Causes.{share_wrong, IsFreeOf}
 use Rattle.credit.specs.declared.share.Half.{Half}
 use Rattle.credit_ledger.specs.declared.entry.Entry.{Entry}
 use Rattle.credit_ledger.specs.Entries.{tree_share, tree_shares, pool_share, parent_and_number, share_in_pool, pool_shares, is_same_path}
-use Rattle.credit_ledger.proofs.CodeLemmas.{same_path-true}
-use Rattle.credit_ledger.proofs.OverLemmas.{HasEntry, has_later, in_cond}
+use Rattle.credit_ledger.proofs.CodeLemmas.{same_path-true, same_path-itself, cond_in as in_cond}
+use Rattle.credit_ledger.proofs.OverLemmas.{HasEntry, has_later}
 use Rattle.credit_ledger.proofs.RegionLemmas.{IsIn, IsIn-append_left, IsIn-append_right, IsIn-append_cases}
 use Rattle.trace_ledger.specs.Entries.{claimed_entry, entry_of, IsEntryAt, IsLedgerOf}
 
@@ -164,16 +164,12 @@ from_pool root parent (f ∷ entries) x there = elim (IsIn-append_cases x (cond 
       (found.0, found.1, has_later f found.0 entries found.2, found.3, found.4, found.5)
 ]
 
-same_path : (p : List ℕ) → is_same_path p p ≡ true
-same_path [] = refl
-same_path (n ∷ p) = and_from _ _ (eq-eqb n n refl) (same_path p)
-
 own_share : (root number : ℕ) (parent : List ℕ) (e : Entry) → e.root ≡ root → IsOfChild parent e number → IsIn (pool_share number e.part) (cond (e.root == root) (share_in_pool parent (parent_and_number e.path) e.part) [])
 own_share root number parent e own of =
     let P : List (List Half) → Type 0 = λ xs. IsIn (pool_share number e.part) xs in
     let shares : cond (e.root == root) (share_in_pool parent (parent_and_number e.path) e.part) [] ≡ cond (is_same_path parent parent) (pool_share number e.part ∷ []) [] =
     ap (λ b. cond b (share_in_pool parent (parent_and_number e.path) e.part) []) (eq-eqb e.root root own) ∙ ap (λ c. share_in_pool parent c e.part) of in
-    subst P (sym shares) (cond_in (is_same_path parent parent) (pool_share number e.part) (same_path parent))
+    subst P (sym shares) (cond_in (is_same_path parent parent) (pool_share number e.part) (same_path-itself parent))
 
 pub in_pool : (root number : ℕ) (parent : List ℕ) (entries : List Entry) (e : Entry) → HasEntry entries e → e.root ≡ root → IsOfChild parent e number → IsIn (pool_share number e.part) (pool_shares root parent entries)
 in_pool root number parent [] e (k, is) own of = absurd (none-some e is)

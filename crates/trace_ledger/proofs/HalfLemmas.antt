@@ -2,7 +2,6 @@
 use Rattle.std.proofs.Common.{◌≡◌, ◌∙◌, ℕ, zero, suc, ◌<◌, ◌≤◌, true, List, [], ◌∷◌, ◌++◌, length, replicate, refl, sym, ap, subst, arith, inl, inr}
 use Rattle.std.specs.List.{list_any, AllByRecursion as ByRecursion}
 use Rattle.std.proofs.lemmas.Bool.{false≢true, cases_Bool}
-use Rattle.std.proofs.lemmas.List.{append_assoc}
 use Rattle.std.proofs.lemmas.List.Folds.{Any-from_list_any}
 use Rattle.std.proofs.lemmas.List.Elements.{recursion_from_All}
 use Rattle.credit.specs.declared.share.Half.{Half}
@@ -10,7 +9,7 @@ use Rattle.credit.specs.declared.share.Half.TheVariants.{Keep, Give}
 use Rattle.credit.specs.Shares.{begins_with, start_share, Hold}
 use Rattle.credit.proofs.ShareLemmas.{IsShort}
 use Rattle.credit_ledger.proofs.RegionLemmas.{IsIn, list_any-in}
-use Rattle.credit_ledger.proofs.CodeLemmas.{start-begun}
+use Rattle.credit_ledger.proofs.CodeLemmas.{start-begun, start-cons}
 
 -- ---- two shares of which one begins with the other
 
@@ -20,9 +19,6 @@ pub data Meets (m k : ℕ) (rest halves : List Half) (p q : List ℕ) : Type 0 w
   same : p ≡ q → begins_with (replicate m Keep ++ rest) (replicate k Keep ++ halves) ≡ true → Meets m k rest halves p q
   under : (number : ℕ) (more : List ℕ) → q ≡ p ++ number ∷ more → m ≤ number → Meets m k rest halves p q
   over : (number : ℕ) (more : List ℕ) → p ≡ q ++ number ∷ more → k ≤ number → Meets m k rest halves p q
-
-pub start-cons : (n : ℕ) (runs : List ℕ) (y : List Half) → start_share (n ∷ runs) ++ y ≡ replicate n Keep ++ Give ∷ (start_share runs ++ y)
-start-cons n runs y = simp append_assoc
 
 -- no more halves are kept than there are before one is given
 keeps-first : (m n : ℕ) (y z : List Half) → begins_with (replicate n Keep ++ Give ∷ y) (replicate m Keep ++ z) ≡ true → m ≤ n

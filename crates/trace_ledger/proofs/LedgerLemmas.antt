@@ -1,8 +1,8 @@
 -- How the ledger of a trace grows, and why no entry is refused.
-use Rattle.std.proofs.Common.{◌≡◌, ◌∙◌, ℕ, ◌<◌, ◌≤◌, ◌+◌, ◌^◌, true, false, List, [], ◌∷◌, ◌++◌, length, get_or, Option, Some, None, refl, sym, ap, subst, arith, inl, inr}
+use Rattle.std.proofs.Common.{◌≡◌, ◌∙◌, ℕ, ◌<◌, ◌≤◌, ◌+◌, ◌^◌, false, List, [], ◌∷◌, ◌++◌, length, get_or, Option, Some, refl, sym, ap, subst, arith, inl, inr}
 use Rattle.std.specs.Prelude.{is_some, slice_get}
 use Rattle.std.specs.Option.{option_and_then, option_map_or}
-use Rattle.std.proofs.lemmas.Bool.{cases_lt, cond-false, false≢true, lt-leb}
+use Rattle.std.proofs.lemmas.Bool.{cases_lt, cond-false, lt-leb}
 use Rattle.std.proofs.lemmas.Option.{none-some, same_Some, slice_get_within, slice_get_read, slice_get-get_or, get_or_from_slice_get}
 use Rattle.std.proofs.lemmas.List.Folds.{list_any_none}
 use Rattle.std.proofs.lemmas.List.Sums.{count_by-le-length}
@@ -15,6 +15,7 @@ use Rattle.ompt_events.specs.Traces.{IsTrace, IsSound}
 use Rattle.ompt_events.specs.HappensBefore.{IsFinishing}
 use Rattle.ompt_events.specs.Causes.{entry_twice, entries_in, entry, length_ahead, IsFreeOf}
 use Rattle.ompt_events.proofs.ListLemmas.{pushed_cases}
+use Rattle.ompt_events.proofs.PlaceLemmas.{some_of}
 use Rattle.credit_ledger.specs.declared.entry.Entry.{Entry}
 use Rattle.credit_ledger.specs.declared.fault.LedgerFault.{LedgerFault}
 use Rattle.credit_ledger.specs.declared.fault.LedgerFault.TheVariants.{Memory, Overlap}
@@ -40,10 +41,6 @@ possible_fault entries e fault possible is =
 
 -- ---- the entry of a maker
 
-some_there : {X : Type 0} (o : Option X) → is_some o ≡ true → (x : X) × (o ≡ Some x)
-some_there None is = absurd (false≢true is)
-some_there (Some x) is = (x, refl)
-
 sound_there : (rs : List Record) (i : ℕ) (r : Record) → IsTrace rs → slice_get rs i ≡ Some r → IsSound r.body
 sound_there rs i r trace here =
     subst (λ (q : Record). IsSound q.body) (get_or_from_slice_get rs i r r here)
@@ -61,7 +58,7 @@ pub made_by : (rs : List Record) (makers : List (Option ℕ)) (index i : ℕ) (r
     → Makes rs i index r
 made_by rs makers index i r trace are is here =
     let (below, finishes, seen) = are.makes index i is in
-    let (what, says) = some_there (at finish rs i) finishes in
+    let (what, says) = some_of (at finish rs i) finishes in
     let (e, entered) = entry_made rs i what.0 what.1 trace says in
     record {
       sound = sound_there rs i r trace here;

@@ -13,6 +13,7 @@ use Rattle.ompt_events.specs.Places.{at, seen_at}
 use Rattle.ompt_events.specs.HappensBefore.{IsFinishing}
 use Rattle.ompt_events.specs.Causes.{entry_twice, entries_in, entry, length_ahead, IsFreeOf}
 use Rattle.ompt_events.proofs.PlaceLemmas.{at_index}
+use Rattle.ompt_events.proofs.ListLemmas.{get_within}
 use Rattle.task_tree.proofs.LinkLemmas.{get_set_same, get_set_other}
 use Rattle.trace_ledger.specs.Makers.{IsMaker, free_entries, AreMakers}
 
@@ -44,22 +45,17 @@ none_placed (suc n) (suc k) place is = none_placed n k place is
 
 -- ---- entries of the first records
 
-pub record_at : (rs : List Record) (i : ℕ) → i < length rs → (r : Record) × (slice_get rs i ≡ Some r)
-record_at [] i within = absurd (omega arith)
-record_at (r ∷ rs) zero within = (r, refl)
-record_at (r ∷ rs) (suc i) within = record_at rs i (omega (arith, within))
-
 entries_same : (rs : List Record) (n : ℕ) → n < length rs → is_some (at finish rs n) ≡ false
     → entries_in (take (n + 1) rs) ≡ entries_in (take n rs)
 entries_same rs n within none =
-    let (r, here) = record_at rs n within in
+    let (r, here) = get_within rs n within in
     count_by_more_no (λ (q : Record). is_some (finish q.body)) rs n r within
     (sym (ap is_some (at_index finish rs n r within)) ∙ none)
 
 entries_more : (rs : List Record) (n : ℕ) → n < length rs → IsFinishing rs n
     → entries_in (take (n + 1) rs) ≡ entries_in (take n rs) + 1
 entries_more rs n within finishes =
-    let (r, here) = record_at rs n within in
+    let (r, here) = get_within rs n within in
     count_by_more_yes (λ (q : Record). is_some (finish q.body)) rs n r within
     (sym (ap is_some (at_index finish rs n r within)) ∙ finishes)
 

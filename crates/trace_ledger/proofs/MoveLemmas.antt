@@ -3,7 +3,6 @@
 use Rattle.std.proofs.Common.{◌≡◌, ◌≢◌, ◌∙◌, ℕ, zero, suc, ◌<◌, ◌+◌, Bool, true, false, cond, List, [], ◌∷◌, ◌++◌, length, get_or, take, Option, Some, None, refl, sym, ap, subst, arith, inl, inr, ◌⊎◌, add-one}
 use Rattle.std.specs.Prelude.{◌==◌, ◌&&◌, not, is_some, slice_get, filter, fold, map, Contains}
 use Rattle.std.specs.List.{flat_map, range_with_len}
-use Rattle.std.proofs.lemmas.List.FromFn.{length-range_with_len, get_or-range_with_len}
 use Rattle.std.specs.Option.{option_map, option_map_or, option_and_then}
 use Rattle.std.proofs.lemmas.Bool.{cases_lt, cases_order, eq-eqb, false≢true}
 use Rattle.std.proofs.lemmas.Option.{none-some, same_Some, slice_get-map, slice_get-get_or}
@@ -27,7 +26,7 @@ use Rattle.ompt_events.specs.Places.{at, places}
 use Rattle.ompt_events.specs.States.{Move, Stopped, Started, Discarded, Nature, is_task, stops, moves_by, moves_at, moves_of, has_moved, is_early_move, is_apart, moves_by_file, turn_starts_at, turn_ends_at, turn_moves, moved_moves, all_moves_of, home_of, is_on, is_early, places_of, nature_of, may, next_state_of, move_state, state_after, first_state, state_of}
 use Rattle.ompt_events.specs.Turns.{is_turn, turns_in}
 use Rattle.ompt_events.specs.Causes.{status_order, IsFreeOf}
-use Rattle.ompt_events.proofs.ListLemmas.{get_contains, contains_get}
+use Rattle.ompt_events.proofs.ListLemmas.{get_contains, contains_get, contains_range}
 use Rattle.ompt_events.proofs.TurnLemmas.{ended_low}
 use Rattle.ompt_events.proofs.PlaceLemmas.{at_within, contains_place, Contains-filter}
 use Rattle.trace_ledger.specs.Entries.{IsFinishedInParts}
@@ -154,9 +153,6 @@ body_ends task part (Cancel flags own share) is =
         let same = same_Some (own, Whole) (task, part) is in
         (ap (λ b. slice_get (cond b (Discarded ∷ []) []) 0) (eq-eqb own task (ap (λ (f : ℕ × Part). f.0) same)), ap (λ (f : ℕ × Part). Some f.1) same)
 body_ends task part _ is = absurd (none-some (task, part) is)
-
-contains_range : (n i : ℕ) → i < n → Contains (range_with_len 0 n) i
-contains_range n i below = (i, rw (length-range_with_len 0 n) below, get_or-range_with_len 0 n i i below ∙ omega arith)
 
 -- of a record that stands there the moves are these
 moves_there : (rs : List Record) (task i : ℕ) (r : Record) → slice_get rs i ≡ Some r → moves_at rs task i ≡ map (λ m. (i, m)) (moves_by task r.body)

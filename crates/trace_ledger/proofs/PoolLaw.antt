@@ -18,10 +18,11 @@ use Rattle.credit_ledger.specs.Entries.{part_halves, parent_and_number, pool_sha
 use Rattle.credit_ledger.proofs.CodeLemmas.{start-begun}
 use Rattle.credit_ledger.proofs.RegionLemmas.{IsIn, IsSplit, split, IsSplit-begun, Passes, passes, begins_with-shift}
 use Rattle.credit_ledger.proofs.OverLemmas.{held_begins}
+use Rattle.credit_ledger.proofs.OverlapLemmas.{parent_and_number-push}
 use Rattle.trace_ledger.specs.Entries.{IsDone}
 use Rattle.trace_ledger.proofs.HalfLemmas.{hold_from}
 use Rattle.trace_ledger.proofs.EntryLemmas.{IsRight, entry_right, IsEntered, entry_made, IsOfChild, from_pool, in_pool, below_from, from_below}
-use Rattle.trace_ledger.proofs.StandLemmas.{one_task, parent_of_push, push_of_parent}
+use Rattle.trace_ledger.proofs.StandLemmas.{one_task, push_of_parent}
 use Rattle.trace_ledger.proofs.CompleteLemmas.{done_or_not, missing_half}
 use Rattle.trace_ledger.proofs.TreeLaw.{IsKnown, right_entry}
 
@@ -41,7 +42,7 @@ share_pooled rs entries n root parent number task path part known at_path (i, fi
     there e entered right =
         let P : ℕ → Type 0 = λ t. HasPath rs e.root t e.path in
         let one = one_path rs e.root root task e.path (path ++ number ∷ []) known.once (subst P entered.task_is right.stands) (below number at_path.stands at_path.numbered) in
-        let of : IsOfChild path e number = ap parent_and_number one.1 ∙ parent_of_push path number in
+        let of : IsOfChild path e number = ap parent_and_number one.1 ∙ parent_and_number-push path number in
         let Q : Part → Type 0 = λ p. IsIn (pool_share number p) (pool_shares root path (take n entries)) in
         subst Q entered.part_is (in_pool root number path (take n entries) e (from_below rs entries n i task part e known.ledger entered seen) one.0 of)
 

@@ -12,6 +12,7 @@ use Rattle.ompt_events.proofs.PlaceLemmas.{at_within}
 use Rattle.ompt_events.proofs.ListLemmas.{get_last}
 use Rattle.ompt_events.proofs.TreeLemmas.{children_more, children_stay, child_place}
 use Rattle.credit_ledger.specs.Entries.{parent_and_number}
+use Rattle.credit_ledger.proofs.OverlapLemmas.{parent_and_number-push}
 
 -- ---- the last number of a path
 
@@ -134,15 +135,11 @@ family_child rs head task number other of is =
 
 -- ---- the parent and the number that a path ends with
 
-pub parent_of_push : (path : List ℕ) (number : ℕ) → parent_and_number (path ++ number ∷ []) ≡ Some (path, number)
-parent_of_push [] number = refl
-parent_of_push (n ∷ path) number = ap (λ o. Some (Rattle.std.specs.Option.option_map_or (λ (s : List ℕ × ℕ). (n ∷ s.0, s.1)) o ([], n))) (parent_of_push path number)
-
 pub push_of_parent : (path up : List ℕ) (number : ℕ) → parent_and_number path ≡ Some (up, number) → path ≡ up ++ number ∷ []
 push_of_parent path up number is = of (last_of path)
   where
     of : LastOf path → path ≡ up ++ number ∷ []
     of (none e) = absurd (none-some (up, number) (sym (ap parent_and_number e) ∙ is))
     of (last first x e) =
-        let same = same_Some (first, x) (up, number) (sym (parent_of_push first x) ∙ sym (ap parent_and_number e) ∙ is) in
+        let same = same_Some (first, x) (up, number) (sym (parent_and_number-push first x) ∙ sym (ap parent_and_number e) ∙ is) in
         e ∙ ap (λ (s : List ℕ × ℕ). s.0 ++ s.1 ∷ []) same

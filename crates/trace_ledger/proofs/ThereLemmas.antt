@@ -8,11 +8,12 @@ use Rattle.ompt_events.specs.Records.{finish}
 use Rattle.ompt_events.specs.Places.{at, seen_at}
 use Rattle.ompt_events.specs.Traces.{IsTrace}
 use Rattle.ompt_events.specs.Causes.{entries_in}
+use Rattle.ompt_events.proofs.ListLemmas.{get_within}
 use Rattle.credit_ledger.specs.declared.entry.Entry.{Entry}
 use Rattle.trace_ledger.specs.Entries.{IsEntryAt, IsLedgerOf, HasRightEntries}
 use Rattle.trace_ledger.specs.Ledger.{AreEntered}
 use Rattle.trace_ledger.specs.Makers.{AreMakers}
-use Rattle.trace_ledger.proofs.MakerLemmas.{record_at, makers_start, makers_same, makers_more, all_made}
+use Rattle.trace_ledger.proofs.MakerLemmas.{makers_start, makers_same, makers_more, all_made}
 use Rattle.trace_ledger.proofs.LedgerLemmas.{made_by, none_entered, one_entered, are_all}
 
 -- a table of the records that make entries
@@ -51,7 +52,7 @@ entered_there rs makers (suc n) trace right are low =
     maker None is = absurd (all_made rs makers n are right.apart right.within is)
     maker (Some i) is =
         let below = (are.makes n i is).0 in
-        let (r, here) = record_at rs i below in
+        let (r, here) = get_within rs i below in
         let makes = made_by rs makers n i r trace are is here in
         (i, makes.entry, makes.there)
 

@@ -23,8 +23,9 @@ use Rattle.credit_ledger.specs.declared.entry.Entry.{Entry}
 use Rattle.credit_ledger.specs.Entries.{part_halves, tree_share, tree_shares}
 use Rattle.credit_ledger.proofs.RegionLemmas.{IsIn, IsSplit, split, IsSplit-begun, Passes, passes, begins_with-shift}
 use Rattle.credit_ledger.proofs.OverLemmas.{from_tree, held_begins}
+use Rattle.credit_ledger.proofs.CodeLemmas.{start-cons}
 use Rattle.trace_ledger.specs.Entries.{IsLedgerOf, IsDone}
-use Rattle.trace_ledger.proofs.HalfLemmas.{Meets, meet, Goes, through, aside, short, goes, start-cons, hold_from}
+use Rattle.trace_ledger.proofs.HalfLemmas.{Meets, meet, Goes, through, aside, short, goes, hold_from}
 use Rattle.trace_ledger.proofs.EntryLemmas.{IsFrom, entry_says, IsRight, entry_right, IsEntered, entry_made, in_tree, below_from, from_below}
 use Rattle.trace_ledger.proofs.StandLemmas.{family_below, family_child}
 use Rattle.trace_ledger.proofs.MeetLemmas.{one_of_meeting}

@@ -19,6 +19,7 @@ use Rattle.trace_ledger.proofs.CreditLaw.{held_in_pool, held_in_tree}
 use Rattle.wait_coverage.specs.Done.{DoneView, records_of, tasks_of, IsEarly, IsFamilyEarly, IsDoneView, AreDone, AreChildrenDone}
 use Rattle.wait_coverage.specs.Known.{AreHeldFrom}
 use Rattle.wait_coverage.proofs.DoneLemmas.{indices_of}
+use Rattle.task_states.proofs.HomeLemmas.{explicit_index}
 
 -- ---- the tasks' own lengths
 
@@ -36,13 +37,6 @@ own_early done index task m is are here small = (
       (are.each index task (slice_index done.own index) here there m small).0 (early index (slice_index done.own index) here there),
   λ finished other limit other_here stands. (are.each other task limit other_here stands m small).1 finished,
 )
-
--- a task that another one created has an index
-explicit_index : (rs : List Record) (family : FamilyView) (task : ℕ) → IsFamilyOf rs family → IsExplicit rs task → (index : ℕ) × (slice_get family.tasks index ≡ Some task)
-explicit_index rs family task are (i, is) =
-    let made = created_at_creation task rs i is in
-    let found = indices_of rs family i made.0 task are made.1 in
-    (found.index, found.is_task)
 
 pub own_children_done : (done : DoneView) → IsDoneView done → AreDone done → AreChildrenDone done
 own_children_done done is are = λ task m explicit small.

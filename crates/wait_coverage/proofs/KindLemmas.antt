@@ -11,11 +11,11 @@ use Rattle.ompt_events.specs.Waits.{wait_kind}
 use Rattle.task_tree.specs.Runs.{RunView, IsWaitEvent}
 
 -- the kind of region that waits so
-taskwait_kind : (kind : SyncKind) → wait_kind kind ≡ Some ForTaskwait → kind ≡ Taskwait
+pub taskwait_kind : (kind : SyncKind) → wait_kind kind ≡ Some ForTaskwait → kind ≡ Taskwait
 taskwait_kind Taskwait is = refl
 taskwait_kind _ is = absurd (cc)
 
-taskgroup_kind : (kind : SyncKind) → wait_kind kind ≡ Some ForTaskgroup → kind ≡ Taskgroup
+pub taskgroup_kind : (kind : SyncKind) → wait_kind kind ≡ Some ForTaskgroup → kind ≡ Taskgroup
 taskgroup_kind Taskgroup is = refl
 taskgroup_kind _ is = absurd (cc)
 

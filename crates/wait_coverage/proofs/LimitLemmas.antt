@@ -19,7 +19,7 @@ use Rattle.ompt_events.specs.Regions.{IsRegion, EndsRegion, ended, at_once, is_b
 use Rattle.ompt_events.specs.Teams.{IsTeammate}
 use Rattle.ompt_events.specs.Coverage.{Covers, IsFamily, waited, grouped, synchronised}
 use Rattle.ompt_events.proofs.ListLemmas.{pushed_cases}
-use Rattle.ompt_events.proofs.RegionLemmas.{own_begin, begin_before}
+use Rattle.ompt_events.proofs.RegionLemmas.{own_begin, same_says}
 use Rattle.ompt_events.proofs.TreeLemmas.{before_child, child_place}
 use Rattle.task_tree.specs.Numbering.{AreApart}
 use Rattle.task_tree.proofs.LinkLemmas.{get_set_same, get_set_other}
@@ -31,7 +31,7 @@ use Rattle.teams.proofs.BarrierLemmas.{begun_region, begun_other, barrier_is_oth
 use Rattle.teams.proofs.EventLemmas.{no_wait}
 use Rattle.ompt_events.specs.Waits.{wait_kind}
 use Rattle.ompt_events.specs.declared.names.WaitKind.TheVariants.{Taskwait as ForTaskwait, Taskgroup as ForTaskgroup}
-use Rattle.teams.proofs.RegionEndLemmas.{ends_at, one_region, says_same}
+use Rattle.teams.proofs.RegionEndLemmas.{ends_at, one_region}
 use Rattle.wait_coverage.proofs.CoverLemmas.{child_with, number_between}
 use Rattle.trace_ledger.proofs.StandLemmas.{created_child}
 use Rattle.wait_coverage.proofs.ChainLemmas.{chains_other, chains_more}
@@ -321,9 +321,6 @@ pub ended_region : (rs : List Record) (i task begin : ℕ) (kind : SyncKind) →
 ended_region rs i task begin kind says (ended ends) = ends
 ended_region rs i task begin kind says (at_once once) = absurd (let same = same_Some (task, kind, End) (task, kind, BeginEnd) (sym says ∙ once) in let never : End ≡ BeginEnd = ap (λ (p : ℕ × SyncKind × Endpoint). p.2) same in cc)
 
-pub begin_earlier : (rs : List Record) (i task begin : ℕ) (kind : SyncKind) → EndsRegion rs i task kind begin → begin < i
-begin_earlier rs i task begin kind ends = begin_before rs i task begin kind ends
-
 -- ---- records that create nothing
 
 no_creation : (rs : List Record) (i own : ℕ) (kind : SyncKind) (endpoint : Endpoint) → at region rs i ≡ Some (own, kind, endpoint) → at creation rs i ≡ None
@@ -336,11 +333,11 @@ no_creation rs i own kind endpoint says = of (at creation rs i) refl
 -- the end of a taskwait
 pub ended_mark : (done : DoneView) (n task limit : ℕ) (nodes : List Node) → AreMarks done nodes → at region (records_of done) n ≡ Some (task, Taskwait, End) → IsLimitOfBegin (records_of done) nodes n limit → IsMark done n limit
 ended_mark done n task limit nodes marks says right = record {
-  begins = λ t begins. absurd (let same = (says_same (records_of done) n task t Taskwait Taskwait End Begin says begins).2 in cc);
+  begins = λ t begins. absurd (let same = (same_says (records_of done) n task t Taskwait Taskwait End Begin says begins).2 in cc);
   meets = λ t begun. absurd (begun_other (records_of done) n t task Taskwait End says refl begun);
   ends = record {
     waits = waits;
-    groups = λ p b c t there from less creates. absurd (let ends = ends_at (records_of done) n p b Taskgroup there in let same = (says_same (records_of done) n task p Taskwait Taskgroup End ends.endpoint says ends.says).1 in cc);
+    groups = λ p b c t there from less creates. absurd (let ends = ends_at (records_of done) n p b Taskgroup there in let same = (same_says (records_of done) n task p Taskwait Taskgroup End ends.endpoint says ends.says).1 in cc);
   };
 }
   where
@@ -351,7 +348,7 @@ ended_mark done n task limit nodes marks says right = record {
         let kinds : begins.kind ≡ Taskwait = same_Some begins.kind Taskwait (sym (ap (option_map (λ (r : ℕ × SyncKind × Endpoint). r.1)) begins.begins) ∙ ends.same_kind) in
         let P : ℕ → Type 0 = λ l. IsChildLimit done b p l in
         subst P there.2 ((marks b there.0 there.1).begins p (begins.begins ∙ ap (λ k. Some (p, k, Begin)) kinds))
-    waits p b (at_once once) = absurd (let same = (says_same (records_of done) n task p Taskwait Taskwait End BeginEnd says once).2 in cc)
+    waits p b (at_once once) = absurd (let same = (same_says (records_of done) n task p Taskwait Taskwait End BeginEnd says once).2 in cc)
 
 -- the begin of one, or one that begins and ends at once
 pub begun_mark : (done : DoneView) (n task limit : ℕ) (endpoint : Endpoint) → at region (records_of done) n ≡ Some (task, Taskwait, endpoint) → endpoint ≢ End → IsChildLimit done n task limit → IsMark done n limit
@@ -360,32 +357,32 @@ begun_mark done n task limit endpoint says not_end right = record {
   meets = λ t begun. absurd (begun_other (records_of done) n t task Taskwait endpoint says refl begun);
   ends = record {
     waits = waits;
-    groups = λ p b c t there from less creates. absurd (let ends = ends_at (records_of done) n p b Taskgroup there in let same = (says_same (records_of done) n task p Taskwait Taskgroup endpoint ends.endpoint says ends.says).1 in cc);
+    groups = λ p b c t there from less creates. absurd (let ends = ends_at (records_of done) n p b Taskgroup there in let same = (same_says (records_of done) n task p Taskwait Taskgroup endpoint ends.endpoint says ends.says).1 in cc);
   };
 }
   where
     mine : (t : ℕ) (e : Endpoint) → at region (records_of done) n ≡ Some (t, Taskwait, e) → IsChildLimit done n t limit
     mine t e there =
         let P : ℕ → Type 0 = λ k. IsChildLimit done n k limit in
-        subst P (says_same (records_of done) n task t Taskwait Taskwait endpoint e says there).0 right
+        subst P (same_says (records_of done) n task t Taskwait Taskwait endpoint e says there).0 right
 
     waits : (p b : ℕ) → IsRegion (records_of done) n p Taskwait b → IsChildLimit done b p limit
-    waits p b (ended ends) = absurd (not_end (says_same (records_of done) n task p Taskwait Taskwait endpoint End says ends.ends).2)
+    waits p b (ended ends) = absurd (not_end (same_says (records_of done) n task p Taskwait Taskwait endpoint End says ends.ends).2)
     waits p b (at_once once) = mine p BeginEnd once
 
 -- the begin of a taskgroup, or one that begins and ends at once
 pub group_mark : (done : DoneView) (n task limit : ℕ) (endpoint : Endpoint) → at region (records_of done) n ≡ Some (task, Taskgroup, endpoint) → endpoint ≢ End → IsMark done n limit
 group_mark done n task limit endpoint says not_end = record {
-  begins = λ t begins. absurd (let same = (says_same (records_of done) n task t Taskgroup Taskwait endpoint Begin says begins).1 in cc);
+  begins = λ t begins. absurd (let same = (same_says (records_of done) n task t Taskgroup Taskwait endpoint Begin says begins).1 in cc);
   meets = λ t begun. absurd (begun_other (records_of done) n t task Taskgroup endpoint says refl begun);
   ends = record {
-    waits = λ p b there. absurd (let ends = ends_at (records_of done) n p b Taskwait there in let same = (says_same (records_of done) n task p Taskgroup Taskwait endpoint ends.endpoint says ends.says).1 in cc);
+    waits = λ p b there. absurd (let ends = ends_at (records_of done) n p b Taskwait there in let same = (same_says (records_of done) n task p Taskgroup Taskwait endpoint ends.endpoint says ends.says).1 in cc);
     groups = groups;
   };
 }
   where
     groups : (p b c t : ℕ) → IsRegion (records_of done) n p Taskgroup b → b ≤ c → c < n → at creation (records_of done) c ≡ Some (p, t) → IsFamilyLimit done t limit
-    groups p b c t (ended ends) from less creates = absurd (not_end (says_same (records_of done) n task p Taskgroup Taskgroup endpoint End says ends.ends).2)
+    groups p b c t (ended ends) from less creates = absurd (not_end (same_says (records_of done) n task p Taskgroup Taskgroup endpoint End says ends.ends).2)
     groups p b c t (at_once once) from less creates = absurd (omega (arith, from, less))
 
 -- the begin or end of a barrier
@@ -395,7 +392,7 @@ barrier_mark done n task limit kind endpoint says barrier right = record {
   meets = λ t begun.
       let known = begun_region (records_of done) n t begun in
       let P : ℕ → Type 0 = λ k. IsFamiliesLimit done n k limit in
-      subst P (says_same (records_of done) n task t kind known.0 endpoint known.1 says known.2).0 right;
+      subst P (same_says (records_of done) n task t kind known.0 endpoint known.1 says known.2).0 right;
   ends = record {
     waits = λ p b there. absurd (let ends = ends_at (records_of done) n p b Taskwait there in other Taskwait ends.endpoint p refl ends.says);
     groups = λ p b c t there from less creates. absurd (let ends = ends_at (records_of done) n p b Taskgroup there in other Taskgroup ends.endpoint p refl ends.says);
@@ -403,7 +400,7 @@ barrier_mark done n task limit kind endpoint says barrier right = record {
 }
   where
     other : (another : SyncKind) (e : Endpoint) (t : ℕ) → is_barrier another ≡ false → at region (records_of done) n ≡ Some (t, another, e) → ⊥
-    other another e t none there = barrier_is_other kind another barrier none (says_same (records_of done) n task t kind another endpoint e says there).1
+    other another e t none there = barrier_is_other kind another barrier none (same_says (records_of done) n task t kind another endpoint e says there).1
 
 -- a record that begins or ends no region that waits for tasks
 pub quiet_mark : (done : DoneView) (n limit : ℕ) → ((task : ℕ) (kind : SyncKind) (endpoint : Endpoint) → at region (records_of done) n ≡ Some (task, kind, endpoint) → wait_kind kind ≡ None) → IsMark done n limit
@@ -421,7 +418,7 @@ pub unended_noted : (done : DoneView) (n own : ℕ) (nodes : List Node) (new : N
 unended_noted done n own nodes new progress are says never alone =
     noted_alone done n nodes new progress are (no_creation (records_of done) n own Taskgroup End says) alone
     (record {
-      begins = λ t begins. absurd (let same = (says_same (records_of done) n own t Taskgroup Taskwait End Begin says begins).2 in cc);
+      begins = λ t begins. absurd (let same = (same_says (records_of done) n own t Taskgroup Taskwait End Begin says begins).2 in cc);
       meets = λ t begun. absurd (begun_other (records_of done) n t own Taskgroup End says refl begun);
       ends = record {
         waits = λ p b there. absurd (never p b Taskwait there);

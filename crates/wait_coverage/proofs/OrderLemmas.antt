@@ -3,25 +3,19 @@ use Rattle.std.proofs.Common.{◌≡◌, ◌∙◌, ℕ, zero, suc, [], ◌∷�
 use Rattle.std.proofs.lemmas.Bool.{cases_lt, cases_eq}
 use Rattle.std.proofs.lemmas.Option.{none-some, same_Some, slice_get_within, slice_get-get_or}
 use Rattle.std.proofs.lemmas.List.Elements.{Contains-push, Contains-push_cases, Contains-append_left}
-use Rattle.std.proofs.lemmas.List.FromFn.{length-range_with_len, get_or-range_with_len}
+use Rattle.std.proofs.lemmas.List.FromFn.{length-range_with_len}
 use Rattle.std.proofs.lemmas.List.Sorted.{Contains-permutation, IsPermutation-sym}
 use Rattle.std.specs.List.{range_with_len}
 use Rattle.std.specs.List.Sorted.{IsPermutation, IsNonDecreasingBy}
 use Rattle.std.specs.Prelude.{slice_get, map, option_map}
 use Rattle.ompt_events.specs.declared.records.Record.{Record}
-use Rattle.ompt_events.proofs.ListLemmas.{get_contains, contains_get}
+use Rattle.ompt_events.proofs.ListLemmas.{get_contains, contains_get, range_get}
 use Rattle.task_tree.specs.Family.{FamilyView, IsFamilyOf}
 use Rattle.task_tree.specs.Lineage.{parent_index, depth_in}
 use Rattle.task_tree.proofs.LineageLemmas.{parent_depth}
 use Rattle.wait_coverage.specs.Done.{IsParentsFirst, AreRanked}
 
 -- ---- the indices as they are
-
-pub range_get : (n k : ℕ) → k < n → slice_get (range_with_len 0 n) k ≡ Some k
-range_get n k less =
-    let inside : k < length (range_with_len 0 n) = rw (length-range_with_len 0 n) less in
-    let same : get_or (range_with_len 0 n) k 0 ≡ k = get_or-range_with_len 0 n k 0 less ∙ omega arith in
-    slice_get-get_or (range_with_len 0 n) k 0 inside ∙ ap Some same
 
 pub get_range : (n k i : ℕ) → slice_get (range_with_len 0 n) k ≡ Some i → (i ≡ k) × (k < n)
 get_range n k i is =

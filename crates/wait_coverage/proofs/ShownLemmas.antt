@@ -87,7 +87,7 @@ own_open rs own number place task of is stands = (
       },
 )
 
-all_shown : (rs : List Record) (own : OwnView) (number place : ℕ) → IsOwnOf rs own → IsOwn own → slice_get own.places number ≡ Some place → IsCoverComplete own.run.records number → IsCompleteShown rs place
+pub all_shown : (rs : List Record) (own : OwnView) (number place : ℕ) → IsOwnOf rs own → IsOwn own → slice_get own.places number ≡ Some place → IsCoverComplete own.run.records number → IsCompleteShown rs place
 all_shown rs own number place of is stands all task covers =
     let covered = (own_covers rs own of number place stands task).1 covers in
     (own_complete rs own number place task task of is stands covered).0 (all task covered)

@@ -34,7 +34,8 @@ use Rattle.ompt_events.specs.Teams.{IsTeammate}
 use Rattle.teams.proofs.EventLemmas.{barrier_kind}
 use Rattle.teams.proofs.RegionEndLemmas.{ends_at}
 use Rattle.wait_coverage.proofs.DoneLemmas.{indices_of}
-use Rattle.wait_coverage.proofs.WaitKindLemmas.{taskwait_sync, taskgroup_sync, silent_sync}
+use Rattle.wait_coverage.proofs.WaitKindLemmas.{silent_sync}
+use Rattle.wait_coverage.proofs.KindLemmas.{taskwait_kind, taskgroup_kind}
 
 -- ---- the children
 
@@ -65,14 +66,6 @@ own_parentless rs family index task wait are here none own =
 some_within : {X : Type 0} (table : List X) (index : ℕ) → index < length table → slice_get table index ≡ None → ⊥
 some_within [] index inside none = absurd (omega (arith, inside))
 some_within (x ∷ xs) index inside none = none-some (get_or (x ∷ xs) index x) (sym none ∙ slice_get-get_or (x ∷ xs) index x inside)
-
--- what stands at an index within a table
-pub stands_there : {X : Type 0} (table : List X) (index : ℕ) → index < length table → (x : X) × (slice_get table index ≡ Some x)
-stands_there {X} table index inside = of (slice_get table index) refl
-  where
-    of : (o : Option X) → slice_get table index ≡ o → (x : X) × (slice_get table index ≡ Some x)
-    of None e = absurd (some_within table index inside e)
-    of (Some x) e = (x, e)
 
 -- ---- which children
 
@@ -194,12 +187,12 @@ no_wait_there run i silent = λ task begin kind demands there.
 pub taskwait_there : (run : RunView) (i index begin : ℕ) (kind : WaitKind) (endpoint : Endpoint) → kind ≡ TaskwaitKind → IsWaitEvent run i index kind endpoint → IsBeginOf run.records i begin → IsWaitAt run.records run.family.tasks i (ForTaskwait index begin)
 taskwait_there run i index begin kind endpoint is event begins =
     let P : SyncKind → Type 0 = λ k. IsRegion run.records i event.task k begin in
-    waits event.indexed (subst P (taskwait_sync event.sync (event.waits ∙ ap Some is)) (begins event.task event.sync endpoint event.says))
+    waits event.indexed (subst P (taskwait_kind event.sync (event.waits ∙ ap Some is)) (begins event.task event.sync endpoint event.says))
 
 pub taskgroup_there : (run : RunView) (i index begin : ℕ) (kind : WaitKind) (endpoint : Endpoint) → kind ≡ TaskgroupKind → IsWaitEvent run i index kind endpoint → IsBeginOf run.records i begin → IsWaitAt run.records run.family.tasks i (ForTaskgroup index begin i)
 taskgroup_there run i index begin kind endpoint is event begins =
     let P : SyncKind → Type 0 = λ k. IsRegion run.records i event.task k begin in
-    groups event.indexed (subst P (taskgroup_sync event.sync (event.waits ∙ ap Some is)) (begins event.task event.sync endpoint event.says))
+    groups event.indexed (subst P (taskgroup_kind event.sync (event.waits ∙ ap Some is)) (begins event.task event.sync endpoint event.says))
 
 pub barrier_there : (run : RunView) (numbers : List ℕ) (i index begin number : ℕ) (kind : WaitKind) (endpoint : Endpoint) → kind ≡ BarrierKind → IsWaitEvent run i index kind endpoint → IsBeginOf run.records i begin → AreBeginNumbers run.records (length run.records) numbers → slice_get numbers begin ≡ Some number → IsWaitAt run.records run.family.tasks i (ForBarrier index number)
 barrier_there run numbers i index begin number kind endpoint is event begins are stands =

@@ -1,6 +1,6 @@
 use Rattle.std.proofs.Common.{◌+◌}
-use Rattle.certificate.proofs.KeptLemmas.{IsTraceOf-take}
 use Rattle.certificate.proofs.kept.of_turns.Goals as goal
+use Rattle.ompt_events.proofs.TraceLemmas.{IsTraceOf-take}
 
 pub unreachable-requires : goal.unreachable-requires
 unreachable-requires c =

@@ -4,8 +4,8 @@ use Rattle.std.proofs.lemmas.Option.{slice_get_within, get_or_from_slice_get}
 use Rattle.ompt_events.specs.declared.records.Record.{Record}
 use Rattle.ompt_events.specs.Traces.{IsSound}
 use Rattle.ompt_events.proofs.PlaceLemmas.{read_get}
+use Rattle.ompt_events.proofs.TraceLemmas.{IsTraceOf-take}
 use Rattle.certificate.specs.TaskTurns.{AreEnded, IsUpgradedUpTo}
-use Rattle.certificate.proofs.KeptLemmas.{IsTraceOf-take}
 use Rattle.certificate.proofs.TaskTurnLemmas.{is_noted, turns_more, ended_more}
 use Rattle.certificate.proofs.UpgradeLemmas.{upgraded_more, upgraded_all, trace_of_two}
 use Rattle.certificate.proofs.upgrading.tell_all.Goals as goal

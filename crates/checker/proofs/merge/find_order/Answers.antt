@@ -6,10 +6,10 @@ use Rattle.std.specs.Prelude.{slice_index}
 use Rattle.ompt_events.specs.Faults.{FindsFirst}
 use Rattle.checker.specs.Merge.{Stands, IsUnplaced, IsTaken, MayFollow}
 use Rattle.ompt_events.specs.declared.cause.Cause.TheVariants.{NoOrder}
-use Rattle.checker.proofs.MergeLemmas.{thread_of}
 use Rattle.checker.proofs.MergingLemmas.{IsMerging, merging_start, merging_more, missing_less, passed_more, finds_unordered, all_stand, all_ordered}
 use Rattle.checker.proofs.FrontLemmas.{front_of, ready_more}
 use Rattle.checker.proofs.merge.find_order.Goals as goal
+use Rattle.task_tree.proofs.GapFreeLemmas.{thread_there}
 
 pub first_ready-requires : goal.first_ready-requires
 first_ready-requires c =
@@ -45,7 +45,7 @@ release-requires-clause-front c =
     let now_low = c.first_missing-low-in-Some.result in
     let merging = c.merge.invariant.merging in
     let taken : IsTaken rs placed place c.take_first.new.ready = (rw c.deref-in-merge.ensures.value at c.in-Some.ensures.taken) rs c.merge.invariant.ready in
-    let runs = thread_of rs place taken.next.within in
+    let runs = thread_there rs place taken.next.within in
     let now_placed = c.place.new.self.placed.items in
     let placed_is : now_placed ≡ set placed place true = c.place.ensures.placed in
     let heads_are = c.place.ensures.heads runs.0 runs.1 in
@@ -74,7 +74,7 @@ merge-preserved c =
     let now_low = c.first_missing-low-in-Some.result in
     let merging = c.merge.invariant.merging in
     let taken : IsTaken rs placed place c.take_first.new.ready = (rw c.deref-in-merge.ensures.value at c.in-Some.ensures.taken) rs c.merge.invariant.ready in
-    let runs = thread_of rs place taken.next.within in
+    let runs = thread_there rs place taken.next.within in
     let now_placed = c.place.new.self.placed.items in
     let placed_is : now_placed ≡ set placed place true = c.place.ensures.placed in
     let heads_are = c.place.ensures.heads runs.0 runs.1 in

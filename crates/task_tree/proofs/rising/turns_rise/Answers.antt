@@ -1,8 +1,9 @@
 use Rattle.std.proofs.Common.{refl, below_more}
 use Rattle.ompt_events.specs.Causes.{HasTurnGap}
+use Rattle.ompt_events.proofs.TurnLemmas.{free_of_gaps}
 use Rattle.task_tree.specs.Rising.{IsInOrder}
 use Rattle.task_tree.proofs.GapLemmas.{free_of_gap}
-use Rattle.task_tree.proofs.RisingPassLemmas.{all_in_order, in_order_rise, untold_in_order, untold_free}
+use Rattle.task_tree.proofs.RisingPassLemmas.{all_in_order, in_order_rise, untold_in_order}
 use Rattle.task_tree.proofs.rising.turns_rise.Goals as goal
 
 pub loop-at-preserved : goal.loop-at-preserved
@@ -16,7 +17,7 @@ loop-at-preserved c =
     }
 
 pub returns-then-not-goes_on-clause-untold : goal.returns-then-not-goes_on-clause-untold
-returns-then-not-goes_on-clause-untold c untold = absurd (c.goes_on.ensures.off c.if-not-goes_on.true (untold_in_order c.args.records.now untold) (untold_free c.args.records.now untold))
+returns-then-not-goes_on-clause-untold c untold = absurd (c.goes_on.ensures.off c.if-not-goes_on.true (untold_in_order c.args.records.now untold) (free_of_gaps c.args.records.now untold))
 
 pub returns-clause-exact : goal.returns-clause-exact
 returns-clause-exact c = (

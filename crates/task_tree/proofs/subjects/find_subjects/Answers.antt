@@ -3,11 +3,11 @@ use Rattle.std.specs.Prelude.{IsTrue}
 use Rattle.std.proofs.lemmas.Option.{slice_get_within}
 use Rattle.ompt_events.specs.Records.{creation}
 use Rattle.ompt_events.specs.Places.{at}
-use Rattle.ompt_events.proofs.PlaceLemmas.{at_read, read_get}
+use Rattle.ompt_events.proofs.PlaceLemmas.{at_read, read_get, none_from_test}
 use Rattle.task_tree.specs.Rootless.{AreKnown}
 use Rattle.task_tree.proofs.RootlessLemmas.{known_start, known_more}
 use Rattle.task_tree.specs.Subjects.{subject, object}
-use Rattle.task_tree.proofs.SubjectLemmas.{up_to_start, up_to_more, up_to_end, created_names, finds_slot, slot_holds, some_there, none_there}
+use Rattle.task_tree.proofs.SubjectLemmas.{up_to_start, up_to_more, up_to_end, created_names, finds_slot, slot_holds, some_there}
 use Rattle.task_tree.proofs.LinkLemmas.{counts_start, links_start, counts_other, links_other, counts_linked, links_linked, count_small}
 use Rattle.task_tree.proofs.subjects.find_subjects.Goals as goal
 use Rattle.task_tree.proofs.subjects.find_subjects.Goals.{then-is_some, else-is_some}
@@ -64,7 +64,7 @@ loop-at-preserved c =
             links = links_linked rs i tasks parent child c.loop-at.counts.items c.loop-at.links.items w.link_child.new.counts.items w.link_child.new.links.items c.requires.once c.loop-at.invariant.counts c.loop-at.invariant.links creates linked;
           })
       | else-is_some w ↦
-          let none = says ∙ none_there c.creation.result (sym c.is_some.ensures ∙ w.if-is_some.false) in
+          let none = says ∙ none_from_test c.creation.result (sym c.is_some.ensures ∙ w.if-is_some.false) in
           rw (w.counts-is, w.links-is) (record {
             subjects = subjects;
             objects = objects;
