@@ -3,7 +3,7 @@ use Rattle.std.proofs.Common.{◌≡◌, ◌∙◌, ℕ, zero, suc, ◌<◌, Boo
 use Rattle.std.proofs.Common.{length, Some, refl, sym, ap, arith, inl, inr}
 use Rattle.std.specs.Prelude.{◌||◌, slice_get, filter, map, is_some}
 use Rattle.std.specs.List.{IsDistinct, list_any}
-use Rattle.std.proofs.lemmas.Bool.{true≢false, false≢true, cases_Bool, or_cases, eqb-true, eq-eqb}
+use Rattle.std.proofs.lemmas.Bool.{false≢true, cases_Bool, or_cases, eqb-true, eq-eqb}
 use Rattle.std.proofs.lemmas.Option.{none-some, same_Some}
 use Rattle.std.proofs.lemmas.List.{length-map}
 use Rattle.std.proofs.lemmas.List.Sums.{length-filter}
@@ -14,10 +14,6 @@ use Rattle.ompt_events.specs.Causes.{entries_in}
 use Rattle.ompt_events.proofs.ListLemmas.{none_equal}
 
 -- ---- different numbers
-
-or_none : (x y : Bool) → (x || y) ≡ false → (x ≡ false) × (y ≡ false)
-or_none true y is = absurd (true≢false is)
-or_none false y is = (refl, is)
 
 or_first : (x y : Bool) → x ≡ true → (x || y) ≡ true
 or_first true y is = refl

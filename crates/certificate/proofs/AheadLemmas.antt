@@ -1,5 +1,7 @@
 -- What a reading on several workers has in hand, from step to step.
-use Rattle.std.proofs.Common.{◌≡◌, ◌≢◌, ℕ, ◌+◌, ◌<◌, ◌≤◌, Bool, true, false, List, [], ◌∷◌, ◌++◌, length, Option, Some, None, Result, Ok, Err, arith, refl, sym, ap, ◌∙◌, subst, inl, inr, append-nil, append_assoc, length-append}
+use Rattle.std.proofs.Common.{◌≡◌, ◌≢◌, ℕ, ◌+◌, ◌<◌, ◌≤◌, Bool, true, false, List, [], ◌∷◌, ◌++◌, length}
+use Rattle.std.proofs.Common.{Option, Some, None, Result, Ok, Err, arith, refl, sym, ap, ◌∙◌, subst, inl, inr}
+use Rattle.std.proofs.Common.{append-nil, append_assoc, length-append}
 use Rattle.std.specs.Prelude.{OnOk}
 use Rattle.std.specs.Result.{result_err}
 use Rattle.std.specs.Io.KnownBytes.{Keeps, IsAtEnd, prepend_known}
@@ -15,28 +17,38 @@ use Rattle.certificate.specs.Files.{no_trace, traces}
 use Rattle.certificate.specs.Pieces.{IsWholeLines, AreJudged}
 use Rattle.certificate.specs.Windows.{LineFeedAt}
 use Rattle.certificate.specs.ReadingOn.{IsBetweenLines, IsToldAfter, IsEnded, ReadsAhead}
-use Rattle.certificate.specs.Ahead.{Waits, IsToldNext, IsAfterStep, SameSource, SameLines, IsAdded, IsRefilled, WorkedBeside, HasMet, MeetsMore}
+use Rattle.certificate.specs.Ahead.{Waits, IsToldNext, IsAfterStep, SameSource, SameLines, IsAdded}
+use Rattle.certificate.specs.Ahead.{IsRefilled, WorkedBeside, HasMet, MeetsMore}
 use Rattle.certificate.proofs.CountLemmas.{TakesTurns-more}
 use Rattle.certificate.proofs.PieceLemmas.{no_memory}
-use Rattle.certificate.proofs.ReadingLemmas.{line_feeds-append, line_feeds-one, line_feeds-unbroken, IsBetween-keeps, IsBetween-start}
+use Rattle.certificate.proofs.ReadingLemmas.{line_feeds-append, line_feeds-one, line_feeds-unbroken}
+use Rattle.certificate.proofs.ReadingLemmas.{IsBetween-keeps, IsBetween-start}
 use Rattle.certificate.proofs.FileLemmas.{unbroken-all}
 
 -- ---- bytes
 
 pub whole_feeds : (xs : List ℕ) → IsWholeLines xs → 0 < length xs → 0 < line_feeds xs
 whole_feeds xs (inl none) some = absurd (omega (arith, ap length none))
-whole_feeds xs (inr last) some = omega (arith, ap line_feeds last.1, line_feeds-append last.0 (10 ∷ []), line_feeds-one [] [] tt)
+whole_feeds xs (inr last) some =
+    omega (arith, ap line_feeds last.1, line_feeds-append last.0 (10 ∷ []), line_feeds-one [] [] tt)
 
 -- whole lines with no line feed
 pub whole_none : (xs : List ℕ) → IsWholeLines xs → LineFeedAt xs None → xs ≡ []
 whole_none [] whole none = refl
-whole_none (x ∷ xs) whole none = absurd (omega (arith, whole_feeds (x ∷ xs) whole (omega arith), line_feeds-unbroken (x ∷ xs) (unbroken-all (x ∷ xs) none)))
+whole_none (x ∷ xs) whole none =
+    absurd
+        (omega
+            (arith, whole_feeds (x ∷ xs) whole (omega arith),
+                line_feeds-unbroken (x ∷ xs) (unbroken-all (x ∷ xs) none)))
 
 -- the same bytes in front of both
-pub Keeps-front : (front w w' : List ℕ) (left left' : Option (List ℕ)) → Keeps (prepend_known w left) (prepend_known w' left') → Keeps (prepend_known (front ++ w) left) (prepend_known (front ++ w') left')
+pub Keeps-front : (front w w' : List ℕ) (left left' : Option (List ℕ))
+    → Keeps (prepend_known w left) (prepend_known w' left')
+    → Keeps (prepend_known (front ++ w) left) (prepend_known (front ++ w') left')
 Keeps-front front w w' None left' keeps = tt
 Keeps-front front w w' (Some l) None keeps = absurd keeps
-Keeps-front front w w' (Some l) (Some l') keeps = append_assoc front w' l' ∙ ap (λ xs. front ++ xs) keeps ∙ sym (append_assoc front w l)
+Keeps-front front w w' (Some l) (Some l') keeps =
+    append_assoc front w' l' ∙ ap (λ xs. front ++ xs) keeps ∙ sym (append_assoc front w l)
 
 -- ---- what waits after the pieces were added, and the block was filled
 
@@ -45,47 +57,82 @@ pub record Next (known left : Option (List ℕ)) (room : ℕ) (front : List ℕ)
   pub few : length (front ++ new.block.waiting) ≤ room
   pub end : new.filled ≡ Ok false → IsAtEnd left
 
-next_between : (known left left' : Option (List ℕ)) (room : ℕ) (front : List ℕ) (old middle new : Ahead) (u : Unit {0}) → IsAdded (Ok u) old middle → SameSource old middle → IsRefilled middle new left left' → Waits known left room front old → IsBetweenLines known new.line new.kept (front ++ new.block.waiting) left'
+next_between : (known left left' : Option (List ℕ)) (room : ℕ) (front : List ℕ) (old middle new : Ahead)
+    (u : Unit {0})
+    → IsAdded (Ok u) old middle → SameSource old middle → IsRefilled middle new left left'
+    → Waits known left room front old
+    → IsBetweenLines known new.line new.kept (front ++ new.block.waiting) left'
 next_between known left left' room front old middle new u added same re waits =
-    let there : IsBetweenLines known middle.line middle.kept (front ++ old.block.waiting) left = added.between waits.bytes (front ++ old.block.waiting) known left room waits.judged waits.few waits.between in
-    let keeps : Keeps (prepend_known old.block.waiting left) (prepend_known new.block.waiting left') = rw same.block at re.keeps in
-    rw (re.lines.line, re.lines.kept) (IsBetween-keeps (traces newest_version) known middle.line middle.kept (front ++ old.block.waiting) (front ++ new.block.waiting) left left' (Keeps-front front old.block.waiting new.block.waiting left left' keeps) there)
+    let there : IsBetweenLines known middle.line middle.kept (front ++ old.block.waiting) left =
+        added.between waits.bytes (front ++ old.block.waiting) known left room waits.judged waits.few
+            waits.between in
+    let keeps : Keeps (prepend_known old.block.waiting left) (prepend_known new.block.waiting left') =
+        rw same.block at re.keeps in
+    rw (re.lines.line, re.lines.kept)
+        (IsBetween-keeps (traces newest_version) known middle.line middle.kept (front ++ old.block.waiting)
+            (front ++ new.block.waiting) left left'
+            (Keeps-front front old.block.waiting new.block.waiting left left' keeps) there)
 
-next_few : (known left left' : Option (List ℕ)) (room limit : ℕ) (front : List ℕ) (old middle new : Ahead) (asks : Bool) → asks ≡ old.asks → length front ≤ limit → old.block.limit ≡ limit → limit + limit ≤ room → SameSource old middle → IsRefilled middle new left left' → Waits known left room front old → length (front ++ new.block.waiting) ≤ room
+next_few : (known left left' : Option (List ℕ)) (room limit : ℕ) (front : List ℕ) (old middle new : Ahead)
+    (asks : Bool)
+    → asks ≡ old.asks → length front ≤ limit → old.block.limit ≡ limit → limit + limit ≤ room
+    → SameSource old middle → IsRefilled middle new left left' → Waits known left room front old
+    → length (front ++ new.block.waiting) ≤ room
 next_few known left left' room limit front old middle new true is few same_limit all same re waits =
     let filled : length new.block.waiting ≤ new.block.limit = re.few (same.asks ∙ sym is) in
     omega (arith, filled, re.limit, ap (λ b. b.limit) same.block, length-append front new.block.waiting)
 next_few known left left' room limit front old middle new false is few same_limit all same re waits =
     let none = re.unasked (same.asks ∙ sym is) in
-    omega (arith, waits.few, length-append waits.bytes (front ++ old.block.waiting), length-append front old.block.waiting, length-append front new.block.waiting, ap (λ b. length b.waiting) none.0.block, ap (λ b. length b.waiting) same.block)
+    omega
+        (arith, waits.few, length-append waits.bytes (front ++ old.block.waiting),
+            length-append front old.block.waiting, length-append front new.block.waiting,
+            ap (λ b. length b.waiting) none.0.block, ap (λ b. length b.waiting) same.block)
 
-next_end : (known left left' : Option (List ℕ)) (room : ℕ) (front : List ℕ) (old middle new : Ahead) (asks : Bool) → asks ≡ old.asks → SameSource old middle → IsRefilled middle new left left' → Waits known left room front old → new.filled ≡ Ok false → IsAtEnd left'
-next_end known left left' room front old middle new true is same re waits end = re.end (same.asks ∙ sym is) end
+next_end : (known left left' : Option (List ℕ)) (room : ℕ) (front : List ℕ) (old middle new : Ahead)
+    (asks : Bool)
+    → asks ≡ old.asks → SameSource old middle → IsRefilled middle new left left'
+    → Waits known left room front old → new.filled ≡ Ok false → IsAtEnd left'
+next_end known left left' room front old middle new true is same re waits end =
+    re.end (same.asks ∙ sym is) end
 next_end known left left' room front old middle new false is same re waits end =
     let none = re.unasked (same.asks ∙ sym is) in
     rw none.1 (waits.end (sym same.filled ∙ sym none.0.filled ∙ end))
 
-pub next_waits : (known left left' : Option (List ℕ)) (room limit : ℕ) (front : List ℕ) (old new : Ahead) (u : Unit {0}) → length front ≤ limit → old.block.limit ≡ limit → limit + limit ≤ room → WorkedBeside (Ok u) old new left left' → Waits known left room front old → Next known left' room front new
+pub next_waits : (known left left' : Option (List ℕ)) (room limit : ℕ) (front : List ℕ) (old new : Ahead)
+    (u : Unit {0})
+    → length front ≤ limit → old.block.limit ≡ limit → limit + limit ≤ room
+    → WorkedBeside (Ok u) old new left left' → Waits known left room front old
+    → Next known left' room front new
 next_waits known left left' room limit front old new u few same_limit all worked waits = record {
   between = next_between known left left' room front old worked.0 new u worked.1 worked.2 worked.3 waits;
-  few = next_few known left left' room limit front old worked.0 new old.asks refl few same_limit all worked.2 worked.3 waits;
+  few =
+      next_few known left left' room limit front old worked.0 new old.asks refl few same_limit all worked.2
+          worked.3 waits;
   end = next_end known left left' room front old worked.0 new old.asks refl worked.2 worked.3 waits;
 }
 
 -- ---- what is told
 
 -- no memory was found for what waits
-pub waits_memory : (known left : Option (List ℕ)) (room : ℕ) (front : List ℕ) (ahead : Ahead) → Waits known left room front ahead → IsToldNext Memory known left room ahead
-waits_memory known left room front ahead waits = no_memory known ahead.line room ahead.kept (waits.bytes ++ (front ++ ahead.block.waiting)) left waits.few waits.between
+pub waits_memory : (known left : Option (List ℕ)) (room : ℕ) (front : List ℕ) (ahead : Ahead)
+    → Waits known left room front ahead → IsToldNext Memory known left room ahead
+waits_memory known left room front ahead waits =
+    no_memory known ahead.line room ahead.kept (waits.bytes ++ (front ++ ahead.block.waiting)) left waits.few
+        waits.between
 
-pub next_memory : (known left : Option (List ℕ)) (room : ℕ) (front : List ℕ) (new : Ahead) → Next known left room front new → IsToldNext Memory known left room new
-next_memory known left room front new next = no_memory known new.line room new.kept (front ++ new.block.waiting) left next.few next.between
+pub next_memory : (known left : Option (List ℕ)) (room : ℕ) (front : List ℕ) (new : Ahead)
+    → Next known left room front new → IsToldNext Memory known left room new
+next_memory known left room front new next =
+    no_memory known new.line room new.kept (front ++ new.block.waiting) left next.few next.between
 
 -- ---- what waits after the bytes behind the whole lines were moved
 
-pub waits_parted : (known left : Option (List ℕ)) (room : ℕ) (front front' : List ℕ) (old new : Ahead) → old.block.waiting ≡ [] → front ≡ front' ++ new.block.waiting → SameLines old new → new.filled ≡ old.filled → Waits known left room front old → Waits known left room front' new
+pub waits_parted : (known left : Option (List ℕ)) (room : ℕ) (front front' : List ℕ) (old new : Ahead)
+    → old.block.waiting ≡ [] → front ≡ front' ++ new.block.waiting → SameLines old new
+    → new.filled ≡ old.filled → Waits known left room front old → Waits known left room front' new
 waits_parted known left room front front' old new none parts same filled waits =
-    let all : front ++ old.block.waiting ≡ front' ++ new.block.waiting = ap (λ xs. front ++ xs) none ∙ append-nil front ∙ parts in
+    let all : front ++ old.block.waiting ≡ front' ++ new.block.waiting =
+        ap (λ xs. front ++ xs) none ∙ append-nil front ∙ parts in
     record {
       bytes = waits.bytes;
       judged = rw (same.kept, same.pieces) waits.judged;
@@ -100,20 +147,31 @@ pub record First (known left : Option (List ℕ)) (room : ℕ) (front : List ℕ
   pub between : IsBetweenLines known ahead.line ahead.kept (front ++ ahead.block.waiting) left
   pub few : length (front ++ ahead.block.waiting) ≤ room
 
-pub waits_first : (known left : Option (List ℕ)) (room : ℕ) (front : List ℕ) (ahead : Ahead) → ahead.pieces.items ≡ [] → Waits known left room front ahead → First known left room front ahead
+pub waits_first : (known left : Option (List ℕ)) (room : ℕ) (front : List ℕ) (ahead : Ahead)
+    → ahead.pieces.items ≡ [] → Waits known left room front ahead → First known left room front ahead
 waits_first known left room front ahead none waits =
-    let empty : waits.bytes ≡ [] = subst (λ (ps : List Piece). AreJudged ahead.kept.version ps waits.bytes) none waits.judged in
+    let empty : waits.bytes ≡ [] =
+        subst (λ (ps : List Piece). AreJudged ahead.kept.version ps waits.bytes) none waits.judged in
     record { between = rw empty at waits.between; few = rw empty at waits.few }
 
 -- ---- the source
 
-pub HasMet-same : (old new : Ahead) (t a b a' b' : ℕ) → new.turns ≡ old.turns → new.filled ≡ old.filled → HasMet old t a b a' b' → HasMet new t a b a' b'
-HasMet-same old new t a b a' b' turns filled met = record { taken = rw (turns, filled) met.taken; broken = rw filled met.broken }
+pub HasMet-same : (old new : Ahead) (t a b a' b' : ℕ) → new.turns ≡ old.turns → new.filled ≡ old.filled
+    → HasMet old t a b a' b' → HasMet new t a b a' b'
+HasMet-same old new t a b a' b' turns filled met = record {
+  taken = rw (turns, filled) met.taken;
+  broken = rw filled met.broken;
+}
 
-pub HasMet-more : (old new : Ahead) (a a' b b' : ℕ) → old.filled ≡ Ok true → TakesTurns (result_err new.filled) old.turns new.turns a a' → b' ≡ breaks_told (result_err new.filled) b → MeetsMore old new a a' b b'
+pub HasMet-more : (old new : Ahead) (a a' b b' : ℕ) → old.filled ≡ Ok true
+    → TakesTurns (result_err new.filled) old.turns new.turns a a' → b' ≡ breaks_told (result_err new.filled) b
+    → MeetsMore old new a a' b b'
 HasMet-more old new a a' b b' more taken broken t first_a first_b met =
-    let before : TakesTurns None t old.turns first_a a = subst (λ (f : Result Bool ReadCause). TakesTurns (result_err f) t old.turns first_a a) more met.taken in
-    let unbroken : b ≡ first_b = subst (λ (f : Result Bool ReadCause). b ≡ breaks_told (result_err f) first_b) more met.broken in
+    let before : TakesTurns None t old.turns first_a a =
+        subst (λ (f : Result Bool ReadCause). TakesTurns (result_err f) t old.turns first_a a) more
+            met.taken in
+    let unbroken : b ≡ first_b =
+        subst (λ (f : Result Bool ReadCause). b ≡ breaks_told (result_err f) first_b) more met.broken in
     record {
       taken = TakesTurns-more (result_err new.filled) t old.turns new.turns first_a a a' before taken;
       broken = broken ∙ ap (breaks_told (result_err new.filled)) unbroken;
@@ -121,29 +179,49 @@ HasMet-more old new a a' b b' more taken broken t first_a first_b met =
 
 -- ---- the end
 
-pub ended_step : (known left : Option (List ℕ)) (room n : ℕ) (kept : TraceView) (front : List ℕ) (ahead : Ahead) (r : Result (Unit {0}) ReadCause) → ahead.line ≡ n → n ≡ 1 → OnOk r (n ≢ 1) → IsEnded r known n kept room left → IsAfterStep r known left room front ahead
+pub ended_step : (known left : Option (List ℕ)) (room n : ℕ) (kept : TraceView) (front : List ℕ)
+    (ahead : Ahead) (r : Result (Unit {0}) ReadCause)
+    → ahead.line ≡ n → n ≡ 1 → OnOk r (n ≢ 1) → IsEnded r known n kept room left
+    → IsAfterStep r known left room front ahead
 ended_step known left room n kept front ahead (Ok u) line first later ended = absurd (later first)
 ended_step known left room n kept front ahead (Err cause) line first later ended = rw line ended
 
 -- the last pieces were added
-pub added_last : (known left : Option (List ℕ)) (room : ℕ) (front : List ℕ) (old new : Ahead) (u : Unit {0}) → old.block.waiting ≡ [] → IsAdded (Ok u) old new → Waits known left room front old → IsBetweenLines known new.line new.kept front left
+pub added_last : (known left : Option (List ℕ)) (room : ℕ) (front : List ℕ) (old new : Ahead) (u : Unit {0})
+    → old.block.waiting ≡ [] → IsAdded (Ok u) old new → Waits known left room front old
+    → IsBetweenLines known new.line new.kept front left
 added_last known left room front old new u none added waits =
     let all : front ++ old.block.waiting ≡ front = ap (λ xs. front ++ xs) none ∙ append-nil front in
-    rw all at (added.between waits.bytes (front ++ old.block.waiting) known left room waits.judged waits.few waits.between)
+    rw all
+        at
+            (added.between waits.bytes (front ++ old.block.waiting) known left room waits.judged waits.few
+                waits.between)
 
-pub front_few : (known left : Option (List ℕ)) (room : ℕ) (front : List ℕ) (old : Ahead) → Waits known left room front old → length front ≤ room
-front_few known left room front old waits = omega (arith, waits.few, length-append waits.bytes (front ++ old.block.waiting), length-append front old.block.waiting)
+pub front_few : (known left : Option (List ℕ)) (room : ℕ) (front : List ℕ) (old : Ahead)
+    → Waits known left room front old → length front ≤ room
+front_few known left room front old waits =
+    omega
+        (arith, waits.few, length-append waits.bytes (front ++ old.block.waiting),
+            length-append front old.block.waiting)
 
-pub added_fault : (known left : Option (List ℕ)) (room : ℕ) (front : List ℕ) (old new : Ahead) (cause : ReadCause) → IsAdded (Err cause) old new → Waits known left room front old → IsToldNext cause known left room new
+pub added_fault : (known left : Option (List ℕ)) (room : ℕ) (front : List ℕ) (old new : Ahead)
+    (cause : ReadCause)
+    → IsAdded (Err cause) old new → Waits known left room front old → IsToldNext cause known left room new
 added_fault known left room front old new cause added waits =
-    added.between waits.bytes (front ++ old.block.waiting) known left room waits.judged waits.few waits.between
+    added.between waits.bytes (front ++ old.block.waiting) known left room waits.judged waits.few
+        waits.between
 
 -- ---- the start
 
-pub start_waits : (known left : Option (List ℕ)) (room : ℕ) (front : List ℕ) (ahead : Ahead) → ahead.line ≡ 1 → ahead.kept ≡ no_trace → ahead.pieces.items ≡ [] → ahead.block.waiting ≡ [] → Keeps (prepend_known [] known) (prepend_known front left) → length front ≤ room → (ahead.filled ≡ Ok false → IsAtEnd left) → Waits known left room front ahead
+pub start_waits : (known left : Option (List ℕ)) (room : ℕ) (front : List ℕ) (ahead : Ahead) → ahead.line ≡ 1
+    → ahead.kept ≡ no_trace → ahead.pieces.items ≡ [] → ahead.block.waiting ≡ []
+    → Keeps (prepend_known [] known) (prepend_known front left) → length front ≤ room
+    → (ahead.filled ≡ Ok false → IsAtEnd left) → Waits known left room front ahead
 start_waits known left room front ahead line kept pieces none keeps few end =
     let all : front ++ ahead.block.waiting ≡ front = ap (λ xs. front ++ xs) none ∙ append-nil front in
-    let there : IsBetweenLines known 1 no_trace front left = IsBetween-keeps (traces newest_version) known 1 no_trace [] front known left keeps (IsBetween-start (traces newest_version) known) in
+    let there : IsBetweenLines known 1 no_trace front left =
+        IsBetween-keeps (traces newest_version) known 1 no_trace [] front known left keeps
+            (IsBetween-start (traces newest_version) known) in
     record {
       bytes = [];
       judged = subst (λ (ps : List Piece). AreJudged ahead.kept.version ps []) (sym pieces) refl;
@@ -155,9 +233,13 @@ start_waits known left room front ahead line kept pieces none keeps few end =
 -- ---- after a round
 
 -- what was judged comes next, and what was filled is in front
-pub turned_waits : (known left : Option (List ℕ)) (room : ℕ) (front : List ℕ) (new last : Ahead) → Next known left room front new → AreJudged new.kept.version last.pieces.items front → last.line ≡ new.line → last.kept ≡ new.kept → last.block.waiting ≡ [] → last.filled ≡ new.filled → Waits known left room new.block.waiting last
+pub turned_waits : (known left : Option (List ℕ)) (room : ℕ) (front : List ℕ) (new last : Ahead)
+    → Next known left room front new → AreJudged new.kept.version last.pieces.items front
+    → last.line ≡ new.line → last.kept ≡ new.kept → last.block.waiting ≡ [] → last.filled ≡ new.filled
+    → Waits known left room new.block.waiting last
 turned_waits known left room front new last next judged line kept none filled =
-    let all : new.block.waiting ++ last.block.waiting ≡ new.block.waiting = ap (λ xs. new.block.waiting ++ xs) none ∙ append-nil new.block.waiting in
+    let all : new.block.waiting ++ last.block.waiting ≡ new.block.waiting =
+        ap (λ xs. new.block.waiting ++ xs) none ∙ append-nil new.block.waiting in
     record {
       bytes = front;
       judged = rw kept judged;
@@ -167,12 +249,25 @@ turned_waits known left room front new last next judged line kept none filled =
     }
 
 -- the version of what is kept is the same
-pub worked_version : (left left' : Option (List ℕ)) (old new : Ahead) (u : Unit {0}) → WorkedBeside (Ok u) old new left left' → new.kept.version ≡ old.kept.version
-worked_version left left' old new u worked = ap (λ (t : TraceView). t.version) worked.3.lines.kept ∙ worked.1.version
+pub worked_version : (left left' : Option (List ℕ)) (old new : Ahead) (u : Unit {0})
+    → WorkedBeside (Ok u) old new left left' → new.kept.version ≡ old.kept.version
+worked_version left left' old new u worked =
+    ap (λ (t : TraceView). t.version) worked.3.lines.kept ∙ worked.1.version
 
-pub added_fault_known : (known left left' : Option (List ℕ)) (room : ℕ) (front : List ℕ) (old new : Ahead) (cause : ReadCause) → WorkedBeside (Err cause) old new left left' → Waits known left room front old → IsToldNext cause known left' room new
-added_fault_known known left left' room front old new cause worked waits = rw worked.2 (added_fault known left room front old new cause worked.0 waits)
+pub added_fault_known : (known left left' : Option (List ℕ)) (room : ℕ) (front : List ℕ) (old new : Ahead)
+    (cause : ReadCause)
+    → WorkedBeside (Err cause) old new left left' → Waits known left room front old
+    → IsToldNext cause known left' room new
+added_fault_known known left left' room front old new cause worked waits =
+    rw worked.2 (added_fault known left room front old new cause worked.0 waits)
 
 -- what the source did, at the end of a reading
-pub reads_ahead : (told : Option ReadCause) (ahead : Ahead) (a b a' b' : ℕ) → HasMet ahead 0 a b a' b' → IsToldAfter (result_err ahead.filled) told → (turns : ℕ) × ReadsAhead told 0 turns a a' b b'
-reads_ahead told ahead a b a' b' met after = (ahead.turns, record { met = result_err ahead.filled; taken = met.taken; broken = met.broken; told_after = after })
+pub reads_ahead : (told : Option ReadCause) (ahead : Ahead) (a b a' b' : ℕ) → HasMet ahead 0 a b a' b'
+    → IsToldAfter (result_err ahead.filled) told → (turns : ℕ) × ReadsAhead told 0 turns a a' b b'
+reads_ahead told ahead a b a' b' met after =
+    (ahead.turns, record {
+      met = result_err ahead.filled;
+      taken = met.taken;
+      broken = met.broken;
+      told_after = after;
+    })

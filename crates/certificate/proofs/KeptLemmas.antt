@@ -1,18 +1,21 @@
 -- One record more among those that are kept, and the first ones of them.
-use Rattle.std.proofs.Common.{◌≡◌, ℕ, ◌+◌, ◌<◌, ◌≤◌, List, [], ◌∷◌, ◌++◌, length, take, drop, cond, arith, ap, sym, ◌∙◌, length-take}
+use Rattle.std.proofs.Common.{◌≡◌, ℕ, ◌+◌, ◌<◌, ◌≤◌, List, [], ◌∷◌, ◌++◌, length, cond, arith, ap, sym, ◌∙◌}
 use Rattle.std.specs.Prelude.{is_some}
-use Rattle.std.proofs.lemmas.List.{length_push, take-append-drop}
-use Rattle.std.proofs.lemmas.List.Elements.{All-push, All-take}
-use Rattle.std.proofs.lemmas.List.Sums.{sum_by_push, sum_by-append}
+use Rattle.std.proofs.lemmas.List.{length_push}
+use Rattle.std.proofs.lemmas.List.Elements.{All-push}
+use Rattle.std.proofs.lemmas.List.Sums.{sum_by_push}
 use Rattle.ompt_events.specs.declared.records.Record.{Record}
 use Rattle.ompt_events.specs.Records.{made}
 use Rattle.ompt_events.specs.Limits.{max_records, max_tasks}
-use Rattle.ompt_events.specs.Traces.{IsSoundIn, HasItsTurns, IsInRange, IsSound, IsTrace, tasks_in}
+use Rattle.ompt_events.specs.Traces.{IsSoundIn, HasItsTurns, IsInRange, IsSound, tasks_in}
 use Rattle.certificate.specs.Keeping.{IsKept}
 
-pub IsKept-more : (version : ℕ) (rs : List Record) (r : Record) (tasks more : ℕ) → IsKept version rs tasks → IsSoundIn version r.body → IsInRange r → length rs < max_records → more ≡ tasks + cond (is_some (made r.body)) 1 0 → more ≤ max_tasks → IsKept version (rs ++ r ∷ []) more
+pub IsKept-more : (version : ℕ) (rs : List Record) (r : Record) (tasks more : ℕ) → IsKept version rs tasks
+    → IsSoundIn version r.body → IsInRange r → length rs < max_records
+    → more ≡ tasks + cond (is_some (made r.body)) 1 0 → more ≤ max_tasks → IsKept version (rs ++ r ∷ []) more
 IsKept-more version rs r tasks more kept sound in_range room counted few =
-    let same : tasks_in (rs ++ r ∷ []) ≡ tasks_in rs + cond (is_some (made r.body)) 1 0 = sum_by_push (λ (x : Record). cond (is_some (made x.body)) 1 0) rs r in
+    let same : tasks_in (rs ++ r ∷ []) ≡ tasks_in rs + cond (is_some (made r.body)) 1 0 =
+        sum_by_push (λ (x : Record). cond (is_some (made x.body)) 1 0) rs r in
     record {
       trace = record {
         known = kept.trace.known;
@@ -25,14 +28,4 @@ IsKept-more version rs r tasks more kept sound in_range room counted few =
         turns = All-push (λ (x : Record). HasItsTurns version x.body) rs r kept.trace.turns sound.1;
       };
       counted = counted ∙ ap (λ n. n + cond (is_some (made r.body)) 1 0) kept.counted ∙ sym same;
-    }
-
-IsTrace-take : (n : ℕ) (rs : List Record) → IsTrace rs → IsTrace (take n rs)
-IsTrace-take n rs trace =
-    let both : tasks_in (take n rs) + tasks_in (drop n rs) ≡ tasks_in rs = sym (sum_by-append (λ (x : Record). cond (is_some (made x.body)) 1 0) (take n rs) (drop n rs)) ∙ ap (λ (xs : List Record). tasks_in xs) (take-append-drop n rs) in
-    record {
-      few_records = omega (arith, length-take n rs, trace.few_records);
-      few_tasks = omega (arith, both, trace.few_tasks);
-      sound = All-take (λ (x : Record). IsSound x.body) n rs trace.sound;
-      in_range = All-take IsInRange n rs trace.in_range;
     }

@@ -1,5 +1,6 @@
 -- Objects whose members were put one after another: their members are in order, and plain where each is.
-use Rattle.std.proofs.Common.{◌≡◌, ℕ, suc, ◌+◌, ◌≤◌, true, List, [], ◌∷◌, length, Ordering, Less, Equal, Greater, arith, refl, sym, ap, ◌∙◌}
+use Rattle.std.proofs.Common.{◌≡◌, ℕ, suc, ◌+◌, ◌≤◌, true, List, [], ◌∷◌, length, Ordering, Less, Equal}
+use Rattle.std.proofs.Common.{Greater, arith, refl, sym, ap, ◌∙◌}
 use Rattle.std.specs.Prelude.{⊤}
 use Rattle.std.specs.Ordering.{nat_cmp, match_ordering, ordering_reverse}
 use Rattle.std.specs.Cmp.Lexicographic.{slice_cmp}
@@ -20,29 +21,38 @@ abbrev pub IsRising : Members → Type 0
 IsRising no_members = ⊤
 IsRising (member k d ms) = IsBelowEach k ms × IsRising ms
 
-IsBelowEach-less : (k l : List ℕ) (ms : Members) → slice_cmp nat_cmp k l ≡ Less → IsBelowEach l ms → IsBelowEach k ms
+IsBelowEach-less : (k l : List ℕ) (ms : Members) → slice_cmp nat_cmp k l ≡ Less → IsBelowEach l ms
+    → IsBelowEach k ms
 IsBelowEach-less k l no_members less below = tt
-IsBelowEach-less k l (member j e ms) less below = (nat_list_cmp_total.trans k l j less below.0, IsBelowEach-less k l ms less below.1)
+IsBelowEach-less k l (member j e ms) less below =
+    (nat_list_cmp_total.trans k l j less below.0, IsBelowEach-less k l ms less below.1)
 
-IsBelowEach-put : (l k : List ℕ) (d : Data) (ms : Members) → slice_cmp nat_cmp l k ≡ Less → IsBelowEach l ms → IsBelowEach l (put k d ms)
+IsBelowEach-put : (l k : List ℕ) (d : Data) (ms : Members) → slice_cmp nat_cmp l k ≡ Less → IsBelowEach l ms
+    → IsBelowEach l (put k d ms)
 IsBelowEach-put l k d no_members less below = (less, tt)
-IsBelowEach-put l k d (member j e ms) less below = by_order below.0 below.1 less (IsBelowEach-put l k d ms less below.1) (slice_cmp nat_cmp k j)
+IsBelowEach-put l k d (member j e ms) less below =
+    by_order below.0 below.1 less (IsBelowEach-put l k d ms less below.1) (slice_cmp nat_cmp k j)
   where
-    by_order : slice_cmp nat_cmp l j ≡ Less → IsBelowEach l ms → slice_cmp nat_cmp l k ≡ Less → IsBelowEach l (put k d ms) → (o : Ordering)
-        → IsBelowEach l (match_ordering o (member k d (member j e ms)) (member j d ms) (member j e (put k d ms)))
+    by_order : slice_cmp nat_cmp l j ≡ Less → IsBelowEach l ms → slice_cmp nat_cmp l k ≡ Less
+        → IsBelowEach l (put k d ms) → (o : Ordering)
+        → IsBelowEach l
+            (match_ordering o (member k d (member j e ms)) (member j d ms) (member j e (put k d ms)))
     by_order first rest here more Less = (here, (first, rest))
     by_order first rest here more Equal = (first, rest)
     by_order first rest here more Greater = (first, more)
 
 IsRising-put : (k : List ℕ) (d : Data) (ms : Members) → IsRising ms → IsRising (put k d ms)
 IsRising-put k d no_members rising = (tt, tt)
-IsRising-put k d (member l e ms) rising = by_order rising.0 rising.1 (IsRising-put k d ms rising.1) (slice_cmp nat_cmp k l) refl
+IsRising-put k d (member l e ms) rising =
+    by_order rising.0 rising.1 (IsRising-put k d ms rising.1) (slice_cmp nat_cmp k l) refl
   where
-    by_order : IsBelowEach l ms → IsRising ms → IsRising (put k d ms) → (o : Ordering) → slice_cmp nat_cmp k l ≡ o
+    by_order : IsBelowEach l ms → IsRising ms → IsRising (put k d ms) → (o : Ordering)
+        → slice_cmp nat_cmp k l ≡ o
         → IsRising (match_ordering o (member k d (member l e ms)) (member l d ms) (member l e (put k d ms)))
     by_order below rest more Less is = ((is, IsBelowEach-less k l ms is below), (below, rest))
     by_order below rest more Equal is = (below, rest)
-    by_order below rest more Greater is = (IsBelowEach-put l k d ms (nat_list_cmp_total.antisymm l k ∙ ap ordering_reverse is) below, more)
+    by_order below rest more Greater is =
+        (IsBelowEach-put l k d ms (nat_list_cmp_total.antisymm l k ∙ ap ordering_reverse is) below, more)
 
 -- these members, and then those
 abbrev pub followed : Members → Members → Members
@@ -53,18 +63,23 @@ pub followed-none : (ms : Members) → followed ms no_members ≡ ms
 followed-none no_members = refl
 followed-none (member k d ms) = ap (member k d) (followed-none ms)
 
-pub followed-more : (ms : Members) (k : List ℕ) (d : Data) (more : Members) → followed (followed ms (member k d no_members)) more ≡ followed ms (member k d more)
+pub followed-more : (ms : Members) (k : List ℕ) (d : Data) (more : Members)
+    → followed (followed ms (member k d no_members)) more ≡ followed ms (member k d more)
 followed-more no_members k d more = refl
 followed-more (member l e ms) k d more = ap (member l e) (followed-more ms k d more)
 
-below_middle : (first : List ℕ) (ms : Members) (k : List ℕ) (d : Data) (more : Members) → IsBelowEach first (followed ms (member k d more)) → slice_cmp nat_cmp first k ≡ Less
+below_middle : (first : List ℕ) (ms : Members) (k : List ℕ) (d : Data) (more : Members)
+    → IsBelowEach first (followed ms (member k d more)) → slice_cmp nat_cmp first k ≡ Less
 below_middle first no_members k d more below = below.0
 below_middle first (member l e ms) k d more below = below_middle first ms k d more below.1
 
-put_last : (done : Members) (k : List ℕ) (d : Data) (more : Members) → IsRising (followed done (member k d more)) → put k d done ≡ followed done (member k d no_members)
+put_last : (done : Members) (k : List ℕ) (d : Data) (more : Members)
+    → IsRising (followed done (member k d more)) → put k d done ≡ followed done (member k d no_members)
 put_last no_members k d more rising = refl
 put_last (member first e done) k d more rising =
-    let above : slice_cmp nat_cmp k first ≡ Greater = nat_list_cmp_total.antisymm k first ∙ ap ordering_reverse (below_middle first done k d more rising.0) in
+    let above : slice_cmp nat_cmp k first ≡ Greater =
+        nat_list_cmp_total.antisymm k first
+            ∙ ap ordering_reverse (below_middle first done k d more rising.0) in
     rw above (ap (member first e) (put_last done k d more rising.1))
 
 puts-followed : (ms done : Members) → IsRising (followed done ms) → puts ms done ≡ followed done ms
@@ -79,22 +94,30 @@ puts-IsRising ms rising = puts-followed ms no_members rising
 
 -- ---- what one more member does
 
-MembersArePlain-put : (k : List ℕ) (d : Data) (ms : Members) (n : ℕ) → is_plain_text k ≡ true → IsPlain d n → MembersArePlain ms n → MembersArePlain (put k d ms) n
+MembersArePlain-put : (k : List ℕ) (d : Data) (ms : Members) (n : ℕ) → is_plain_text k ≡ true → IsPlain d n
+    → MembersArePlain ms n → MembersArePlain (put k d ms) n
 MembersArePlain-put k d no_members n name plain all = (name, plain, tt)
-MembersArePlain-put k d (member l e ms) n name plain all = by_order name plain all.0 all.1 all.2 (MembersArePlain-put k d ms n name plain all.2) (slice_cmp nat_cmp k l)
+MembersArePlain-put k d (member l e ms) n name plain all =
+    by_order name plain all.0 all.1 all.2 (MembersArePlain-put k d ms n name plain all.2)
+        (slice_cmp nat_cmp k l)
   where
-    by_order : is_plain_text k ≡ true → IsPlain d n → is_plain_text l ≡ true → IsPlain e n → MembersArePlain ms n → MembersArePlain (put k d ms) n → (o : Ordering)
-        → MembersArePlain (match_ordering o (member k d (member l e ms)) (member l d ms) (member l e (put k d ms))) n
+    by_order : is_plain_text k ≡ true → IsPlain d n → is_plain_text l ≡ true → IsPlain e n
+        → MembersArePlain ms n → MembersArePlain (put k d ms) n → (o : Ordering)
+        → MembersArePlain
+            (match_ordering o (member k d (member l e ms)) (member l d ms) (member l e (put k d ms))) n
     by_order name plain first old rest more Less = (name, plain, (first, old, rest))
     by_order name plain first old rest more Equal = (first, plain, rest)
     by_order name plain first old rest more Greater = (first, old, more)
 
-members_size-put : (k : List ℕ) (d : Data) (ms : Members) → members_size (put k d ms) ≤ length k + 4 + size d + members_size ms
+members_size-put : (k : List ℕ) (d : Data) (ms : Members)
+    → members_size (put k d ms) ≤ length k + 4 + size d + members_size ms
 members_size-put k d no_members = omega arith
 members_size-put k d (member l e ms) = by_order (members_size-put k d ms) (slice_cmp nat_cmp k l)
   where
     by_order : members_size (put k d ms) ≤ length k + 4 + size d + members_size ms → (o : Ordering)
-        → members_size (match_ordering o (member k d (member l e ms)) (member l d ms) (member l e (put k d ms))) ≤ length k + 4 + size d + (length l + 4 + size e + members_size ms)
+        → members_size
+            (match_ordering o (member k d (member l e ms)) (member l d ms) (member l e (put k d ms)))
+            ≤ length k + 4 + size d + (length l + 4 + size e + members_size ms)
     by_order more Less = omega arith
     by_order more Equal = omega arith
     by_order more Greater = omega arith
@@ -110,19 +133,26 @@ abbrev pub added_size : List (List ℕ × Data) → ℕ
 added_size [] = 0
 added_size (m ∷ more) = length m.0 + 4 + size m.1 + added_size more
 
-with_members-plain : (added : List (List ℕ × Data)) (ms : Members) (n : ℕ) → AllByRecursion (IsPlainMember n) added → IsRising ms → MembersArePlain ms n
+with_members-plain : (added : List (List ℕ × Data)) (ms : Members) (n : ℕ)
+    → AllByRecursion (IsPlainMember n) added → IsRising ms → MembersArePlain ms n
     → IsRising (with_members added ms) × MembersArePlain (with_members added ms) n
 unfolding with_member
 with_members-plain [] ms n each rising all = (rising, all)
-with_members-plain (m ∷ added) ms n each rising all = with_members-plain added (put m.0 m.1 ms) n each.1 (IsRising-put m.0 m.1 ms rising) (MembersArePlain-put m.0 m.1 ms n each.0.0 each.0.1 all)
+with_members-plain (m ∷ added) ms n each rising all =
+    with_members-plain added (put m.0 m.1 ms) n each.1 (IsRising-put m.0 m.1 ms rising)
+        (MembersArePlain-put m.0 m.1 ms n each.0.0 each.0.1 all)
 
-pub IsPlain-object_of : (added : List (List ℕ × Data)) (n : ℕ) → AllByRecursion (IsPlainMember n) added → IsPlain (object_of added) (suc n)
-IsPlain-object_of added n each = let both = with_members-plain added no_members n each tt tt in (puts-IsRising _ both.0, both.1)
+pub IsPlain-object_of : (added : List (List ℕ × Data)) (n : ℕ) → AllByRecursion (IsPlainMember n) added
+    → IsPlain (object_of added) (suc n)
+IsPlain-object_of added n each =
+    let both = with_members-plain added no_members n each tt tt in (puts-IsRising _ both.0, both.1)
 
-with_members-size : (added : List (List ℕ × Data)) (ms : Members) → members_size (with_members added ms) ≤ added_size added + members_size ms
+with_members-size : (added : List (List ℕ × Data)) (ms : Members)
+    → members_size (with_members added ms) ≤ added_size added + members_size ms
 unfolding with_member
 with_members-size [] ms = omega arith
-with_members-size (m ∷ added) ms = omega (arith, with_members-size added (put m.0 m.1 ms), members_size-put m.0 m.1 ms)
+with_members-size (m ∷ added) ms =
+    omega (arith, with_members-size added (put m.0 m.1 ms), members_size-put m.0 m.1 ms)
 
 pub size-object_of : (added : List (List ℕ × Data)) → size (object_of added) ≤ added_size added + 2
 size-object_of added = omega (arith, with_members-size added no_members)

@@ -7,7 +7,9 @@ use Rattle.serde_json.specs.Written.{compact_text}
 use Rattle.ompt_events.specs.declared.records.Record.{Record}
 use Rattle.ompt_events.specs.declared.records.Claim.{Claim}
 use Rattle.ompt_events.specs.declared.records.Turns.{Turns}
-use Rattle.ompt_events.specs.declared.records.Body.TheVariants.{ThreadBegin, ThreadEnd, ParallelBegin, ParallelEnd, ImplicitTask, TaskCreate, Dependences, TaskSchedule, SyncRegion}
+use Rattle.ompt_events.specs.declared.records.Body.TheVariants.{ThreadBegin, ThreadEnd, ParallelBegin}
+use Rattle.ompt_events.specs.declared.records.Body.TheVariants.{ParallelEnd, ImplicitTask, TaskCreate}
+use Rattle.ompt_events.specs.declared.records.Body.TheVariants.{Dependences, TaskSchedule, SyncRegion}
 use Rattle.ompt_events.specs.declared.records.Body.TheVariants as body
 use Rattle.ompt_events.specs.declared.deps.Dep.{Dep}
 use Rattle.ompt_events.specs.declared.flags.TaskFlags.{TaskFlags}
@@ -17,8 +19,10 @@ use Rattle.ompt_events.specs.declared.names.Endpoint.{Endpoint}
 use Rattle.ompt_events.specs.declared.names.SyncKind.{SyncKind}
 use Rattle.ompt_events.specs.declared.names.ThreadKind.{ThreadKind}
 use Rattle.ompt_events.specs.Flags.{task_flags, cancel_flags}
-use Rattle.ompt_events.specs.Names.{status_name, endpoint_name, sync_kind_name, dep_kind_name, thread_kind_name}
-use Rattle.certificate.specs.Texts.{with_member, with_body, whole_number, number_or_null, names, flag_names, dep_data, line_of, header_line}
+use Rattle.ompt_events.specs.Names.{status_name, endpoint_name, sync_kind_name, dep_kind_name}
+use Rattle.ompt_events.specs.Names.{thread_kind_name}
+use Rattle.certificate.specs.Texts.{with_member, with_body, whole_number, number_or_null, names, flag_names}
+use Rattle.certificate.specs.Texts.{dep_data, line_of, header_line}
 
 pub line-thread_begin : (r : Record) (kind : ThreadKind) → line_of (with_body r (ThreadBegin kind))
     ≡ (codes "{\"cb\":\"thread_begin\",\"kind\":" ++ quoted (thread_kind_name kind))
@@ -37,7 +41,8 @@ pub line-thread_end : (r : Record) → line_of (with_body r ThreadEnd)
 unfolding with_member escape_byte
 line-thread_end r = refl
 
-pub line-parallel_begin : (r : Record) (requested : ℕ) (task : ℕ) (parallel : ℕ) → line_of (with_body r (ParallelBegin requested task parallel))
+pub line-parallel_begin : (r : Record) (requested : ℕ) (task : ℕ) (parallel : ℕ)
+    → line_of (with_body r (ParallelBegin requested task parallel))
     ≡ (codes "{\"cb\":\"parallel_begin\",\"parallel\":" ++ decimal parallel)
     ++ ((codes ",\"requested\":" ++ decimal requested)
     ++ ((codes ",\"seen\":" ++ decimal r.seen)
@@ -48,7 +53,8 @@ pub line-parallel_begin : (r : Record) (requested : ℕ) (task : ℕ) (parallel 
 unfolding with_member escape_byte
 line-parallel_begin r requested task parallel = refl
 
-pub line-parallel_end : (r : Record) (task : ℕ) (parallel : ℕ) → line_of (with_body r (ParallelEnd task parallel))
+pub line-parallel_end : (r : Record) (task : ℕ) (parallel : ℕ)
+    → line_of (with_body r (ParallelEnd task parallel))
     ≡ (codes "{\"cb\":\"parallel_end\",\"parallel\":" ++ decimal parallel)
     ++ ((codes ",\"seen\":" ++ decimal r.seen)
     ++ ((codes ",\"seq\":" ++ decimal r.seq)
@@ -58,7 +64,9 @@ pub line-parallel_end : (r : Record) (task : ℕ) (parallel : ℕ) → line_of (
 unfolding with_member escape_byte
 line-parallel_end r task parallel = refl
 
-pub line-implicit_task : (r : Record) (endpoint : Endpoint) (actual : ℕ) (index : ℕ) (flags : TaskFlags) (parallel : ℕ) (task : ℕ) → line_of (with_body r (ImplicitTask endpoint actual index flags parallel task))
+pub line-implicit_task : (r : Record) (endpoint : Endpoint) (actual : ℕ) (index : ℕ) (flags : TaskFlags)
+    (parallel : ℕ) (task : ℕ)
+    → line_of (with_body r (ImplicitTask endpoint actual index flags parallel task))
     ≡ (codes "{\"actual\":" ++ decimal actual)
     ++ ((codes ",\"cb\":\"implicit_task\",\"endpoint\":" ++ quoted (endpoint_name endpoint))
     ++ ((codes ",\"flags\":" ++ compact_text (names (flag_names task_flags flags.0)))
@@ -72,7 +80,8 @@ pub line-implicit_task : (r : Record) (endpoint : Endpoint) (actual : ℕ) (inde
 unfolding with_member escape_byte
 line-implicit_task r endpoint actual index flags parallel task = refl
 
-pub line-task_create : (r : Record) (deps : Bool) (flags : TaskFlags) (task : ℕ) (child : ℕ) → line_of (with_body r (TaskCreate deps flags task child))
+pub line-task_create : (r : Record) (deps : Bool) (flags : TaskFlags) (task : ℕ) (child : ℕ)
+    → line_of (with_body r (TaskCreate deps flags task child))
     ≡ (codes "{\"cb\":\"task_create\",\"child\":" ++ decimal child)
     ++ ((codes ",\"deps\":" ++ compact_text (boolean deps))
     ++ ((codes ",\"flags\":" ++ compact_text (names (flag_names task_flags flags.0)))
@@ -84,7 +93,8 @@ pub line-task_create : (r : Record) (deps : Bool) (flags : TaskFlags) (task : �
 unfolding with_member escape_byte
 line-task_create r deps flags task child = refl
 
-pub line-dependences : (r : Record) (task : ℕ) (list : List Dep) → line_of (with_body r (Dependences task list))
+pub line-dependences : (r : Record) (task : ℕ) (list : List Dep)
+    → line_of (with_body r (Dependences task list))
     ≡ (codes "{\"cb\":\"dependences\",\"list\":" ++ compact_text (array (items_of (map dep_data list))))
     ++ ((codes ",\"seen\":" ++ decimal r.seen)
     ++ ((codes ",\"seq\":" ++ decimal r.seq)
@@ -94,7 +104,8 @@ pub line-dependences : (r : Record) (task : ℕ) (list : List Dep) → line_of (
 unfolding with_member escape_byte
 line-dependences r task list = refl
 
-pub line-switching : (r : Record) (status : Status) (prior : ℕ) (next : Option ℕ) → line_of (with_body r (TaskSchedule status None prior next None))
+pub line-switching : (r : Record) (status : Status) (prior : ℕ) (next : Option ℕ)
+    → line_of (with_body r (TaskSchedule status None prior next None))
     ≡ (codes "{\"cb\":\"task_schedule\",\"next\":" ++ compact_text (number_or_null next))
     ++ ((codes ",\"prior\":" ++ decimal prior)
     ++ ((codes ",\"seen\":" ++ decimal r.seen)
@@ -105,7 +116,8 @@ pub line-switching : (r : Record) (status : Status) (prior : ℕ) (next : Option
 unfolding with_member escape_byte
 line-switching r status prior next = refl
 
-pub line-finishing : (r : Record) (status : Status) (prior : ℕ) (next : Option ℕ) (c : Claim) → line_of (with_body r (TaskSchedule status None prior next (Some c)))
+pub line-finishing : (r : Record) (status : Status) (prior : ℕ) (next : Option ℕ) (c : Claim)
+    → line_of (with_body r (TaskSchedule status None prior next (Some c)))
     ≡ (codes "{\"cb\":\"task_schedule\",\"kept\":" ++ decimal c.kept)
     ++ ((codes ",\"next\":" ++ compact_text (number_or_null next))
     ++ ((codes ",\"path\":" ++ compact_text (array (items_of (map whole_number c.path))))
@@ -119,7 +131,8 @@ pub line-finishing : (r : Record) (status : Status) (prior : ℕ) (next : Option
 unfolding with_member escape_byte
 line-finishing r status prior next c = refl
 
-pub line-switching_in_turn : (r : Record) (status : Status) (turns : Turns) (prior : ℕ) (next : Option ℕ) → line_of (with_body r (TaskSchedule status (Some turns) prior next None))
+pub line-switching_in_turn : (r : Record) (status : Status) (turns : Turns) (prior : ℕ) (next : Option ℕ)
+    → line_of (with_body r (TaskSchedule status (Some turns) prior next None))
     ≡ (codes "{\"cb\":\"task_schedule\",\"next\":" ++ compact_text (number_or_null next))
     ++ ((codes ",\"next_turn\":" ++ decimal turns.next)
     ++ ((codes ",\"prior\":" ++ decimal prior)
@@ -132,7 +145,9 @@ pub line-switching_in_turn : (r : Record) (status : Status) (turns : Turns) (pri
 unfolding with_member escape_byte
 line-switching_in_turn r status turns prior next = refl
 
-pub line-finishing_in_turn : (r : Record) (status : Status) (turns : Turns) (prior : ℕ) (next : Option ℕ) (c : Claim) → line_of (with_body r (TaskSchedule status (Some turns) prior next (Some c)))
+pub line-finishing_in_turn : (r : Record) (status : Status) (turns : Turns) (prior : ℕ) (next : Option ℕ)
+    (c : Claim)
+    → line_of (with_body r (TaskSchedule status (Some turns) prior next (Some c)))
     ≡ (codes "{\"cb\":\"task_schedule\",\"kept\":" ++ decimal c.kept)
     ++ ((codes ",\"next\":" ++ compact_text (number_or_null next))
     ++ ((codes ",\"next_turn\":" ++ decimal turns.next)
@@ -148,7 +163,8 @@ pub line-finishing_in_turn : (r : Record) (status : Status) (turns : Turns) (pri
 unfolding with_member escape_byte
 line-finishing_in_turn r status turns prior next c = refl
 
-pub line-sync_region : (r : Record) (kind : SyncKind) (endpoint : Endpoint) (parallel : Option ℕ) (task : ℕ) → line_of (with_body r (SyncRegion kind endpoint parallel task))
+pub line-sync_region : (r : Record) (kind : SyncKind) (endpoint : Endpoint) (parallel : Option ℕ) (task : ℕ)
+    → line_of (with_body r (SyncRegion kind endpoint parallel task))
     ≡ (codes "{\"cb\":\"sync_region\",\"endpoint\":" ++ quoted (endpoint_name endpoint))
     ++ ((codes ",\"kind\":" ++ quoted (sync_kind_name kind))
     ++ ((codes ",\"parallel\":" ++ compact_text (number_or_null parallel))
@@ -160,7 +176,8 @@ pub line-sync_region : (r : Record) (kind : SyncKind) (endpoint : Endpoint) (par
 unfolding with_member escape_byte
 line-sync_region r kind endpoint parallel task = refl
 
-pub line-cancelling : (r : Record) (flags : CancelFlags) (task : ℕ) → line_of (with_body r (body.Cancel flags task None))
+pub line-cancelling : (r : Record) (flags : CancelFlags) (task : ℕ)
+    → line_of (with_body r (body.Cancel flags task None))
     ≡ (codes "{\"cb\":\"cancel\",\"flags\":" ++ compact_text (names (flag_names cancel_flags flags.0)))
     ++ ((codes ",\"seen\":" ++ decimal r.seen)
     ++ ((codes ",\"seq\":" ++ decimal r.seq)
@@ -170,7 +187,8 @@ pub line-cancelling : (r : Record) (flags : CancelFlags) (task : ℕ) → line_o
 unfolding with_member escape_byte
 line-cancelling r flags task = refl
 
-pub line-discarding : (r : Record) (flags : CancelFlags) (task : ℕ) (c : Claim) → line_of (with_body r (body.Cancel flags task (Some c)))
+pub line-discarding : (r : Record) (flags : CancelFlags) (task : ℕ) (c : Claim)
+    → line_of (with_body r (body.Cancel flags task (Some c)))
     ≡ (codes "{\"cb\":\"cancel\",\"flags\":" ++ compact_text (names (flag_names cancel_flags flags.0)))
     ++ ((codes ",\"kept\":" ++ decimal c.kept)
     ++ ((codes ",\"path\":" ++ compact_text (array (items_of (map whole_number c.path))))
@@ -190,6 +208,8 @@ pub text-dep : (d : Dep) → compact_text (dep_data d)
 unfolding with_member escape_byte
 text-dep d = refl
 
-pub text-header : (version : ℕ) → header_line version ≡ (codes "{\"format\":\"task-credit-audit\",\"version\":" ++ decimal version) ++ codes "}"
+pub text-header : (version : ℕ)
+    → header_line version
+        ≡ (codes "{\"format\":\"task-credit-audit\",\"version\":" ++ decimal version) ++ codes "}"
 unfolding with_member escape_byte
 text-header version = refl

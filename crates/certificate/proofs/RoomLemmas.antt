@@ -1,5 +1,6 @@
 -- Room for records behind others.
-use Rattle.std.proofs.Common.{◌≡◌, ℕ, ◌+◌, ◌<◌, ◌≤◌, Bool, List, [], ◌∷◌, ◌++◌, length, Ok, Err, true, false, cond, arith, refl, sym, ap, append_assoc, append-nil, length-append}
+use Rattle.std.proofs.Common.{◌≡◌, ℕ, ◌+◌, ◌<◌, ◌≤◌, Bool, List, [], ◌∷◌, ◌++◌, length, Ok, Err, true, false}
+use Rattle.std.proofs.Common.{cond, arith, refl, sym, ap, append_assoc, append-nil, length-append}
 use Rattle.std.specs.Prelude.{All, is_some}
 use Rattle.std.proofs.lemmas.Bool.{ltb-true}
 use Rattle.std.proofs.lemmas.Bool.Decides.{nat_tests}
@@ -15,27 +16,34 @@ use Rattle.certificate.specs.Keeping.{IsKept, HaveRoom}
 use Rattle.certificate.proofs.RecordLemmas.{ok_not_err, both-first}
 
 -- one record more, where all are few enough
-has_room-few : (before rs : List Record) (r : Record) → length (before ++ (r ∷ rs)) ≤ max_records → tasks_in (before ++ (r ∷ rs)) ≤ max_tasks → has_room before r ≡ true
+has_room-few : (before rs : List Record) (r : Record) → length (before ++ (r ∷ rs)) ≤ max_records
+    → tasks_in (before ++ (r ∷ rs)) ≤ max_tasks → has_room before r ≡ true
 has_room-few before rs r few tasks =
-    let long : length (before ++ (r ∷ rs)) ≡ length before + (1 + length rs) = omega (arith, length-append before (r ∷ rs)) in
-    let all : tasks_in (before ++ (r ∷ rs)) ≡ tasks_in before + tasks_in (r ∷ rs) = sum_by-append (λ (x : Record). cond (is_some (made x.body)) 1 0) before (r ∷ rs) in
-    let more : tasks_in (r ∷ rs) ≡ cond (is_some (made r.body)) 1 0 + tasks_in rs = sum_by-cons (λ (x : Record). cond (is_some (made x.body)) 1 0) r rs in
+    let long : length (before ++ (r ∷ rs)) ≡ length before + (1 + length rs) =
+        omega (arith, length-append before (r ∷ rs)) in
+    let all : tasks_in (before ++ (r ∷ rs)) ≡ tasks_in before + tasks_in (r ∷ rs) =
+        sum_by-append (λ (x : Record). cond (is_some (made x.body)) 1 0) before (r ∷ rs) in
+    let more : tasks_in (r ∷ rs) ≡ cond (is_some (made r.body)) 1 0 + tasks_in rs =
+        sum_by-cons (λ (x : Record). cond (is_some (made x.body)) 1 0) r rs in
     grind (arith, nat_tests)
 
-pub HaveRoom-few : (before rs : List Record) → length (before ++ rs) ≤ max_records → tasks_in (before ++ rs) ≤ max_tasks → HaveRoom before rs
+pub HaveRoom-few : (before rs : List Record) → length (before ++ rs) ≤ max_records
+    → tasks_in (before ++ rs) ≤ max_tasks → HaveRoom before rs
 HaveRoom-few before [] few tasks = tt
 HaveRoom-few before (r ∷ rs) few tasks =
     let same : (before ++ r ∷ []) ++ rs ≡ before ++ (r ∷ rs) = append_assoc before (r ∷ []) rs in
     (has_room-few before rs r few tasks, HaveRoom-few (before ++ r ∷ []) rs (rw same few) (rw same tasks))
 
 -- one record more behind those that have room
-pub HaveRoom-push : (before rs : List Record) (r : Record) → HaveRoom before rs → has_room (before ++ rs) r ≡ true → HaveRoom before (rs ++ r ∷ [])
+pub HaveRoom-push : (before rs : List Record) (r : Record) → HaveRoom before rs
+    → has_room (before ++ rs) r ≡ true → HaveRoom before (rs ++ r ∷ [])
 HaveRoom-push before [] r have room = (rw (append-nil before) at room, tt)
 HaveRoom-push before (x ∷ rs) r have room =
     (have.0, HaveRoom-push (before ++ x ∷ []) rs r have.1 (rw (append_assoc before (x ∷ []) rs) room))
 
 -- with those that have room there are few enough
-pub HaveRoom-length : (before rs : List Record) → length before ≤ max_records → HaveRoom before rs → length before + length rs ≤ max_records
+pub HaveRoom-length : (before rs : List Record) → length before ≤ max_records → HaveRoom before rs
+    → length before + length rs ≤ max_records
 HaveRoom-length before [] few have = omega arith
 HaveRoom-length before (r ∷ rs) few have =
     let below : length before < max_records = ltb-true _ _ (both-first _ _ have.0) in
@@ -44,31 +52,49 @@ HaveRoom-length before (r ∷ rs) few have =
     omega arith
 
 -- what it says that a record is kept, or not
-pub with_record-ok : (before after : TraceView) (r : Record) → Ok after ≡ with_record before (Ok r) → (has_room before.records r ≡ true) × (after ≡ record { version = before.version; records = before.records ++ r ∷ [] })
+pub with_record-ok : (before after : TraceView) (r : Record) → Ok after ≡ with_record before (Ok r)
+    → (has_room before.records r ≡ true)
+        × (after ≡ record { version = before.version; records = before.records ++ r ∷ [] })
 with_record-ok before after r h = by (has_room before.records r) refl h
   where
-    by : (b : Bool) → has_room before.records r ≡ b → Ok after ≡ cond b (Ok (record { version = before.version; records = before.records ++ r ∷ [] })) (Err Limit) → (has_room before.records r ≡ true) × (after ≡ record { version = before.version; records = before.records ++ r ∷ [] })
-    by true is e = (is, let same : after ≡ record { version = before.version; records = before.records ++ r ∷ [] } = cc in same)
+    by : (b : Bool) → has_room before.records r ≡ b
+        → Ok after
+            ≡ cond b (Ok (record { version = before.version; records = before.records ++ r ∷ [] }))
+                (Err Limit)
+        → (has_room before.records r ≡ true)
+            × (after ≡ record { version = before.version; records = before.records ++ r ∷ [] })
+    by true is e =
+        (is, let same : after ≡ record { version = before.version; records = before.records ++ r ∷ [] } =
+            cc in same)
     by false is e = absurd (ok_not_err after Limit e)
 
 -- many records more at a time
-pub IsKept-append : (version : ℕ) (before rs : List Record) (tasks more : ℕ) → IsKept version before tasks → All (λ r. IsSoundIn version r.body) rs → All IsInRange rs → more ≡ tasks_in rs → length before + length rs ≤ max_records → tasks + more ≤ max_tasks → IsKept version (before ++ rs) (tasks + more)
+pub IsKept-append : (version : ℕ) (before rs : List Record) (tasks more : ℕ) → IsKept version before tasks
+    → All (λ r. IsSoundIn version r.body) rs → All IsInRange rs → more ≡ tasks_in rs
+    → length before + length rs ≤ max_records → tasks + more ≤ max_tasks
+    → IsKept version (before ++ rs) (tasks + more)
 IsKept-append version before rs tasks more kept sound in_range counted few few_tasks =
-    let both : tasks_in (before ++ rs) ≡ tasks_in before + tasks_in rs = sum_by-append (λ (x : Record). cond (is_some (made x.body)) 1 0) before rs in
+    let both : tasks_in (before ++ rs) ≡ tasks_in before + tasks_in rs =
+        sum_by-append (λ (x : Record). cond (is_some (made x.body)) 1 0) before rs in
     record {
       trace = record {
         known = kept.trace.known;
         is_trace = record {
           few_records = omega (arith, length-append before rs);
           few_tasks = omega (arith, both, kept.counted);
-          sound = All-append (λ (x : Record). IsSound x.body) before rs kept.trace.is_trace.sound (λ k d h. (sound k d h).0);
+          sound =
+              All-append (λ (x : Record). IsSound x.body) before rs kept.trace.is_trace.sound
+                  (λ k d h. (sound k d h).0);
           in_range = All-append IsInRange before rs kept.trace.is_trace.in_range in_range;
         };
-        turns = All-append (λ (x : Record). HasItsTurns version x.body) before rs kept.trace.turns (λ k d h. (sound k d h).1);
+        turns =
+            All-append (λ (x : Record). HasItsTurns version x.body) before rs kept.trace.turns
+                (λ k d h. (sound k d h).1);
       };
       counted = omega (arith, both, kept.counted);
     }
 
 -- what is kept before any record more
 pub kept_more : (kept : TraceView) → kept ≡ record { version = kept.version; records = kept.records ++ [] }
-kept_more kept = ap (λ (rs : List Record). record { version = kept.version; records = rs }) (sym (append-nil kept.records))
+kept_more kept =
+    ap (λ (rs : List Record). record { version = kept.version; records = rs }) (sym (append-nil kept.records))

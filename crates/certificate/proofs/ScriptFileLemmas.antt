@@ -1,5 +1,6 @@
 -- What the lines of a script file add.
-use Rattle.std.proofs.Common.{Bool, ◌≡◌, ◌≢◌, ℕ, ◌+◌, ◌<◌, List, [], ◌∷◌, ◌++◌, length, Option, Some, None, Result, Ok, Err, true, false, cond, refl, sym, ap, ◌∙◌, eqb-true, length-append}
+use Rattle.std.proofs.Common.{Bool, ◌≡◌, ◌≢◌, ℕ, ◌+◌, ◌<◌, List, [], ◌∷◌, ◌++◌, length, Option, Some, None}
+use Rattle.std.proofs.Common.{Result, Ok, Err, true, false, cond, refl, sym, ap, ◌∙◌, eqb-true, length-append}
 use Rattle.std.specs.Prelude.{◌==◌, ◌||◌, not, ok_or, option_and_then, nat_le}
 use Rattle.std.proofs.lemmas.Bool.{leb-false}
 use Rattle.ompt_events.specs.declared.records.Body.{Body}
@@ -15,7 +16,8 @@ use Rattle.certificate.specs.declared.step_lines.SaidStep.{SaidStep}
 use Rattle.certificate.specs.RecordLines.{value_of}
 use Rattle.certificate.specs.StepLines.{step, step_said}
 use Rattle.certificate.specs.Reading.{Grows, IsTextCause, HasTextCauses}
-use Rattle.certificate.specs.ScriptFiles.{scripts, script_adds, script_header_says, script_version, no_steps, with_step, is_within, cause_of}
+use Rattle.certificate.specs.ScriptFiles.{scripts, script_adds, script_header_says, script_version, no_steps}
+use Rattle.certificate.specs.ScriptFiles.{with_step, is_within, cause_of}
 use Rattle.certificate.proofs.RecordLemmas.{ok_not_err}
 use Rattle.certificate.proofs.TraceLemmas.{same_cause}
 
@@ -25,7 +27,8 @@ no_steps-cause : (o : Option ℕ) (e : ReadCause) → Err e ≡ no_steps (ok_or 
 no_steps-cause None e h = same_cause e Header h tt
 no_steps-cause (Some version) e h = absurd (ok_not_err _ e (sym h))
 
-with_step-cause : (before : List Step) (o : Option Data) (e : ReadCause) → Err e ≡ with_step before (step_said o) → IsTextCause e
+with_step-cause : (before : List Step) (o : Option Data) (e : ReadCause)
+    → Err e ≡ with_step before (step_said o) → IsTextCause e
 with_step-cause before None e h = same_cause e NotJson h tt
 with_step-cause before (Some d) e h = by_step (step d) h
   where
@@ -34,7 +37,8 @@ with_step-cause before (Some d) e h = by_step (step d) h
     by_step (Some s) h =
         let more : List Step = before ++ step_of before s.thread s.after s.loose.body ∷ [] in
         let past : Bool = not (is_within s) || is_full before s.loose.body in
-        elim (may_follow before s.after s.loose.body) as (λ b. Err e ≡ cond (not b) (Err Field) (cond past (Err Limit) (Ok more)) → IsTextCause e) [
+        elim (may_follow before s.after s.loose.body) as
+            (λ b. Err e ≡ cond (not b) (Err Field) (cond past (Err Limit) (Ok more)) → IsTextCause e) [
           | true ↦
               elim past as (λ b. Err e ≡ cond b (Err Limit) (Ok more) → IsTextCause e) [
                 | true ↦ λ full. same_cause e Limit full tt
@@ -45,7 +49,10 @@ with_step-cause before (Some d) e h = by_step (step d) h
 
 pub scripts-text_causes : HasTextCauses scripts
 scripts-text_causes n before line e h =
-    elim (n == 1) as (λ b. Err e ≡ cond b (no_steps (script_header_says line)) (with_step before (step_said (value_of line))) → IsTextCause e) [
+    elim (n == 1) as
+        (λ b.
+            Err e ≡ cond b (no_steps (script_header_says line)) (with_step before (step_said (value_of line)))
+                → IsTextCause e) [
       | true ↦ λ first. no_steps-cause (option_and_then script_version (value_of line)) e first
       | false ↦ λ later. with_step-cause before (value_of line) e later
     ] h
@@ -56,35 +63,56 @@ no_steps-empty : (after : List Step) (o : Result ℕ ReadCause) → Ok after ≡
 no_steps-empty after (Err e) h = absurd (ok_not_err _ e h)
 no_steps-empty after (Ok version) h = let is : after ≡ [] = cc in ap length is
 
-has_room : (steps : List Step) (body : Body) (past : Bool) → (past || is_full steps body) ≡ false → length steps < max_records
+has_room : (steps : List Step) (body : Body) (past : Bool) → (past || is_full steps body) ≡ false
+    → length steps < max_records
 has_room steps body true e = absurd (let no : true ≡ false = e in cc)
-has_room steps body false e = leb-false max_records (length steps) (left (nat_le max_records (length steps)) _ e)
+has_room steps body false e =
+    leb-false max_records (length steps) (left (nat_le max_records (length steps)) _ e)
   where
     left : (a b : Bool) → (a || b) ≡ false → a ≡ false
     left false b e = refl
     left true b e = e
 
-with_step-grows : (before after : List Step) (o : Result SaidStep ReadCause) → Ok after ≡ with_step before o → (length after ≡ length before + 1) × (length before < max_records)
+with_step-grows : (before after : List Step) (o : Result SaidStep ReadCause) → Ok after ≡ with_step before o
+    → (length after ≡ length before + 1) × (length before < max_records)
 with_step-grows before after (Err e) h = absurd (ok_not_err _ e h)
 with_step-grows before after (Ok s) h =
     let one = step_of before s.thread s.after s.loose.body in
     let more : List Step = before ++ one ∷ [] in
     let past : Bool = not (is_within s) || is_full before s.loose.body in
-    elim (may_follow before s.after s.loose.body) as (λ b. Ok after ≡ cond (not b) (Err Field) (cond past (Err Limit) (Ok more)) → (length after ≡ length before + 1) × (length before < max_records)) [
+    elim (may_follow before s.after s.loose.body) as
+        (λ b.
+            Ok after ≡ cond (not b) (Err Field) (cond past (Err Limit) (Ok more))
+                → (length after ≡ length before + 1) × (length before < max_records)) [
       | true ↦
-          elim past as (λ b. past ≡ b → Ok after ≡ cond b (Err Limit) (Ok more) → (length after ≡ length before + 1) × (length before < max_records)) [
+          elim past as
+              (λ b.
+                  past ≡ b → Ok after ≡ cond b (Err Limit) (Ok more)
+                      → (length after ≡ length before + 1) × (length before < max_records)) [
             | true ↦ λ _ full. absurd (ok_not_err _ Limit full)
             | false ↦ λ room same.
                 let is : after ≡ more = cc in
-                (ap length is ∙ length-append before (one ∷ []), has_room before s.loose.body (not (is_within s)) room)
+                (ap length is ∙ length-append before (one ∷ []),
+                    has_room before s.loose.body (not (is_within s)) room)
           ] refl
       | false ↦ λ no. absurd (ok_not_err _ Field no)
     ] h
 
-pub Grows-script : (n : ℕ) (before after : List Step) (line : List ℕ) → Ok after ≡ script_adds n before line → Grows n before after
+pub Grows-script : (n : ℕ) (before after : List Step) (line : List ℕ) → Ok after ≡ script_adds n before line
+    → Grows n before after
 Grows-script n before after line h =
-    elim (n == 1) as (λ b. n == 1 ≡ b → Ok after ≡ cond b (no_steps (script_header_says line)) (with_step before (step_said (value_of line))) → Grows n before after) [
-      | true ↦ λ is first. record { one = rw is (no_steps-empty after (script_header_says line) first); room = λ other. absurd (other (eqb-true n 1 is)) }
+    elim (n == 1) as
+        (λ b.
+            n == 1 ≡ b
+                → Ok after
+                    ≡ cond b (no_steps (script_header_says line))
+                        (with_step before (step_said (value_of line)))
+                → Grows n before after) [
+      | true ↦
+          λ is first. record {
+            one = rw is (no_steps-empty after (script_header_says line) first);
+            room = λ other. absurd (other (eqb-true n 1 is));
+          }
       | false ↦ λ is later.
           let grown = with_step-grows before after (step_said (value_of line)) later in
           record { one = rw is grown.0; room = λ _. grown.1 }
@@ -93,24 +121,30 @@ Grows-script n before after line h =
 -- ---- one step more, or none
 
 pub add-refused : (before : List Step) (s : SaidStep) (refused : ScriptFault) → is_within s ≡ true
-    → refused ≡ fault_of before s.after s.loose.body → ◌≢◌ {A = Result (List Step) ReadCause} (Err (cause_of refused)) (Err Memory)
+    → refused ≡ fault_of before s.after s.loose.body
+        → ◌≢◌ { A = Result (List Step) ReadCause } (Err (cause_of refused)) (Err Memory)
     → ◌≡◌ {A = Result (List Step) ReadCause} (Err (cause_of refused)) (with_step before (Ok s))
 add-refused before s refused within is other =
     let body = s.loose.body in
     let more : List Step = before ++ step_of before s.thread s.after body ∷ [] in
     rw within (by_tests (may_follow before s.after body) (is_full before body) more refused is other)
   where
-    by_tests : (may full : Bool) (more : List Step) (refused : ScriptFault) → refused ≡ cond may (cond full fault.Full fault.Memory) fault.Misplaced
+    by_tests : (may full : Bool) (more : List Step) (refused : ScriptFault)
+        → refused ≡ cond may (cond full fault.Full fault.Memory) fault.Misplaced
         → ◌≢◌ {A = Result (List Step) ReadCause} (Err (cause_of refused)) (Err Memory)
-        → ◌≡◌ {A = Result (List Step) ReadCause} (Err (cause_of refused)) (cond (not may) (Err Field) (cond full (Err Limit) (Ok more)))
+        → ◌≡◌ { A = Result (List Step) ReadCause } (Err (cause_of refused))
+            (cond (not may) (Err Field) (cond full (Err Limit) (Ok more)))
     by_tests true true more refused e other = ap (λ f. Err (cause_of f)) e
     by_tests true false more refused e other = absurd (other (ap (λ f. Err (cause_of f)) e))
     by_tests false full more refused e other = ap (λ f. Err (cause_of f)) e
 
 pub past-limit : (before : List Step) (s : SaidStep) → is_within s ≡ false
-    → ◌≡◌ {A = Result (List Step) ReadCause} (Err (cond (may_follow before s.after s.loose.body) Limit Field)) (with_step before (Ok s))
+    → ◌≡◌ { A = Result (List Step) ReadCause }
+        (Err (cond (may_follow before s.after s.loose.body) Limit Field)) (with_step before (Ok s))
 past-limit before s past = rw past (by_test (may_follow before s.after s.loose.body))
   where
-    by_test : (may : Bool) → ◌≡◌ {A = Result (List Step) ReadCause} (Err (cond may Limit Field)) (cond (not may) (Err Field) (Err Limit))
+    by_test : (may : Bool)
+        → ◌≡◌ { A = Result (List Step) ReadCause } (Err (cond may Limit Field))
+            (cond (not may) (Err Field) (Err Limit))
     by_test true = refl
     by_test false = refl

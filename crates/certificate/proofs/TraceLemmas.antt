@@ -1,39 +1,52 @@
 -- What holds of the lines of a trace file, for a reader that goes from line to line.
-use Rattle.std.proofs.Common.{Bool, ◌≡◌, ◌≢◌, ℕ, ◌+◌, ◌-◌, ◌<◌, ◌≤◌, ◌⊎◌, ◌&&◌, List, [], ◌∷◌, ◌++◌, length, Option, Some, None, Result, Ok, Err, true, false, cond, arith, refl, sym, ap, ◌∙◌, subst, inl, inr, eqb-true, eq-eqb, length-append}
+use Rattle.std.proofs.Common.{Bool, ◌≡◌, ◌≢◌, ℕ, ◌+◌, ◌-◌, ◌<◌, ◌≤◌, ◌⊎◌, ◌&&◌, List, [], ◌∷◌, ◌++◌, length}
+use Rattle.std.proofs.Common.{Option, Some, None, Result, Ok, Err, true, false, cond, arith, refl, sym, ap}
+use Rattle.std.proofs.Common.{◌∙◌, subst, inl, inr, eqb-true, eq-eqb, length-append}
 use Rattle.std.specs.Prelude.{nat_le, ◌==◌, IfSome, ok_or, option_and_then}
 use Rattle.ompt_events.specs.declared.records.Record.{Record}
 use Rattle.ompt_events.specs.Traces.{TraceView}
 use Rattle.ompt_events.specs.Limits.{max_records}
 use Rattle.serde_json.specs.Data.{Data}
 use Rattle.certificate.specs.declared.faults.ReadCause.{ReadCause}
-use Rattle.certificate.specs.declared.faults.ReadCause.TheVariants.{Device, Memory, Header, LineTooLong, NotJson, Field, Limit, Unended, TurnsSpent}
+use Rattle.certificate.specs.declared.faults.ReadCause.TheVariants.{Device, Memory, Header, LineTooLong}
+use Rattle.certificate.specs.declared.faults.ReadCause.TheVariants.{NotJson, Field, Limit, Unended}
+use Rattle.certificate.specs.declared.faults.ReadCause.TheVariants.{TurnsSpent}
 use Rattle.certificate.specs.declared.faults.ReadFault.{ReadFault}
-use Rattle.certificate.specs.RecordLines.{line_says, header_says, said_of, value_of, names_format, version_read, version_in, bounded, record_fits, unbounded}
+use Rattle.certificate.specs.RecordLines.{line_says, header_says, said_of, value_of, names_format}
+use Rattle.certificate.specs.RecordLines.{version_read, version_in, bounded, record_fits, unbounded}
 use Rattle.certificate.specs.Files.{file_says_to, text_adds, traces, with_record, with_header, has_room}
 use Rattle.std.proofs.lemmas.Bool.{ltb-true, leb-true, cases_lt}
 use Rattle.std.proofs.lemmas.Option.{none-some, option_and_then_some}
 use Rattle.certificate.specs.Members.{whole}
 use Rattle.certificate.specs.MemberNames as member
-use Rattle.certificate.specs.Reading.{IsToldIn, IsToldRightlyTo, IsAnswerIn, IsAnswerTo, Grows, IsTextCause, HasTextCauses}
+use Rattle.certificate.specs.Reading.{IsToldIn, IsToldRightlyTo, IsAnswerIn, IsAnswerTo, Grows, IsTextCause}
+use Rattle.certificate.specs.Reading.{HasTextCauses}
 use Rattle.certificate.proofs.LawLemmas.{faultless-before}
 use Rattle.certificate.proofs.RecordLemmas.{ok_not_err, both-first, both-second}
 
 -- ---- causes
 
-pub same_cause : {X : Type 0} (e f : ReadCause) → ◌≡◌ {A = Result X ReadCause} (Err e) (Err f) → IsTextCause f → IsTextCause e
+pub same_cause : {X : Type 0} (e f : ReadCause) → ◌≡◌ { A = Result X ReadCause } (Err e) (Err f)
+    → IsTextCause f → IsTextCause e
 same_cause e f h is = let same : f ≡ e = cc in subst (λ (c : ReadCause). IsTextCause c) same is
 
-with_record-cause : (version : ℕ) (before : TraceView) (o : Option Data) (e : ReadCause) → Err e ≡ with_record before (said_of version o) → IsTextCause e
+with_record-cause : (version : ℕ) (before : TraceView) (o : Option Data) (e : ReadCause)
+    → Err e ≡ with_record before (said_of version o) → IsTextCause e
 with_record-cause version before None e h = same_cause e NotJson h tt
 with_record-cause version before (Some d) e h = by_members (unbounded version d) h
   where
     by_members : (o : Option Record) → Err e ≡ with_record before (bounded record_fits o) → IsTextCause e
     by_members None h = same_cause e Field h tt
     by_members (Some r) h =
-        elim (record_fits r) as (λ b. Err e ≡ with_record before (cond b (Ok r) (Err Limit)) → IsTextCause e) [
+        elim (record_fits r) as (λ b. Err e ≡ with_record before (cond b (Ok r) (Err Limit)) → IsTextCause e)
+            [
           | true ↦ λ fits.
-              let more : TraceView = record { version = before.version; records = before.records ++ r ∷ [] } in
-              elim (has_room before.records r) as (λ b. Err e ≡ cond b (Ok more) (Err Limit) → IsTextCause e) [
+              let more : TraceView = record {
+                version = before.version;
+                records = before.records ++ r ∷ [];
+              } in
+              elim (has_room before.records r) as (λ b. Err e ≡ cond b (Ok more) (Err Limit) → IsTextCause e)
+                  [
                 | true ↦ λ kept. absurd (ok_not_err _ e (sym kept))
                 | false ↦ λ full. same_cause e Limit full tt
               ] fits
@@ -46,14 +59,20 @@ with_header-cause (Some version) e h = absurd (ok_not_err _ e (sym h))
 
 pub traces-text_causes : (newest : ℕ) → HasTextCauses (traces newest)
 traces-text_causes newest n before line e h =
-    elim (n == 1) as (λ b. Err e ≡ cond b (with_header (header_says newest line)) (with_record before (line_says before.version line)) → IsTextCause e) [
+    elim (n == 1) as
+        (λ b.
+            Err e
+                ≡ cond b (with_header (header_says newest line))
+                    (with_record before (line_says before.version line))
+                → IsTextCause e) [
       | true ↦ λ first. with_header-cause (option_and_then (version_in newest) (value_of line)) e first
       | false ↦ λ later. with_record-cause before.version before (value_of line) e later
     ] h
 
 -- ---- what is told of a trace file
 
-pub IsToldRightlyTo-from : (newest : ℕ) (e : ReadCause) (n : ℕ) (bytes : List ℕ) (left : Option (List ℕ)) → IsToldIn (traces newest) e n bytes left → IsToldRightlyTo newest e n bytes left
+pub IsToldRightlyTo-from : (newest : ℕ) (e : ReadCause) (n : ℕ) (bytes : List ℕ) (left : Option (List ℕ))
+    → IsToldIn (traces newest) e n bytes left → IsToldRightlyTo newest e n bytes left
 unfolding file_says_to
 IsToldRightlyTo-from newest Device n bytes left told = (told.0, faultless-before newest n bytes told.1)
 IsToldRightlyTo-from newest Memory n bytes left told = (told.0, faultless-before newest n bytes told.1)
@@ -65,45 +84,71 @@ IsToldRightlyTo-from newest Limit n bytes left told = told
 IsToldRightlyTo-from newest Unended n bytes left told = told
 IsToldRightlyTo-from newest TurnsSpent n bytes left told = (told.0, faultless-before newest n bytes told.1)
 
-pub IsAnswerTo-from : (newest : ℕ) (known : Option (List ℕ)) (answer : Result TraceView ReadFault) (left : Option (List ℕ)) → IfSome known (λ bytes. IsAnswerIn (traces newest) answer bytes left) → IfSome known (λ bytes. IsAnswerTo newest answer bytes left)
+pub IsAnswerTo-from : (newest : ℕ) (known : Option (List ℕ)) (answer : Result TraceView ReadFault)
+    (left : Option (List ℕ))
+    → IfSome known (λ bytes. IsAnswerIn (traces newest) answer bytes left)
+    → IfSome known (λ bytes. IsAnswerTo newest answer bytes left)
 unfolding file_says_to
 IsAnswerTo-from newest None answer left is = tt
 IsAnswerTo-from newest (Some bytes) (Ok trace) left is = is
-IsAnswerTo-from newest (Some bytes) (Err fault) left is = IsToldRightlyTo-from newest fault.cause fault.line bytes left is
+IsAnswerTo-from newest (Some bytes) (Err fault) left is =
+    IsToldRightlyTo-from newest fault.cause fault.line bytes left is
 
 -- ---- how many records there are
 
-with_record-grows : (before after : TraceView) (o : Result Record ReadCause) → Ok after ≡ with_record before o → (length after.records ≡ length before.records + 1) × (length before.records < max_records)
+with_record-grows : (before after : TraceView) (o : Result Record ReadCause) → Ok after ≡ with_record before o
+    → (length after.records ≡ length before.records + 1) × (length before.records < max_records)
 with_record-grows before after (Err e) h = absurd (ok_not_err _ e h)
 with_record-grows before after (Ok r) h =
     let more : TraceView = record { version = before.version; records = before.records ++ r ∷ [] } in
-    elim (has_room before.records r) as (λ b. has_room before.records r ≡ b → Ok after ≡ cond b (Ok more) (Err Limit) → (length after.records ≡ length before.records + 1) × (length before.records < max_records)) [
+    elim (has_room before.records r) as
+        (λ b.
+            has_room before.records r ≡ b → Ok after ≡ cond b (Ok more) (Err Limit)
+                → (length after.records ≡ length before.records + 1) × (length before.records < max_records))
+        [
       | true ↦ λ room same.
           let is : after ≡ more = cc in
-          (ap (λ (t : TraceView). length t.records) is ∙ length-append before.records (r ∷ []), ltb-true _ _ (both-first _ _ room))
+          (ap (λ (t : TraceView). length t.records) is ∙ length-append before.records (r ∷ []),
+              ltb-true _ _ (both-first _ _ room))
       | false ↦ λ _ full. absurd (ok_not_err _ Limit full)
     ] refl h
 
-with_header-empty : (after : TraceView) (o : Result ℕ ReadCause) → Ok after ≡ with_header o → length after.records ≡ 0
+with_header-empty : (after : TraceView) (o : Result ℕ ReadCause) → Ok after ≡ with_header o
+    → length after.records ≡ 0
 with_header-empty after (Err e) h = absurd (ok_not_err _ e h)
 with_header-empty after (Ok version) h =
     let none : TraceView = record { version = version; records = [] } in
     let is : after ≡ none = cc in
     ap (λ (t : TraceView). length t.records) is
 
-pub Grows-text : (newest n : ℕ) (before after : TraceView) (line : List ℕ) → Ok after ≡ text_adds newest n before line → Grows n before.records after.records
+pub Grows-text : (newest n : ℕ) (before after : TraceView) (line : List ℕ)
+    → Ok after ≡ text_adds newest n before line → Grows n before.records after.records
 Grows-text newest n before after line h =
-    elim (n == 1) as (λ b. n == 1 ≡ b → Ok after ≡ cond b (with_header (header_says newest line)) (with_record before (line_says before.version line)) → Grows n before.records after.records) [
-      | true ↦ λ is first. record { one = rw is (with_header-empty after (header_says newest line) first); room = λ other. absurd (other (eqb-true n 1 is)) }
+    elim (n == 1) as
+        (λ b.
+            n == 1 ≡ b
+                → Ok after
+                    ≡ cond b (with_header (header_says newest line))
+                        (with_record before (line_says before.version line))
+                → Grows n before.records after.records) [
+      | true ↦
+          λ is first. record {
+            one = rw is (with_header-empty after (header_says newest line) first);
+            room = λ other. absurd (other (eqb-true n 1 is));
+          }
       | false ↦ λ is later.
           let grown = with_record-grows before after (line_says before.version line) later in
           record { one = rw is grown.0; room = λ _. grown.1 }
     ] refl h
 
 -- the records are as many as the lines before, without the header
-pub Grows-counted : {X : Type 0} (n : ℕ) (old new : List X) → 1 ≤ n → length old ≡ n - 2 → length old ≤ max_records → Grows n old new → (length new ≡ n + 1 - 2) × (length new ≤ max_records)
+pub Grows-counted : {X : Type 0} (n : ℕ) (old new : List X) → 1 ≤ n → length old ≡ n - 2
+    → length old ≤ max_records → Grows n old new → (length new ≡ n + 1 - 2) × (length new ≤ max_records)
 Grows-counted n old new low counted room grows =
-    elim (n == 1) as (λ b. n == 1 ≡ b → length new ≡ cond b 0 (length old + 1) → (length new ≡ n + 1 - 2) × (length new ≤ max_records)) [
+    elim (n == 1) as
+        (λ b.
+            n == 1 ≡ b → length new ≡ cond b 0 (length old + 1)
+                → (length new ≡ n + 1 - 2) × (length new ≤ max_records)) [
       | true ↦ λ is one. let first : n ≡ 1 = eqb-true n 1 is in (omega arith, omega arith)
       | false ↦ λ is one.
           let later : n ≢ 1 = λ same. (let h : true ≡ false = sym (eq-eqb n 1 same) ∙ is in cc) in
@@ -113,12 +158,16 @@ Grows-counted n old new low counted room grows =
 
 -- ---- the version that a header names
 
-pub header_says-range : (newest : ℕ) (line : List ℕ) (version : ℕ) → Ok version ≡ header_says newest line → (1 ≤ version) × (version ≤ newest)
+pub header_says-range : (newest : ℕ) (line : List ℕ) (version : ℕ) → Ok version ≡ header_says newest line
+    → (1 ≤ version) × (version ≤ newest)
 header_says-range newest line version says = by_value (value_of line) says
   where
     by_taken : (n : ℕ) → version_read newest n ≡ Some version → (1 ≤ version) × (version ≤ newest)
     by_taken n e =
-        elim (nat_le 1 n && nat_le n newest) as (λ b. nat_le 1 n && nat_le n newest ≡ b → cond b (Some n) None ≡ Some version → (1 ≤ version) × (version ≤ newest)) [
+        elim (nat_le 1 n && nat_le n newest) as
+            (λ b.
+                nat_le 1 n && nat_le n newest ≡ b → cond b (Some n) None ≡ Some version
+                    → (1 ≤ version) × (version ≤ newest)) [
           | true ↦ λ range same.
               let is : n ≡ version = cc in
               let low : 1 ≤ n = leb-true 1 n (both-first (nat_le 1 n) (nat_le n newest) range) in
@@ -129,8 +178,14 @@ header_says-range newest line version says = by_value (value_of line) says
 
     by_object : (d : Data) → version_in newest d ≡ Some version → (1 ≤ version) × (version ≤ newest)
     by_object d e =
-        elim (names_format d) as (λ b. cond b (option_and_then (version_read newest) (whole member.version d)) None ≡ Some version → (1 ≤ version) × (version ≤ newest)) [
-          | true ↦ λ named. option_and_then_some (version_read newest) (whole member.version d) version named (λ n _ is. by_taken n is)
+        elim (names_format d) as
+            (λ b.
+                cond b (option_and_then (version_read newest) (whole member.version d)) None ≡ Some version
+                    → (1 ≤ version) × (version ≤ newest)) [
+          | true ↦
+              λ named.
+                  option_and_then_some (version_read newest) (whole member.version d) version named
+                      (λ n _ is. by_taken n is)
           | false ↦ λ other. absurd (none-some version other)
         ] e
 
@@ -138,11 +193,13 @@ header_says-range newest line version says = by_value (value_of line) says
     by_version None e = absurd (ok_not_err version Header e)
     by_version (Some n) e = cc
 
-    by_value : (o : Option Data) → Ok version ≡ ok_or (option_and_then (version_in newest) o) Header → (1 ≤ version) × (version ≤ newest)
+    by_value : (o : Option Data) → Ok version ≡ ok_or (option_and_then (version_in newest) o) Header
+        → (1 ≤ version) × (version ≤ newest)
     by_value None e = absurd (ok_not_err version Header e)
     by_value (Some d) e = by_object d (by_version (version_in newest d) e)
 
-pub header_says-known : (newest : ℕ) (line : List ℕ) (version : ℕ) → newest ≤ 2 → Ok version ≡ header_says newest line → (version ≡ 1) ⊎ (version ≡ 2)
+pub header_says-known : (newest : ℕ) (line : List ℕ) (version : ℕ) → newest ≤ 2
+    → Ok version ≡ header_says newest line → (version ≡ 1) ⊎ (version ≡ 2)
 header_says-known newest line version few says =
     let range = header_says-range newest line version says in
     let low = range.0 in
@@ -153,10 +210,12 @@ header_says-known newest line version few says =
     ]
 
 -- after a line that adds to a trace, its version is one that is read
-with_header-version : (newest : ℕ) (after : TraceView) (line : List ℕ) → Ok after ≡ with_header (header_says newest line) → after.version ≤ newest
+with_header-version : (newest : ℕ) (after : TraceView) (line : List ℕ)
+    → Ok after ≡ with_header (header_says newest line) → after.version ≤ newest
 with_header-version newest after line h = by (header_says newest line) refl h
   where
-    by : (o : Result ℕ ReadCause) → header_says newest line ≡ o → Ok after ≡ with_header o → after.version ≤ newest
+    by : (o : Result ℕ ReadCause) → header_says newest line ≡ o → Ok after ≡ with_header o
+        → after.version ≤ newest
     by (Err cause) e is = absurd (ok_not_err after cause is)
     by (Ok version) e is =
         let range = header_says-range newest line version (sym e) in
@@ -164,19 +223,31 @@ with_header-version newest after line h = by (header_says newest line) refl h
         let named = ap (λ (t : TraceView). t.version) same in
         omega (arith, named, range.1)
 
-with_record-version : (before after : TraceView) (said : Result Record ReadCause) → Ok after ≡ with_record before said → after.version ≡ before.version
+with_record-version : (before after : TraceView) (said : Result Record ReadCause)
+    → Ok after ≡ with_record before said → after.version ≡ before.version
 with_record-version before after (Err cause) is = absurd (ok_not_err after cause is)
 with_record-version before after (Ok r) is = by (has_room before.records r) is
   where
-    by : (b : Bool) → Ok after ≡ cond b (Ok (record { version = before.version; records = before.records ++ r ∷ [] })) (Err Limit) → after.version ≡ before.version
+    by : (b : Bool)
+        → Ok after
+            ≡ cond b (Ok (record { version = before.version; records = before.records ++ r ∷ [] }))
+                (Err Limit)
+        → after.version ≡ before.version
     by true e =
         let same : after ≡ record { version = before.version; records = before.records ++ r ∷ [] } = cc in
         ap (λ (t : TraceView). t.version) same
     by false e = absurd (ok_not_err after Limit e)
 
-pub version-text : (newest n : ℕ) (before after : TraceView) (line : List ℕ) → Ok after ≡ text_adds newest n before line → before.version ≤ newest → after.version ≤ newest
+pub version-text : (newest n : ℕ) (before after : TraceView) (line : List ℕ)
+    → Ok after ≡ text_adds newest n before line → before.version ≤ newest → after.version ≤ newest
 version-text newest n before after line h low = by (n == 1) h
   where
-    by : (b : Bool) → Ok after ≡ cond b (with_header (header_says newest line)) (with_record before (line_says before.version line)) → after.version ≤ newest
+    by : (b : Bool)
+        → Ok after
+            ≡ cond b (with_header (header_says newest line))
+                (with_record before (line_says before.version line))
+        → after.version ≤ newest
     by true e = with_header-version newest after line e
-    by false e = let same = with_record-version before after (line_says before.version line) e in omega (arith, same, low)
+    by false e =
+        let same = with_record-version before after (line_says before.version line) e in
+        omega (arith, same, low)

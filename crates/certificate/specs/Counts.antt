@@ -1,5 +1,6 @@
 -- How the counters of a device go on, each of 64 bits.
-use Rattle.std.specs.Prelude.{ℕ, ◌≡◌, zero, suc, ◌+◌, ◌-◌, ◌%◌, ◌^◌, ◌==◌, ◌&&◌, ◌≤◌, ◌↔◌, nat_lt, if◌then◌else◌, Option, None, Some, Result, Ok, Err}
+use Rattle.std.specs.Prelude.{ℕ, ◌≡◌, zero, suc, ◌+◌, ◌-◌, ◌%◌, ◌^◌, ◌==◌, ◌&&◌, ◌≤◌, ◌↔◌, nat_lt}
+use Rattle.std.specs.Prelude.{if◌then◌else◌, Option, None, Some, Result, Ok, Err}
 use Rattle.certificate.specs.Limits.{max_turns}
 use Rattle.certificate.specs.declared.device.DeviceFault.{DeviceFault}
 use Rattle.certificate.specs.declared.device.DeviceFault.TheVariants.{Again, Broken}

@@ -1,6 +1,7 @@
 -- What the lines of a file stand for, one after another, up to the first faulty one: the same of every format
 -- of lines, whatever its lines add to.
-use Rattle.std.specs.Prelude.{ℕ, ◌+◌, ◌==◌, Bool, List, [], ◌∷◌, length, Result, Ok, Err, count_by, nat_lt, if◌then◌else◌}
+use Rattle.std.specs.Prelude.{ℕ, ◌+◌, ◌==◌, Bool, List, [], ◌∷◌, length, Result, Ok, Err, count_by, nat_lt}
+use Rattle.std.specs.Prelude.{if◌then◌else◌}
 use Rattle.certificate.specs.declared.faults.ReadCause.{ReadCause}
 use Rattle.certificate.specs.declared.faults.ReadCause.TheVariants.{Header, LineTooLong, Unended}
 use Rattle.certificate.specs.declared.faults.ReadFault.{ReadFault}

@@ -16,7 +16,8 @@ abbrev pub HaveRoom : List Record → List Record → Type 0
 HaveRoom before [] = Unit {0}
 HaveRoom before (r ∷ rs) = (has_room before r ≡ true) × HaveRoom (before ++ r ∷ []) rs
 
--- why none of these records is kept behind those: there is none, no memory was found, or the first has no room
+-- why none of these records is kept behind those: there is none, no memory was found, or the first has no
+-- room
 abbrev pub IsWhyNot : Option ReadCause → List Record → List Record → Type 0
 IsWhyNot None before rest = rest ≡ []
 IsWhyNot (Some Memory) before rest = Unit {0}
@@ -25,7 +26,8 @@ IsWhyNot (Some Limit) before rest =
 IsWhyNot _ before rest = ⊥
 
 -- of these records the first ones, so many, are kept behind those of a trace, and this is why no more
-pub record KeepsFirst (old : TraceView) (rs : List Record) (count : ℕ) (why : Option ReadCause) (new : TraceView) : Type 0 where
+pub record KeepsFirst (old : TraceView) (rs : List Record) (count : ℕ) (why : Option ReadCause)
+    (new : TraceView) : Type 0 where
   pub first : List Record
   pub rest : List Record
   pub parts : rs ≡ first ++ rest

@@ -1,5 +1,6 @@
 -- What a source and a sink in memory do.
-use Rattle.std.specs.Prelude.{ℕ, ◌-◌, ◌==◌, ◌&&◌, ◌||◌, Bool, false, List, ◌++◌, length, take, drop, min, Option, Result, Ok, Err, nat_lt, nat_le, if◌then◌else◌}
+use Rattle.std.specs.Prelude.{ℕ, ◌-◌, ◌==◌, ◌&&◌, ◌||◌, Bool, false, List, ◌++◌, length, take, drop, min}
+use Rattle.std.specs.Prelude.{Option, Result, Ok, Err, nat_lt, nat_le, if◌then◌else◌}
 use Rattle.std.specs.Option.{option_map_or}
 use Rattle.certificate.specs.declared.device.DeviceFault.{DeviceFault}
 use Rattle.certificate.specs.declared.device.DeviceFault.TheVariants.{Again, Broken}

@@ -1,6 +1,7 @@
 -- Data whose text reads back as the same data: whole numbers, plain texts, lists and objects of them.
 use Rattle.std.specs.Prelude.{◌≡◌, ℕ, zero, suc, ◌^◌, ◌<◌, true, ⊤}
-use Rattle.serde_json.specs.Data.{Num, unsigned, negative, float, Data, null, boolean, number, string, array, object, Items, no_items, item, Members, no_members, member, put}
+use Rattle.serde_json.specs.Data.{Num, unsigned, negative, float, Data, null, boolean, number, string, array}
+use Rattle.serde_json.specs.Data.{object, Items, no_items, item, Members, no_members, member, put}
 use Rattle.certificate.specs.Texts.{is_plain_text}
 
 -- the members, put one after another among those that were found

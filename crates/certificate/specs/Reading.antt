@@ -1,9 +1,11 @@
 -- What a reader answers on a source that tells its bytes.
-use Rattle.std.specs.Prelude.{ℕ, ◌≡◌, ◌≢◌, ◌⊎◌, ◌+◌, ◌*◌, ◌≤◌, ◌<◌, ◌==◌, Bool, true, false, List, [], ◌∷◌, ◌++◌, length, Option, Some, None, Result, Ok, Err, IfSome, if◌then◌else◌}
+use Rattle.std.specs.Prelude.{ℕ, ◌≡◌, ◌≢◌, ◌⊎◌, ◌+◌, ◌*◌, ◌≤◌, ◌<◌, ◌==◌, Bool, true, false, List, [], ◌∷◌}
+use Rattle.std.specs.Prelude.{◌++◌, length, Option, Some, None, Result, Ok, Err, IfSome, if◌then◌else◌}
 use Rattle.ompt_events.specs.Limits.{max_records}
 use Rattle.ompt_events.specs.Traces.{TraceView}
 use Rattle.certificate.specs.declared.faults.ReadCause.{ReadCause}
-use Rattle.certificate.specs.declared.faults.ReadCause.TheVariants.{Device, Memory, Header, NotJson, Field, Limit, TurnsSpent}
+use Rattle.certificate.specs.declared.faults.ReadCause.TheVariants.{Device, Memory, Header, NotJson, Field}
+use Rattle.certificate.specs.declared.faults.ReadCause.TheVariants.{Limit, TurnsSpent}
 use Rattle.certificate.specs.declared.faults.ReadFault.{ReadFault}
 use Rattle.certificate.specs.Limits.{max_line, newest_version}
 use Rattle.certificate.specs.Formats.{Format, said, rest_says, fault_in, line_feeds}
@@ -25,7 +27,8 @@ pub record IsFromLine (n : ℕ) (bytes rest : List ℕ) : Type 0 where
   pub lines : AreLinesBefore n before
   pub parts : bytes ≡ before ++ rest
 
--- the line of number n is being read: behind the lines before it at most as many bytes were given as two of the
+-- the line of number n is being read: behind the lines before it at most as many bytes were given as two of
+-- the
 -- longest lines have, and among them this line with its line feed; or nothing was given yet
 pub record IsBeingRead (n : ℕ) (bytes left : List ℕ) : Type 0 where
   pub waiting : List ℕ

@@ -1,5 +1,6 @@
 -- What a reader on several workers answers, which takes the bytes of its source by blocks.
-use Rattle.std.specs.Prelude.{ℕ, ◌≡◌, ◌+◌, ◌-◌, ◌*◌, ◌≤◌, ◌^◌, List, length, ◌++◌, Option, Some, None, Result, Ok, Err, IfSome}
+use Rattle.std.specs.Prelude.{ℕ, ◌≡◌, ◌+◌, ◌-◌, ◌*◌, ◌≤◌, ◌^◌, List, length, ◌++◌, Option, Some, None, Result}
+use Rattle.std.specs.Prelude.{Ok, Err, IfSome}
 use Rattle.ompt_events.specs.Traces.{TraceView}
 use Rattle.certificate.specs.declared.faults.ReadCause.{ReadCause}
 use Rattle.certificate.specs.declared.faults.ReadCause.TheVariants.{Device, Memory, TurnsSpent}
@@ -60,7 +61,8 @@ IsToldAfter met (Some cause) = Unit {0}
 
 -- what was met at a source by a reading that told this: each answer `Again` is a turn, the one after the last
 -- that a call has ends the reading, and so does the first answer `Broken`
-pub record ReadsAhead (told : Option ReadCause) (turns turns' agains agains' breaks breaks' : ℕ) : Type 0 where
+pub record ReadsAhead (told : Option ReadCause) (turns turns' agains agains' breaks breaks' : ℕ) : Type 0
+    where
   pub met : Option ReadCause
   pub taken : TakesTurns met turns turns' agains agains'
   pub broken : breaks' ≡ breaks_told met breaks

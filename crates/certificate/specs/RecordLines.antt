@@ -1,5 +1,7 @@
 -- What a single line stands for, in a file of version 1 or 2 of the format.
-use Rattle.std.specs.Prelude.{ℕ, ◌≡◌, ◌≢◌, ◌==◌, ◌&&◌, ◌^◌, Bool, true, false, List, length, Option, Some, None, Result, Ok, Err, ok_or, option_map, option_and_then, is_some, nat_lt, nat_le, codes, if◌then◌else◌}
+use Rattle.std.specs.Prelude.{ℕ, ◌≡◌, ◌≢◌, ◌==◌, ◌&&◌, ◌^◌, Bool, true, false, List, length, Option, Some}
+use Rattle.std.specs.Prelude.{None, Result, Ok, Err, ok_or, option_map, option_and_then, is_some, nat_lt}
+use Rattle.std.specs.Prelude.{nat_le, codes, if◌then◌else◌}
 use Rattle.std.specs.Option.{option_map_or}
 use Rattle.std.specs.List.{list_all}
 use Rattle.std.specs.Str.{is_utf8, bytes_eq}
@@ -11,14 +13,18 @@ use Rattle.ompt_events.specs.declared.records.Claim.{Claim}
 use Rattle.ompt_events.specs.declared.records.Turns.{Turns}
 use Rattle.ompt_events.specs.declared.names.Status.{Status}
 use Rattle.ompt_events.specs.declared.records.Body.{Body}
-use Rattle.ompt_events.specs.declared.records.Body.TheVariants.{ThreadBegin, ThreadEnd, ParallelBegin, ParallelEnd, ImplicitTask, TaskCreate, Dependences, TaskSchedule, SyncRegion, Cancel}
+use Rattle.ompt_events.specs.declared.records.Body.TheVariants.{ThreadBegin, ThreadEnd, ParallelBegin}
+use Rattle.ompt_events.specs.declared.records.Body.TheVariants.{ParallelEnd, ImplicitTask, TaskCreate}
+use Rattle.ompt_events.specs.declared.records.Body.TheVariants.{Dependences, TaskSchedule, SyncRegion, Cancel}
 use Rattle.ompt_events.specs.Limits.{max_threads, max_depth, max_dependences}
 use Rattle.ompt_events.specs.Flags as flag
 use Rattle.ompt_events.specs.Flags.{has_flag}
 use Rattle.ompt_events.specs.Names.{status_part, demands_next}
 use Rattle.certificate.specs.declared.faults.ReadCause.{ReadCause}
 use Rattle.certificate.specs.declared.faults.ReadCause.TheVariants.{Memory, Header, NotJson, Field, Limit}
-use Rattle.certificate.specs.Members.{◌>>=◌, whole, whole_or_null, text, truth, status, endpoint, begin_or_end, sync_kind, thread_kind, task_flags, cancel_flags, next, path, deps}
+use Rattle.certificate.specs.Members.{◌>>=◌, whole, whole_or_null, text, truth, status, endpoint}
+use Rattle.certificate.specs.Members.{begin_or_end, sync_kind, thread_kind, task_flags, cancel_flags, next}
+use Rattle.certificate.specs.Members.{path, deps}
 use Rattle.certificate.specs.MemberNames as member
 use Rattle.certificate.specs.CallbackNames as callback
 

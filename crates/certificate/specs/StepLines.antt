@@ -1,10 +1,12 @@
 -- What a single line of a script stands for: a callback, without what a recorder adds to it.
-use Rattle.std.specs.Prelude.{ℕ, List, [], ◌∷◌, Option, Some, None, Result, Err, option_map, option_and_then, ok_or, if◌then◌else◌}
+use Rattle.std.specs.Prelude.{ℕ, List, [], ◌∷◌, Option, Some, None, Result, Err, option_map, option_and_then}
+use Rattle.std.specs.Prelude.{ok_or, if◌then◌else◌}
 use Rattle.std.specs.Str.{bytes_eq}
 use Rattle.serde_json.specs.Data.{Data}
 use Rattle.serde_json.specs.Find.{get, as_array}
 use Rattle.ompt_events.specs.declared.records.Body.{Body}
-use Rattle.ompt_events.specs.declared.records.Body.TheVariants.{ParallelBegin, ImplicitTask, TaskSchedule, Cancel}
+use Rattle.ompt_events.specs.declared.records.Body.TheVariants.{ParallelBegin, ImplicitTask, TaskSchedule}
+use Rattle.ompt_events.specs.declared.records.Body.TheVariants.{Cancel}
 use Rattle.certificate.specs.declared.faults.ReadCause.{ReadCause}
 use Rattle.certificate.specs.declared.faults.ReadCause.TheVariants.{Field, NotJson}
 use Rattle.certificate.specs.declared.step_lines.Loose.{Loose}

@@ -1,19 +1,24 @@
 -- The text of a trace: a header with its version, and then a line for each record.
-use Rattle.std.specs.Prelude.{codes, decimal, ℕ, ◌≡◌, Bool, true, not, ◌&&◌, ◌==◌, nat_lt, nat_le, List, [], ◌∷◌, ◌++◌, map, flat_map, Option, Some, None, if◌then◌else◌}
+use Rattle.std.specs.Prelude.{codes, decimal, ℕ, ◌≡◌, Bool, true, not, ◌&&◌, ◌==◌, nat_lt, nat_le, List, []}
+use Rattle.std.specs.Prelude.{◌∷◌, ◌++◌, map, flat_map, Option, Some, None, if◌then◌else◌}
 use Rattle.json.specs.Print.{quoted}
-use Rattle.serde_json.specs.Data.{Data, null, boolean, number, string, array, object, unsigned, Members, no_members, put}
+use Rattle.serde_json.specs.Data.{Data, null, boolean, number, string, array, object, unsigned, Members}
+use Rattle.serde_json.specs.Data.{no_members, put}
 use Rattle.serde_json.specs.View.{items_of}
 use Rattle.serde_json.specs.Written.{compact_text}
 use Rattle.ompt_events.specs.declared.records.Record.{Record}
 use Rattle.ompt_events.specs.declared.records.Claim.{Claim}
 use Rattle.ompt_events.specs.declared.records.Turns.{Turns}
 use Rattle.ompt_events.specs.declared.records.Body.{Body}
-use Rattle.ompt_events.specs.declared.records.Body.TheVariants.{ThreadBegin, ThreadEnd, ParallelBegin, ParallelEnd, ImplicitTask, TaskCreate, Dependences, TaskSchedule, SyncRegion, Cancel}
+use Rattle.ompt_events.specs.declared.records.Body.TheVariants.{ThreadBegin, ThreadEnd, ParallelBegin}
+use Rattle.ompt_events.specs.declared.records.Body.TheVariants.{ParallelEnd, ImplicitTask, TaskCreate}
+use Rattle.ompt_events.specs.declared.records.Body.TheVariants.{Dependences, TaskSchedule, SyncRegion, Cancel}
 use Rattle.ompt_events.specs.declared.deps.Dep.{Dep}
 use Rattle.ompt_events.specs.declared.names.Status.{Status}
 use Rattle.ompt_events.specs.Flags.{task_flags, cancel_flags, has_flag}
 use Rattle.ompt_events.specs.Traces.{TraceView}
-use Rattle.ompt_events.specs.Names.{status_name, endpoint_name, sync_kind_name, dep_kind_name, thread_kind_name}
+use Rattle.ompt_events.specs.Names.{status_name, endpoint_name, sync_kind_name, dep_kind_name}
+use Rattle.ompt_events.specs.Names.{thread_kind_name}
 use Rattle.certificate.specs.MemberNames as member
 use Rattle.certificate.specs.CallbackNames as callback
 use Rattle.certificate.specs.RecordLines.{format_name}
@@ -135,8 +140,11 @@ task_tail seen seq task thread = (codes ",\"seen\":" ++ decimal seen) ++ ((codes
     ++ ((codes ",\"task\":" ++ decimal task) ++ ((codes ",\"thread\":" ++ decimal thread) ++ codes "}")))
 
 abbrev pub status_tail : ℕ → ℕ → Status → ℕ → List ℕ
-status_tail seen seq status thread = (codes ",\"seen\":" ++ decimal seen) ++ ((codes ",\"seq\":" ++ decimal seq)
-    ++ ((codes ",\"status\":" ++ quoted (status_name status)) ++ ((codes ",\"thread\":" ++ decimal thread) ++ codes "}")))
+status_tail seen seq status thread =
+    (codes ",\"seen\":" ++ decimal seen)
+        ++ ((codes ",\"seq\":" ++ decimal seq)
+            ++ ((codes ",\"status\":" ++ quoted (status_name status))
+                ++ ((codes ",\"thread\":" ++ decimal thread) ++ codes "}")))
 
 -- what a thread records with the numbers of this record
 abbrev pub with_body : Record → Body → Record

@@ -12,13 +12,16 @@ use Rattle.ompt_events.specs.Flags.{task_flags}
 use Rattle.ompt_events.specs.Names.{status_name, endpoint_name, sync_kind_name}
 use Rattle.ompt_events.specs.Traces.{IsSoundIn}
 use Rattle.certificate.specs.declared.unordered.Callback.{Callback}
-use Rattle.certificate.specs.declared.unordered.Callback.TheVariants.{ParallelBegin, ParallelEnd, ImplicitTask, TaskCreate, Dependences, TaskSchedule, SyncRegion}
+use Rattle.certificate.specs.declared.unordered.Callback.TheVariants.{ParallelBegin, ParallelEnd}
+use Rattle.certificate.specs.declared.unordered.Callback.TheVariants.{ImplicitTask, TaskCreate, Dependences}
+use Rattle.certificate.specs.declared.unordered.Callback.TheVariants.{TaskSchedule, SyncRegion}
 use Rattle.certificate.specs.declared.unordered.Found.{Found}
 use Rattle.certificate.specs.MemberNames as member
 use Rattle.certificate.specs.CallbackNames as callback
 use Rattle.certificate.specs.RecordLines.{unbounded, value_of}
 use Rattle.certificate.specs.PlainData.{IsPlain}
-use Rattle.certificate.specs.Texts.{Takes, is_plain_text, whole_number, number_or_null, names, flag_names, dep_data}
+use Rattle.certificate.specs.Texts.{Takes, is_plain_text, whole_number, number_or_null, names, flag_names}
+use Rattle.certificate.specs.Texts.{dep_data}
 
 abbrev pub callback_name : Callback → List ℕ
 callback_name ParallelBegin = callback.parallel_begin

@@ -1,5 +1,6 @@
 -- What holds of a window, and what it shows of the next line.
-use Rattle.std.specs.Prelude.{◌≡◌, ◌≢◌, ℕ, ◌+◌, ◌*◌, ◌≤◌, ◌<◌, List, [], length, slice_index, Option, Some, None}
+use Rattle.std.specs.Prelude.{◌≡◌, ◌≢◌, ℕ, ◌+◌, ◌*◌, ◌≤◌, ◌<◌, List, [], length, slice_index, Option, Some}
+use Rattle.std.specs.Prelude.{None}
 use Rattle.std.specs.Io.KnownBytes.{IsAtEnd}
 use Rattle.memchr.specs.Find.{IsFirstByte, is_byte}
 use Rattle.certificate.specs.Limits.{max_line}

@@ -1,8 +1,10 @@
 -- More that records say of all but turns.
 use Rattle.std.proofs.Common.{ℕ, refl}
 use Rattle.ompt_events.specs.declared.records.Body.TheVariants.{TaskSchedule}
-use Rattle.ompt_events.specs.declared.names.Status.TheVariants.{EarlyFulfill, LateFulfill, Switch, TaskwaitComplete, Yield}
-use Rattle.ompt_events.specs.Records.{made, forked, region_named, ended_root, started, wait_completed, created_with_deps, discarded, fulfilled, flags, named, suspended}
+use Rattle.ompt_events.specs.declared.names.Status.TheVariants.{EarlyFulfill, LateFulfill, Switch}
+use Rattle.ompt_events.specs.declared.names.Status.TheVariants.{TaskwaitComplete, Yield}
+use Rattle.ompt_events.specs.Records.{made, forked, region_named, ended_root, started, wait_completed}
+use Rattle.ompt_events.specs.Records.{created_with_deps, discarded, fulfilled, flags, named, suspended}
 use Rattle.ompt_events.specs.Threads.{Walk, after_body}
 use Rattle.ompt_events.specs.States.{moves_by}
 use Rattle.task_tree.proofs.BlindLemmas.{IsBlind}

@@ -28,34 +28,43 @@ use Rattle.checker.proofs.ReadingLemmas.{of_tasks, clear_entries}
 use Rattle.checker.proofs.VerdictLemmas.{open_unfinished, late_unfinished, unfinished_cases}
 
 -- a task that is unfinished at the end of a wait
-pub violation_by_open : (rs : List Record) (own : OwnView) (number place task : ℕ) → IsOwnOf rs own → IsOwn own → slice_get own.places number ≡ Some place → IsFirstOpen own number task → IsViolationAt (by_task rs) place (Unfinished task)
+pub violation_by_open : (rs : List Record) (own : OwnView) (number place task : ℕ) → IsOwnOf rs own
+    → IsOwn own → slice_get own.places number ≡ Some place → IsFirstOpen own number task
+    → IsViolationAt (by_task rs) place (Unfinished task)
 violation_by_open rs own number place task of is stands first =
-    let shown : IsFirstOpenShown rs place task = open_shown rs own number place (Some task) of is stands first in
+    let shown : IsFirstOpenShown rs place task =
+        open_shown rs own number place (Some task) of is stands first in
     record {
-      unfinished = open_unfinished (by_task rs) place task (shown.open_there.covered, shown.open_there.incomplete);
+      unfinished =
+          open_unfinished (by_task rs) place task (shown.open_there.covered, shown.open_there.incomplete);
       reason = shown.open_there.covered;
       creation = shown.creation;
       is_created = shown.is_created;
-      created_first = λ k other low creates unfinished. elim (unfinished_cases (by_task rs) place other unfinished) [
-        | inl opened ↦ shown.created_first k other low creates (record { covered = opened.0; incomplete = opened.1 })
+      created_first =
+          λ k other low creates unfinished. elim (unfinished_cases (by_task rs) place other unfinished) [
+        | inl opened ↦
+            shown.created_first k other low creates (record { covered = opened.0; incomplete = opened.1 })
         | inr late ↦ (of_tasks rs).apart place task other shown.open_there.covered late.0
       ];
     }
 
 -- a predecessor that is unfinished, where nothing that ends is open
-pub violation_by_late : (rs : List Record) (place task : ℕ) → IsCompleteShown rs place → IsFirstLateAt rs place task → IsViolationAt (by_task rs) place (Predecessor task)
+pub violation_by_late : (rs : List Record) (place task : ℕ) → IsCompleteShown rs place
+    → IsFirstLateAt rs place task → IsViolationAt (by_task rs) place (Predecessor task)
 violation_by_late rs place task complete late = record {
   unfinished = late_unfinished (by_task rs) place task late.late;
   reason = late.late.0;
   creation = late.creation;
   is_created = late.is_created;
-  created_first = λ k other low creates unfinished. elim (unfinished_cases (by_task rs) place other unfinished) [
+  created_first =
+      λ k other low creates unfinished. elim (unfinished_cases (by_task rs) place other unfinished) [
     | inl opened ↦ opened.1 (complete other opened.0)
     | inr behind ↦ late.created_first k other low creates behind
   ];
 }
 
-pub complete_at : (rs : List Record) (place : ℕ) → IsCompleteShown rs place → AreReady rs place → AreComplete (by_task rs) place
+pub complete_at : (rs : List Record) (place : ℕ) → IsCompleteShown rs place → AreReady rs place
+    → AreComplete (by_task rs) place
 complete_at rs place covered ready task (inl covers) = covered task covers
 complete_at rs place covered ready task (inr preceded) = ready task preceded
 
@@ -68,7 +77,8 @@ end_complete rs number ends_none task covers =
 -- ---- the same of a trace without a cause
 
 -- a record's number is one of the run in the tasks' own order
-pub number_within : (view : ClearView) (own : OwnView) (i : ℕ) → IsClearView view → own ≡ view.own → i < length view.run.records → i < length own.run.records
+pub number_within : (view : ClearView) (own : OwnView) (i : ℕ) → IsClearView view → own ≡ view.own
+    → i < length view.run.records → i < length own.run.records
 number_within view own i clear same within =
     let long = own_long view.run.records view.own clear.one.of_file in
     let P : OwnView → Type 0 = λ o. i < length o.run.records in
@@ -78,36 +88,51 @@ number_within view own i clear same within =
 abbrev Finds : DoneView → (OwnView → Type 0) → Type 0
 Finds done IsThat = HasRightEntries (records_of done) → AreCreditLengths done → IsThat (own_of done.teams)
 
-found_there : (view : ClearView) (done : DoneView) (IsThat : OwnView → Type 0) → IsClearView view → own_of done.teams ≡ view.own → AreCreditLengths done → Finds done IsThat → IsThat view.own
+found_there : (view : ClearView) (done : DoneView) (IsThat : OwnView → Type 0) → IsClearView view
+    → own_of done.teams ≡ view.own → AreCreditLengths done → Finds done IsThat → IsThat view.own
 found_there view done IsThat clear same credit finds =
     let Right : OwnView → Type 0 = λ own. HasRightEntries own.run.records in
     subst IsThat same (finds (subst Right (sym same) (clear_entries view clear)) credit)
 
-stands_there : (view : ClearView) (own : OwnView) (number place : ℕ) → own ≡ view.own → slice_get own.places number ≡ Some place → slice_get view.own.places number ≡ Some place
+stands_there : (view : ClearView) (own : OwnView) (number place : ℕ) → own ≡ view.own
+    → slice_get own.places number ≡ Some place → slice_get view.own.places number ≡ Some place
 stands_there view own number place same stands =
     let P : OwnView → Type 0 = λ o. slice_get o.places number ≡ Some place in
     subst P same stands
 
-pub open_decided : (view : ClearView) (own : OwnView) (done : DoneView) (number place task : ℕ) → IsClearView view → own ≡ view.own → own_of done.teams ≡ view.own → AreCreditLengths done → slice_get own.places number ≡ Some place → Finds done (λ o. IsFirstOpen o number task) → IsViolationAt (by_task view.run.records) place (Unfinished task)
+pub open_decided : (view : ClearView) (own : OwnView) (done : DoneView) (number place task : ℕ)
+    → IsClearView view → own ≡ view.own → own_of done.teams ≡ view.own → AreCreditLengths done
+    → slice_get own.places number ≡ Some place → Finds done (λ o. IsFirstOpen o number task)
+    → IsViolationAt (by_task view.run.records) place (Unfinished task)
 open_decided view own done number place task clear same teams credit stands finds =
-    violation_by_open view.run.records view.own number place task clear.one.of_file clear.one.is_own (stands_there view own number place same stands)
+    violation_by_open view.run.records view.own number place task clear.one.of_file clear.one.is_own
+        (stands_there view own number place same stands)
     (found_there view done (λ o. IsFirstOpen o number task) clear teams credit finds)
 
-pub covered_decided : (view : ClearView) (own : OwnView) (done : DoneView) (number place : ℕ) → IsClearView view → own ≡ view.own → own_of done.teams ≡ view.own → AreCreditLengths done → slice_get own.places number ≡ Some place → Finds done (λ o. IsCoverComplete o.run.records number) → IsCompleteShown view.run.records place
+pub covered_decided : (view : ClearView) (own : OwnView) (done : DoneView) (number place : ℕ)
+    → IsClearView view → own ≡ view.own → own_of done.teams ≡ view.own → AreCreditLengths done
+    → slice_get own.places number ≡ Some place → Finds done (λ o. IsCoverComplete o.run.records number)
+    → IsCompleteShown view.run.records place
 covered_decided view own done number place clear same teams credit stands finds =
-    all_shown view.run.records view.own number place clear.one.of_file clear.one.is_own (stands_there view own number place same stands)
+    all_shown view.run.records view.own number place clear.one.of_file clear.one.is_own
+        (stands_there view own number place same stands)
     (found_there view done (λ o. IsCoverComplete o.run.records number) clear teams credit finds)
 
 -- where no wait ends
-pub no_end_decided : (view : ClearView) (own : OwnView) (done : DoneView) (number place : ℕ) → IsClearView view → own ≡ view.own → own_of done.teams ≡ view.own → slice_get own.places number ≡ Some place → (IsEnd (records_of done) number → ⊥) → IsCompleteShown view.run.records place
+pub no_end_decided : (view : ClearView) (own : OwnView) (done : DoneView) (number place : ℕ)
+    → IsClearView view → own ≡ view.own → own_of done.teams ≡ view.own
+    → slice_get own.places number ≡ Some place → (IsEnd (records_of done) number → ⊥)
+    → IsCompleteShown view.run.records place
 no_end_decided view own done number place clear same teams stands ends_none =
     let P : OwnView → Type 0 = λ o. IsEnd o.run.records number → ⊥ in
-    all_shown view.run.records view.own number place clear.one.of_file clear.one.is_own (stands_there view own number place same stands)
+    all_shown view.run.records view.own number place clear.one.of_file clear.one.is_own
+        (stands_there view own number place same stands)
     (end_complete view.own.run.records number (subst P teams ends_none))
 
 -- ---- the first violation
 
-pub first_violation : (reading : Reading) (i : ℕ) (why : Why) → IsViolationAt reading i why → ((k : ℕ) → k < i → AreComplete reading k) → IsFirstViolation reading i why
+pub first_violation : (reading : Reading) (i : ℕ) (why : Why) → IsViolationAt reading i why
+    → ((k : ℕ) → k < i → AreComplete reading k) → IsFirstViolation reading i why
 first_violation reading i why violation before = record {
   unfinished = record {
     so = violation.unfinished;
@@ -120,11 +145,13 @@ first_violation reading i why violation before = record {
 }
 
 complete_past : (rs : List Record) (i : ℕ) → length rs ≤ i → AreComplete (by_task rs) i
-complete_past rs i past task (inl covers) = absurd (let inside = (of_tasks rs).within i task covers in omega (arith, inside, past))
+complete_past rs i past task (inl covers) =
+    absurd (let inside = (of_tasks rs).within i task covers in omega (arith, inside, past))
 complete_past rs i past task (inr preceded) = ready_past rs i past task preceded
 
 -- past the last record nothing has to be complete
-pub complete_whole : (rs : List Record) (n i : ℕ) → ((k : ℕ) → k < n → AreComplete (by_task rs) k) → length rs ≤ n → AreComplete (by_task rs) i
+pub complete_whole : (rs : List Record) (n i : ℕ) → ((k : ℕ) → k < n → AreComplete (by_task rs) k)
+    → length rs ≤ n → AreComplete (by_task rs) i
 complete_whole rs n i below past = elim (cases_lt i n) [
   | inl less ↦ below i less
   | inr more ↦ complete_past rs i (omega (arith, more, past))

@@ -1,5 +1,6 @@
 -- Which records may stand next, and what a record more lets stand.
-use Rattle.std.proofs.Common.{◌≡◌, ◌≢◌, ◌∙◌, ◌<◌, ◌≤◌, ◌+◌, ℕ, List, [], ◌∷◌, length, Option, Some, None, Bool, true, refl, sym, ap, subst, arith, inl, inr, ◌⊎◌, set}
+use Rattle.std.proofs.Common.{◌≡◌, ◌≢◌, ◌∙◌, ◌<◌, ◌≤◌, ◌+◌, ℕ, List, [], ◌∷◌, length, Option, Some, None}
+use Rattle.std.proofs.Common.{Bool, true, refl, sym, ap, subst, arith, inl, inr, ◌⊎◌, set}
 use Rattle.std.proofs.lemmas.Bool.{cases_eq, cases_lt}
 use Rattle.std.proofs.lemmas.Option.{none-some}
 use Rattle.std.proofs.lemmas.List.{get_or-set_other}
@@ -13,7 +14,8 @@ use Rattle.ompt_events.specs.Places.{thread_at, seen_at}
 use Rattle.ompt_events.proofs.ListLemmas.{contains_first}
 use Rattle.checker.specs.declared.suspensions.Suspensions.{Suspensions}
 use Rattle.checker.specs.Schedule.{Awaits}
-use Rattle.checker.specs.Merge.{AreStanding, Stands, IsUnplaced, MayFollow, AreHeads, IsFront, IsReadyHead, AreOffered, AreMore, IsTaken, length_of}
+use Rattle.checker.specs.Merge.{AreStanding, Stands, IsUnplaced, MayFollow, AreHeads, IsFront, IsReadyHead}
+use Rattle.checker.specs.Merge.{AreOffered, AreMore, IsTaken, length_of}
 use Rattle.task_tree.specs.Family.{FamilyView}
 use Rattle.task_tree.specs.Runs.{RunView}
 use Rattle.task_tree.proofs.GapFreeLemmas.{thread_there}
@@ -25,11 +27,19 @@ use Rattle.checker.proofs.MergingLemmas.{standing_closed, stands_here, stands_st
 
 -- ---- the test
 
-pub follows : (rs : List Record) (family : FamilyView) (known : Suspensions) (placed : List Bool) (heads : List ℕ) (low thread i : ℕ) → IsFront rs family known placed heads low → thread_at rs i ≡ Some thread → slice_index heads thread ≡ i → IsReadyHead rs placed low i → MayFollow rs placed i
-follows rs family known placed heads low thread i front runs is ready = may_follow rs front.suspended.facts placed heads low thread i front.are_heads front.is_low (front.are_heads.all i thread runs) is ready
+pub follows : (rs : List Record) (family : FamilyView) (known : Suspensions) (placed : List Bool)
+    (heads : List ℕ) (low thread i : ℕ)
+    → IsFront rs family known placed heads low → thread_at rs i ≡ Some thread → slice_index heads thread ≡ i
+    → IsReadyHead rs placed low i → MayFollow rs placed i
+follows rs family known placed heads low thread i front runs is ready =
+    may_follow rs front.suspended.facts placed heads low thread i front.are_heads front.is_low
+        (front.are_heads.all i thread runs) is ready
 
-pub passes : (rs : List Record) (family : FamilyView) (known : Suspensions) (placed : List Bool) (heads : List ℕ) (low i : ℕ) → IsFront rs family known placed heads low → MayFollow rs placed i → IsReadyHead rs placed low i
-passes rs family known placed heads low i front may = ready_head rs placed low i front.suspended.facts front.closed front.is_low may
+pub passes : (rs : List Record) (family : FamilyView) (known : Suspensions) (placed : List Bool)
+    (heads : List ℕ) (low i : ℕ)
+    → IsFront rs family known placed heads low → MayFollow rs placed i → IsReadyHead rs placed low i
+passes rs family known placed heads low i front may =
+    ready_head rs placed low i front.suspended.facts front.closed front.is_low may
 
 -- ---- the queue
 
@@ -48,7 +58,8 @@ more_refl rs placed old = record {
   only = λ i c. inl c;
 }
 
-pub more_then : (rs : List Record) (placed : List Bool) (old mid new : List ℕ) → AreMore rs placed old mid → AreMore rs placed mid new → AreMore rs placed old new
+pub more_then : (rs : List Record) (placed : List Bool) (old mid new : List ℕ) → AreMore rs placed old mid
+    → AreMore rs placed mid new → AreMore rs placed old new
 more_then rs placed old mid new first second = record {
   kept = λ i c. second.kept i (first.kept i c);
   only = λ i c. elim (second.only i c) [
@@ -57,10 +68,15 @@ more_then rs placed old mid new first second = record {
   ];
 }
 
-pub more_put : (rs : List Record) (placed : List Bool) (place : ℕ) (old new : List ℕ) → IsPermutation (place ∷ old) new → MayFollow rs placed place → AreMore rs placed old new
+pub more_put : (rs : List Record) (placed : List Bool) (place : ℕ) (old new : List ℕ)
+    → IsPermutation (place ∷ old) new → MayFollow rs placed place → AreMore rs placed old new
 more_put rs placed place old new moved may = record {
   kept = λ i c. Contains-permutation (place ∷ old) new i moved (contains_behind i place old c);
-  only = λ i c. elim (contains_cases i place old (Contains-permutation new (place ∷ old) i (IsPermutation-sym (place ∷ old) new moved) c)) [
+  only =
+      λ i c.
+          elim
+              (contains_cases i place old
+                  (Contains-permutation new (place ∷ old) i (IsPermutation-sym (place ∷ old) new moved) c)) [
     | inl same ↦ inr (rw same may)
     | inr before ↦ inl before
   ];
@@ -73,32 +89,55 @@ pub one_less : (place : ℕ) (old new : List ℕ) → IsPermutation old (place �
 one_less place old new moved = let same = length_permutation old (place ∷ new) moved in omega (arith, same)
 
 -- a place that stands is taken out
-pub ready_less : (rs : List Record) (placed : List Bool) (place : ℕ) (old new : List ℕ) → IsPermutation old (place ∷ new) → Stands placed place → AreOffered rs placed old → AreOffered rs placed new
+pub ready_less : (rs : List Record) (placed : List Bool) (place : ℕ) (old new : List ℕ)
+    → IsPermutation old (place ∷ new) → Stands placed place → AreOffered rs placed old
+    → AreOffered rs placed new
 ready_less rs placed place old new moved stands ready = record {
-  all = λ i may. elim (contains_cases i place new (Contains-permutation old (place ∷ new) i moved (ready.all i may))) [
+  all =
+      λ i may.
+          elim (contains_cases i place new (Contains-permutation old (place ∷ new) i moved (ready.all i may)))
+              [
     | inl same ↦ absurd (may.missing (rw same stands))
     | inr c ↦ c
   ];
-  only = λ i c. ready.only i (Contains-permutation (place ∷ new) old i (IsPermutation-sym old (place ∷ new) moved) (contains_behind i place new c));
+  only =
+      λ i c.
+          ready.only i
+              (Contains-permutation (place ∷ new) old i (IsPermutation-sym old (place ∷ new) moved)
+                  (contains_behind i place new c));
 }
 
 -- one that does not stand is taken out, the least
-pub ready_taken : (rs : List Record) (placed : List Bool) (place : ℕ) (old new : List ℕ) → IsPermutation old (place ∷ new) → (Stands placed place → ⊥) → ((i : ℕ) → Contains old i → place ≤ i) → AreOffered rs placed old → IsTaken rs placed place new
+pub ready_taken : (rs : List Record) (placed : List Bool) (place : ℕ) (old new : List ℕ)
+    → IsPermutation old (place ∷ new) → (Stands placed place → ⊥) → ((i : ℕ) → Contains old i → place ≤ i)
+    → AreOffered rs placed old → IsTaken rs placed place new
 ready_taken rs placed place old new moved missing least ready = record {
-  next = elim (ready.only place (Contains-permutation (place ∷ new) old place (IsPermutation-sym old (place ∷ new) moved) (contains_first place new))) [
+  next =
+      elim
+          (ready.only place
+              (Contains-permutation (place ∷ new) old place (IsPermutation-sym old (place ∷ new) moved)
+                  (contains_first place new))) [
     | inl stands ↦ absurd (missing stands)
     | inr may ↦ may
   ];
   first = λ i below may. let h = least i (ready.all i may) in absurd (omega (arith, below, h));
-  kept = λ i apart may. elim (contains_cases i place new (Contains-permutation old (place ∷ new) i moved (ready.all i may))) [
+  kept =
+      λ i apart may.
+          elim (contains_cases i place new (Contains-permutation old (place ∷ new) i moved (ready.all i may)))
+              [
     | inl same ↦ absurd (apart same)
     | inr c ↦ c
   ];
-  only = λ i c. ready.only i (Contains-permutation (place ∷ new) old i (IsPermutation-sym old (place ∷ new) moved) (contains_behind i place new c));
+  only =
+      λ i c.
+          ready.only i
+              (Contains-permutation (place ∷ new) old i (IsPermutation-sym old (place ∷ new) moved)
+                  (contains_behind i place new c));
 }
 
 -- each record that may stand next is the head of its thread
-pub head_of : (rs : List Record) (placed : List Bool) (heads : List ℕ) (i : ℕ) → AreHeads rs placed heads → MayFollow rs placed i → (thread : ℕ) × (thread < length heads) × (slice_index heads thread ≡ i)
+pub head_of : (rs : List Record) (placed : List Bool) (heads : List ℕ) (i : ℕ) → AreHeads rs placed heads
+    → MayFollow rs placed i → (thread : ℕ) × (thread < length heads) × (slice_index heads thread ≡ i)
 head_of rs placed heads i are may =
     let thread = thread_there rs i may.within in
     (thread.0, are.all i thread.0 thread.1, is_head rs placed heads i thread.0 are thread.1 may)
@@ -109,13 +148,27 @@ length_named : (rs : List Record) (i : ℕ) → i < length rs → length_of rs i
 length_named rs i within = named (slice_get rs i) refl
   where
     named : (o : Option Record) → slice_get rs i ≡ o → length_of rs i ≡ Some (seen_at rs i)
-    named None e = absurd (none-some (thread_there rs i within).0 (sym (ap (option_map (λ (r : Record). r.thread)) e) ∙ (thread_there rs i within).1))
-    named (Some r) e = ap (option_map (λ (q : Record). q.seen)) e ∙ ap Some (sym (ap (λ (o : Option Record). option_map_or (λ (q : Record). q.seen) o 0) e))
+    named None e =
+        absurd
+            (none-some (thread_there rs i within).0
+                (sym (ap (option_map (λ (r : Record). r.thread)) e) ∙ (thread_there rs i within).1))
+    named (Some r) e =
+        ap (option_map (λ (q : Record). q.seen)) e
+            ∙ ap Some (sym (ap (λ (o : Option Record). option_map_or (λ (q : Record). q.seen) o 0) e))
 
 -- one that may stand next once the place does could do so before, or follows it in its thread, or awaits it,
 -- or names a ledger length that was not reached
-let_stand : (rs : List Record) (family : FamilyView) (known : Suspensions) (placed : List Bool) (heads : List ℕ) (low now_low place thread next i : ℕ) → IsFront rs family known placed heads low → IsFront rs family known (set placed place true) (set heads thread next) now_low → thread_at rs place ≡ Some thread → slice_index (set heads thread next) thread ≡ next → place < length placed → MayFollow rs (set placed place true) i → (i ≡ next) ⊎ ((Awaits rs i place) ⊎ (((k : ℕ) × (low < k) × (k ≤ now_low) × (length_of rs i ≡ Some k)) ⊎ MayFollow rs placed i))
-let_stand rs family known placed heads low now_low place thread next i before after runs is_next inside may = elim (cases_eq own.0 thread) [
+let_stand : (rs : List Record) (family : FamilyView) (known : Suspensions) (placed : List Bool)
+    (heads : List ℕ) (low now_low place thread next i : ℕ)
+    → IsFront rs family known placed heads low
+    → IsFront rs family known (set placed place true) (set heads thread next) now_low
+    → thread_at rs place ≡ Some thread → slice_index (set heads thread next) thread ≡ next
+    → place < length placed → MayFollow rs (set placed place true) i
+    → (i ≡ next)
+        ⊎ ((Awaits rs i place)
+              ⊎ (((k : ℕ) × (low < k) × (k ≤ now_low) × (length_of rs i ≡ Some k)) ⊎ MayFollow rs placed i))
+let_stand rs family known placed heads low now_low place thread next i before after runs is_next inside may =
+    elim (cases_eq own.0 thread) [
   | inl same ↦ inl (sym head_is ∙ ap (slice_index (set heads thread next)) same ∙ is_next)
   | inr apart ↦ of_another apart
 ]
@@ -135,12 +188,18 @@ let_stand rs family known placed heads low now_low place thread next i before af
       | inr same ↦ let P : ℕ → Type 0 = λ d. Awaits rs i d in absurd (other (subst P same awaits))
     ]
 
-    of_another : own.0 ≢ thread → (i ≡ next) ⊎ ((Awaits rs i place) ⊎ (((k : ℕ) × (low < k) × (k ≤ now_low) × (length_of rs i ≡ Some k)) ⊎ MayFollow rs placed i))
+    of_another : own.0 ≢ thread
+        → (i ≡ next)
+            ⊎ ((Awaits rs i place)
+                  ⊎ (((k : ℕ) × (low < k) × (k ≤ now_low) × (length_of rs i ≡ Some k))
+                        ⊎ MayFollow rs placed i))
     of_another apart = elim (awaits_or_not rs family i place before.suspended.facts before.family_of) [
       | inl awaits ↦ inr (inl awaits)
       | inr other ↦ elim (cases_lt low (seen_at rs i)) [
         | inl more ↦ inr (inr (inl (seen_at rs i, more, passes_now.is_entered, length_named rs i may.within)))
-        | inr reached ↦ inr (inr (inr (follows rs family known placed heads low own.0 i before own.1 (sym (get_or-set_other heads thread own.0 next 0 apart) ∙ head_is) (record {
+        | inr reached ↦
+            inr ( inr ( inr ( follows rs family known placed heads low own.0 i before own.1
+                (sym (get_or-set_other heads thread own.0 next 0 apart) ∙ head_is) ( record {
           within = may.within;
           is_let = stood other;
           is_entered = reached;
@@ -149,13 +208,32 @@ let_stand rs family known placed heads low now_low place thread next i before af
     ]
 
 -- all that may stand next are among those that were ready and those that were offered
-pub ready_more : (rs : List Record) (family : FamilyView) (known : Suspensions) (placed : List Bool) (heads : List ℕ) (low now_low place thread next : ℕ) (rest ready : List ℕ) → IsFront rs family known placed heads low → IsFront rs family known (set placed place true) (set heads thread next) now_low → thread_at rs place ≡ Some thread → slice_index (set heads thread next) thread ≡ next → place < length placed → IsTaken rs placed place rest → AreMore rs (set placed place true) rest ready → (MayFollow rs (set placed place true) next → Contains ready next) → ((i : ℕ) → Awaits rs i place → MayFollow rs (set placed place true) i → Contains ready i) → ((i k : ℕ) → low + 1 ≤ k → k < now_low + 1 → length_of rs i ≡ Some k → MayFollow rs (set placed place true) i → Contains ready i) → AreOffered rs (set placed place true) ready
-ready_more rs family known placed heads low now_low place thread next rest ready before after runs is_next inside taken more of_thread of_awaited of_length = record {
-  all = λ i may. elim (let_stand rs family known placed heads low now_low place thread next i before after runs is_next inside may) [
+pub ready_more : (rs : List Record) (family : FamilyView) (known : Suspensions) (placed : List Bool)
+    (heads : List ℕ) (low now_low place thread next : ℕ) (rest ready : List ℕ)
+    → IsFront rs family known placed heads low
+    → IsFront rs family known (set placed place true) (set heads thread next) now_low
+    → thread_at rs place ≡ Some thread → slice_index (set heads thread next) thread ≡ next
+    → place < length placed → IsTaken rs placed place rest → AreMore rs (set placed place true) rest ready
+    → (MayFollow rs (set placed place true) next → Contains ready next)
+    → ((i : ℕ) → Awaits rs i place → MayFollow rs (set placed place true) i → Contains ready i)
+    → ((i k : ℕ) → low + 1 ≤ k → k < now_low + 1 → length_of rs i ≡ Some k
+          → MayFollow rs (set placed place true) i → Contains ready i)
+    → AreOffered rs (set placed place true) ready
+ready_more rs family known placed heads low now_low place thread next rest ready before after runs is_next
+        inside taken more of_thread of_awaited of_length =
+    record {
+  all =
+      λ i may.
+          elim
+              (let_stand rs family known placed heads low now_low place thread next i before after runs
+                  is_next inside may) [
     | inl same ↦ let P : ℕ → Type 0 = λ j. Contains ready j in subst P (sym same) (of_thread (rw same at may))
     | inr (inl awaits) ↦ of_awaited i awaits may
-    | inr (inr (inl names)) ↦ of_length i names.0 (let l = names.1 in omega (arith, l)) (let l = names.2 in omega (arith, l)) names.3 may
-    | inr (inr (inr could)) ↦ more.kept i (taken.kept i (λ same. may.missing (rw same (stands_here placed place inside))) could)
+    | inr (inr (inl names)) ↦
+        of_length i names.0 (let l = names.1 in omega (arith, l)) (let l = names.2 in omega (arith, l))
+            names.3 may
+    | inr (inr (inr could)) ↦
+        more.kept i (taken.kept i (λ same. may.missing (rw same (stands_here placed place inside))) could)
   ];
   only = λ i c. elim (more.only i c) [
     | inr may ↦ inr may
@@ -163,7 +241,8 @@ ready_more rs family known placed heads low now_low place thread next rest ready
   ];
 }
   where
-    still : (i : ℕ) → Stands placed i ⊎ MayFollow rs placed i → Stands (set placed place true) i ⊎ MayFollow rs (set placed place true) i
+    still : (i : ℕ) → Stands placed i ⊎ MayFollow rs placed i
+        → Stands (set placed place true) i ⊎ MayFollow rs (set placed place true) i
     still i (inl stands) = inl (stands_still placed place i stands)
     still i (inr may) = elim (cases_eq i place) [
       | inl same ↦ inl (rw same (stands_here placed place inside))
@@ -178,7 +257,9 @@ ready_more rs family known placed heads low now_low place thread next rest ready
     ]
 
 -- where none was ready, just those that may stand next are
-pub ready_first : (rs : List Record) (placed : List Bool) (none ready : List ℕ) → ((i : ℕ) → Contains none i → ⊥) → AreMore rs placed none ready → ((i : ℕ) → MayFollow rs placed i → Contains ready i) → AreOffered rs placed ready
+pub ready_first : (rs : List Record) (placed : List Bool) (none ready : List ℕ)
+    → ((i : ℕ) → Contains none i → ⊥) → AreMore rs placed none ready
+    → ((i : ℕ) → MayFollow rs placed i → Contains ready i) → AreOffered rs placed ready
 ready_first rs placed none ready empty more all = record {
   all = all;
   only = λ i c. elim (more.only i c) [
@@ -188,12 +269,22 @@ ready_first rs placed none ready empty more all = record {
 }
 
 -- what is known of a ledger's run while it is put in order
-pub front_of : (ledger : MakersView) (run : RunView) (makers : List ℕ) (known : Suspensions) (placed : List Bool) (heads links order : List ℕ) (low : ℕ) → IsLedger ledger → run ≡ ledger.run → makers ≡ ledger.places → known ≡ ledger.suspensions → AreStanding run.records placed heads links order → low ≤ length makers → ((k : ℕ) → k < low → slice_index makers k < length placed → Stands placed (slice_index makers k)) → (low < length makers → IsUnplaced placed (slice_index makers low)) → IsFront run.records run.family known placed heads low
-front_of ledger run makers known placed heads links order low is same_run same_places same_known standing within passed missing =
+pub front_of : (ledger : MakersView) (run : RunView) (makers : List ℕ) (known : Suspensions)
+    (placed : List Bool) (heads links order : List ℕ) (low : ℕ)
+    → IsLedger ledger → run ≡ ledger.run → makers ≡ ledger.places → known ≡ ledger.suspensions
+    → AreStanding run.records placed heads links order → low ≤ length makers
+    → ((k : ℕ) → k < low → slice_index makers k < length placed → Stands placed (slice_index makers k))
+    → (low < length makers → IsUnplaced placed (slice_index makers low))
+    → IsFront run.records run.family known placed heads low
+front_of ledger run makers known placed heads links order low is same_run same_places same_known standing
+    within passed missing =
     record {
       family_of = rw (← same_run) at is.run.family;
       suspended = rw (← same_run, ← same_known) at is.suspended;
       closed = standing_closed run.records placed heads links order standing;
       are_heads = standing.are_heads;
-      is_low = low_reached run.records placed makers low (rw (← same_run, ← same_places) at is.makers) (rw (← same_run, ← same_places) at is.entries) (rw (← same_run) at is.reached) standing.all within passed missing;
+      is_low =
+          low_reached run.records placed makers low (rw (← same_run, ← same_places) at is.makers)
+              (rw (← same_run, ← same_places) at is.entries) (rw (← same_run) at is.reached) standing.all
+              within passed missing;
     }

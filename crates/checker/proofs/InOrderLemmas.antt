@@ -1,9 +1,12 @@
--- From the records so far in the order of the ledger to the causes that this excludes; and what is kept of the
+-- From the records so far in the order of the ledger to the causes that this excludes; and what is kept of
+-- the
 -- tasks.
-use Rattle.std.proofs.Common.{[], ◌∷◌, ◌≡◌, ◌∙◌, ℕ, ◌<◌, ◌≤◌, ◌+◌, Bool, true, false, cond, List, length, get_or, set, take, Option, Some, None, refl, sym, ap, subst, arith, inl, inr}
+use Rattle.std.proofs.Common.{[], ◌∷◌, ◌≡◌, ◌∙◌, ℕ, ◌<◌, ◌≤◌, ◌+◌, Bool, true, false, cond, List, length}
+use Rattle.std.proofs.Common.{get_or, set, take, Option, Some, None, refl, sym, ap, subst, arith, inl, inr}
 use Rattle.std.specs.Prelude.{is_some, slice_get, option_and_then}
 use Rattle.std.proofs.lemmas.Bool.{false≢true, cases_eq, cases_lt}
-use Rattle.std.proofs.lemmas.Option.{none-some, same_Some, some_pair_parts, slice_get_within, slice_get-get_or}
+use Rattle.std.proofs.lemmas.Option.{none-some, same_Some, some_pair_parts, slice_get_within}
+use Rattle.std.proofs.lemmas.Option.{slice_get-get_or}
 use Rattle.std.proofs.lemmas.List.{take-take, length-set, get_or-set_same, get_or-set_other}
 use Rattle.std.proofs.Math.Nat.{max-eq_left, max-eq_right}
 use Rattle.std.specs.Prelude.{max}
@@ -13,7 +16,8 @@ use Rattle.ompt_events.specs.declared.cause.Cause.TheVariants.{EntryTwice, Lengt
 use Rattle.ompt_events.specs.Records.{finish, suspended_turn}
 use Rattle.ompt_events.specs.Places.{at, seen_at}
 use Rattle.ompt_events.specs.HappensBefore.{IsFinishing}
-use Rattle.ompt_events.specs.Causes.{known_after, RepeatsEntry, IsAhead, entry, ledger_length, entries_in, IsFreeOf}
+use Rattle.ompt_events.specs.Causes.{known_after, RepeatsEntry, IsAhead, entry, ledger_length, entries_in}
+use Rattle.ompt_events.specs.Causes.{IsFreeOf}
 use Rattle.ompt_events.proofs.PlaceLemmas.{seen_within}
 use Rattle.checker.specs.declared.in_order.Suspension.{Suspension}
 use Rattle.checker.specs.Schedule.{Awaits, awaits_creation, awaits_end, EachAwaitsOne}
@@ -31,27 +35,36 @@ abbrev finishes : Record → Bool
 finishes r = is_some (finish r.body)
 
 -- the record at a place, as it counts
-counts_there : (rs : List Record) (i : ℕ) (r : Record) (b : Bool) → i < length rs → is_some (at finish rs i) ≡ b → finishes (get_or rs i r) ≡ b
-counts_there rs i r b within is = sym (ap (λ o. is_some (option_and_then (λ (q : Record). finish q.body) o)) (slice_get-get_or rs i r within)) ∙ is
+counts_there : (rs : List Record) (i : ℕ) (r : Record) (b : Bool) → i < length rs
+    → is_some (at finish rs i) ≡ b → finishes (get_or rs i r) ≡ b
+counts_there rs i r b within is =
+    sym
+        (ap (λ o. is_some (option_and_then (λ (q : Record). finish q.body) o))
+            (slice_get-get_or rs i r within))
+        ∙ is
 
-pub entries_same : (rs : List Record) (i : ℕ) (r : Record) → i < length rs → is_some (at finish rs i) ≡ false → entries_before rs (i + 1) ≡ entries_before rs i
+pub entries_same : (rs : List Record) (i : ℕ) (r : Record) → i < length rs → is_some (at finish rs i) ≡ false
+    → entries_before rs (i + 1) ≡ entries_before rs i
 entries_same rs i r within is = count_by_more_no finishes rs i r within (counts_there rs i r false within is)
 
-pub entries_more : (rs : List Record) (i : ℕ) (r : Record) → i < length rs → is_some (at finish rs i) ≡ true → entries_before rs (i + 1) ≡ entries_before rs i + 1
+pub entries_more : (rs : List Record) (i : ℕ) (r : Record) → i < length rs → is_some (at finish rs i) ≡ true
+    → entries_before rs (i + 1) ≡ entries_before rs i + 1
 entries_more rs i r within is = count_by_more_yes finishes rs i r within (counts_there rs i r true within is)
 
 -- with more records there are no fewer
 before_le : (rs : List Record) (k n : ℕ) → k ≤ n → entries_before rs k ≤ entries_before rs n
 before_le rs k n low =
     let same : entries_in (take k (take n rs)) ≡ entries_before rs k = ap entries_in (take-take k n rs low) in
-    let fewer : entries_in (take k (take n rs)) ≤ entries_before rs n = sum_by-take-le (λ (r : Record). cond (is_some (finish r.body)) 1 0) (take n rs) k in
+    let fewer : entries_in (take k (take n rs)) ≤ entries_before rs n =
+        sum_by-take-le (λ (r : Record). cond (is_some (finish r.body)) 1 0) (take n rs) k in
     omega (arith, same, fewer)
 
 before_all : (rs : List Record) (n : ℕ) → entries_before rs n ≤ entries_in rs
 before_all rs n = sum_by-take-le (λ (r : Record). cond (is_some (finish r.body)) 1 0) rs n
 
 -- and behind one that makes an entry more
-before_less : (rs : List Record) (k n : ℕ) → IsFinishing rs k → k < n → entries_before rs k < entries_before rs n
+before_less : (rs : List Record) (k n : ℕ) → IsFinishing rs k → k < n
+    → entries_before rs k < entries_before rs n
 before_less rs k n makes low =
     let more = entries_more rs k (get_or rs k (some_record rs k makes)) (finishing_within rs k makes) makes in
     let most = before_le rs (k + 1) n (omega (arith, low)) in
@@ -60,7 +73,8 @@ before_less rs k n makes low =
     some_record : (rs : List Record) (k : ℕ) → IsFinishing rs k → Record
     some_record rs k makes = there (slice_get rs k) makes
       where
-        there : (o : Option Record) → is_some (option_and_then (λ (r : Record). finish r.body) o) ≡ true → Record
+        there : (o : Option Record) → is_some (option_and_then (λ (r : Record). finish r.body) o) ≡ true
+            → Record
         there None is = absurd (false≢true is)
         there (Some r) is = r
 
@@ -71,31 +85,40 @@ any_record (r ∷ rs) n within = r
 
 -- ---- one record more
 
-pub fit_more : (rs : List Record) (n entries : ℕ) → entries ≡ entries_before rs n → FitsBehind rs n entries → ((i : ℕ) → i < n → FitsBehind rs i (entries_before rs i)) → (i : ℕ) → i < n + 1 → FitsBehind rs i (entries_before rs i)
+pub fit_more : (rs : List Record) (n entries : ℕ) → entries ≡ entries_before rs n → FitsBehind rs n entries
+    → ((i : ℕ) → i < n → FitsBehind rs i (entries_before rs i)) → (i : ℕ) → i < n + 1
+    → FitsBehind rs i (entries_before rs i)
 fit_more rs n entries count fits before i below = elim (cases_eq i n) [
-  | inl same ↦ let P : ℕ → Type 0 = λ j. FitsBehind rs j (entries_before rs j) in subst P (sym same) (let Q : ℕ → Type 0 = FitsBehind rs n in subst Q count fits)
+  | inl same ↦
+      let P : ℕ → Type 0 = λ j. FitsBehind rs j (entries_before rs j) in
+      subst P (sym same) (let Q : ℕ → Type 0 = FitsBehind rs n in subst Q count fits)
   | inr apart ↦ before i (omega (arith, below, apart))
 ]
 
-pub count_more : (rs : List Record) (n entries after : ℕ) → n < length rs → entries ≡ entries_before rs n → after ≡ cond (is_some (at finish rs n)) (entries + 1) entries → after ≡ entries_before rs (n + 1)
+pub count_more : (rs : List Record) (n entries after : ℕ) → n < length rs → entries ≡ entries_before rs n
+    → after ≡ cond (is_some (at finish rs n)) (entries + 1) entries → after ≡ entries_before rs (n + 1)
 count_more rs n entries after within count is = of (is_some (at finish rs n)) refl is
   where
     r : Record
     r = any_record rs n within
 
-    of : (b : Bool) → is_some (at finish rs n) ≡ b → after ≡ cond b (entries + 1) entries → after ≡ entries_before rs (n + 1)
+    of : (b : Bool) → is_some (at finish rs n) ≡ b → after ≡ cond b (entries + 1) entries
+        → after ≡ entries_before rs (n + 1)
     of true makes is' = is' ∙ ap (λ k. k + 1) count ∙ sym (entries_more rs n r within makes)
     of false none is' = is' ∙ count ∙ sym (entries_same rs n r within none)
 
-pub entries_most : (rs : List Record) (n entries after : ℕ) → after ≡ cond (is_some (at finish rs n)) (entries + 1) entries → after ≤ entries + 1
+pub entries_most : (rs : List Record) (n entries after : ℕ)
+    → after ≡ cond (is_some (at finish rs n)) (entries + 1) entries → after ≤ entries + 1
 entries_most rs n entries after is = of (is_some (at finish rs n)) is
   where
     of : (b : Bool) → after ≡ cond b (entries + 1) entries → after ≤ entries + 1
     of true is' = omega (arith, is')
     of false is' = omega (arith, is')
 
--- what is known after a record that makes an entry is how many entries there are then, and after one that makes
--- none it is no more than there are: the greater of that and the entries before is how many there are behind it
+-- what is known after a record that makes an entry is how many entries there are then, and after one that
+-- makes
+-- none it is no more than there are: the greater of that and the entries before is how many there are behind
+-- it
 pub entries_by_known : (rs : List Record) (i after entries : ℕ) → after ≡ known_after rs i
     → FitsBehind rs i entries → max entries after ≡ cond (is_some (at finish rs i)) (entries + 1) entries
 entries_by_known rs i after entries knows fits = of (is_some (at finish rs i)) refl knows
@@ -107,7 +130,8 @@ entries_by_known rs i after entries knows fits = of (is_some (at finish rs i)) r
         max-eq_right (omega (arith, own, knows')) ∙ omega (arith, own, knows')
     of false is knows' = let low = fits.named in max-eq_left (omega (arith, low, knows'))
 
-pub awaited_more : (rs : List Record) (n : ℕ) → ((i c : ℕ) → i < n → Awaits rs i c → c < i) → ((c : ℕ) → Awaits rs n c → c < n) → (i c : ℕ) → i < n + 1 → Awaits rs i c → c < i
+pub awaited_more : (rs : List Record) (n : ℕ) → ((i c : ℕ) → i < n → Awaits rs i c → c < i)
+    → ((c : ℕ) → Awaits rs n c → c < n) → (i c : ℕ) → i < n + 1 → Awaits rs i c → c < i
 awaited_more rs n before here i c below waits = elim (cases_eq i n) [
   | inl same ↦
       let less = here c (let P : ℕ → Type 0 = λ j. Awaits rs j c in subst P same waits) in
@@ -145,7 +169,8 @@ not_ahead rs i fit (ledger_length most) =
 pub fit_reached : (rs : List Record) → AllFit rs → IsFreeOf rs LengthAhead
 fit_reached rs fit = free_of_ahead rs (length rs) (λ k below. not_ahead rs k fit) (omega arith)
 
-pub fit_entered : (rs : List Record) → AllFit rs → (a b : ℕ) → IsFinishing rs a → seen_at rs a < seen_at rs b → a < b
+pub fit_entered : (rs : List Record) → AllFit rs → (a b : ℕ) → IsFinishing rs a → seen_at rs a < seen_at rs b
+    → a < b
 fit_entered rs fit a b makes less = elim (cases_lt a b) [
   | inl is ↦ is
   | inr past ↦
@@ -160,39 +185,66 @@ fit_entered rs fit a b makes less = elim (cases_lt a b) [
 pub no_last : (rs : List Record) (tasks : List ℕ) → AreLast rs tasks []
 no_last rs tasks index task last indexed kept = absurd (none-some last kept)
 
-pub last_more : (rs : List Record) (tasks : List ℕ) (lasts : List Suspension) (i index turn : ℕ) → IsEndOf rs tasks i index turn → AreLast rs tasks lasts → AreLast rs tasks (set lasts index (record { turn = turn; place = i }))
+pub last_more : (rs : List Record) (tasks : List ℕ) (lasts : List Suspension) (i index turn : ℕ)
+    → IsEndOf rs tasks i index turn → AreLast rs tasks lasts
+    → AreLast rs tasks (set lasts index (record { turn = turn; place = i }))
 last_more rs tasks lasts i index turn end are other task last indexed kept low = elim (cases_eq other index) [
   | inl same ↦
       let new : Suspension = record { turn = turn; place = i } in
-      let inside : index < length lasts = let within = slice_get_within (set lasts index new) other last kept in let all = length-set lasts index new in omega (arith, within, all, same) in
-      let here : slice_get (set lasts index new) other ≡ Some new = ap (slice_get (set lasts index new)) same ∙ slice_get-get_or (set lasts index new) index new (let all = length-set lasts index new in omega (arith, inside, all)) ∙ ap Some (get_or-set_same lasts index new new inside) in
+      let inside : index < length lasts =
+          let within = slice_get_within (set lasts index new) other last kept in
+          let all = length-set lasts index new in omega (arith, within, all, same) in
+      let here : slice_get (set lasts index new) other ≡ Some new =
+          ap (slice_get (set lasts index new)) same
+              ∙ slice_get-get_or (set lasts index new) index new
+                  (let all = length-set lasts index new in omega (arith, inside, all))
+              ∙ ap Some (get_or-set_same lasts index new new inside) in
       let is : new ≡ last = same_Some new last (sym here ∙ kept) in
-      let own : end.task ≡ task = same_Some end.task task (sym end.indexed ∙ ap (slice_get tasks) (sym same) ∙ indexed) in
+      let own : end.task ≡ task =
+          same_Some end.task task (sym end.indexed ∙ ap (slice_get tasks) (sym same) ∙ indexed) in
       let P : Suspension → Type 0 = λ s. at suspended_turn rs s.place ≡ Some (task, s.turn) in
       subst P is (end.suspends ∙ ap (λ t. Some (t, turn)) own)
   | inr apart ↦
       let new : Suspension = record { turn = turn; place = i } in
-      let inside : other < length lasts = let within = slice_get_within (set lasts index new) other last kept in let all = length-set lasts index new in omega (arith, within, all) in
+      let inside : other < length lasts =
+          let within = slice_get_within (set lasts index new) other last kept in
+          let all = length-set lasts index new in omega (arith, within, all) in
       let old : slice_get (set lasts index new) other ≡ slice_get lasts other =
-      slice_get-get_or (set lasts index new) other new (slice_get_within (set lasts index new) other last kept)
-      ∙ ap Some (get_or-set_other lasts index other new new apart) ∙ sym (slice_get-get_or lasts other new inside) in
+      slice_get-get_or (set lasts index new) other new
+          (slice_get_within (set lasts index new) other last kept)
+      ∙ ap Some (get_or-set_other lasts index other new new apart)
+          ∙ sym (slice_get-get_or lasts other new inside) in
       are other task last indexed (sym old ∙ kept) low
 ]
 
 -- the end that is kept is the one that is awaited
-pub end_follows : (rs : List Record) (tasks : List ℕ) (lasts : List Suspension) (i index turn : ℕ) (last : Suspension) → EachAwaitsOne rs → AreLast rs tasks lasts → IsStartOf rs tasks i index turn → 0 < turn → slice_get lasts index ≡ Some last → turn ≡ last.turn + 1 → last.place < i → i < length rs → seen_at rs last.place ≤ seen_at rs i → (c : ℕ) → Awaits rs i c → (c < i) × (seen_at rs c ≤ seen_at rs i)
-end_follows rs tasks lasts i index turn last facts are begins later kept next before within low c (awaits_creation task waits creates) = absurd (none-some task (sym (later_awaits_none rs i begins.task turn facts begins.starts later) ∙ waits))
-end_follows rs tasks lasts i index turn last facts are begins later kept next before within low c (awaits_end again explicit) =
-    let parts = some_pair_parts begins.task again.task turn (again.turn + 1) (sym begins.starts ∙ again.resumes) in
+pub end_follows : (rs : List Record) (tasks : List ℕ) (lasts : List Suspension) (i index turn : ℕ)
+    (last : Suspension)
+    → EachAwaitsOne rs → AreLast rs tasks lasts → IsStartOf rs tasks i index turn → 0 < turn
+    → slice_get lasts index ≡ Some last → turn ≡ last.turn + 1 → last.place < i → i < length rs
+    → seen_at rs last.place ≤ seen_at rs i → (c : ℕ) → Awaits rs i c → (c < i) × (seen_at rs c ≤ seen_at rs i)
+end_follows rs tasks lasts i index turn last facts are begins later kept next before within low c
+        (awaits_creation task waits creates) =
+    absurd (none-some task (sym (later_awaits_none rs i begins.task turn facts begins.starts later) ∙ waits))
+end_follows rs tasks lasts i index turn last facts are begins later kept next before within low c
+    (awaits_end again explicit) =
+    let parts =
+        some_pair_parts begins.task again.task turn (again.turn + 1) (sym begins.starts ∙ again.resumes) in
     let same : last.turn ≡ again.turn = omega (arith, parts.1, next) in
-    let suspends : at suspended_turn rs last.place ≡ Some (again.task, again.turn) = are index begins.task last begins.indexed kept (omega (arith, before, within)) ∙ ap (λ t. Some (t, last.turn)) parts.0 ∙ ap (λ t. Some (again.task, t)) same in
+    let suspends : at suspended_turn rs last.place ≡ Some (again.task, again.turn) =
+        are index begins.task last begins.indexed kept (omega (arith, before, within))
+            ∙ ap (λ t. Some (t, last.turn)) parts.0 ∙ ap (λ t. Some (again.task, t)) same in
     let one : last.place ≡ c = sym (facts.once c last.place i again explicit suspends) in
     let P : ℕ → Type 0 = λ k. (k < i) × (seen_at rs k ≤ seen_at rs i) in
     subst P one (before, low)
 
 -- a task that is not explicit awaits nothing where it runs on
-pub root_follows : (rs : List Record) (tasks : List ℕ) (i index turn : ℕ) → EachAwaitsOne rs → (begins : IsStartOf rs tasks i index turn) → 0 < turn → (IsExplicit rs begins.task → ⊥) → (c : ℕ) → Awaits rs i c → (c < i) × (seen_at rs c ≤ seen_at rs i)
-root_follows rs tasks i index turn facts begins later root c (awaits_creation task waits creates) = absurd (none-some task (sym (later_awaits_none rs i begins.task turn facts begins.starts later) ∙ waits))
+pub root_follows : (rs : List Record) (tasks : List ℕ) (i index turn : ℕ) → EachAwaitsOne rs
+    → (begins : IsStartOf rs tasks i index turn) → 0 < turn → (IsExplicit rs begins.task → ⊥) → (c : ℕ)
+    → Awaits rs i c → (c < i) × (seen_at rs c ≤ seen_at rs i)
+root_follows rs tasks i index turn facts begins later root c (awaits_creation task waits creates) =
+    absurd (none-some task (sym (later_awaits_none rs i begins.task turn facts begins.starts later) ∙ waits))
 root_follows rs tasks i index turn facts begins later root c (awaits_end again explicit) =
-    let parts = some_pair_parts begins.task again.task turn (again.turn + 1) (sym begins.starts ∙ again.resumes) in
+    let parts =
+        some_pair_parts begins.task again.task turn (again.turn + 1) (sym begins.starts ∙ again.resumes) in
     absurd (root (subst (IsExplicit rs) (sym parts.0) explicit))

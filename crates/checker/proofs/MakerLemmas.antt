@@ -1,5 +1,6 @@
 -- How the table of the records that make entries grows, and the ledger length that it tells.
-use Rattle.std.proofs.Common.{◌≡◌, ◌≢◌, ◌∙◌, ℕ, ◌<◌, ◌≤◌, ◌+◌, List, length, Bool, sym, ap, arith, inl, inr, set}
+use Rattle.std.proofs.Common.{◌≡◌, ◌≢◌, ◌∙◌, ℕ, ◌<◌, ◌≤◌, ◌+◌, List, length, Bool, sym, ap, arith, inl, inr}
+use Rattle.std.proofs.Common.{set}
 use Rattle.std.proofs.lemmas.Bool.{cases_eq, cases_lt}
 use Rattle.std.proofs.lemmas.List.{length-set, get_or-set_same, get_or-set_other}
 use Rattle.std.specs.Prelude.{slice_index}
@@ -14,7 +15,9 @@ use Rattle.checker.specs.Merge.{Stands, IsUnplaced, IsLow}
 use Rattle.checker.proofs.MergeLemmas.{stands_same}
 
 -- a finishing record whose entry was not named before
-pub makers_more : (rs : List Record) (n seen : ℕ) (old new : List ℕ) → AreMakers rs n old → n < length rs → IsFinishing rs n → seen_at rs n ≡ seen → (seen < length old → length rs ≤ slice_index old seen) → new ≡ set old seen n → AreMakers rs (n + 1) new
+pub makers_more : (rs : List Record) (n seen : ℕ) (old new : List ℕ) → AreMakers rs n old → n < length rs
+    → IsFinishing rs n → seen_at rs n ≡ seen → (seen < length old → length rs ≤ slice_index old seen)
+    → new ≡ set old seen n → AreMakers rs (n + 1) new
 makers_more rs n seen old new are inside finishes is free noted = rw noted (record {
   each = λ i below finishing low. elim (cases_eq i n) [
     | inl same ↦
@@ -24,26 +27,37 @@ makers_more rs n seen old new are inside finishes is free noted = rw noted (reco
     | inr apart ↦
         let within : seen_at rs i < length old = rw (length-set old seen n) at low in
         let before = are.each i (omega (arith, below, apart)) finishing within in
-        let other : seen_at rs i ≢ seen = (λ same. let there = ap (slice_index old) (sym same) ∙ before in let past = free (let l = within in omega (arith, l, same)) in let real = finishing_within rs i finishing in omega (arith, past, there, real)) in
+        let other : seen_at rs i ≢ seen =
+            (λ same.
+                let there = ap (slice_index old) (sym same) ∙ before in
+                let past = free (let l = within in omega (arith, l, same)) in
+                let real = finishing_within rs i finishing in omega (arith, past, there, real)) in
         get_or-set_other old seen (seen_at rs i) n 0 other ∙ before
   ];
   only = λ entry below low. elim (cases_eq entry seen) [
     | inl same ↦
         let within : seen < length old = rw (length-set old seen n, same) at below in
-        let here : slice_index (set old seen n) entry ≡ n = ap (slice_index (set old seen n)) same ∙ get_or-set_same old seen n 0 within in
+        let here : slice_index (set old seen n) entry ≡ n =
+            ap (slice_index (set old seen n)) same ∙ get_or-set_same old seen n 0 within in
         rw here (finishes, is ∙ sym same)
     | inr apart ↦
-        let there : slice_index (set old seen n) entry ≡ slice_index old entry = get_or-set_other old seen entry n 0 apart in
+        let there : slice_index (set old seen n) entry ≡ slice_index old entry =
+            get_or-set_other old seen entry n 0 apart in
         rw there (are.only entry (rw (length-set old seen n) at below) (rw there at low))
   ];
 })
 
 -- the first entry whose record doesn't stand tells the length that is reached
-pub low_reached : (rs : List Record) (placed : List Bool) (makers : List ℕ) (low : ℕ) → AreMakers rs (length rs) makers → length makers ≡ entries_in rs → IsFreeOf rs LengthAhead → length placed ≡ length rs → low ≤ length makers → ((k : ℕ) → k < low → slice_index makers k < length placed → Stands placed (slice_index makers k)) → (low < length makers → IsUnplaced placed (slice_index makers low)) → IsLow rs placed low
+pub low_reached : (rs : List Record) (placed : List Bool) (makers : List ℕ) (low : ℕ)
+    → AreMakers rs (length rs) makers → length makers ≡ entries_in rs → IsFreeOf rs LengthAhead
+    → length placed ≡ length rs → low ≤ length makers
+    → ((k : ℕ) → k < low → slice_index makers k < length placed → Stands placed (slice_index makers k))
+    → (low < length makers → IsUnplaced placed (slice_index makers low)) → IsLow rs placed low
 low_reached rs placed makers low are entries reached all within passed missing = record {
   below = λ i finishes less.
       let is = are.each i (finishing_within rs i finishes) finishes (omega (arith, less, within)) in
-      stands_same placed (slice_index makers (seen_at rs i)) i is (passed (seen_at rs i) less (rw (is, all) (finishing_within rs i finishes)));
+      stands_same placed (slice_index makers (seen_at rs i)) i is
+          (passed (seen_at rs i) less (rw (is, all) (finishing_within rs i finishes)));
   next = λ i more. elim (cases_lt low (length makers)) [
     | inl inside ↦
         let lacks = missing inside in

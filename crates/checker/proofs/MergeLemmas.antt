@@ -1,5 +1,6 @@
 -- The heads of the threads are the records that may stand next.
-use Rattle.std.proofs.Common.{zero, suc, ◌≡◌, ◌∙◌, ℕ, ◌<◌, List, [], ◌∷◌, length, Option, Some, None, Bool, true, false, refl, sym, ap, arith, inl, inr, ◌⊎◌}
+use Rattle.std.proofs.Common.{◌≡◌, ◌∙◌, ℕ, ◌<◌, List, [], length, Option, Some, None, Bool, true, false, refl}
+use Rattle.std.proofs.Common.{sym, ap, arith, inl, inr, ◌⊎◌}
 use Rattle.std.proofs.lemmas.Bool.{cases_eq, cases_lt}
 use Rattle.std.proofs.lemmas.Option.{none-some, same_Some}
 use Rattle.std.specs.Prelude.{slice_get, slice_index}
@@ -23,10 +24,15 @@ stands_or_not placed i = stands (slice_get placed i)
     stands (Some false) = inr (λ e. let b : false ≡ true = same_Some false true e in cc)
 
 -- the head of a thread that passes the test may stand next
-pub may_follow : (rs : List Record) → EachAwaitsOne rs → (placed : List Bool) (heads : List ℕ) (low : ℕ) (thread head : ℕ) → AreHeads rs placed heads → IsLow rs placed low → thread < length heads → slice_index heads thread ≡ head → IsReadyHead rs placed low head → MayFollow rs placed head
+pub may_follow : (rs : List Record) → EachAwaitsOne rs
+    → (placed : List Bool) (heads : List ℕ) (low : ℕ) (thread head : ℕ) → AreHeads rs placed heads
+    → IsLow rs placed low → thread < length heads → slice_index heads thread ≡ head
+    → IsReadyHead rs placed low head → MayFollow rs placed head
 may_follow rs facts placed heads low thread head are is_low inside is ready = record {
   within = ready.within;
-  missing = λ standing. are.missing thread inside (stands_same placed head (slice_index heads thread) (sym is) standing);
+  missing =
+      λ standing.
+          are.missing thread inside (stands_same placed head (slice_index heads thread) (sym is) standing);
   steps = λ a step. stands_before a step;
 }
   where
@@ -38,15 +44,19 @@ may_follow rs facts placed heads low thread head are is_low inside is ready = re
       | inl earlier ↦ are.below thread a (earlier.same ∙ runs) (rw is earlier.earlier)
       | inr awaits ↦ ready.is_let a awaits
     ]
-    stands_before a (ledger finishes less) = is_low.below a finishes (let bound = ready.is_entered in omega (arith, bound, less))
+    stands_before a (ledger finishes less) =
+        is_low.below a finishes (let bound = ready.is_entered in omega (arith, bound, less))
 
 -- where each step leads from a record that stands, all that happens before stands
-all_before : (rs : List Record) (placed : List Bool) (a i : ℕ) → AreClosed rs placed → ((c : ℕ) → IsStep rs c i → Stands placed c) → HappensBefore rs a i → Stands placed a
+all_before : (rs : List Record) (placed : List Bool) (a i : ℕ) → AreClosed rs placed
+    → ((c : ℕ) → IsStep rs c i → Stands placed c) → HappensBefore rs a i → Stands placed a
 all_before rs placed a i closed steps (step s) = steps a s
-all_before rs placed a i closed steps (chain {b = mid} first second) = closed a mid first (all_before rs placed mid i closed steps second)
+all_before rs placed a i closed steps (chain { b = mid } first second) =
+    closed a mid first (all_before rs placed mid i closed steps second)
 
 -- a record that may stand next passes the test
-pub ready_head : (rs : List Record) (placed : List Bool) (low : ℕ) (i : ℕ) → EachAwaitsOne rs → AreClosed rs placed → IsLow rs placed low → MayFollow rs placed i → IsReadyHead rs placed low i
+pub ready_head : (rs : List Record) (placed : List Bool) (low : ℕ) (i : ℕ) → EachAwaitsOne rs
+    → AreClosed rs placed → IsLow rs placed low → MayFollow rs placed i → IsReadyHead rs placed low i
 ready_head rs placed low i facts closed is_low may = record {
   within = may.within;
   is_let = λ c awaits. all_before rs placed c i closed may.steps (awaits_before rs i c facts awaits);
@@ -59,7 +69,9 @@ ready_head rs placed low i facts closed is_low may = record {
 }
 
 -- and is the head of its thread
-pub is_head : (rs : List Record) (placed : List Bool) (heads : List ℕ) (i thread : ℕ) → AreHeads rs placed heads → thread_at rs i ≡ Some thread → MayFollow rs placed i → slice_index heads thread ≡ i
+pub is_head : (rs : List Record) (placed : List Bool) (heads : List ℕ) (i thread : ℕ)
+    → AreHeads rs placed heads → thread_at rs i ≡ Some thread → MayFollow rs placed i
+    → slice_index heads thread ≡ i
 is_head rs placed heads i thread are runs may = elim (cases_lt i (slice_index heads thread)) [
   | inl below ↦ absurd (may.missing (are.below thread i runs below))
   | inr above ↦ elim (cases_eq (slice_index heads thread) i) [
@@ -67,12 +79,10 @@ is_head rs placed heads i thread are runs may = elim (cases_lt i (slice_index he
     | inr apart ↦
         let low = are.all i thread runs in
         let inside : slice_index heads thread < length rs = let w = may.within in omega arith in
-        absurd (are.missing thread low (may.steps (slice_index heads thread) (program (thread_order (omega arith) may.within (are.head thread low inside ∙ sym runs)))))
+        absurd
+            (are.missing thread low
+                (may.steps (slice_index heads thread)
+                    (program
+                        (thread_order (omega arith) may.within (are.head thread low inside ∙ sym runs)))))
   ]
 ]
-
--- no place below the end is empty
-no_get : (rs : List Record) (i : ℕ) → i < length rs → slice_get rs i ≡ None → ⊥
-no_get [] i within e = absurd (omega arith)
-no_get (r ∷ rs) zero within e = none-some r (sym e)
-no_get (r ∷ rs) (suc i) within e = no_get rs i (omega arith) e

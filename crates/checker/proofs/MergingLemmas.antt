@@ -1,9 +1,15 @@
 -- The merge of the threads, one record on.
-use Rattle.std.proofs.Common.{zero, suc, ◌≡◌, ◌≢◌, ◌∙◌, ℕ, ◌<◌, ◌≤◌, ◌+◌, List, [], ◌∷◌, ◌++◌, length, get_or, Option, Some, None, Bool, true, false, refl, sym, ap, subst, arith, inl, inr, ◌⊎◌}
+use Rattle.std.proofs.Common.{zero, suc, ◌≡◌, ◌≢◌, ◌∙◌, ℕ, ◌<◌, ◌≤◌, ◌+◌, List, [], ◌∷◌, ◌++◌, length, get_or}
+use Rattle.std.proofs.Common.{Option, Some, None, Bool, true, false, refl, sym, ap, subst, arith, inl, inr}
+use Rattle.std.proofs.Common.{◌⊎◌}
 use Rattle.std.proofs.lemmas.Bool.{cases_eq, cases_lt, false≢true}
 use Rattle.std.proofs.lemmas.Option.{same_Some, slice_get-get_or, slice_get_within}
-use Rattle.std.proofs.lemmas.List.{length-set, length-replicate, get_or-set_same, get_or-set_other, get_or-replicate, get_or_default, get_or-take, length-take, append-nil, append_assoc, take-append-le, take_all, get_or_append_left, get_or_push, length_push}
-use Rattle.std.proofs.lemmas.List.Elements.{Contains-push, Contains-push_cases, Contains-append_left, Contains-append_cases}
+use Rattle.std.proofs.lemmas.List.{length-set, length-replicate, get_or-set_same, get_or-set_other}
+use Rattle.std.proofs.lemmas.List.{get_or-replicate, get_or_default, get_or-take, length-take, append-nil}
+use Rattle.std.proofs.lemmas.List.{append_assoc, take-append-le, take_all, get_or_append_left, get_or_push}
+use Rattle.std.proofs.lemmas.List.{length_push}
+use Rattle.std.proofs.lemmas.List.Elements.{Contains-push, Contains-push_cases, Contains-append_left}
+use Rattle.std.proofs.lemmas.List.Elements.{Contains-append_cases}
 use Rattle.std.proofs.lemmas.List.Sorted.{IsPermutation-refl, IsPermutation-more, Contains-permutation}
 use Rattle.std.specs.List.Sorted.{IsPermutation}
 use Rattle.std.specs.List.{remove}
@@ -17,8 +23,10 @@ use Rattle.ompt_events.specs.HappensBefore.{HappensBefore, step}
 use Rattle.ompt_events.specs.declared.cause.Cause.TheVariants.{NoOrder}
 use Rattle.ompt_events.specs.Causes.{HasCause, no_order, HasNoOrder, IsFreeOf}
 use Rattle.ompt_events.specs.Faults.{FindsFirst}
-use Rattle.ompt_events.specs.Linearization.{IsDue, IsReady, IsFirstReady, IsGreedy, IsGrounded, IsLinearization}
-use Rattle.checker.specs.Merge.{AreClosed, Stands, IsFirstUnplaced, MayFollow, AreHeads, AreInTurn, IsGreedyBehind, AreStanding}
+use Rattle.ompt_events.specs.Linearization.{IsDue, IsReady, IsFirstReady, IsGreedy, IsGrounded}
+use Rattle.ompt_events.specs.Linearization.{IsLinearization}
+use Rattle.checker.specs.Merge.{AreClosed, Stands, IsFirstUnplaced, MayFollow, AreHeads, AreInTurn}
+use Rattle.checker.specs.Merge.{IsGreedyBehind, AreStanding}
 use Rattle.checker.specs.Lists.{AreLists, IsNextWith, IsRising}
 use Rattle.checker.proofs.MergeLemmas.{stands_or_not, is_head}
 use Rattle.ompt_events.proofs.LinearizationLemmas.{IsClosed, due_from_steps, grounded_rising}
@@ -29,28 +37,49 @@ pub stands_within : (placed : List Bool) (i : ℕ) → Stands placed i → i < l
 stands_within placed i stands = slice_get_within placed i true stands
 
 -- the place that is marked stands, and the others as before
-pub stands_here : (placed : List Bool) (place : ℕ) → place < length placed → Stands (set placed place true) place
-stands_here placed place within = slice_get-get_or (set placed place true) place false (rw (length-set placed place true) within) ∙ ap Some (get_or-set_same placed place true false within)
+pub stands_here : (placed : List Bool) (place : ℕ) → place < length placed
+    → Stands (set placed place true) place
+stands_here placed place within =
+    slice_get-get_or (set placed place true) place false (rw (length-set placed place true) within)
+        ∙ ap Some (get_or-set_same placed place true false within)
 
-pub get_other : (placed : List Bool) (place i : ℕ) → i ≢ place → i < length placed → slice_get (set placed place true) i ≡ slice_get placed i
-get_other placed place i apart within = slice_get-get_or (set placed place true) i false (rw (length-set placed place true) within) ∙ ap Some (get_or-set_other placed place i true false apart) ∙ sym (slice_get-get_or placed i false within)
+pub get_other : (placed : List Bool) (place i : ℕ) → i ≢ place → i < length placed
+    → slice_get (set placed place true) i ≡ slice_get placed i
+get_other placed place i apart within =
+    slice_get-get_or (set placed place true) i false (rw (length-set placed place true) within)
+        ∙ ap Some (get_or-set_other placed place i true false apart)
+        ∙ sym (slice_get-get_or placed i false within)
 
 pub stands_still : (placed : List Bool) (place i : ℕ) → Stands placed i → Stands (set placed place true) i
 stands_still placed place i stands = elim (cases_eq i place) [
-  | inl same ↦ let P : ℕ → Type 0 = λ j. Stands (set placed place true) j in subst P (sym same) (stands_here placed place (rw (← same) (stands_within placed i stands)))
+  | inl same ↦
+      let P : ℕ → Type 0 = λ j. Stands (set placed place true) j in
+      subst P (sym same) (stands_here placed place (rw (← same) (stands_within placed i stands)))
   | inr apart ↦ get_other placed place i apart (stands_within placed i stands) ∙ stands
 ]
 
-pub stands_cases : (placed : List Bool) (place i : ℕ) → Stands (set placed place true) i → Stands placed i ⊎ (i ≡ place)
+pub stands_cases : (placed : List Bool) (place i : ℕ) → Stands (set placed place true) i
+    → Stands placed i ⊎ (i ≡ place)
 stands_cases placed place i stands = elim (cases_eq i place) [
   | inl same ↦ inr same
-  | inr apart ↦ inl (sym (get_other placed place i apart (rw (← length-set placed place true) (stands_within (set placed place true) i stands))) ∙ stands)
+  | inr apart ↦
+      inl
+          (sym
+              (get_other placed place i apart
+                  (rw (← length-set placed place true) (stands_within (set placed place true) i stands)))
+              ∙ stands)
 ]
 
 pub none_stands : (n i : ℕ) → Stands (replicate n false) i → ⊥
 none_stands n i stands =
     let within : i < n = rw (length-replicate n false) at (stands_within (replicate n false) i stands) in
-    let e : false ≡ true = sym (get_or-replicate n i false false within) ∙ same_Some (get_or (replicate n false) i false) true (sym (slice_get-get_or (replicate n false) i false (stands_within (replicate n false) i stands)) ∙ stands) in
+    let e : false ≡ true =
+        sym (get_or-replicate n i false false within)
+            ∙ same_Some (get_or (replicate n false) i false) true
+                (sym
+                    (slice_get-get_or (replicate n false) i false
+                        (stands_within (replicate n false) i stands))
+                    ∙ stands) in
     false≢true e
 
 -- what is in the first part of a list is in the list
@@ -71,7 +100,10 @@ turn_closed rs order in_turn b (k, inside, is) a before =
     contains_taken k order a ((in_turn k inside).due a (subst P (sym there) before))
 
 -- what holds of each place and those before it goes on to hold with one more place of which it holds
-pub each_more : (P : List ℕ → ℕ → Type 0) (order : List ℕ) (place : ℕ) → ((k : ℕ) → k < length order → P (take k order) (slice_index order k)) → P order place → (k : ℕ) → k < length (order ++ place ∷ []) → P (take k (order ++ place ∷ [])) (slice_index (order ++ place ∷ []) k)
+pub each_more : (P : List ℕ → ℕ → Type 0) (order : List ℕ) (place : ℕ)
+    → ((k : ℕ) → k < length order → P (take k order) (slice_index order k)) → P order place → (k : ℕ)
+    → k < length (order ++ place ∷ [])
+    → P (take k (order ++ place ∷ [])) (slice_index (order ++ place ∷ []) k)
 each_more P order place each next k below = elim (cases_lt k (length order)) [
   | inl old ↦
       let old_too : k ≤ length order = omega arith in
@@ -82,16 +114,23 @@ each_more P order place each next k below = elim (cases_lt k (length order)) [
 ]
   where
     take_whole : take (length order) (order ++ place ∷ []) ≡ order
-    take_whole = take-append-le (length order) order (place ∷ []) (omega arith) ∙ take_all (length order) order (omega arith)
+    take_whole =
+        take-append-le (length order) order (place ∷ []) (omega arith)
+            ∙ take_all (length order) order (omega arith)
 
 -- what stands does so with all that happens before it
-pub standing_closed : (rs : List Record) (placed : List Bool) (heads links order : List ℕ) → AreStanding rs placed heads links order → AreClosed rs placed
-standing_closed rs placed heads links order standing a b before stands = standing.from_order a (turn_closed rs order standing.in_turn b (standing.to_order b stands) a before)
+pub standing_closed : (rs : List Record) (placed : List Bool) (heads links order : List ℕ)
+    → AreStanding rs placed heads links order → AreClosed rs placed
+standing_closed rs placed heads links order standing a b before stands =
+    standing.from_order a (turn_closed rs order standing.in_turn b (standing.to_order b stands) a before)
 
 contains_none : (i : ℕ) → Contains (let l : List ℕ = [] in l) i → ⊥
 contains_none i (k, below, is) = absurd (omega arith)
 
-pub none_standing : (rs : List Record) (heads links : List ℕ) (placed : List Bool) → placed ≡ replicate (length rs) false → AreLists (thread_at rs) (length rs) 0 heads links → ((i thread : ℕ) → thread_at rs i ≡ Some thread → thread < length heads) → IsRising (length rs) links → AreStanding rs placed heads links []
+pub none_standing : (rs : List Record) (heads links : List ℕ) (placed : List Bool)
+    → placed ≡ replicate (length rs) false → AreLists (thread_at rs) (length rs) 0 heads links
+    → ((i thread : ℕ) → thread_at rs i ≡ Some thread → thread < length heads) → IsRising (length rs) links
+    → AreStanding rs placed heads links []
 none_standing rs heads links placed is lists all rising = rw is (record {
   all = length-replicate (length rs) false;
   to_order = λ i stands. absurd (none_stands (length rs) i stands);
@@ -99,7 +138,9 @@ none_standing rs heads links placed is lists all rising = rw is (record {
   in_turn = λ k below. absurd (omega (arith, below));
   are_heads = record {
     all = all;
-    below = λ thread i runs below. absurd ((lists.first thread (all i thread runs)).none i (omega arith) below runs);
+    below =
+        λ thread i runs below.
+            absurd ((lists.first thread (all i thread runs)).none i (omega arith) below runs);
     head = λ thread low inside. (lists.first thread low).found inside;
     missing = λ thread low stands. none_stands (length rs) (slice_index heads thread) stands;
   };
@@ -111,22 +152,37 @@ none_standing rs heads links placed is lists all rising = rw is (record {
 })
 
 -- the heads after the head of a thread was placed
-heads_more : (rs : List Record) (placed : List Bool) (heads links order : List ℕ) (place thread next : ℕ) → AreStanding rs placed heads links order → MayFollow rs placed place → thread_at rs place ≡ Some thread → IsNextWith (thread_at rs) (length rs) thread (place + 1) next → AreHeads rs (set placed place true) (set heads thread next)
+heads_more : (rs : List Record) (placed : List Bool) (heads links order : List ℕ) (place thread next : ℕ)
+    → AreStanding rs placed heads links order → MayFollow rs placed place → thread_at rs place ≡ Some thread
+    → IsNextWith (thread_at rs) (length rs) thread (place + 1) next
+    → AreHeads rs (set placed place true) (set heads thread next)
 heads_more rs placed heads links order place thread next merging may runs is_next = record {
   all = λ i other runs_there. rw (length-set heads thread next) (merging.are_heads.all i other runs_there);
   below = λ other i runs_there below. elim (cases_eq other thread) [
     | inl same ↦ stands_below i (runs_there ∙ ap Some same) (rw (same, here) at below)
-    | inr apart ↦ stands_still placed place i (merging.are_heads.below other i runs_there (rw (there other apart) at below))
+    | inr apart ↦
+        stands_still placed place i
+            (merging.are_heads.below other i runs_there (rw (there other apart) at below))
   ];
   head = λ other low inside. elim (cases_eq other thread) [
     | inl same ↦ rw (same, here) (is_next.found (rw (same, here) at inside))
-    | inr apart ↦ rw (there other apart) (merging.are_heads.head other (rw (length-set heads thread next) at low) (rw (there other apart) at inside))
+    | inr apart ↦
+        rw (there other apart)
+            (merging.are_heads.head other (rw (length-set heads thread next) at low)
+                (rw (there other apart) at inside))
   ];
   missing = λ other low stands. elim (cases_eq other thread) [
     | inl same ↦ next_missing (rw (same, here) at stands)
-    | inr apart ↦ elim (stands_cases placed place (slice_index heads other) (rw (there other apart) at stands)) [
+    | inr apart ↦
+        elim (stands_cases placed place (slice_index heads other) (rw (there other apart) at stands)) [
       | inl old ↦ merging.are_heads.missing other (rw (length-set heads thread next) at low) old
-      | inr is ↦ apart (same_Some other thread (sym (merging.are_heads.head other (rw (length-set heads thread next) at low) (rw is may.within)) ∙ ap (thread_at rs) is ∙ runs))
+      | inr is ↦
+          apart
+              (same_Some other thread
+                  (sym
+                      (merging.are_heads.head other (rw (length-set heads thread next) at low)
+                          (rw is may.within))
+                      ∙ ap (thread_at rs) is ∙ runs))
     ]
   ];
 }
@@ -145,9 +201,12 @@ heads_more rs placed heads links order place thread next merging may runs is_nex
 
     stands_below : (i : ℕ) → thread_at rs i ≡ Some thread → i < next → Stands (set placed place true) i
     stands_below i runs_there below = elim (cases_lt i place) [
-      | inl earlier ↦ stands_still placed place i (merging.are_heads.below thread i runs_there (rw head_is earlier))
+      | inl earlier ↦
+          stands_still placed place i (merging.are_heads.below thread i runs_there (rw head_is earlier))
       | inr later ↦ elim (cases_eq i place) [
-        | inl same ↦ let P : ℕ → Type 0 = λ j. Stands (set placed place true) j in subst P (sym same) (stands_here placed place (rw merging.all may.within))
+        | inl same ↦
+            let P : ℕ → Type 0 = λ j. Stands (set placed place true) j in
+            subst P (sym same) (stands_here placed place (rw merging.all may.within))
         | inr apart ↦ absurd (is_next.none i (omega arith) below runs_there)
       ]
     ]
@@ -155,14 +214,18 @@ heads_more rs placed heads links order place thread next merging may runs is_nex
     next_missing : Stands (set placed place true) next → ⊥
     next_missing stands = elim (stands_cases placed place next stands) [
       | inl old ↦ elim (cases_lt next (length rs)) [
-        | inl inside ↦ absurd (let h = merging.above thread next (is_next.found inside) old in omega (arith, head_is, h))
+        | inl inside ↦
+            absurd (let h = merging.above thread next (is_next.found inside) old in omega (arith, head_is, h))
         | inr past ↦ let h = stands_within placed next old in absurd (omega (arith, h, merging.all))
       ]
       | inr is ↦ absurd (let h = is_next.behind in omega (arith, h, is))
     ]
 
 -- one more record stands, which may stand next
-pub standing_more : (rs : List Record) (placed : List Bool) (heads links order : List ℕ) (place thread : ℕ) → AreStanding rs placed heads links order → MayFollow rs placed place → thread_at rs place ≡ Some thread → AreStanding rs (set placed place true) (set heads thread (slice_index links place)) links (order ++ place ∷ [])
+pub standing_more : (rs : List Record) (placed : List Bool) (heads links order : List ℕ) (place thread : ℕ)
+    → AreStanding rs placed heads links order → MayFollow rs placed place → thread_at rs place ≡ Some thread
+    → AreStanding rs (set placed place true) (set heads thread (slice_index links place)) links
+        (order ++ place ∷ [])
 standing_more rs placed heads links order place thread standing may runs = record {
   all = length-set placed place true ∙ standing.all;
   to_order = λ i stands. elim (stands_cases placed place i stands) [
@@ -171,7 +234,9 @@ standing_more rs placed heads links order place thread standing may runs = recor
   ];
   from_order = λ i c. elim (Contains-push_cases order place i c) [
     | inl old ↦ stands_still placed place i (standing.from_order i old)
-    | inr same ↦ let P : ℕ → Type 0 = λ j. Stands (set placed place true) j in subst P same (stands_here placed place (rw standing.all may.within))
+    | inr same ↦
+        let P : ℕ → Type 0 = λ j. Stands (set placed place true) j in
+        subst P same (stands_here placed place (rw standing.all may.within))
   ];
   in_turn = each_more (IsReady rs (λ _. ⊤)) order place standing.in_turn (record {
     within = may.within;
@@ -182,7 +247,9 @@ standing_more rs placed heads links order place thread standing may runs = recor
   are_heads = heads_more rs placed heads links order place thread next standing may runs is_next;
   above = λ other i runs_there stands. elim (cases_eq other thread) [
     | inl same ↦ rw (same, here) (elim (stands_cases placed place i stands) [
-      | inl old ↦ let h = standing.above thread i (runs_there ∙ ap Some same) old in let behind = is_next.behind in omega (arith, h, head_is, behind)
+      | inl old ↦
+          let h = standing.above thread i (runs_there ∙ ap Some same) old in
+          let behind = is_next.behind in omega (arith, h, head_is, behind)
       | inr is ↦ let behind = is_next.behind in omega (arith, is, behind)
     ])
     | inr apart ↦ rw (there other apart) (elim (stands_cases placed place i stands) [
@@ -212,16 +279,25 @@ standing_more rs placed heads links order place thread standing may runs = recor
     head_is = is_head rs placed heads place thread standing.are_heads runs may
 
     left_after : (rest : List ℕ) × IsPermutation (places rs) ((order ++ place ∷ []) ++ rest)
-    left_after = elim (Contains-append_cases order standing.left place (Contains-permutation (places rs) (order ++ standing.left) place standing.permutation (contains_place rs place may.within))) [
+    left_after =
+        elim
+            (Contains-append_cases order standing.left place
+                (Contains-permutation (places rs) (order ++ standing.left) place standing.permutation
+                    (contains_place rs place may.within))) [
       | inl c ↦ absurd (may.missing (standing.from_order place c))
-      | inr c ↦ (remove standing.left c.0, IsPermutation-more (places rs) order standing.left c.0 place c.1 (sym c.2) standing.permutation)
+      | inr c ↦
+          (remove standing.left c.0,
+              IsPermutation-more (places rs) order standing.left c.0 place c.1 (sym c.2) standing.permutation)
     ]
 
     due : IsDue rs order place
-    due a before = due_from_steps rs order (turn_closed rs order standing.in_turn) a place before (λ c s. standing.to_order c (may.steps c s))
+    due a before =
+        due_from_steps rs order (turn_closed rs order standing.in_turn) a place before
+            (λ c s. standing.to_order c (may.steps c s))
 
 -- what may stand next in the list may follow what stands
-pub ready_follows : (rs : List Record) (placed : List Bool) (heads links order : List ℕ) (place : ℕ) → AreStanding rs placed heads links order → IsReady rs (λ _. ⊤) order place → MayFollow rs placed place
+pub ready_follows : (rs : List Record) (placed : List Bool) (heads links order : List ℕ) (place : ℕ)
+    → AreStanding rs placed heads links order → IsReady rs (λ _. ⊤) order place → MayFollow rs placed place
 ready_follows rs placed heads links order place standing ready = record {
   within = ready.within;
   missing = λ stands. ready.missing (standing.to_order place stands);
@@ -233,7 +309,8 @@ pub record IsMerging (rs : List Record) (placed : List Bool) (heads links base o
   pub standing : AreStanding rs placed heads links order
   pub behind : IsGreedyBehind rs base order
 
-pub merging_start : (rs : List Record) (placed : List Bool) (heads links base : List ℕ) → AreStanding rs placed heads links base → IsMerging rs placed heads links base base
+pub merging_start : (rs : List Record) (placed : List Bool) (heads links base : List ℕ)
+    → AreStanding rs placed heads links base → IsMerging rs placed heads links base base
 merging_start rs placed heads links base standing = record {
   standing = standing;
   behind = record {
@@ -244,18 +321,28 @@ merging_start rs placed heads links base standing = record {
 }
 
 -- the first record that may follow
-pub merging_more : (rs : List Record) (placed : List Bool) (heads links base order : List ℕ) (place thread : ℕ) → IsMerging rs placed heads links base order → MayFollow rs placed place → ((i : ℕ) → i < place → MayFollow rs placed i → ⊥) → thread_at rs place ≡ Some thread → IsMerging rs (set placed place true) (set heads thread (slice_index links place)) links base (order ++ place ∷ [])
+pub merging_more : (rs : List Record) (placed : List Bool) (heads links base order : List ℕ)
+    (place thread : ℕ)
+    → IsMerging rs placed heads links base order → MayFollow rs placed place
+    → ((i : ℕ) → i < place → MayFollow rs placed i → ⊥) → thread_at rs place ≡ Some thread
+    → IsMerging rs (set placed place true) (set heads thread (slice_index links place)) links base
+        (order ++ place ∷ [])
 merging_more rs placed heads links base order place thread merging may first runs = record {
   standing = now;
   behind = record {
     more = merging.behind.more ++ place ∷ [];
-    parts = ap (λ l. l ++ place ∷ []) merging.behind.parts ∙ append_assoc base merging.behind.more (place ∷ []);
-    greedy = each_more (λ xs i. IsFirstReady rs (λ _. ⊤) (base ++ xs) i) merging.behind.more place merging.behind.greedy (
-        let P : List ℕ → Type 0 = λ l. IsFirstReady rs (λ _. ⊤) l place in subst P merging.behind.parts first_ready);
+    parts =
+        ap (λ l. l ++ place ∷ []) merging.behind.parts ∙ append_assoc base merging.behind.more (place ∷ []);
+    greedy =
+        each_more (λ xs i. IsFirstReady rs (λ _. ⊤) (base ++ xs) i) merging.behind.more place
+            merging.behind.greedy (
+        let P : List ℕ → Type 0 = λ l. IsFirstReady rs (λ _. ⊤) l place in
+        subst P merging.behind.parts first_ready);
   };
 }
   where
-    now : AreStanding rs (set placed place true) (set heads thread (slice_index links place)) links (order ++ place ∷ [])
+    now : AreStanding rs (set placed place true) (set heads thread (slice_index links place)) links
+        (order ++ place ∷ [])
     now = standing_more rs placed heads links order place thread merging.standing may runs
 
     first_ready : IsFirstReady rs (λ _. ⊤) order place
@@ -264,51 +351,88 @@ merging_more rs placed heads links base order place thread merging may first run
         within = may.within;
         taken = tt;
         missing = λ c. may.missing (merging.standing.from_order place c);
-        due = λ a before. due_from_steps rs order (turn_closed rs order merging.standing.in_turn) a place before (λ c s. merging.standing.to_order c (may.steps c s));
+        due =
+            λ a before.
+                due_from_steps rs order (turn_closed rs order merging.standing.in_turn) a place before
+                    (λ c s. merging.standing.to_order c (may.steps c s));
       };
-      first = λ k earlier ready. first k earlier (ready_follows rs placed heads links order k merging.standing ready);
+      first =
+          λ k earlier ready.
+              first k earlier (ready_follows rs placed heads links order k merging.standing ready);
     }
 
 -- where no record may follow, none is ready
-pub none_ready : (rs : List Record) (placed : List Bool) (heads links order : List ℕ) → AreStanding rs placed heads links order → ((i : ℕ) → MayFollow rs placed i → ⊥) → (i : ℕ) → IsReady rs (λ _. ⊤) order i → ⊥
-none_ready rs placed heads links order standing none i ready = none i (ready_follows rs placed heads links order i standing ready)
+pub none_ready : (rs : List Record) (placed : List Bool) (heads links order : List ℕ)
+    → AreStanding rs placed heads links order → ((i : ℕ) → MayFollow rs placed i → ⊥) → (i : ℕ)
+    → IsReady rs (λ _. ⊤) order i → ⊥
+none_ready rs placed heads links order standing none i ready =
+    none i (ready_follows rs placed heads links order i standing ready)
 
 -- with every place filled the order is a linearization
-pub all_ordered : (rs : List Record) (placed : List Bool) (heads links order : List ℕ) → AreStanding rs placed heads links order → ((i : ℕ) → i < length rs → Stands placed i) → IsLinearization rs order
+pub all_ordered : (rs : List Record) (placed : List Bool) (heads links order : List ℕ)
+    → AreStanding rs placed heads links order → ((i : ℕ) → i < length rs → Stands placed i)
+    → IsLinearization rs order
 all_ordered rs placed heads links order standing full = record {
-  all_once = rw (nothing_left rs order standing.left standing.permutation (λ i inside. standing.to_order i (full i inside)), append-nil) at standing.permutation;
-  rising = λ a b before. grounded_rising rs order (turn_grounded rs order standing.in_turn) a b before (standing.to_order b (full b (before_to rs a b before)));
+  all_once =
+      rw
+          (nothing_left rs order standing.left standing.permutation
+              (λ i inside. standing.to_order i (full i inside)),
+              append-nil)
+          at standing.permutation;
+  rising =
+      λ a b before.
+          grounded_rising rs order (turn_grounded rs order standing.in_turn) a b before
+              (standing.to_order b (full b (before_to rs a b before)));
 }
 
 -- each record that stands has an order
-pub stands_ordered : (rs : List Record) (placed : List Bool) (heads links order : List ℕ) (i : ℕ) → AreStanding rs placed heads links order → Stands placed i → HasCause rs i NoOrder → ⊥
-stands_ordered rs placed heads links order i standing stands (no_order h) = h.never order (turn_grounded rs order standing.in_turn) (standing.to_order i stands)
+pub stands_ordered : (rs : List Record) (placed : List Bool) (heads links order : List ℕ) (i : ℕ)
+    → AreStanding rs placed heads links order → Stands placed i → HasCause rs i NoOrder → ⊥
+stands_ordered rs placed heads links order i standing stands (no_order h) =
+    h.never order (turn_grounded rs order standing.in_turn) (standing.to_order i stands)
 
 -- and where no record may follow, one that doesn't stand has none
-pub missing_unordered : (rs : List Record) (placed : List Bool) (heads links order : List ℕ) (i : ℕ) → AreStanding rs placed heads links order → ((j : ℕ) → MayFollow rs placed j → ⊥) → i < length rs → (Stands placed i → ⊥) → HasNoOrder rs i
+pub missing_unordered : (rs : List Record) (placed : List Bool) (heads links order : List ℕ) (i : ℕ)
+    → AreStanding rs placed heads links order → ((j : ℕ) → MayFollow rs placed j → ⊥) → i < length rs
+    → (Stands placed i → ⊥) → HasNoOrder rs i
 missing_unordered rs placed heads links order i standing none within missing = record {
   within = within;
   never = λ other grounded c. missing (standing.from_order i (
       let P : ℕ → Type 0 = λ j. Contains order j in
       let is : slice_index other c.0 ≡ i = get_or_default other c.0 0 i c.1 ∙ c.2 in
-      subst P is (grounded_stands rs placed heads links order other standing none grounded (c.0 + 1) c.0 (omega arith) c.1 (rw is within))
+      subst P is
+          (grounded_stands rs placed heads links order other standing none grounded (c.0 + 1) c.0
+              (omega arith) c.1 (rw is within))
       ));
 }
   where
-    grounded_stands : (rs' : List Record) (placed' : List Bool) (heads' links' order' other : List ℕ) → AreStanding rs' placed' heads' links' order' → ((j : ℕ) → MayFollow rs' placed' j → ⊥) → IsGrounded rs' other → (n q : ℕ) → q < n → q < length other → slice_index other q < length rs' → Contains order' (slice_index other q)
-    grounded_stands rs' placed' heads' links' order' other standing' none' grounded zero q below inside real = absurd (omega arith)
-    grounded_stands rs' placed' heads' links' order' other standing' none' grounded (suc n) q below inside real = elim (stands_or_not placed' (slice_index other q)) [
+    grounded_stands : (rs' : List Record) (placed' : List Bool) (heads' links' order' other : List ℕ)
+        → AreStanding rs' placed' heads' links' order' → ((j : ℕ) → MayFollow rs' placed' j → ⊥)
+        → IsGrounded rs' other → (n q : ℕ) → q < n → q < length other → slice_index other q < length rs'
+        → Contains order' (slice_index other q)
+    grounded_stands rs' placed' heads' links' order' other standing' none' grounded zero q below inside real =
+        absurd (omega arith)
+    grounded_stands rs' placed' heads' links' order' other standing' none' grounded (suc n) q below inside
+            real =
+        elim (stands_or_not placed' (slice_index other q)) [
       | inl stands ↦ standing'.to_order (slice_index other q) stands
-      | inr missing' ↦ absurd (none_ready rs' placed' heads' links' order' standing' none' (slice_index other q) (record {
+      | inr missing' ↦
+          absurd ( none_ready rs' placed' heads' links' order' standing' none' (slice_index other q) (
+              record {
         within = real;
         taken = tt;
         missing = λ c. missing' (standing'.from_order (slice_index other q) c);
         due = λ a before.
             let earlier = grounded q inside a before in
-            let p_low : earlier.0 < q = let e = earlier.1 in let t = length-take q other in omega (arith, e, t) in
-            let is : slice_index other earlier.0 ≡ a = get_or_default other earlier.0 0 a (omega arith) ∙ sym (get_or-take q other earlier.0 a p_low) ∙ earlier.2 in
+            let p_low : earlier.0 < q =
+                let e = earlier.1 in let t = length-take q other in omega (arith, e, t) in
+            let is : slice_index other earlier.0 ≡ a =
+                get_or_default other earlier.0 0 a (omega arith) ∙ sym (get_or-take q other earlier.0 a p_low)
+                    ∙ earlier.2 in
             let P : ℕ → Type 0 = λ j. Contains order' j in
-            subst P is (grounded_stands rs' placed' heads' links' order' other standing' none' grounded n earlier.0 (omega arith) (omega arith) (rw is (before_from rs' a (slice_index other q) before)));
+            subst P is
+                (grounded_stands rs' placed' heads' links' order' other standing' none' grounded n earlier.0
+                    (omega arith) (omega arith) (rw is (before_from rs' a (slice_index other q) before)));
       }))
     ]
 
@@ -316,7 +440,8 @@ abbrev pub is_missing : Bool → ℕ
 is_missing true = 0
 is_missing false = 1
 
-not_standing : (placed : List Bool) (i : ℕ) → i < length placed → (Stands placed i → ⊥) → get_or placed i false ≡ false
+not_standing : (placed : List Bool) (i : ℕ) → i < length placed → (Stands placed i → ⊥)
+    → get_or placed i false ≡ false
 not_standing placed i within missing = flag (get_or placed i false) refl
   where
     flag : (b : Bool) → get_or placed i false ≡ b → get_or placed i false ≡ false
@@ -324,41 +449,65 @@ not_standing placed i within missing = flag (get_or placed i false) refl
     flag false e = e
 
 -- one record less is missing
-pub missing_less : (placed : List Bool) (place : ℕ) → place < length placed → (Stands placed place → ⊥) → sum_by is_missing (set placed place true) < sum_by is_missing placed
+pub missing_less : (placed : List Bool) (place : ℕ) → place < length placed → (Stands placed place → ⊥)
+    → sum_by is_missing (set placed place true) < sum_by is_missing placed
 missing_less placed place within missing =
-    let change : sum_by is_missing (set placed place true) + is_missing (get_or placed place false) ≡ sum_by is_missing placed + 0 = sum_by-set is_missing placed place true false within in
-    let one : is_missing (get_or placed place false) ≡ 1 = ap is_missing (not_standing placed place within missing) in
+    let change : sum_by is_missing (set placed place true) + is_missing (get_or placed place false)
+            ≡ sum_by is_missing placed + 0 =
+        sum_by-set is_missing placed place true false within in
+    let one : is_missing (get_or placed place false) ≡ 1 =
+        ap is_missing (not_standing placed place within missing) in
     omega (arith, change, one)
 
 -- the makers of the entries before one stand after one more record does
-pub passed_more : (placed : List Bool) (makers : List ℕ) (low next place : ℕ) → ((k : ℕ) → k < low → slice_index makers k < length placed → Stands placed (slice_index makers k)) → ((k : ℕ) → low ≤ k → k < next → slice_index makers k < length (set placed place true) → Stands (set placed place true) (slice_index makers k)) → (k : ℕ) → k < next → slice_index makers k < length (set placed place true) → Stands (set placed place true) (slice_index makers k)
+pub passed_more : (placed : List Bool) (makers : List ℕ) (low next place : ℕ)
+    → ((k : ℕ) → k < low → slice_index makers k < length placed → Stands placed (slice_index makers k))
+    → ((k : ℕ) → low ≤ k → k < next → slice_index makers k < length (set placed place true)
+          → Stands (set placed place true) (slice_index makers k))
+    → (k : ℕ) → k < next → slice_index makers k < length (set placed place true)
+    → Stands (set placed place true) (slice_index makers k)
 passed_more placed makers low next place old new k below real = elim (cases_lt k low) [
-  | inl before ↦ stands_still placed place (slice_index makers k) (old k before (rw (length-set placed place true) at real))
+  | inl before ↦
+      stands_still placed place (slice_index makers k)
+          (old k before (rw (length-set placed place true) at real))
   | inr after ↦ new k after below real
 ]
 
 unordered_within : (rs : List Record) (i : ℕ) → HasCause rs i NoOrder → i < length rs
 unordered_within rs i (no_order h) = h.within
 
--- where no record may follow, the first that doesn't stand is the first without an order; and where all stand, each
+-- where no record may follow, the first that doesn't stand is the first without an order; and where all
+-- stand, each
 -- record has one
-pub finds_unordered : (rs : List Record) (placed : List Bool) (heads links order : List ℕ) (found : Option ℕ) → AreStanding rs placed heads links order → ((j : ℕ) → MayFollow rs placed j → ⊥) → MatchOption found ((i : ℕ) → i < length placed → Stands placed i) (IsFirstUnplaced placed) → FindsFirst rs NoOrder found
-finds_unordered rs placed heads links order None standing none every = λ i has. stands_ordered rs placed heads links order i standing (every i (rw standing.all (unordered_within rs i has))) has
+pub finds_unordered : (rs : List Record) (placed : List Bool) (heads links order : List ℕ) (found : Option ℕ)
+    → AreStanding rs placed heads links order → ((j : ℕ) → MayFollow rs placed j → ⊥)
+    → MatchOption found ((i : ℕ) → i < length placed → Stands placed i) (IsFirstUnplaced placed)
+    → FindsFirst rs NoOrder found
+finds_unordered rs placed heads links order None standing none every =
+    λ i has.
+        stands_ordered rs placed heads links order i standing
+            (every i (rw standing.all (unordered_within rs i has))) has
 finds_unordered rs placed heads links order (Some i) standing none is =
     let within : i < length rs = rw standing.all at is.unplaced.within in
     record {
       within = within;
-      has = no_order (missing_unordered rs placed heads links order i standing none within is.unplaced.missing);
+      has =
+          no_order (missing_unordered rs placed heads links order i standing none within is.unplaced.missing);
       first = λ k below has. stands_ordered rs placed heads links order k standing (is.before k below) has;
     }
 
 -- where each record has an order, all stand
-pub all_stand : (rs : List Record) (placed : List Bool) (heads links order : List ℕ) → AreStanding rs placed heads links order → ((j : ℕ) → MayFollow rs placed j → ⊥) → IsFreeOf rs NoOrder → (i : ℕ) → i < length rs → Stands placed i
+pub all_stand : (rs : List Record) (placed : List Bool) (heads links order : List ℕ)
+    → AreStanding rs placed heads links order → ((j : ℕ) → MayFollow rs placed j → ⊥) → IsFreeOf rs NoOrder
+    → (i : ℕ) → i < length rs → Stands placed i
 all_stand rs placed heads links order standing none free i within = elim (stands_or_not placed i) [
   | inl stands ↦ stands
-  | inr missing ↦ absurd (free i (no_order (missing_unordered rs placed heads links order i standing none within missing)))
+  | inr missing ↦
+      absurd
+          (free i (no_order (missing_unordered rs placed heads links order i standing none within missing)))
 ]
 
 -- behind nothing the order is the greedy one
 pub greedy_alone : (rs : List Record) (order : List ℕ) → IsGreedyBehind rs [] order → IsGreedy rs order
-greedy_alone rs order behind = let P : List ℕ → Type 0 = λ l. IsGreedy rs l in subst P (sym behind.parts) behind.greedy
+greedy_alone rs order behind =
+    let P : List ℕ → Type 0 = λ l. IsGreedy rs l in subst P (sym behind.parts) behind.greedy

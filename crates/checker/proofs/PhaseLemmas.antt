@@ -1,14 +1,18 @@
 -- How each phase of a check hands on that no cause so far occurs.
-use Rattle.std.proofs.Common.{◌≡◌, ◌∙◌, ℕ, zero, suc, ◌≤◌, ◌&&◌, List, [], ◌∷◌, ◌++◌, Bool, true, false, refl, sym, ap, subst, arith, inl, inr}
+use Rattle.std.proofs.Common.{◌≡◌, ◌∙◌, ℕ, zero, suc, ◌≤◌, ◌&&◌, List, [], ◌∷◌, ◌++◌, Bool, true, false, refl}
+use Rattle.std.proofs.Common.{sym, ap, subst, arith, inl, inr}
 use Rattle.std.proofs.Math.Dec.{ltb, leb}
 use Rattle.std.proofs.lemmas.Bool.{leb-true, false≢true}
-use Rattle.std.proofs.lemmas.List.Elements.{Contains-append_left, Contains-append_right, Contains-append_cases}
+use Rattle.std.proofs.lemmas.List.Elements.{Contains-append_left, Contains-append_right}
+use Rattle.std.proofs.lemmas.List.Elements.{Contains-append_cases}
 use Rattle.std.specs.Prelude.{◌↔◌, Contains, filter, not}
 use Rattle.ompt_events.specs.declared.records.Record.{Record}
 use Rattle.ompt_events.specs.declared.cause.Cause.{Cause}
 use Rattle.ompt_events.specs.declared.fault.Fault.{Fault}
 use Rattle.ompt_events.specs.declared.fault.Fault.TheVariants.{Memory, Malformed}
-use Rattle.ompt_events.specs.declared.cause.Cause.TheVariants.{NotCurrent, Moved, TurnGap, StatusOrder, RegionOrder, TeamShort, NestedParallel, DepsPlace, ShareWrong, EntryTwice}
+use Rattle.ompt_events.specs.declared.cause.Cause.TheVariants.{NotCurrent, Moved, TurnGap, StatusOrder}
+use Rattle.ompt_events.specs.declared.cause.Cause.TheVariants.{RegionOrder, TeamShort, NestedParallel}
+use Rattle.ompt_events.specs.declared.cause.Cause.TheVariants.{DepsPlace, ShareWrong, EntryTwice}
 use Rattle.ompt_events.specs.CauseNames.{cause_number, all_causes, before}
 use Rattle.ompt_events.specs.Causes.{HasCause, IsFreeOf, Shows, ShowsNowhere}
 use Rattle.ompt_events.specs.Faults.{IsFault, IsShownFault}
@@ -35,21 +39,36 @@ right : (a b : Bool) → (a && b) ≡ true → b ≡ true
 right true b h = h
 right false b h = absurd (cc)
 
-rising_above : (low : ℕ) (xs : List Cause) (other : Cause) → rises low xs ≡ true → Contains xs other → low ≤ cause_number other
+rising_above : (low : ℕ) (xs : List Cause) (other : Cause) → rises low xs ≡ true → Contains xs other
+    → low ≤ cause_number other
 rising_above low [] other rising (j, below, is) = absurd (omega arith)
-rising_above low (c ∷ rest) other rising (zero, below, is) = let P : Cause → Type 0 = λ x. low ≤ cause_number x in subst P is (leb-true low (cause_number c) (left (leb low (cause_number c)) (rises (cause_number c) rest) rising))
+rising_above low (c ∷ rest) other rising (zero, below, is) =
+    let P : Cause → Type 0 = λ x. low ≤ cause_number x in
+    subst P is
+        (leb-true low (cause_number c) (left (leb low (cause_number c)) (rises (cause_number c) rest) rising))
 rising_above low (c ∷ rest) other rising (suc j, below, is) =
-    let first = leb-true low (cause_number c) (left (leb low (cause_number c)) (rises (cause_number c) rest) rising) in
-    let above = rising_above (cause_number c) rest other (right (leb low (cause_number c)) (rises (cause_number c) rest) rising) (j, omega arith, is) in
+    let first =
+        leb-true low (cause_number c)
+            (left (leb low (cause_number c)) (rises (cause_number c) rest) rising) in
+    let above =
+        rising_above (cause_number c) rest other
+            (right (leb low (cause_number c)) (rises (cause_number c) rest) rising) (j, omega arith, is) in
     omega (arith, first, above)
 
 -- a cause behind others has no smaller number than any of them
-rising_behind : (low : ℕ) (xs rest : List Cause) (cause other : Cause) → rises low (xs ++ rest) ≡ true → Contains xs cause → Contains rest other → cause_number cause ≤ cause_number other
+rising_behind : (low : ℕ) (xs rest : List Cause) (cause other : Cause) → rises low (xs ++ rest) ≡ true
+    → Contains xs cause → Contains rest other → cause_number cause ≤ cause_number other
 rising_behind low [] rest cause other rising (j, below, is) has = absurd (omega arith)
 rising_behind low (c ∷ xs) rest cause other rising (zero, below, is) has =
     let P : Cause → Type 0 = λ x. cause_number x ≤ cause_number other in
-    subst P is (rising_above (cause_number c) (xs ++ rest) other (right (leb low (cause_number c)) (rises (cause_number c) (xs ++ rest)) rising) (Contains-append_right xs rest other has))
-rising_behind low (c ∷ xs) rest cause other rising (suc j, below, is) has = rising_behind (cause_number c) xs rest cause other (right (leb low (cause_number c)) (rises (cause_number c) (xs ++ rest)) rising) (j, omega arith, is) has
+    subst P is
+        (rising_above (cause_number c) (xs ++ rest) other
+            (right (leb low (cause_number c)) (rises (cause_number c) (xs ++ rest)) rising)
+            (Contains-append_right xs rest other has))
+rising_behind low (c ∷ xs) rest cause other rising (suc j, below, is) has =
+    rising_behind (cause_number c) xs rest cause other
+        (right (leb low (cause_number c)) (rises (cause_number c) (xs ++ rest)) rising) (j, omega arith, is)
+        has
 
 -- ---- causes that are read in the order of the file
 
@@ -66,23 +85,28 @@ are_of_file [] = true
 are_of_file (c ∷ rest) = not (is_own_cause c) && are_of_file rest
 
 -- any other is shown where a record has it
-pub of_file_shown : (rs : List Record) (i : ℕ) (cause : Cause) → is_own_cause cause ≡ false → Shows rs i cause ↔ HasCause rs i cause
+pub of_file_shown : (rs : List Record) (i : ℕ) (cause : Cause) → is_own_cause cause ≡ false
+    → Shows rs i cause ↔ HasCause rs i cause
 of_file_shown rs i RegionOrder other = absurd (false≢true (sym other))
 of_file_shown rs i TeamShort other = absurd (false≢true (sym other))
 of_file_shown rs i ShareWrong other = absurd (false≢true (sym other))
 of_file_shown rs i _ other = (λ has. has, λ shown. shown)
 
-among_file : (causes : List Cause) (cause : Cause) → are_of_file causes ≡ true → Contains causes cause → is_own_cause cause ≡ false
+among_file : (causes : List Cause) (cause : Cause) → are_of_file causes ≡ true → Contains causes cause
+    → is_own_cause cause ≡ false
 among_file [] cause all (k, below, is) = absurd (omega (arith, below))
-among_file (c ∷ rest) cause all (zero, below, is) = ap is_own_cause (sym is) ∙ negated (is_own_cause c) (left (not (is_own_cause c)) (are_of_file rest) all)
+among_file (c ∷ rest) cause all (zero, below, is) =
+    ap is_own_cause (sym is) ∙ negated (is_own_cause c) (left (not (is_own_cause c)) (are_of_file rest) all)
   where
     negated : (b : Bool) → not b ≡ true → b ≡ false
     negated false h = refl
     negated true h = absurd (false≢true h)
-among_file (c ∷ rest) cause all (suc k, below, is) = among_file rest cause (right (not (is_own_cause c)) (are_of_file rest) all) (k, omega (arith, below), is)
+among_file (c ∷ rest) cause all (suc k, below, is) =
+    among_file rest cause (right (not (is_own_cause c)) (are_of_file rest) all) (k, omega (arith, below), is)
 
 -- so a fault of the file is what the trace shows
-pub fault_shown : (rs : List Record) (sought : List Cause) (fault : Fault) → are_of_file sought ≡ true → IsFault rs sought fault → IsShownFault rs sought fault
+pub fault_shown : (rs : List Record) (sought : List Cause) (fault : Fault) → are_of_file sought ≡ true
+    → IsFault rs sought fault → IsShownFault rs sought fault
 fault_shown rs sought Memory all is = tt
 fault_shown rs sought (Malformed i cause) all is = record {
   sought_for = is.sought_for;
@@ -91,7 +115,9 @@ fault_shown rs sought (Malformed i cause) all is = record {
     shown = (of_file_shown rs i cause own).1 is.found.has;
     first = λ k below shown. is.found.first k below ((of_file_shown rs k cause own).0 shown);
   };
-  least = λ other has less k shown. is.least other has less k ((of_file_shown rs k other (among_file sought other all has)).0 shown);
+  least =
+      λ other has less k shown.
+          is.least other has less k ((of_file_shown rs k other (among_file sought other all has)).0 shown);
 }
   where
     own : is_own_cause cause ≡ false
@@ -100,17 +126,27 @@ fault_shown rs sought (Malformed i cause) all is = record {
 -- ---- from phase to phase
 
 -- a search for some causes, once those before them do not occur: it finds the least of these all
-pub shown_more : (rs : List Record) (all cleared sought rest : List Cause) (fault : Fault) → all ≡ (cleared ++ sought) ++ rest → rises 0 all ≡ true → IsClear rs cleared → IsShownFault rs sought fault → IsShownFault rs all fault
+pub shown_more : (rs : List Record) (all cleared sought rest : List Cause) (fault : Fault)
+    → all ≡ (cleared ++ sought) ++ rest → rises 0 all ≡ true → IsClear rs cleared
+    → IsShownFault rs sought fault → IsShownFault rs all fault
 shown_more rs all cleared sought rest Memory parts rise clear found = tt
 shown_more rs all cleared sought rest (Malformed i cause) parts rise clear found = record {
-  sought_for = whole cause (Contains-append_left (cleared ++ sought) rest cause (Contains-append_right cleared sought cause found.sought_for));
+  sought_for =
+      whole cause
+          (Contains-append_left (cleared ++ sought) rest cause
+              (Contains-append_right cleared sought cause found.sought_for));
   found = found.found;
   least = λ other has less. elim (Contains-append_cases (cleared ++ sought) rest other (part other has)) [
     | inl among ↦ elim (Contains-append_cases cleared sought other among) [
       | inl earlier ↦ clear other earlier
       | inr same ↦ found.least other same less
     ]
-    | inr later ↦ absurd (let more = rising_behind 0 (cleared ++ sought) rest cause other rising (Contains-append_right cleared sought cause found.sought_for) later in omega (arith, more, less))
+    | inr later ↦
+        absurd
+            (let more =
+                 rising_behind 0 (cleared ++ sought) rest cause other rising
+                     (Contains-append_right cleared sought cause found.sought_for) later in
+             omega (arith, more, less))
   ];
 }
   where
@@ -124,12 +160,17 @@ shown_more rs all cleared sought rest (Malformed i cause) parts rise clear found
     rising = let P : List Cause → Type 0 = λ l. rises 0 l ≡ true in subst P parts rise
 
 -- and a phase that of all causes
-pub least_more : (rs : List Record) (cleared sought rest : List Cause) (fault : Fault) → all_causes ≡ (cleared ++ sought) ++ rest → IsClear rs cleared → IsShownFault rs sought fault → IsLeastFound rs fault
-least_more rs cleared sought rest fault parts clear found = shown_more rs all_causes cleared sought rest fault parts refl clear found
+pub least_more : (rs : List Record) (cleared sought rest : List Cause) (fault : Fault)
+    → all_causes ≡ (cleared ++ sought) ++ rest → IsClear rs cleared → IsShownFault rs sought fault
+    → IsLeastFound rs fault
+least_more rs cleared sought rest fault parts clear found =
+    shown_more rs all_causes cleared sought rest fault parts refl clear found
 
 -- or they do not occur either
-pub clear_more : (rs : List Record) (cleared sought : List Cause) → IsClear rs cleared → IsClear rs sought → IsClear rs (cleared ++ sought)
-clear_more rs cleared sought before here cause among = elim (Contains-append_cases cleared sought cause among) [
+pub clear_more : (rs : List Record) (cleared sought : List Cause) → IsClear rs cleared → IsClear rs sought
+    → IsClear rs (cleared ++ sought)
+clear_more rs cleared sought before here cause among =
+    elim (Contains-append_cases cleared sought cause among) [
   | inl earlier ↦ before cause earlier
   | inr part ↦ here cause part
 ]
@@ -138,24 +179,38 @@ clear_more rs cleared sought before here cause among = elim (Contains-append_cas
 pub none_clear : (rs : List Record) → IsClear rs []
 none_clear rs other (k, below, is) = absurd (omega arith)
 
-pub one_clear : (rs : List Record) (cause : Cause) (rest : List Cause) → ShowsNowhere rs cause → IsClear rs rest → IsClear rs (cause ∷ rest)
-one_clear rs cause rest free clear other (zero, below, is) = let P : Cause → Type 0 = ShowsNowhere rs in subst P is free
+pub one_clear : (rs : List Record) (cause : Cause) (rest : List Cause) → ShowsNowhere rs cause
+    → IsClear rs rest → IsClear rs (cause ∷ rest)
+one_clear rs cause rest free clear other (zero, below, is) =
+    let P : Cause → Type 0 = ShowsNowhere rs in subst P is free
 one_clear rs cause rest free clear other (suc k, below, is) = clear other (k, omega arith, is)
 
 pub only_clear : (rs : List Record) (cause : Cause) → ShowsNowhere rs cause → IsClear rs (cause ∷ [])
 only_clear rs cause free = one_clear rs cause [] free (none_clear rs)
 
 -- what is clear after each phase: the causes of regions, teams and claims are read in the tasks' own order
-pub states_clear : (rs : List Record) (own : OwnView) → IsOwnOf rs own → IsFreeOf rs NotCurrent → IsFreeOf rs Moved → IsFreeOf rs TurnGap → IsFreeOf rs StatusOrder → IsFreeOf own.run.records RegionOrder → IsClear rs state_causes
+pub states_clear : (rs : List Record) (own : OwnView) → IsOwnOf rs own → IsFreeOf rs NotCurrent
+    → IsFreeOf rs Moved → IsFreeOf rs TurnGap → IsFreeOf rs StatusOrder → IsFreeOf own.run.records RegionOrder
+    → IsClear rs state_causes
 states_clear rs own of current stay gapless ordered closed =
     let regions = own_free rs own RegionOrder of_regions of closed in
-    one_clear rs NotCurrent (Moved ∷ TurnGap ∷ StatusOrder ∷ RegionOrder ∷ []) current (one_clear rs Moved (TurnGap ∷ StatusOrder ∷ RegionOrder ∷ []) stay (one_clear rs TurnGap (StatusOrder ∷ RegionOrder ∷ []) gapless (one_clear rs StatusOrder (RegionOrder ∷ []) ordered (only_clear rs RegionOrder regions))))
+    one_clear rs NotCurrent (Moved ∷ TurnGap ∷ StatusOrder ∷ RegionOrder ∷ []) current
+        (one_clear rs Moved (TurnGap ∷ StatusOrder ∷ RegionOrder ∷ []) stay
+            (one_clear rs TurnGap (StatusOrder ∷ RegionOrder ∷ []) gapless
+                (one_clear rs StatusOrder (RegionOrder ∷ []) ordered (only_clear rs RegionOrder regions))))
 
-pub teams_clear : (rs : List Record) (own : OwnView) → IsOwnOf rs own → IsClear rs (before TeamShort) → IsFreeOf own.run.records TeamShort → IsClear rs (before NestedParallel)
-teams_clear rs own of clear whole = clear_more rs (before TeamShort) (TeamShort ∷ []) clear (only_clear rs TeamShort (own_free rs own TeamShort of_teams of whole))
+pub teams_clear : (rs : List Record) (own : OwnView) → IsOwnOf rs own → IsClear rs (before TeamShort)
+    → IsFreeOf own.run.records TeamShort → IsClear rs (before NestedParallel)
+teams_clear rs own of clear whole =
+    clear_more rs (before TeamShort) (TeamShort ∷ []) clear
+        (only_clear rs TeamShort (own_free rs own TeamShort of_teams of whole))
 
-pub edges_clear : (rs : List Record) (own : OwnView) → IsOwnOf rs own → IsFreeOf rs NestedParallel → IsFreeOf rs DepsPlace → IsFreeOf own.run.records ShareWrong → IsClear rs edge_causes
-edges_clear rs own of flat placed claims = one_clear rs NestedParallel (DepsPlace ∷ ShareWrong ∷ []) flat (one_clear rs DepsPlace (ShareWrong ∷ []) placed (only_clear rs ShareWrong (own_free rs own ShareWrong of_claims of claims)))
+pub edges_clear : (rs : List Record) (own : OwnView) → IsOwnOf rs own → IsFreeOf rs NestedParallel
+    → IsFreeOf rs DepsPlace → IsFreeOf own.run.records ShareWrong → IsClear rs edge_causes
+edges_clear rs own of flat placed claims =
+    one_clear rs NestedParallel (DepsPlace ∷ ShareWrong ∷ []) flat
+        (one_clear rs DepsPlace (ShareWrong ∷ []) placed
+            (only_clear rs ShareWrong (own_free rs own ShareWrong of_claims of claims)))
 
 -- two views of a run in its tasks' own order with the same run and the same places are the same
 pub same_own : (own other : OwnView) → own.run ≡ other.run → own.places ≡ other.places → own ≡ other
@@ -165,6 +220,8 @@ same_own own other run places =
     ap with_run run ∙ ap with_places places
 
 -- where none of the causes that a phase looks for occurs, it fails for memory alone
-pub memory_alone : (rs : List Record) (sought : List Cause) (fault : Fault) → IsClear rs sought → IsShownFault rs sought fault → fault ≡ Memory
+pub memory_alone : (rs : List Record) (sought : List Cause) (fault : Fault) → IsClear rs sought
+    → IsShownFault rs sought fault → fault ≡ Memory
 memory_alone rs sought Memory clear found = refl
-memory_alone rs sought (Malformed i cause) clear found = absurd (clear cause found.sought_for i found.found.shown)
+memory_alone rs sought (Malformed i cause) clear found =
+    absurd (clear cause found.sought_for i found.found.shown)

@@ -1,6 +1,8 @@
--- Where no record speaks for a task that its thread does not run, a task runs on the thread on which it began or ran
+-- Where no record speaks for a task that its thread does not run, a task runs on the thread on which it began
+-- or ran
 -- next; so where no task moves, on one thread alone.
-use Rattle.std.proofs.Common.{◌≡◌, ◌≢◌, ◌∙◌, ℕ, ◌<◌, ◌+◌, List, [], ◌∷◌, ◌++◌, Option, Some, None, Bool, true, false, refl, sym, ap, subst, arith, inl, inr, ◌⊎◌}
+use Rattle.std.proofs.Common.{◌≡◌, ◌≢◌, ◌∙◌, ℕ, ◌<◌, ◌+◌, List, [], ◌∷◌, ◌++◌, Option, Some, None, Bool, true}
+use Rattle.std.proofs.Common.{false, refl, sym, ap, subst, arith, inl, inr, ◌⊎◌}
 use Rattle.std.proofs.lemmas.Bool.{cases_eq, cases_order}
 use Rattle.std.proofs.lemmas.Option.{none-some, same_Some}
 use Rattle.std.proofs.lemmas.List.Sums.{fold_push}
@@ -25,7 +27,8 @@ use Rattle.task_tree.proofs.SuspendedLemmas.{no_misfit, runs_there, part_of, par
 
 -- the task began on the thread as a root before the place, or ran next there
 abbrev pub BeganOn : List Record → ℕ → ℕ → ℕ → Type 0
-BeganOn rs thread n task = (k : ℕ) × (k < n) × (at begun_root rs k ≡ Some task) × (thread_at rs k ≡ Some thread)
+BeganOn rs thread n task =
+    (k : ℕ) × (k < n) × (at begun_root rs k ≡ Some task) × (thread_at rs k ≡ Some thread)
 
 abbrev pub RanOn : List Record → ℕ → ℕ → ℕ → Type 0
 RanOn rs thread n task = (k : ℕ) × (k < n) × (at started rs k ≡ Some task) × (thread_at rs k ≡ Some thread)
@@ -40,22 +43,28 @@ record AddsTo (rs : List Record) (thread n : ℕ) (b : Body) : Type 0 where
   begins : (task : ℕ) → begun_root b ≡ Some task → BeganOn rs thread (n + 1) task
   starts : (task : ℕ) → started b ≡ Some task → RanOn rs thread (n + 1) task
 
-began_more : (rs : List Record) (thread n task : ℕ) → BeganOn rs thread n task → BeganOn rs thread (n + 1) task
+began_more : (rs : List Record) (thread n task : ℕ) → BeganOn rs thread n task
+    → BeganOn rs thread (n + 1) task
 began_more rs thread n task (k, below, begins, there) = (k, omega (arith, below), begins, there)
 
-from_more : (rs : List Record) (thread n : ℕ) (walk : Walk) → IsWalkFrom rs thread n walk → IsWalkFrom rs thread (n + 1) walk
+from_more : (rs : List Record) (thread n : ℕ) (walk : Walk) → IsWalkFrom rs thread n walk
+    → IsWalkFrom rs thread (n + 1) walk
 from_more rs thread n walk from = record {
-  roots = every_weaker (BeganOn rs thread n) (BeganOn rs thread (n + 1)) (began_more rs thread n) walk.roots from.roots;
+  roots =
+      every_weaker (BeganOn rs thread n) (BeganOn rs thread (n + 1)) (began_more rs thread n) walk.roots
+          from.roots;
   current = λ task is. elim (from.current task is) [
     | inl began ↦ inl (began_more rs thread n task began)
     | inr (k, below, starts, there) ↦ inr (k, omega (arith, below), starts, there)
   ];
 }
 
-after_from : (rs : List Record) (thread n : ℕ) (walk : Walk) (b : Body) → AddsTo rs thread n b → IsWalkFrom rs thread (n + 1) walk → IsWalkFrom rs thread (n + 1) (after_body walk b)
+after_from : (rs : List Record) (thread n : ℕ) (walk : Walk) (b : Body) → AddsTo rs thread n b
+    → IsWalkFrom rs thread (n + 1) walk → IsWalkFrom rs thread (n + 1) (after_body walk b)
 after_from rs thread n walk (ImplicitTask Begin actual index flags parallel root) adds from = record {
   roots = (adds.begins root refl, from.roots);
-  current = λ task is. inl (subst (BeganOn rs thread (n + 1)) (same_Some root task is) (adds.begins root refl));
+  current =
+      λ task is. inl (subst (BeganOn rs thread (n + 1)) (same_Some root task is) (adds.begins root refl));
 }
 after_from rs thread n walk (ImplicitTask End actual index flags parallel root) adds from = record {
   roots = every_rest (BeganOn rs thread (n + 1)) walk.roots from.roots;
@@ -63,26 +72,37 @@ after_from rs thread n walk (ImplicitTask End actual index flags parallel root) 
 }
 after_from rs thread n walk (TaskSchedule status turns prior next share) adds from = by (demands_next status)
   where
-    by : (d : Bool) → IsWalkFrom rs thread (n + 1) (if d then (record { roots = walk.roots; current = next }) else walk)
+    by : (d : Bool)
+        → IsWalkFrom rs thread (n + 1) (if d then (record { roots = walk.roots; current = next }) else walk)
     by true = record { roots = from.roots; current = λ task is. inr (adds.starts task is) }
     by false = from
 after_from rs thread n walk _ adds from = from
 
 walk_from : (rs : List Record) (thread n : ℕ) → IsWalkFrom rs thread n (walk_of thread (take n rs))
-walk_from rs thread n = part_keeps rs thread P (record { roots = tt; current = λ task is. absurd (none-some task is) }) own (λ m apart from. from_more rs thread m (walk_of thread (take m rs)) from) n
+walk_from rs thread n =
+    part_keeps rs thread P (record { roots = tt; current = λ task is. absurd (none-some task is) }) own
+        (λ m apart from. from_more rs thread m (walk_of thread (take m rs)) from) n
   where
     P : ℕ → List Record → Type 0
     P m l = IsWalkFrom rs thread m (fold after_record at_start l)
 
-    own : (m : ℕ) (r : Record) → slice_get rs m ≡ Some r → r.thread ≡ thread → P m (part_of rs thread m) → P (m + 1) (part_of rs thread m ++ r ∷ [])
+    own : (m : ℕ) (r : Record) → slice_get rs m ≡ Some r → r.thread ≡ thread → P m (part_of rs thread m)
+        → P (m + 1) (part_of rs thread m ++ r ∷ [])
     own m r stands same from =
-        let there : thread_at rs m ≡ Some thread = ap (option_map (λ (q : Record). q.thread)) stands ∙ ap Some same in
+        let there : thread_at rs m ≡ Some thread =
+            ap (option_map (λ (q : Record). q.thread)) stands ∙ ap Some same in
         let adds : AddsTo rs thread m r.body = record {
-          begins = λ task is. (m, omega arith, ap (option_and_then (λ (q : Record). begun_root q.body)) stands ∙ is, there);
-          starts = λ task is. (m, omega arith, ap (option_and_then (λ (q : Record). started q.body)) stands ∙ is, there);
+          begins =
+              λ task is.
+                  (m, omega arith, ap (option_and_then (λ (q : Record). begun_root q.body)) stands ∙ is,
+                      there);
+          starts =
+              λ task is.
+                  (m, omega arith, ap (option_and_then (λ (q : Record). started q.body)) stands ∙ is, there);
         } in
         subst (IsWalkFrom rs thread (m + 1)) (sym (fold_push after_record at_start (part_of rs thread m) r))
-        (after_from rs thread m (walk_of thread (take m rs)) r.body adds (from_more rs thread m (walk_of thread (take m rs)) from))
+        (after_from rs thread m (walk_of thread (take m rs)) r.body adds
+            (from_more rs thread m (walk_of thread (take m rs)) from))
 
 -- ---- where a task runs
 
@@ -92,7 +112,8 @@ pub record IsThere (rs : List Record) (i : ℕ) (known : ℕ → Type 0) : Type 
   pub on : thread_at rs i ≡ Some thread
   pub is_known : known thread
 
-pub running_from : (rs : List Record) (i task : ℕ) → IsFreeOf rs NotCurrent → at running rs i ≡ Some task → IsThere rs i (λ thread. BeganOn rs thread i task ⊎ RanOn rs thread i task)
+pub running_from : (rs : List Record) (i task : ℕ) → IsFreeOf rs NotCurrent → at running rs i ≡ Some task
+    → IsThere rs i (λ thread. BeganOn rs thread i task ⊎ RanOn rs thread i task)
 running_from rs i task current says =
     let (r, stands, is) = get_at running rs i task says in
     record {
@@ -102,14 +123,22 @@ running_from rs i task current says =
     }
 
 -- a root that runs next began on the thread before
-pub root_from : (rs : List Record) (i task : ℕ) → IsFreeOf rs NotCurrent → IsRoot rs task → at started rs i ≡ Some task → IsThere rs i (λ thread. BeganOn rs thread i task)
+pub root_from : (rs : List Record) (i task : ℕ) → IsFreeOf rs NotCurrent → IsRoot rs task
+    → at started rs i ≡ Some task → IsThere rs i (λ thread. BeganOn rs thread i task)
 root_from rs i task current root says =
     let (r, stands, is) = get_at started rs i task says in
     record {
       thread = r.thread;
       on = ap (option_map (λ (q : Record). q.thread)) stands;
-      is_known = every_get (BeganOn rs r.thread i) (walk_of r.thread (take i rs)).roots 0 task (walk_from rs r.thread i).roots
-          (innermost (slice_get (walk_of r.thread (take i rs)).roots 0) (λ apart. no_misfit rs i current (record { the_record = r; stands = stands; misfits = other_root task is root apart })));
+      is_known =
+          every_get (BeganOn rs r.thread i) (walk_of r.thread (take i rs)).roots 0 task
+              (walk_from rs r.thread i).roots
+          (innermost (slice_get (walk_of r.thread (take i rs)).roots 0)
+              (λ apart. no_misfit rs i current (record {
+                the_record = r;
+                stands = stands;
+                misfits = other_root task is root apart;
+              })));
     }
   where
     innermost : (top : Option ℕ) → (top ≢ Some task → ⊥) → top ≡ Some task
@@ -120,8 +149,10 @@ root_from rs i task current root says =
     ]
 
 -- a root begins once
-pub begun_once : (rs : List Record) (task a b : ℕ) → IsFreeOf rs CreatedTwice → at begun_root rs a ≡ Some task → at begun_root rs b ≡ Some task → a ≡ b
-begun_once rs task a b once one other = made_once rs task a b once (begun_at_made task rs a one) (begun_at_made task rs b other)
+pub begun_once : (rs : List Record) (task a b : ℕ) → IsFreeOf rs CreatedTwice → at begun_root rs a ≡ Some task
+    → at begun_root rs b ≡ Some task → a ≡ b
+begun_once rs task a b once one other =
+    made_once rs task a b once (begun_at_made task rs a one) (begun_at_made task rs b other)
 
 -- ---- one thread
 
@@ -135,14 +166,25 @@ same_or_not (Some x) (Some y) = elim (cases_eq x y) [
   | inr apart ↦ inr (λ is. apart (same_Some x y is))
 ]
 
-home_below : (rs : List Record) (task k i : ℕ) → MovesNowhere rs → at started rs k ≡ Some task → at started rs i ≡ Some task → k < i → thread_at rs k ≡ thread_at rs i
+home_below : (rs : List Record) (task k i : ℕ) → MovesNowhere rs → at started rs k ≡ Some task
+    → at started rs i ≡ Some task → k < i → thread_at rs k ≡ thread_at rs i
 home_below rs task k i still before starts below = elim (same_or_not (thread_at rs k) (thread_at rs i)) [
   | inl same ↦ same
-  | inr apart ↦ absurd (still i (record { task = task; next = starts; earlier = k; before = below; next_before = before; elsewhere = apart }))
+  | inr apart ↦
+      absurd
+          (still i (record {
+            task = task;
+            next = starts;
+            earlier = k;
+            before = below;
+            next_before = before;
+            elsewhere = apart;
+          }))
 ]
 
 -- it runs next on one thread
-pub one_home : (rs : List Record) (task k i : ℕ) → MovesNowhere rs → at started rs k ≡ Some task → at started rs i ≡ Some task → thread_at rs k ≡ thread_at rs i
+pub one_home : (rs : List Record) (task k i : ℕ) → MovesNowhere rs → at started rs k ≡ Some task
+    → at started rs i ≡ Some task → thread_at rs k ≡ thread_at rs i
 one_home rs task k i still before starts = elim (cases_order k i) [
   | inl same ↦ ap (thread_at rs) same
   | inr (inl less) ↦ home_below rs task k i still before starts less
@@ -156,13 +198,15 @@ pub record StaysAtHome (rs : List Record) : Type 0 where
   pub still : MovesNowhere rs
 
 -- a record of a task is on the thread on which the task runs next
-pub runs_home : (rs : List Record) (task i k : ℕ) → StaysAtHome rs → at running rs i ≡ Some task → at started rs k ≡ Some task → thread_at rs i ≡ thread_at rs k
+pub runs_home : (rs : List Record) (task i k : ℕ) → StaysAtHome rs → at running rs i ≡ Some task
+    → at started rs k ≡ Some task → thread_at rs i ≡ thread_at rs k
 runs_home rs task i k stays runs starts =
     let here = running_from rs i task stays.current runs in
     elim here.is_known [
       | inl (b, below, begins, there) ↦
           let from = root_from rs k task stays.current (b, begins) starts in
           let (c, low, begins', there') = from.is_known in
-          here.on ∙ sym there ∙ ap (thread_at rs) (begun_once rs task b c stays.once begins begins') ∙ there' ∙ sym from.on
+          here.on ∙ sym there ∙ ap (thread_at rs) (begun_once rs task b c stays.once begins begins') ∙ there'
+              ∙ sym from.on
       | inr (j, below, before, there) ↦ here.on ∙ sym there ∙ one_home rs task j k stays.still before starts
     ]

@@ -1,12 +1,17 @@
 -- From what the searches find to the verdict.
-use Rattle.std.proofs.Common.{zero-add, ◌≡◌, ◌∙◌, ℕ, ◌<◌, ◌⊎◌, List, length, take, Option, Some, None, refl, sym, ap, subst, arith, inl, inr}
+use Rattle.std.proofs.Common.{zero-add, ◌≡◌, ◌∙◌, ℕ, ◌<◌, ◌⊎◌, List, length, take, Option, Some, None, refl}
+use Rattle.std.proofs.Common.{sym, ap, subst, arith, inl, inr}
 use Rattle.std.specs.Prelude.{is_some, Contains, ⊤, slice_get, option_and_then}
 use Rattle.std.proofs.lemmas.Option.{none-some}
 use Rattle.ompt_events.specs.declared.records.Record.{Record}
 use Rattle.ompt_events.specs.declared.records.Part.{Part}
 use Rattle.ompt_events.specs.declared.records.Part.TheVariants as part
 use Rattle.ompt_events.specs.declared.cause.Cause.{Cause}
-use Rattle.ompt_events.specs.declared.cause.Cause.TheVariants.{SeqGap, CreatedTwice, Rootless, NotCurrent, Moved, TurnGap, StatusOrder, RegionOrder, TeamShort, NestedParallel, DepsPlace, ShareWrong, EntryTwice, LengthAhead, LengthBack, NoOrder, TargetTask}
+use Rattle.ompt_events.specs.declared.cause.Cause.TheVariants.{SeqGap, CreatedTwice, Rootless, NotCurrent}
+use Rattle.ompt_events.specs.declared.cause.Cause.TheVariants.{Moved, TurnGap, StatusOrder, RegionOrder}
+use Rattle.ompt_events.specs.declared.cause.Cause.TheVariants.{TeamShort, NestedParallel, DepsPlace}
+use Rattle.ompt_events.specs.declared.cause.Cause.TheVariants.{ShareWrong, EntryTwice, LengthAhead}
+use Rattle.ompt_events.specs.declared.cause.Cause.TheVariants.{LengthBack, NoOrder, TargetTask}
 use Rattle.ompt_events.specs.Records.{finish, region, started, wait_completed}
 use Rattle.ompt_events.specs.Places.{at, places}
 use Rattle.ompt_events.specs.HappensBefore.{IsStep, ledger, step}
@@ -24,7 +29,8 @@ use Rattle.ompt_events.specs.declared.names.Endpoint.TheVariants.{End, BeginEnd}
 use Rattle.ompt_events.specs.Causes.{IsFreeOf, no_order}
 use Rattle.ompt_events.specs.CauseNames.{all_causes}
 use Rattle.checker.specs.Readings.{Reading, IsPrecededBy}
-use Rattle.checker.specs.Verdicts.{ShowsNone, AreComplete, IsAlwaysComplete, IsUnfinished, IsOpenBy, IsLateBy, IsApproved}
+use Rattle.checker.specs.Verdicts.{ShowsNone, AreComplete, IsAlwaysComplete, IsUnfinished, IsOpenBy, IsLateBy}
+use Rattle.checker.specs.Verdicts.{IsApproved}
 use Rattle.std.proofs.lemmas.List.{length-take, get_or-take}
 use Rattle.std.proofs.lemmas.List.FromFn.{length-range_with_len, get_or-range_with_len}
 use Rattle.std.proofs.lemmas.List.Sorted.{IsPermutation-refl}
@@ -35,17 +41,23 @@ use Rattle.ompt_events.proofs.LinearizationLemmas.{greedy_grounded}
 use Rattle.checker.proofs.ScheduleLemmas.{before_less}
 
 -- a finishing record that counts by what the record at i has seen counts in every order
-counts_in : (rs : List Record) (order : List ℕ) (i k task : ℕ) (p : Part) → IsLinearization rs order → at finish rs k ≡ Some (task, p) → CountsAt rs i k → CountsIn rs order i k
-counts_in rs order i k task p linear finishes (inl less) = inl (linear.rising k i (step (ledger (ap is_some finishes) less)))
+counts_in : (rs : List Record) (order : List ℕ) (i k task : ℕ) (p : Part) → IsLinearization rs order
+    → at finish rs k ≡ Some (task, p) → CountsAt rs i k → CountsIn rs order i k
+counts_in rs order i k task p linear finishes (inl less) =
+    inl (linear.rising k i (step (ledger (ap is_some finishes) less)))
 counts_in rs order i k task p linear finishes (inr starts) = inr starts
 
-part_in : (rs : List Record) (order : List ℕ) (i task : ℕ) (p : Part) → IsLinearization rs order → IsPartFinished rs (CountsAt rs i) task p → IsPartFinished rs (CountsIn rs order i) task p
-part_in rs order i task p linear (k, finishes, counts) = (k, finishes, counts_in rs order i k task p linear finishes counts)
+part_in : (rs : List Record) (order : List ℕ) (i task : ℕ) (p : Part) → IsLinearization rs order
+    → IsPartFinished rs (CountsAt rs i) task p → IsPartFinished rs (CountsIn rs order i) task p
+part_in rs order i task p linear (k, finishes, counts) =
+    (k, finishes, counts_in rs order i k task p linear finishes counts)
 
 -- so what is complete by what the record has seen is complete in every order
-pub complete_in : (rs : List Record) (order : List ℕ) (i task : ℕ) → IsLinearization rs order → IsCompleteAt rs task i → IsCompleteIn rs order task i
+pub complete_in : (rs : List Record) (order : List ℕ) (i task : ℕ) → IsLinearization rs order
+    → IsCompleteAt rs task i → IsCompleteIn rs order task i
 complete_in rs order i task linear (inl whole) = inl (part_in rs order i task part.Whole linear whole)
-complete_in rs order i task linear (inr (body, event)) = inr (part_in rs order i task part.Body linear body, part_in rs order i task part.Event linear event)
+complete_in rs order i task linear (inr (body, event)) =
+    inr (part_in rs order i task part.Body linear body, part_in rs order i task part.Event linear event)
 
 -- ---- what is unfinished
 
@@ -56,46 +68,66 @@ open_unfinished reading i task is = record { required = inl is.0; incomplete = i
 pub late_unfinished : (reading : Reading) (i task : ℕ) → IsLateBy reading i task → IsUnfinished reading i task
 late_unfinished reading i task is = record { required = inr is.0; incomplete = is.1 }
 
-pub unfinished_cases : (reading : Reading) (i task : ℕ) → IsUnfinished reading i task → IsOpenBy reading i task ⊎ IsLateBy reading i task
+pub unfinished_cases : (reading : Reading) (i task : ℕ) → IsUnfinished reading i task
+    → IsOpenBy reading i task ⊎ IsLateBy reading i task
 unfinished_cases reading i task is = elim is.required [
   | inl covers ↦ inl (covers, is.incomplete)
   | inr precedes ↦ inr (precedes, is.incomplete)
 ]
 
 -- a record that ends a region starts nothing
-region_or_schedule : (b : Body) (own : ℕ × SyncKind × Endpoint) (task : ℕ) → region b ≡ Some own → (started b ≡ Some task) ⊎ (wait_completed b ≡ Some task) → ⊥
+region_or_schedule : (b : Body) (own : ℕ × SyncKind × Endpoint) (task : ℕ) → region b ≡ Some own
+    → (started b ≡ Some task) ⊎ (wait_completed b ≡ Some task) → ⊥
 region_or_schedule (SyncRegion kind endpoint parallel own) says task ends (inl starts) = none-some task starts
-region_or_schedule (SyncRegion kind endpoint parallel own) says task ends (inr completes) = none-some task completes
+region_or_schedule (SyncRegion kind endpoint parallel own) says task ends (inr completes) =
+    none-some task completes
 region_or_schedule _ says task ends starts = none-some says ends
 
-pub at_cases : (rs : List Record) (i task : ℕ) (own : ℕ × SyncKind × Endpoint) → at region rs i ≡ Some own → (at started rs i ≡ Some task) ⊎ (at wait_completed rs i ≡ Some task) → ⊥
+pub at_cases : (rs : List Record) (i task : ℕ) (own : ℕ × SyncKind × Endpoint) → at region rs i ≡ Some own
+    → (at started rs i ≡ Some task) ⊎ (at wait_completed rs i ≡ Some task) → ⊥
 at_cases rs i task own ends starts = of (slice_get rs i) ends starts
   where
-    of : (o : Option Record) → option_and_then (λ (r : Record). region r.body) o ≡ Some own → (option_and_then (λ (r : Record). started r.body) o ≡ Some task) ⊎ (option_and_then (λ (r : Record). wait_completed r.body) o ≡ Some task) → ⊥
+    of : (o : Option Record) → option_and_then (λ (r : Record). region r.body) o ≡ Some own
+        → (option_and_then (λ (r : Record). started r.body) o ≡ Some task)
+            ⊎ (option_and_then (λ (r : Record). wait_completed r.body) o ≡ Some task)
+        → ⊥
     of None ends starts = none-some own ends
     of (Some r) ends starts = region_or_schedule r.body own task ends starts
 
-region_ends : (rs : List Record) (i task begin : ℕ) (kind : SyncKind) → IsRegion rs i task kind begin → (own : ℕ × SyncKind × Endpoint) × (at region rs i ≡ Some own)
+region_ends : (rs : List Record) (i task begin : ℕ) (kind : SyncKind) → IsRegion rs i task kind begin
+    → (own : ℕ × SyncKind × Endpoint) × (at region rs i ≡ Some own)
 region_ends rs i task begin kind (ended ends) = ((task, kind, End), ends.ends)
 region_ends rs i task begin kind (at_once says) = ((task, kind, BeginEnd), says)
 
-pub cover_ends : (rs : List Record) (i task : ℕ) → Covers rs i task → (own : ℕ × SyncKind × Endpoint) × (at region rs i ≡ Some own)
-cover_ends rs i task (coverage.waited {parent = parent} {begin = begin} is found) = region_ends rs i parent begin Taskwait is
-cover_ends rs i task (coverage.grouped {parent = parent} {begin = begin} is found of) = region_ends rs i parent begin Taskgroup is
-cover_ends rs i task (coverage.synchronised {own = own} {begin = begin} {kind = kind} number is barrier begins mate other found of) = region_ends rs i own begin kind is
+pub cover_ends : (rs : List Record) (i task : ℕ) → Covers rs i task
+    → (own : ℕ × SyncKind × Endpoint) × (at region rs i ≡ Some own)
+cover_ends rs i task (coverage.waited { parent = parent } { begin = begin } is found) =
+    region_ends rs i parent begin Taskwait is
+cover_ends rs i task (coverage.grouped { parent = parent } { begin = begin } is found of) =
+    region_ends rs i parent begin Taskgroup is
+cover_ends rs i task
+        (coverage.synchronised { own = own } { begin = begin } { kind = kind } number is barrier begins mate
+            other found of) =
+    region_ends rs i own begin kind is
 
-pub preceded_starts : (reading : Reading) (i task : ℕ) → IsPrecededBy reading i task → (own : ℕ) × ((at started reading.records i ≡ Some own) ⊎ (at wait_completed reading.records i ≡ Some own))
-preceded_starts reading i task (inl (dependent, explicit, start, before)) = (dependent, inl (start_starts reading.records i dependent start))
+pub preceded_starts : (reading : Reading) (i task : ℕ) → IsPrecededBy reading i task
+    → (own : ℕ)
+        × ((at started reading.records i ≡ Some own) ⊎ (at wait_completed reading.records i ≡ Some own))
+preceded_starts reading i task (inl (dependent, explicit, start, before)) =
+    (dependent, inl (start_starts reading.records i dependent start))
 preceded_starts reading i task (inr (dependent, completes, before)) = (dependent, inr completes)
 
 -- ---- a yes
 
 -- where each required task is complete by what the record there has seen, each is complete in every order
 pub always_complete : (reading : Reading) → ((i : ℕ) → AreComplete reading i) → IsAlwaysComplete reading
-always_complete reading complete order linear i task required = complete_in reading.records order i task linear (complete i task required)
+always_complete reading complete order linear i task required =
+    complete_in reading.records order i task linear (complete i task required)
 
 -- a yes
-pub approved : (reading : Reading) (order : List ℕ) → ShowsNone reading → IsLinearization reading.records order → IsGreedy reading.records order → ((i : ℕ) → AreComplete reading i) → IsApproved reading order
+pub approved : (reading : Reading) (order : List ℕ) → ShowsNone reading
+    → IsLinearization reading.records order → IsGreedy reading.records order
+    → ((i : ℕ) → AreComplete reading i) → IsApproved reading order
 approved reading order clear linear greedy complete = record {
   well_formed = clear;
   linearization = linear;
@@ -115,7 +147,10 @@ file_linear rs steps = record {
         second = b;
         apart = before_less rs steps a b before;
         within = rw (length-range_with_len 0 (length rs)) inside;
-        a_stands = get_or-range_with_len 0 (length rs) a 0 (let less = before_less rs steps a b before in omega arith) ∙ zero-add a;
+        a_stands =
+            get_or-range_with_len 0 (length rs) a 0
+                (let less = before_less rs steps a b before in omega arith)
+                ∙ zero-add a;
         b_stands = get_or-range_with_len 0 (length rs) b 0 inside ∙ zero-add b;
       };
 }
@@ -137,16 +172,26 @@ file_greedy rs steps k below =
     taken_below : (n : ℕ) {i : ℕ} → Contains (take n (places rs)) i → i < n
     taken_below n {i} (q, low, is) =
         let q_low : q < n = let t = length-take n (places rs) in omega (arith, low, t) in
-        let q_in : q < length rs = let t = length-take n (places rs) in let l = length-range_with_len 0 (length rs) in omega (arith, low, t, l) in
-        let same : q ≡ i = sym (get_or-range_with_len 0 (length rs) q i q_in ∙ zero-add q) ∙ sym (get_or-take n (places rs) q i q_low) ∙ is in
+        let q_in : q < length rs =
+            let t = length-take n (places rs) in
+            let l = length-range_with_len 0 (length rs) in omega (arith, low, t, l) in
+        let same : q ≡ i =
+            sym (get_or-range_with_len 0 (length rs) q i q_in ∙ zero-add q)
+                ∙ sym (get_or-take n (places rs) q i q_low) ∙ is in
         omega arith
 
     below_taken : (n : ℕ) → n < length rs → (i : ℕ) → i < n → Contains (take n (places rs)) i
-    below_taken n inside i low = (i, (let t = length-take n (places rs) in let l = length-range_with_len 0 (length rs) in omega (arith, t, l)), get_or-take n (places rs) i i low ∙ get_or-range_with_len 0 (length rs) i i (omega arith) ∙ zero-add i)
+    below_taken n inside i low =
+        (i,
+            (let t = length-take n (places rs) in
+             let l = length-range_with_len 0 (length rs) in omega (arith, t, l)),
+            get_or-take n (places rs) i i low ∙ get_or-range_with_len 0 (length rs) i i (omega arith)
+                ∙ zero-add i)
 
 -- then every record has an order
 pub file_orders : (rs : List Record) → ((a b : ℕ) → IsStep rs a b → a < b) → IsFreeOf rs NoOrder
-file_orders rs steps i (no_order h) = h.never (places rs) (greedy_grounded rs (places rs) (file_greedy rs steps)) (contains_place rs i h.within)
+file_orders rs steps i (no_order h) =
+    h.never (places rs) (greedy_grounded rs (places rs) (file_greedy rs steps)) (contains_place rs i h.within)
 
 -- ---- causes by their numbers
 

@@ -1,5 +1,6 @@
 -- The order of all records in which one stands as early as it can, and what it shows of a task.
-use Rattle.std.specs.Prelude.{ℕ, ◌≡◌, ◌<◌, ◌≤◌, ◌⊎◌, ◌↔◌, ⊤, ltb, Bool, false, List, [], ◌∷◌, ◌++◌, Contains, Option, Some, None, MatchOption, length, slice_index}
+use Rattle.std.specs.Prelude.{ℕ, ◌≡◌, ◌<◌, ◌≤◌, ◌⊎◌, ◌↔◌, ⊤, ltb, Bool, false, List, [], ◌∷◌, ◌++◌, Contains}
+use Rattle.std.specs.Prelude.{Option, Some, None, MatchOption, length, slice_index}
 use Rattle.std.specs.Option.{option_map_or}
 use Rattle.ompt_events.specs.declared.records.Record.{Record}
 use Rattle.ompt_events.specs.Places.{thread_at, seen_at}

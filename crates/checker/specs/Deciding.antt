@@ -1,5 +1,6 @@
 -- What is decided of one record, and what several workers find together.
-use Rattle.std.specs.Prelude.{ℕ, ◌≡◌, ◌<◌, ◌≤◌, ◌+◌, ◌*◌, ◌^◌, ◌⊎◌, ⊤, List, length, Contains, Option, Some, None, Result, Ok, Err, MatchOption, option_and_then, slice_get}
+use Rattle.std.specs.Prelude.{ℕ, ◌≡◌, ◌<◌, ◌≤◌, ◌+◌, ◌*◌, ◌^◌, ◌⊎◌, ⊤, List, length, Contains, Option, Some}
+use Rattle.std.specs.Prelude.{None, Result, Ok, Err, MatchOption, option_and_then, slice_get}
 use Rattle.std.specs.Result.{result_unwrap_or}
 use Rattle.ompt_events.specs.declared.records.Record.{Record}
 use Rattle.ompt_events.specs.Records.{created}
@@ -14,7 +15,8 @@ use Rattle.checker.specs.Search.{IsFirstViolation}
 
 -- ---- one record
 
--- of the tasks that must be complete at i and aren't this one was created first in file order, with the reason
+-- of the tasks that must be complete at i and aren't this one was created first in file order, with the
+-- reason
 pub record IsViolationAt (reading : Reading) (i : ℕ) (why : Why) : Type 0 where
   pub unfinished : IsUnfinished reading i (task_of why)
   pub reason : IsReason reading i why
@@ -61,7 +63,8 @@ abbrev pub IsMet : Reading → List ℕ → ℕ → Type 0
 IsMet reading stops index = (place : ℕ) → slice_get stops index ≡ Some place → AreComplete reading place
 
 -- the first of the worker's stops at which something is unfinished
-pub record IsFirstOfShare (reading : Reading) (stops : List ℕ) (workers worker : ℕ) (finding : Finding) : Type 0 where
+pub record IsFirstOfShare (reading : Reading) (stops : List ℕ) (workers worker : ℕ) (finding : Finding) : Type
+    0 where
   pub place : ℕ
   pub stands : slice_get stops finding.stop ≡ Some place
   pub violation : IsViolationAt reading place finding.why
@@ -76,7 +79,8 @@ IsFinding reading stops workers worker found = MatchOption found
 
 -- what a worker answers: its finding, or that memory ran out, or that the gate, which may, refuses it
 abbrev pub IsOutcome : WorkView → (ℕ → Type 0) → ℕ → Result (Option Finding) WorkerFault → Type 0
-IsOutcome work may_refuse worker (Ok found) = IsFinding (by_task work.records) work.stops work.workers worker found
+IsOutcome work may_refuse worker (Ok found) =
+    IsFinding (by_task work.records) work.stops work.workers worker found
 IsOutcome work may_refuse worker (Err Gate) = may_refuse worker
 IsOutcome work may_refuse worker (Err Memory) = ⊤
 
@@ -85,7 +89,8 @@ IsOutcome work may_refuse worker (Err Memory) = ⊤
 -- what the worker with this number found
 abbrev pub found_by : List (Result (Option Finding) WorkerFault) → ℕ → Option Finding
 found_by outcomes worker =
-    option_and_then (λ (outcome : Result (Option Finding) WorkerFault). result_unwrap_or outcome None) (slice_get outcomes worker)
+    option_and_then (λ (outcome : Result (Option Finding) WorkerFault). result_unwrap_or outcome None)
+        (slice_get outcomes worker)
 
 -- no worker failed
 abbrev pub HaveAllDecided : List (Result (Option Finding) WorkerFault) → ℕ → Type 0

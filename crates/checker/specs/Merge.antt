@@ -1,5 +1,6 @@
 -- The records while they are put into an order.
-use Rattle.std.specs.Prelude.{ℕ, ◌≡◌, ◌≢◌, ◌<◌, ◌≤◌, ◌+◌, ◌==◌, ◌⊎◌, ◌++◌, ⊤, List, Contains, length, take, Bool, true, Option, Some, option_and_then, option_map, slice_get, slice_index}
+use Rattle.std.specs.Prelude.{ℕ, ◌≡◌, ◌≢◌, ◌<◌, ◌≤◌, ◌+◌, ◌==◌, ◌⊎◌, ◌++◌, ⊤, List, Contains, length, take}
+use Rattle.std.specs.Prelude.{Bool, true, Option, Some, option_and_then, option_map, slice_get, slice_index}
 use Rattle.std.specs.Option.{option_or}
 use Rattle.std.specs.List.{position}
 use Rattle.std.specs.List.Sorted.{IsPermutation}
@@ -43,13 +44,15 @@ abbrev pub AreInTurn : List Record → List ℕ → Type 0
 AreInTurn rs order =
     (k : ℕ) → k < length order → IsReady rs (λ _. ⊤) (take k order) (slice_index order k)
 
--- the order begins with these, and goes on with the first record in file order that may stand next, until all stand
+-- the order begins with these, and goes on with the first record in file order that may stand next, until all
+-- stand
 pub record IsGreedyBehind (rs : List Record) (base order : List ℕ) : Type 0 where
   pub more : List ℕ
   pub parts : order ≡ base ++ more
   pub greedy : IsGreedyAfter rs (λ _. ⊤) base more
 
--- just those of the order stand, of each thread up to its head, and the links lead from each record to the next
+-- just those of the order stand, of each thread up to its head, and the links lead from each record to the
+-- next
 -- one of its thread
 pub record AreStanding (rs : List Record) (placed : List Bool) (heads links order : List ℕ) : Type 0 where
   pub all : length placed ≡ length rs

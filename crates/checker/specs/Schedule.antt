@@ -1,9 +1,11 @@
 -- What each record awaits: the creation of a task, or the end of the turn before the one that it begins.
-use Rattle.std.specs.Prelude.{ℕ, ◌≡◌, ◌<◌, ◌==◌, ◌⊎◌, List, Option, Some, None, if◌then◌else◌, length, option_and_then}
+use Rattle.std.specs.Prelude.{ℕ, ◌≡◌, ◌<◌, ◌==◌, ◌⊎◌, List, Option, Some, None, if◌then◌else◌, length}
+use Rattle.std.specs.Prelude.{option_and_then}
 use Rattle.std.specs.Option.{option_or}
 use Rattle.ompt_events.specs.declared.records.Record.{Record}
 use Rattle.ompt_events.specs.declared.records.Body.{Body}
-use Rattle.ompt_events.specs.Records.{created, started, begun_turn, suspended_turn, told_turns, discarded, fulfilled}
+use Rattle.ompt_events.specs.Records.{created, started, begun_turn, suspended_turn, told_turns, discarded}
+use Rattle.ompt_events.specs.Records.{fulfilled}
 use Rattle.ompt_events.specs.Places.{at, thread_at}
 use Rattle.ompt_events.specs.Tree.{IsExplicit}
 use Rattle.ompt_events.specs.HappensBefore.{IsStart, IsResumption}

@@ -3,7 +3,9 @@ use Rattle.std.specs.Prelude.{ℕ, ◌≡◌, ◌<◌, List, [], ◌∷◌, Cont
 use Rattle.ompt_events.specs.declared.records.Record.{Record}
 use Rattle.ompt_events.specs.declared.cause.Cause.{Cause}
 use Rattle.ompt_events.specs.declared.fault.Fault.{Fault}
-use Rattle.ompt_events.specs.declared.cause.Cause.TheVariants.{NotCurrent, Moved, TurnGap, StatusOrder, RegionOrder, NestedParallel, DepsPlace, ShareWrong, EntryTwice}
+use Rattle.ompt_events.specs.declared.cause.Cause.TheVariants.{NotCurrent, Moved, TurnGap, StatusOrder}
+use Rattle.ompt_events.specs.declared.cause.Cause.TheVariants.{RegionOrder, NestedParallel, DepsPlace}
+use Rattle.ompt_events.specs.declared.cause.Cause.TheVariants.{ShareWrong, EntryTwice}
 use Rattle.ompt_events.specs.CauseNames.{all_causes, before}
 use Rattle.ompt_events.specs.Causes.{ShowsNowhere}
 use Rattle.ompt_events.specs.Faults.{IsShownFault}
@@ -51,7 +53,8 @@ pub record AreEdgesOf (run : RunView) (own : OwnView) (edges : EdgesView) : Type
   pub of_run : edges.run ≡ own.run
   pub clear : IsClear run.records edge_causes
 
--- the lengths from which on the run's tasks are finished, and their credit is held where the entries are right
+-- the lengths from which on the run's tasks are finished, and their credit is held where the entries are
+-- right
 pub record IsKnownOf (own : OwnView) (known : KnownView) : Type 0 where
   pub of_own : own_of known.done.teams ≡ own
   pub done : AreDone known.done

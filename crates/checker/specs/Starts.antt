@@ -1,5 +1,6 @@
 -- Which tasks start, and which taskwaits are complete, before one of their predecessors is finished.
-use Rattle.std.specs.Prelude.{ℕ, ◌≡◌, ◌<◌, ◌≤◌, ◌↔◌, ◌⊎◌, List, length, Option, Some, None, MatchOption, slice_get, slice_index}
+use Rattle.std.specs.Prelude.{ℕ, ◌≡◌, ◌<◌, ◌≤◌, ◌↔◌, ◌⊎◌, List, length, Option, Some, None, MatchOption}
+use Rattle.std.specs.Prelude.{slice_get, slice_index}
 use Rattle.ompt_events.specs.declared.records.Record.{Record}
 use Rattle.ompt_events.specs.Records.{created, begun_turn}
 use Rattle.ompt_events.specs.Places.{at}
@@ -40,7 +41,8 @@ pub record IsFirstLateAt (rs : List Record) (i task : ℕ) : Type 0 where
 abbrev pub IsBound : List Record → ℕ → ℕ → Type 0
 IsBound rs i bound = (task : ℕ) → IsCompleteAt rs task i ↔ IsDone rs bound task
 
--- at the index of each task stands the first of the first n places at which its turn 0 begins, or the number of
+-- at the index of each task stands the first of the first n places at which its turn 0 begins, or the number
+-- of
 -- records
 pub record AreStartsBelow (rs : List Record) (n : ℕ) (tasks starts : List ℕ) : Type 0 where
   pub all : length starts ≡ length tasks
@@ -68,7 +70,8 @@ StartsAt rs tasks i index =
 abbrev pub StartsNoneAt : List Record → ℕ → Type 0
 StartsNoneAt rs i = (task : ℕ) → IsExplicit rs task → IsStart rs i task → ⊥
 
--- the task at the index of the run in the tasks' own order is that whose predecessors must be complete at i, and
+-- the task at the index of the run in the tasks' own order is that whose predecessors must be complete at i,
+-- and
 -- no others; the bound decides which of them are
 pub record IsDependentAt (rs : List Record) (own : RunView) (i index bound : ℕ) : Type 0 where
   pub dependent : ℕ
@@ -90,12 +93,14 @@ abbrev pub AreDoneBefore : List Record → ℕ → ℕ → Type 0
 AreDoneBefore rs task bound = (predecessor : ℕ) → IsPredecessor rs task predecessor
     → IsDone rs bound predecessor
 
--- of those that they don't finish this one is created first in the file; own has its records in the tasks' own order
+-- of those that they don't finish this one is created first in the file; own has its records in the tasks'
+-- own order
 pub record IsFirstBehind (file own : List Record) (task bound predecessor : ℕ) : Type 0 where
   pub behind : IsBehind own task bound predecessor
   pub creation : ℕ
   pub is_created : at created file creation ≡ Some predecessor
-  pub first : (k other : ℕ) → k < creation → at created file k ≡ Some other → IsBehind own task bound other → ⊥
+  pub first : (k other : ℕ) → k < creation → at created file k ≡ Some other → IsBehind own task bound other
+      → ⊥
 
 -- they don't finish the task, which is created at the place in the file
 abbrev pub IsBehindAt : List Record → List Record → ℕ → ℕ → ℕ → Type 0
@@ -105,12 +110,14 @@ IsBehindAt file own bound task place = (IsDone own bound task → ⊥) × (at cr
 abbrev pub IsAmongFirst : List ℕ → ℕ → ℕ → Type 0
 IsAmongFirst tasks n task = (k : ℕ) × (k < n) × (slice_get tasks k ≡ Some task)
 
--- of the first n of these tasks the entries finish all, or of those that they don't finish this one is created first
+-- of the first n of these tasks the entries finish all, or of those that they don't finish this one is
+-- created first
 abbrev pub IsFirstOf : List Record → List Record → List ℕ → ℕ → ℕ → Option Late → Type 0
 IsFirstOf file own tasks bound n None = (task : ℕ) → IsAmongFirst tasks n task → IsDone own bound task
 IsFirstOf file own tasks bound n (Some late) =
     IsAmongFirst tasks n late.task × IsBehindAt file own bound late.task late.place
-    × ((task place : ℕ) → IsAmongFirst tasks n task → IsBehindAt file own bound task place → late.place ≤ place)
+    × ((task place : ℕ) → IsAmongFirst tasks n task → IsBehindAt file own bound task place
+          → late.place ≤ place)
 
 -- of a late task, if there is one, and another the one that is created first
 pub data IsEarlierOf (other late : Late) : Option Late → Type 0 where
@@ -120,8 +127,10 @@ pub data IsEarlierOf (other late : Late) : Option Late → Type 0 where
 
 -- ---- what decides it
 
--- what clauses see of that: the run of the file, and that in the tasks' own order; by index of the task in its own
--- order the length from which on it is finished, and the greatest of the lengths of its predecessors; and by index
+-- what clauses see of that: the run of the file, and that in the tasks' own order; by index of the task in
+-- its own
+-- order the length from which on it is finished, and the greatest of the lengths of its predecessors; and by
+-- index
 -- in the file where it starts, unless no task has a predecessor that an entry finishes
 pub record PrecedenceView : Type 0 where
   pub file : RunView

@@ -1,5 +1,6 @@
 -- How many numbers pass a test.
-use Rattle.std.proofs.Common.{◌≡◌, ◌≢◌, ℕ, zero, suc, ◌+◌, ◌<◌, ◌≤◌, Bool, true, false, refl, sym, ◌∙◌, ap, arith, ⊎_elim}
+use Rattle.std.proofs.Common.{◌≡◌, ◌≢◌, ℕ, zero, suc, ◌+◌, ◌<◌, ◌≤◌, Bool, true, false, refl, sym, ◌∙◌, ap}
+use Rattle.std.proofs.Common.{arith, ⊎_elim}
 use Rattle.std.proofs.lemmas.Bool.{cases_Bool, cases_eq, cases_lt}
 use Rattle.credit.specs.Trees.{count_below}
 use Rattle.credit.proofs.ShareLemmas.{ones}
@@ -12,7 +13,8 @@ pub count_below-le : (bound : ℕ) (test : ℕ → Bool) → count_below bound t
 count_below-le zero test = omega arith
 count_below-le (suc bound) test = omega (arith, one_of (test bound), count_below-le bound test)
 
-pub count_below-same : (bound : ℕ) (test other : ℕ → Bool) → ((n : ℕ) → n < bound → test n ≡ other n) → count_below bound test ≡ count_below bound other
+pub count_below-same : (bound : ℕ) (test other : ℕ → Bool) → ((n : ℕ) → n < bound → test n ≡ other n)
+    → count_below bound test ≡ count_below bound other
 count_below-same zero test other same = refl
 count_below-same (suc bound) test other same =
     let here : ones (test bound) ≡ ones (other bound) = ap ones (same bound (omega arith)) in
@@ -20,7 +22,9 @@ count_below-same (suc bound) test other same =
     omega (arith, here, rest)
 
 -- one more passes
-pub count_below-more : (bound : ℕ) (test other : ℕ → Bool) (k : ℕ) → k < bound → test k ≡ false → other k ≡ true → ((n : ℕ) → n ≢ k → test n ≡ other n) → count_below bound other ≡ count_below bound test + 1
+pub count_below-more : (bound : ℕ) (test other : ℕ → Bool) (k : ℕ) → k < bound → test k ≡ false
+    → other k ≡ true → ((n : ℕ) → n ≢ k → test n ≡ other n)
+    → count_below bound other ≡ count_below bound test + 1
 count_below-more zero test other k less off on same = absurd (omega arith)
 count_below-more (suc bound) test other k less off on same =
     ⊎_elim
@@ -36,7 +40,8 @@ count_below-more (suc bound) test other k less off on same =
     (cases_eq k bound)
 
 -- as many pass as there are below a number, and all that pass are below it: each below it passes
-pub count_below-all : (bound l : ℕ) (test : ℕ → Bool) → l ≤ bound → ((n : ℕ) → test n ≡ true → n < l) → count_below bound test ≡ l → (j : ℕ) → j < l → test j ≡ true
+pub count_below-all : (bound l : ℕ) (test : ℕ → Bool) → l ≤ bound → ((n : ℕ) → test n ≡ true → n < l)
+    → count_below bound test ≡ l → (j : ℕ) → j < l → test j ≡ true
 count_below-all zero l test less below e j small = absurd (omega arith)
 count_below-all (suc bound) l test less below e j small =
     ⊎_elim
@@ -45,7 +50,8 @@ count_below-all (suc bound) l test less below e j small =
     let top = below bound yes in
     ⊎_elim
     (λ (same : j ≡ bound). ap test same ∙ yes)
-    (λ (ne : j ≢ bound). all_below bound test (omega (arith, one, top, count_below-le bound test)) j (omega arith))
+    (λ (ne : j ≢ bound).
+        all_below bound test (omega (arith, one, top, count_below-le bound test)) j (omega arith))
     (cases_eq j bound))
     (λ (off : test bound ≡ false).
     let none : ones (test bound) ≡ 0 = ap ones off in
@@ -54,7 +60,8 @@ count_below-all (suc bound) l test less below e j small =
     count_below-all bound l test fits below rest j small)
     (cases_Bool (test bound))
   where
-    all_below : (bound : ℕ) (test : ℕ → Bool) → count_below bound test ≡ bound → (j : ℕ) → j < bound → test j ≡ true
+    all_below : (bound : ℕ) (test : ℕ → Bool) → count_below bound test ≡ bound → (j : ℕ) → j < bound
+        → test j ≡ true
     all_below zero test e j less = absurd (omega arith)
     all_below (suc bound) test e j less =
         ⊎_elim
@@ -68,7 +75,8 @@ count_below-all (suc bound) l test less below e j small =
         (cases_Bool (test bound))
 
 -- and the other way round
-pub count_below-full : (bound l : ℕ) (test : ℕ → Bool) → l ≤ bound → ((n : ℕ) → test n ≡ true → n < l) → ((j : ℕ) → j < l → test j ≡ true) → count_below bound test ≡ l
+pub count_below-full : (bound l : ℕ) (test : ℕ → Bool) → l ≤ bound → ((n : ℕ) → test n ≡ true → n < l)
+    → ((j : ℕ) → j < l → test j ≡ true) → count_below bound test ≡ l
 count_below-full zero l test less below all = omega arith
 count_below-full (suc bound) l test less below all =
     ⊎_elim
@@ -77,13 +85,16 @@ count_below-full (suc bound) l test less below all =
     let rest = full_below bound test (λ j small. all j (omega arith)) in
     omega (arith, one, rest))
     (λ (past : l ≤ bound).
-    let off : test bound ≡ false = ⊎_elim (λ (yes : test bound ≡ true). absurd (let b = below bound yes in omega arith)) (λ off. off) (cases_Bool (test bound)) in
+    let off : test bound ≡ false =
+        ⊎_elim (λ (yes : test bound ≡ true). absurd (let b = below bound yes in omega arith)) (λ off. off)
+            (cases_Bool (test bound)) in
     let none : ones (test bound) ≡ 0 = ap ones off in
     let rest = count_below-full bound l test past below all in
     omega (arith, none, rest))
     (cases_lt bound l)
   where
-    full_below : (bound : ℕ) (test : ℕ → Bool) → ((j : ℕ) → j < bound → test j ≡ true) → count_below bound test ≡ bound
+    full_below : (bound : ℕ) (test : ℕ → Bool) → ((j : ℕ) → j < bound → test j ≡ true)
+        → count_below bound test ≡ bound
     full_below zero test all = refl
     full_below (suc bound) test all =
         let one : ones (test bound) ≡ 1 = ap ones (all bound (omega arith)) in

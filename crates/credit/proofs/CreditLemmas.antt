@@ -1,12 +1,17 @@
 -- What the machine of credits keeps.
-use Rattle.std.proofs.Common.{◌≡◌, ℕ, ◌+◌, ◌<◌, ◌≤◌, Bool, true, false, List, [], ◌∷◌, ◌++◌, length, refl, sym, ◌∙◌, ap, subst, arith, length-append, fold, ⊎_elim}
+use Rattle.std.proofs.Common.{◌≡◌, ℕ, ◌+◌, ◌<◌, ◌≤◌, Bool, true, false, List, [], ◌∷◌, ◌++◌, length, refl}
+use Rattle.std.proofs.Common.{sym, ◌∙◌, ap, subst, arith, length-append, fold, ⊎_elim}
 use Rattle.std.specs.Prelude.{◌&&◌, ◌||◌, ◌==◌}
-use Rattle.std.proofs.lemmas.Bool.{false≢true, cases_Bool, cond_both, both_ways, eqb-true, false_from_ne_true, and_left, or_parts, or_cases, or_left, or_right}
+use Rattle.std.proofs.lemmas.Bool.{false≢true, cases_Bool, cond_both, both_ways, eqb-true, false_from_ne_true}
+use Rattle.std.proofs.lemmas.Bool.{and_left, or_parts, or_cases, or_left, or_right}
 use Rattle.std.proofs.lemmas.List.Folds.{list_any-append}
 use Rattle.credit.specs.declared.share.Half.{Half}
 use Rattle.credit.specs.declared.share.Half.TheVariants.{Keep}
 use Rattle.credit.specs.Shares.{begins_with, keep_half, give_half}
-use Rattle.credit.specs.Credits.{Credit, Holder, Running, Awaited, Entered, Event, Root, Create, Finish, Detach, Fulfil, is_made, is_root, exchange, has_task_share, has_event_share, shared_halves, entered_credit, whole_of, detached_halves, next_credits, credits_after}
+use Rattle.credit.specs.Credits.{Credit, Holder, Running, Awaited, Entered, Event, Root, Create, Finish}
+use Rattle.credit.specs.Credits.{Detach, Fulfil, is_made, is_root, exchange, has_task_share, has_event_share}
+use Rattle.credit.specs.Credits.{shared_halves, entered_credit, whole_of, detached_halves, next_credits}
+use Rattle.credit.specs.Credits.{credits_after}
 use Rattle.credit.proofs.ShareLemmas.{ones, begins_with-halves}
 
 -- how many of the root's shares the list of halves begins with
@@ -19,16 +24,19 @@ abbrev pub Fits : List Half → ℕ → List Credit → Type 0
 Fits l root [] = Unit {0}
 Fits l root (c ∷ cs) = ((c.root == root) ≡ true → length c.share ≤ length l) × Fits l root cs
 
-pub tally-append : (l : List Half) (root : ℕ) (cs ds : List Credit) → tally l root (cs ++ ds) ≡ tally l root cs + tally l root ds
+pub tally-append : (l : List Half) (root : ℕ) (cs ds : List Credit)
+    → tally l root (cs ++ ds) ≡ tally l root cs + tally l root ds
 tally-append l root [] ds = omega arith
 tally-append l root (c ∷ cs) ds = omega (arith, tally-append l root cs ds)
 
-pub Fits-append : (l : List Half) (root : ℕ) (cs ds : List Credit) → Fits l root (cs ++ ds) → Fits l root cs × Fits l root ds
+pub Fits-append : (l : List Half) (root : ℕ) (cs ds : List Credit) → Fits l root (cs ++ ds)
+    → Fits l root cs × Fits l root ds
 Fits-append l root [] ds fits = (tt, fits)
 Fits-append l root (c ∷ cs) ds fits =
     let rest = Fits-append l root cs ds fits.1 in ((fits.0, rest.0), rest.1)
 
--- what may stand in place of a credit: the same root, the same task among others, and shares that tile the old one
+-- what may stand in place of a credit: the same root, the same task among others, and shares that tile the
+-- old one
 pub record StandsFor (c : Credit) (others : List Credit) : Type 0 where
   pub same_root : (root : ℕ) → is_root root others ≡ true → (c.root == root) ≡ true
   pub keeps_task : (task : ℕ) → (c.task == task) ≡ true → is_made task others ≡ true
@@ -49,18 +57,28 @@ one_of_root : (b : Bool) → (b || false) ≡ true → b ≡ true
 one_of_root true h = refl
 one_of_root false h = h
 
-count-halves : (b : Bool) (l s : List Half) → (b ≡ true → length (keep_half s) ≤ length l) → ones (b && begins_with l (keep_half s)) + (ones (b && begins_with l (give_half s)) + 0) ≡ ones (b && begins_with l s) + 0
+count-halves : (b : Bool) (l s : List Half) → (b ≡ true → length (keep_half s) ≤ length l)
+    → ones (b && begins_with l (keep_half s)) + (ones (b && begins_with l (give_half s)) + 0)
+        ≡ ones (b && begins_with l s) + 0
 count-halves false l s fits = refl
 count-halves true l s fits =
     let longer : length s < length l = omega (arith, length-append s (Keep ∷ []), fits refl) in
     omega (arith, begins_with-halves l s longer)
 
 -- the two halves stand for what was halved, whoever has them
-pub StandsFor-halves : (c : Credit) (here there : Holder) (task : ℕ) → StandsFor c (record { root = c.root; task = c.task; holder = here; share = keep_half c.share } ∷ record { root = c.root; task = task; holder = there; share = give_half c.share } ∷ [])
+pub StandsFor-halves : (c : Credit) (here there : Holder) (task : ℕ)
+    → StandsFor c (record {
+      root = c.root;
+      task = c.task;
+      holder = here;
+      share = keep_half c.share;
+    } ∷ record { root = c.root; task = task; holder = there; share = give_half c.share } ∷ [])
 StandsFor-halves c here there task = record {
   same_root = λ root h. both_of_root (c.root == root) h;
   keeps_task = λ t h. or_left _ _ h;
-  fits = λ l root fits. ((λ h. let kept = fits.0 h in omega (arith, length-append c.share (Keep ∷ []), kept)), tt);
+  fits =
+      λ l root fits.
+          ((λ h. let kept = fits.0 h in omega (arith, length-append c.share (Keep ∷ []), kept)), tt);
   tiles = λ l root fits. count-halves (c.root == root) l c.share fits.0;
 }
 
@@ -72,10 +90,12 @@ StandsFor-entered_credit c = record {
   tiles = λ l root fits. refl;
 }
 
-pub is_root-append : (root : ℕ) (cs ds : List Credit) → is_root root (cs ++ ds) ≡ (is_root root cs || is_root root ds)
+pub is_root-append : (root : ℕ) (cs ds : List Credit)
+    → is_root root (cs ++ ds) ≡ (is_root root cs || is_root root ds)
 is_root-append root cs ds = list_any-append (λ (c : Credit). c.root == root) cs ds
 
-pub is_made-append : (task : ℕ) (cs ds : List Credit) → is_made task (cs ++ ds) ≡ (is_made task cs || is_made task ds)
+pub is_made-append : (task : ℕ) (cs ds : List Credit)
+    → is_made task (cs ++ ds) ≡ (is_made task cs || is_made task ds)
 is_made-append task cs ds = list_any-append (λ (c : Credit). c.task == task) cs ds
 
 -- what an exchange keeps
@@ -86,15 +106,22 @@ pub record IsExchanged (cs ds : List Credit) : Type 0 where
   pub tiles : (l : List Half) (root : ℕ) → Fits l root ds → tally l root ds ≡ tally l root cs
 
 IsExchanged-itself : (cs : List Credit) → IsExchanged cs cs
-IsExchanged-itself cs = record { same_root = λ root h. h; keeps_task = λ task h. h; fits = λ l root f. f; tiles = λ l root f. refl }
+IsExchanged-itself cs = record {
+  same_root = λ root h. h;
+  keeps_task = λ task h. h;
+  fits = λ l root f. f;
+  tiles = λ l root f. refl;
+}
 
-IsExchanged-here : (c : Credit) (others cs : List Credit) → StandsFor c others → IsExchanged (c ∷ cs) (others ++ cs)
+IsExchanged-here : (c : Credit) (others cs : List Credit) → StandsFor c others
+    → IsExchanged (c ∷ cs) (others ++ cs)
 IsExchanged-here c others cs stands = record {
   same_root = λ root h.
       ⊎_elim (λ here. or_left _ _ (stands.same_root root here)) (λ there. or_right (c.root == root) _ there)
       (or_cases (is_root root others) (is_root root cs) (rw is_root-append at h));
   keeps_task = λ task h. rw is_made-append
-      (⊎_elim (λ here. or_left _ _ (stands.keeps_task task here)) (λ there. or_right (is_made task others) _ there)
+      ( ⊎_elim (λ here. or_left _ _ (stands.keeps_task task here))
+          (λ there. or_right (is_made task others) _ there)
       (or_cases (c.task == task) (is_made task cs) h));
   fits = λ l root f.
       let parts = Fits-append l root others cs f in ((stands.fits l root parts.0).0, parts.1);
@@ -115,7 +142,9 @@ IsExchanged-there c cs ds was = record {
   tiles = λ l root f. ap (λ n. ones ((c.root == root) && begins_with l c.share) + n) (was.tiles l root f.1);
 }
 
-IsExchanged-exchange : (passes : Credit → Bool) (others : Credit → List Credit) → ((c : Credit) → StandsFor c (others c)) → (cs : List Credit) → IsExchanged cs (exchange passes others cs)
+IsExchanged-exchange : (passes : Credit → Bool) (others : Credit → List Credit)
+    → ((c : Credit) → StandsFor c (others c)) → (cs : List Credit)
+    → IsExchanged cs (exchange passes others cs)
 IsExchanged-exchange passes others stands [] = IsExchanged-itself []
 IsExchanged-exchange passes others stands (c ∷ cs) =
     cond_both (passes c) (others c ++ cs) (c ∷ exchange passes others cs) (λ ds. IsExchanged (c ∷ cs) ds)
@@ -128,8 +157,11 @@ IsSound-exchanged cs ds was sound = record {
   one = λ l root h f. was.tiles l root f ∙ sound.one l root (was.same_root root h) (was.fits l root f);
 }
 
-pub IsSound-exchange : (passes : Credit → Bool) (others : Credit → List Credit) → ((c : Credit) → StandsFor c (others c)) → (cs : List Credit) → IsSound cs → IsSound (exchange passes others cs)
-IsSound-exchange passes others stands cs sound = IsSound-exchanged cs _ (IsExchanged-exchange passes others stands cs) sound
+pub IsSound-exchange : (passes : Credit → Bool) (others : Credit → List Credit)
+    → ((c : Credit) → StandsFor c (others c)) → (cs : List Credit) → IsSound cs
+    → IsSound (exchange passes others cs)
+IsSound-exchange passes others stands cs sound =
+    IsSound-exchanged cs _ (IsExchanged-exchange passes others stands cs) sound
 
 -- a root that was not made has no share
 tally-none : (l : List Half) (root : ℕ) (cs : List Credit) → is_root root cs ≡ false → tally l root cs ≡ 0
@@ -139,7 +171,8 @@ tally-none l root (c ∷ cs) h =
     let here : ones ((c.root == root) && begins_with l c.share) ≡ 0 = ap ones (and_left _ _ parts.0) in
     omega (arith, here, tally-none l root cs parts.1)
 
-IsSound-root : (cs : List Credit) (task : ℕ) → is_made task cs ≡ false → IsSound cs → IsSound (whole_of task ∷ cs)
+IsSound-root : (cs : List Credit) (task : ℕ) → is_made task cs ≡ false → IsSound cs
+    → IsSound (whole_of task ∷ cs)
 IsSound-root cs task new sound = record {
   made = λ root h.
       ⊎_elim (λ here. or_left _ _ here) (λ there. or_right (task == root) _ (sound.made root there))
@@ -148,7 +181,8 @@ IsSound-root cs task new sound = record {
       ⊎_elim
       (λ (here : (task == root) ≡ true).
       let same : task ≡ root = eqb-true task root here in
-      let none : is_root task cs ≡ false = false_from_ne_true _ (λ old. both_ways _ new (sound.made task old)) in
+      let none : is_root task cs ≡ false =
+          false_from_ne_true _ (λ old. both_ways _ new (sound.made task old)) in
       let first : ones ((task == root) && true) ≡ 1 = ap (λ b. ones (b && true)) here in
       let rest : tally l root cs ≡ 0 = subst (λ r. tally l r cs ≡ 0) same (tally-none l task cs none) in
       omega (arith, first, rest))
@@ -164,14 +198,24 @@ IsSound-next_credits cs (Root task) sound =
     cond_both (is_made task cs) cs _ IsSound (λ old. sound) (λ new. IsSound-root cs task new sound)
 IsSound-next_credits cs (Create creator child) sound =
     cond_both (is_made child cs) cs _ IsSound (λ old. sound)
-    (λ new. IsSound-exchange (has_task_share creator) (shared_halves child) (λ c. StandsFor-halves c Running Running child) cs sound)
-IsSound-next_credits cs (Finish task) sound = IsSound-exchange (has_task_share task) entered_credit StandsFor-entered_credit cs sound
-IsSound-next_credits cs (Detach task) sound = IsSound-exchange (has_task_share task) detached_halves (λ c. StandsFor-halves c Entered Awaited c.task) cs sound
-IsSound-next_credits cs (Fulfil task) sound = IsSound-exchange (has_event_share task) entered_credit StandsFor-entered_credit cs sound
+    (λ new.
+        IsSound-exchange (has_task_share creator) (shared_halves child)
+            (λ c. StandsFor-halves c Running Running child) cs sound)
+IsSound-next_credits cs (Finish task) sound =
+    IsSound-exchange (has_task_share task) entered_credit StandsFor-entered_credit cs sound
+IsSound-next_credits cs (Detach task) sound =
+    IsSound-exchange (has_task_share task) detached_halves (λ c. StandsFor-halves c Entered Awaited c.task) cs
+        sound
+IsSound-next_credits cs (Fulfil task) sound =
+    IsSound-exchange (has_event_share task) entered_credit StandsFor-entered_credit cs sound
 
 pub IsSound-run : (cs : List Credit) (es : List Event) → IsSound cs → IsSound (fold next_credits cs es)
 IsSound-run cs [] sound = sound
 IsSound-run cs (e ∷ es) sound = IsSound-run (next_credits cs e) es (IsSound-next_credits cs e sound)
 
 pub IsSound-credits_after : (es : List Event) → IsSound (credits_after es)
-IsSound-credits_after es = IsSound-run [] es (record { made = λ root h. absurd (false≢true h); one = λ l root h. absurd (false≢true h) })
+IsSound-credits_after es =
+    IsSound-run [] es (record {
+      made = λ root h. absurd (false≢true h);
+      one = λ l root h. absurd (false≢true h);
+    })

@@ -1,5 +1,6 @@
 -- What lists of halves begin with.
-use Rattle.std.proofs.Common.{◌≡◌, ℕ, ◌+◌, ◌<◌, ◌≤◌, Bool, true, cond, List, [], ◌∷◌, ◌++◌, length, refl, sym, ◌∙◌, ap, arith, ⊎_elim}
+use Rattle.std.proofs.Common.{◌≡◌, ℕ, ◌+◌, ◌<◌, ◌≤◌, Bool, true, cond, List, [], ◌∷◌, ◌++◌, length, refl, sym}
+use Rattle.std.proofs.Common.{◌∙◌, ap, arith, ⊎_elim}
 use Rattle.std.specs.List.{list_any, AllByRecursion as ByRecursion}
 use Rattle.std.specs.Prelude.{count_by}
 use Rattle.std.proofs.lemmas.List.Sums.{sum_by-cons}
@@ -33,7 +34,8 @@ begins_with-append (g ∷ l) x (h ∷ s) e =
 pub begins_with-longer : (s x : List Half) → begins_with (s ++ x) s ≡ true
 begins_with-longer s x = begins_with-append s x s (begins_with-itself s)
 
-pub begins_with_through : (l s t : List Half) → begins_with l s ≡ true → begins_with s t ≡ true → begins_with l t ≡ true
+pub begins_with_through : (l s t : List Half) → begins_with l s ≡ true → begins_with s t ≡ true
+    → begins_with l t ≡ true
 begins_with_through l s [] e f = refl
 begins_with_through l [] (h ∷ t) e f = cc
 begins_with_through [] (g ∷ s) (h ∷ t) e f = cc
@@ -56,7 +58,8 @@ abbrev pub ones : Bool → ℕ
 ones b = cond b 1 0
 
 -- a longer list that begins with s goes on with one of its two halves
-pub begins_with-halves : (l s : List Half) → length s < length l → ones (begins_with l (keep_half s)) + ones (begins_with l (give_half s)) ≡ ones (begins_with l s)
+pub begins_with-halves : (l s : List Half) → length s < length l
+    → ones (begins_with l (keep_half s)) + ones (begins_with l (give_half s)) ≡ ones (begins_with l s)
 begins_with-halves [] s longer = absurd (omega arith)
 begins_with-halves (Keep ∷ l) [] longer = refl
 begins_with-halves (Give ∷ l) [] longer = refl
@@ -84,10 +87,12 @@ count_by-some p (x ∷ xs) h =
     (or_cases (p x) (list_any p xs) h)
 
 -- what passes one test passes the other
-pub list_any_weaker : {X : Type 0} (p q : X → Bool) → ((x : X) → p x ≡ true → q x ≡ true) → (xs : List X) → list_any p xs ≡ true → list_any q xs ≡ true
+pub list_any_weaker : {X : Type 0} (p q : X → Bool) → ((x : X) → p x ≡ true → q x ≡ true) → (xs : List X)
+    → list_any p xs ≡ true → list_any q xs ≡ true
 list_any_weaker p q weaker [] h = h
 list_any_weaker p q weaker (x ∷ xs) h =
-    ⊎_elim (λ here. or_left _ _ (weaker x here)) (λ there. or_right (q x) _ (list_any_weaker p q weaker xs there))
+    ⊎_elim (λ here. or_left _ _ (weaker x here))
+        (λ there. or_right (q x) _ (list_any_weaker p q weaker xs there))
     (or_cases (p x) (list_any p xs) h)
 
 -- the list of halves is at least as long as the share
@@ -95,10 +100,12 @@ abbrev pub IsShort : List Half → List Half → Type 0
 IsShort l s = length s ≤ length l
 
 -- what holds of each share of two lists
-pub ByRecursion-append : (P : List Half → Type 0) (xs ys : List (List Half)) → ByRecursion P (xs ++ ys) → ByRecursion P xs × ByRecursion P ys
+pub ByRecursion-append : (P : List Half → Type 0) (xs ys : List (List Half)) → ByRecursion P (xs ++ ys)
+    → ByRecursion P xs × ByRecursion P ys
 ByRecursion-append P [] ys h = (tt, h)
 ByRecursion-append P (x ∷ xs) ys h = let rest = ByRecursion-append P xs ys h.1 in ((h.0, rest.0), rest.1)
 
-pub ByRecursion-join : (P : List Half → Type 0) (xs ys : List (List Half)) → ByRecursion P xs → ByRecursion P ys → ByRecursion P (xs ++ ys)
+pub ByRecursion-join : (P : List Half → Type 0) (xs ys : List (List Half)) → ByRecursion P xs
+    → ByRecursion P ys → ByRecursion P (xs ++ ys)
 ByRecursion-join P [] ys f g = g
 ByRecursion-join P (x ∷ xs) ys f g = (f.0, ByRecursion-join P xs ys f.1 g)

@@ -1,5 +1,6 @@
 -- What a change of one node changes.
-use Rattle.std.proofs.Common.{◌≡◌, ◌≢◌, ℕ, ◌+◌, ◌^◌, ◌<◌, ◌≤◌, true, List, [], ◌∷◌, length, set, get_or, refl, sym, ◌∙◌, ap, subst, arith, ⊎_elim}
+use Rattle.std.proofs.Common.{◌≡◌, ◌≢◌, ℕ, ◌+◌, ◌^◌, ◌<◌, ◌≤◌, true, List, [], ◌∷◌, length, set, get_or, refl}
+use Rattle.std.proofs.Common.{sym, ◌∙◌, ap, subst, arith, ⊎_elim}
 use Rattle.std.specs.Prelude.{Option, Some, None, is_some}
 use Rattle.std.specs.Option.{option_and_then}
 use Rattle.std.proofs.lemmas.Bool.{cases_eq, false≢true}
@@ -20,7 +21,8 @@ use Rattle.credit.proofs.CountLemmas.{count_below-le}
 data IsStep (tree : Tree) (n : ℕ) (up : List ℕ) (k : ℕ) : Type 0 where
   step : (i : ℕ) → place (child tree) up ≡ Some i → child tree i n ≡ Some k → IsStep tree n up k
 
-IsStep-from : (tree : Tree) (n : ℕ) (up : List ℕ) (k : ℕ) → place (child tree) (n ∷ up) ≡ Some k → IsStep tree n up k
+IsStep-from : (tree : Tree) (n : ℕ) (up : List ℕ) (k : ℕ) → place (child tree) (n ∷ up) ≡ Some k
+    → IsStep tree n up k
 IsStep-from tree n up k e = by_parent (place (child tree) up) refl
   where
     by_parent : (o : Option ℕ) → place (child tree) up ≡ o → IsStep tree n up k
@@ -28,13 +30,15 @@ IsStep-from tree n up k e = by_parent (place (child tree) up) refl
     by_parent (Some i) f = step i f (sym (place-child (child tree) n up i f) ∙ e)
 
 -- a node's parent is the node above it
-pub place-parent : (tree : Tree) → IsLinked tree → (n : ℕ) (up : List ℕ) (k : ℕ) → place (child tree) (n ∷ up) ≡ Some k → place (child tree) up ≡ Some (node_at tree k).parent
+pub place-parent : (tree : Tree) → IsLinked tree → (n : ℕ) (up : List ℕ) (k : ℕ)
+    → place (child tree) (n ∷ up) ≡ Some k → place (child tree) up ≡ Some (node_at tree k).parent
 place-parent tree linked n up k e = by_step (IsStep-from tree n up k e)
   where
     by_step : IsStep tree n up k → place (child tree) up ≡ Some (node_at tree k).parent
     by_step (step i f g) = f ∙ ap (λ j. Some j) (sym (linked.back i n k g))
 
-pub place-within : (tree : Tree) → IsLinked tree → 0 < length tree.nodes.items → (up : List ℕ) (k : ℕ) → place (child tree) up ≡ Some k → k < length tree.nodes.items
+pub place-within : (tree : Tree) → IsLinked tree → 0 < length tree.nodes.items → (up : List ℕ) (k : ℕ)
+    → place (child tree) up ≡ Some k → k < length tree.nodes.items
 place-within tree linked some [] k e = let same : 0 ≡ k = same_some 0 k e in omega (arith, same)
 place-within tree linked some (n ∷ up) k e = by_step (IsStep-from tree n up k e)
   where
@@ -42,19 +46,26 @@ place-within tree linked some (n ∷ up) k e = by_step (IsStep-from tree n up k 
     by_step (step i f g) = (linked.within i n k g).1
 
 -- each node stands at one path
-pub place-apart : (tree : Tree) → IsLinked tree → (p q : List ℕ) (k : ℕ) → place (child tree) p ≡ Some k → place (child tree) q ≡ Some k → p ≡ q
+pub place-apart : (tree : Tree) → IsLinked tree → (p q : List ℕ) (k : ℕ) → place (child tree) p ≡ Some k
+    → place (child tree) q ≡ Some k → p ≡ q
 place-apart tree linked [] [] k e f = refl
 place-apart tree linked [] (n ∷ q) k e f = below (IsStep-from tree n q k f)
   where
     below : IsStep tree n q k → [] ≡ n ∷ q
-    below (step i g h) = let w = linked.within i n k h in let same : 0 ≡ k = same_some 0 k e in absurd (omega (arith, w.0, same))
+    below (step i g h) =
+        let w = linked.within i n k h in
+        let same : 0 ≡ k = same_some 0 k e in absurd (omega (arith, w.0, same))
 place-apart tree linked (n ∷ p) [] k e f = below (IsStep-from tree n p k e)
   where
     below : IsStep tree n p k → n ∷ p ≡ []
-    below (step i g h) = let w = linked.within i n k h in let same : 0 ≡ k = same_some 0 k f in absurd (omega (arith, w.0, same))
-place-apart tree linked (m ∷ p) (n ∷ q) k e f = both (place-apart tree linked p q) (IsStep-from tree m p k e) (IsStep-from tree n q k f)
+    below (step i g h) =
+        let w = linked.within i n k h in
+        let same : 0 ≡ k = same_some 0 k f in absurd (omega (arith, w.0, same))
+place-apart tree linked (m ∷ p) (n ∷ q) k e f =
+    both (place-apart tree linked p q) (IsStep-from tree m p k e) (IsStep-from tree n q k f)
   where
-    both : ((j : ℕ) → place (child tree) p ≡ Some j → place (child tree) q ≡ Some j → p ≡ q) → IsStep tree m p k → IsStep tree n q k → m ∷ p ≡ n ∷ q
+    both : ((j : ℕ) → place (child tree) p ≡ Some j → place (child tree) q ≡ Some j → p ≡ q)
+        → IsStep tree m p k → IsStep tree n q k → m ∷ p ≡ n ∷ q
     both above (step i g h) (step j a b) =
         let parents : i ≡ j = sym (linked.back i m k h) ∙ linked.back j n k b in
         let ups : p ≡ q = above j (g ∙ ap (λ x. Some x) parents) a in
@@ -86,14 +97,18 @@ module _ (old new : Tree) (index : ℕ) (node : Node) (updated : IsUpdated old n
   pub updated-parent : (i : ℕ) → (node_at new i).parent ≡ (node_at old i).parent
   updated-parent i =
       ⊎_elim
-      (λ (same : i ≡ index). ap (λ j. (node_at new j).parent) same ∙ ap (λ (x : Node). x.parent) updated-here ∙ updated.parent ∙ ap (λ j. (node_at old j).parent) (sym same))
+      (λ (same : i ≡ index).
+          ap (λ j. (node_at new j).parent) same ∙ ap (λ (x : Node). x.parent) updated-here ∙ updated.parent
+              ∙ ap (λ j. (node_at old j).parent) (sym same))
       (λ (other : i ≢ index). ap (λ (x : Node). x.parent) (updated-other i other))
       (cases_eq i index)
 
   updated-reach : (i : ℕ) → (node_at new i).reach ≡ (node_at old i).reach
   updated-reach i =
       ⊎_elim
-      (λ (same : i ≡ index). ap (λ j. (node_at new j).reach) same ∙ ap (λ (x : Node). x.reach) updated-here ∙ updated.reach ∙ ap (λ j. (node_at old j).reach) (sym same))
+      (λ (same : i ≡ index).
+          ap (λ j. (node_at new j).reach) same ∙ ap (λ (x : Node). x.reach) updated-here ∙ updated.reach
+              ∙ ap (λ j. (node_at old j).reach) (sym same))
       (λ (other : i ≢ index). ap (λ (x : Node). x.reach) (updated-other i other))
       (cases_eq i index)
 
@@ -107,44 +122,65 @@ module _ (old new : Tree) (index : ℕ) (node : Node) (updated : IsUpdated old n
   IsLinked-updated linked = record {
     rising = subst IsRising (sym (ap (λ v. v.items) updated.links)) linked.rising;
     aligned = ap (λ v. length v.items) updated.links ∙ linked.aligned ∙ sym updated-length;
-    within = λ i n k e. let w = linked.within i n k (sym (updated-child i n) ∙ e) in (w.0, omega (arith, w.1, updated-length));
+    within =
+        λ i n k e.
+            let w = linked.within i n k (sym (updated-child i n) ∙ e) in
+            (w.0, omega (arith, w.1, updated-length));
     back = λ i n k e. updated-parent k ∙ linked.back i n k (sym (updated-child i n) ∙ e);
     apart = λ i m n k e f. linked.apart i m n k (sym (updated-child i m) ∙ e) (sym (updated-child i n) ∙ f);
     reach = λ i n k e. omega (arith, linked.reach i n k (sym (updated-child i n) ∙ e), updated-reach i);
     small = λ i. omega (arith, linked.small i, updated-reach i);
   }
 
-  pub progress_at-updated : (p : List ℕ) → place (child old) p ≡ Some index → progress_at new p ≡ node.progress
-  progress_at-updated p here = progress_at-place new p index (updated-place p ∙ here) ∙ ap (λ (x : Node). x.progress) updated-here
+  pub progress_at-updated : (p : List ℕ) → place (child old) p ≡ Some index
+      → progress_at new p ≡ node.progress
+  progress_at-updated p here =
+      progress_at-place new p index (updated-place p ∙ here) ∙ ap (λ (x : Node). x.progress) updated-here
 
-  pub progress_at-kept : IsLinked old → (p : List ℕ) → place (child old) p ≡ Some index → (q : List ℕ) → q ≢ p → progress_at new q ≡ progress_at old q
+  pub progress_at-kept : IsLinked old → (p : List ℕ) → place (child old) p ≡ Some index → (q : List ℕ) → q ≢ p
+      → progress_at new q ≡ progress_at old q
   progress_at-kept linked p here q apart = by_place (place (child old) q) refl
     where
       by_place : (o : Option ℕ) → place (child old) q ≡ o → progress_at new q ≡ progress_at old q
       by_place None e = progress_at-none new q (updated-place q ∙ e) ∙ sym (progress_at-none old q e)
       by_place (Some i) e =
           progress_at-place new q i (updated-place q ∙ e)
-          ∙ ap (λ (x : Node). x.progress) (updated-other i (λ same. apart (place-apart old linked q p index (e ∙ ap (λ x. Some x) same) here)))
+          ∙ ap (λ (x : Node). x.progress)
+              (updated-other i
+                  (λ same. apart (place-apart old linked q p index (e ∙ ap (λ x. Some x) same) here)))
           ∙ sym (progress_at-place old q i e)
 
   -- what the change leaves of a node's progress, it leaves everywhere
-  pub progress_at-field : {X : Type 0} (field : Progress → X) → IsLinked old → (p : List ℕ) → place (child old) p ≡ Some index → field node.progress ≡ field (node_at old index).progress → (q : List ℕ) → field (progress_at new q) ≡ field (progress_at old q)
+  pub progress_at-field : {X : Type 0} (field : Progress → X) → IsLinked old → (p : List ℕ)
+      → place (child old) p ≡ Some index → field node.progress ≡ field (node_at old index).progress
+      → (q : List ℕ) → field (progress_at new q) ≡ field (progress_at old q)
   progress_at-field field linked p here same q =
       ⊎_elim
-      (λ (is : q ≡ p). ap (λ r. field (progress_at new r)) is ∙ ap field (progress_at-updated p here) ∙ same ∙ sym (ap field (progress_at-place old p index here)) ∙ ap (λ r. field (progress_at old r)) (sym is))
+      (λ (is : q ≡ p).
+          ap (λ r. field (progress_at new r)) is ∙ ap field (progress_at-updated p here) ∙ same
+              ∙ sym (ap field (progress_at-place old p index here))
+              ∙ ap (λ r. field (progress_at old r)) (sym is))
       (λ (other : q ≢ p). ap field (progress_at-kept linked p here q other))
       (same_path q p)
 
 -- the counts are small: each held child stands below the node's reach
-pub held_children-small : (shares : List (List Half)) (tree : Tree) → IsLinked tree → IsCounted shares (progress_at tree) → (up : List ℕ) (k : ℕ) → place (child tree) up ≡ Some k → (node_at tree k).progress.held_children ≤ 2 ^ 48 + 1
+pub held_children-small : (shares : List (List Half)) (tree : Tree) → IsLinked tree
+    → IsCounted shares (progress_at tree) → (up : List ℕ) (k : ℕ) → place (child tree) up ≡ Some k
+    → (node_at tree k).progress.held_children ≤ 2 ^ 48 + 1
 held_children-small shares tree linked counted up k here =
     let count = counted.count up (node_at tree k).reach below in
-    let same : (progress_at tree up).held_children ≡ (node_at tree k).progress.held_children = ap (λ (p : Progress). p.held_children) (progress_at-place tree up k here) in
-    omega (arith, count, same, linked.small k, count_below-le (node_at tree k).reach (λ n. is_some (progress_at tree (n ∷ up)).since))
+    let same : (progress_at tree up).held_children ≡ (node_at tree k).progress.held_children =
+        ap (λ (p : Progress). p.held_children) (progress_at-place tree up k here) in
+    omega
+        (arith, count, same, linked.small k,
+            count_below-le (node_at tree k).reach (λ n. is_some (progress_at tree (n ∷ up)).since))
   where
     below : (n : ℕ) → is_some (progress_at tree (n ∷ up)).since ≡ true → n < (node_at tree k).reach
     below n some = by_place (place (child tree) (n ∷ up)) refl
       where
         by_place : (o : Option ℕ) → place (child tree) (n ∷ up) ≡ o → n < (node_at tree k).reach
-        by_place None e = absurd (false≢true (sym (ap (λ (p : Progress). is_some p.since) (progress_at-none tree (n ∷ up) e)) ∙ some))
+        by_place None e =
+            absurd
+                (false≢true
+                    (sym (ap (λ (p : Progress). is_some p.since) (progress_at-none tree (n ∷ up) e)) ∙ some))
         by_place (Some j) e = linked.reach k n j (sym (place-child (child tree) n up k here) ∙ e)

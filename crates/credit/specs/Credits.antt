@@ -1,7 +1,8 @@
 -- The machine of credits: each root gets a whole, a task that creates another one gives it half of its share,
 -- and what a task has left is entered when the task is over (F. Mattern, Information Processing Letters 30,
 -- 1989).
-use Rattle.std.specs.Prelude.{ℕ, Bool, true, false, ◌==◌, ◌&&◌, not, if◌then◌else◌, List, [], ◌∷◌, ◌++◌, map, filter, fold}
+use Rattle.std.specs.Prelude.{ℕ, Bool, true, false, ◌==◌, ◌&&◌, not, if◌then◌else◌, List, [], ◌∷◌, ◌++◌, map}
+use Rattle.std.specs.Prelude.{filter, fold}
 use Rattle.std.specs.List.{list_any}
 use Rattle.credit.specs.declared.share.Half.{Half}
 use Rattle.credit.specs.Shares.{keep_half, give_half}

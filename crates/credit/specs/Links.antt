@@ -1,6 +1,7 @@
 -- The children of a node as a tree of links, in which a child is searched by the digits of its
 -- number, to the base 4.
-use Rattle.std.specs.Prelude.{◌<◌, ◌==◌, ◌&&◌, ◌/◌, ◌%◌, ℕ, zero, suc, Bool, List, length, if◌then◌else◌, Option, None, Some, unwrap_or, slice_get}
+use Rattle.std.specs.Prelude.{◌<◌, ◌==◌, ◌&&◌, ◌/◌, ◌%◌, ℕ, zero, suc, Bool, List, length, if◌then◌else◌}
+use Rattle.std.specs.Prelude.{Option, None, Some, unwrap_or, slice_get}
 use Rattle.credit.specs.declared.links.Link.{Link}
 use Rattle.credit.specs.declared.links.Side.{Side}
 use Rattle.credit.specs.declared.links.Side.TheVariants.{First, Zero, One, Two, Three}
@@ -9,7 +10,15 @@ use Rattle.credit.specs.declared.links.Spot.TheVariants.{Found, Missing}
 
 -- it leads nowhere yet
 abbrev pub leaf_link : ℕ → ℕ → Link
-leaf_link parent number = record { number = number; parent = parent; first = 0; zero = 0; one = 0; two = 0; three = 0 }
+leaf_link parent number = record {
+  number = number;
+  parent = parent;
+  first = 0;
+  zero = 0;
+  one = 0;
+  two = 0;
+  three = 0;
+}
 
 abbrev pub link_at : List Link → ℕ → Link
 link_at links index = unwrap_or (slice_get links index) (leaf_link 0 0)
@@ -45,7 +54,8 @@ spot_within links (suc steps) parent number digits here side =
     then Missing here side
     else if is_link_of parent number (link_at links (behind (link_at links here) side))
     then Found (behind (link_at links here) side)
-    else spot_within links steps parent number (digits / 4) (behind (link_at links here) side) (side_of digits)
+    else spot_within links steps parent number (digits / 4) (behind (link_at links here) side)
+        (side_of digits)
 
 -- where the search for a child of this node ends
 abbrev pub spot_of : List Link → ℕ → ℕ → Spot

@@ -1,5 +1,6 @@
 -- What shares of a credit say of one another (F. Mattern, Information Processing Letters 30, 1989).
-use Rattle.std.specs.Prelude.{ℕ, ◌≡◌, ◌≤◌, ◌^◌, Bool, true, false, ◌||◌, ◌&&◌, List, [], ◌∷◌, ◌++◌, length, replicate, All, Any, IsTrue, count_by, nat_le}
+use Rattle.std.specs.Prelude.{ℕ, ◌≡◌, ◌≤◌, ◌^◌, Bool, true, false, ◌||◌, ◌&&◌, List, [], ◌∷◌, ◌++◌, length}
+use Rattle.std.specs.Prelude.{replicate, All, Any, IsTrue, count_by, nat_le}
 use Rattle.std.specs.List.{flat_map, list_any}
 use Rattle.credit.specs.declared.share.Half.{Half}
 use Rattle.credit.specs.declared.share.Half.TheVariants.{Keep, Give}

@@ -1,5 +1,7 @@
 -- A purse as a tree: what each node says of the shares that were entered.
-use Rattle.std.specs.Prelude.{◌≡◌, ◌≤◌, ◌<◌, ◌↔◌, ◌^◌, ◌+◌, ℕ, zero, suc, Bool, true, false, List, [], ◌∷◌, length, reverse, take, if◌then◌else◌, Option, None, Some, is_some, unwrap_or, nat_le, slice_get, slice_index, max}
+use Rattle.std.specs.Prelude.{◌≡◌, ◌≤◌, ◌<◌, ◌↔◌, ◌^◌, ◌+◌, ℕ, zero, suc, Bool, true, false, List, [], ◌∷◌}
+use Rattle.std.specs.Prelude.{length, reverse, take, if◌then◌else◌, Option, None, Some, is_some, unwrap_or}
+use Rattle.std.specs.Prelude.{nat_le, slice_get, slice_index, max}
 use Rattle.std.specs.Option.{option_and_then, option_map_or}
 use Rattle.credit.specs.declared.share.Half.{Half}
 use Rattle.credit.specs.declared.tree.Run.{Run}

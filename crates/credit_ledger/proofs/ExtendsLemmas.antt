@@ -1,5 +1,6 @@
 -- What a seat knows of the ledger after a call: its entries go on where those that it knew before end.
-use Rattle.std.proofs.Common.{◌≡◌, ◌∙◌, ℕ, ◌≤◌, ◌<◌, ◌+◌, ◌^◌, Bool, true, false, List, [], ◌∷◌, ◌++◌, length, fold, Some, refl, sym, ap, subst, arith}
+use Rattle.std.proofs.Common.{◌≡◌, ◌∙◌, ℕ, ◌≤◌, ◌<◌, ◌+◌, ◌^◌, Bool, true, false, List, [], ◌∷◌, ◌++◌, length}
+use Rattle.std.proofs.Common.{fold, Some, refl, sym, ap, subst, arith}
 use Rattle.std.specs.Prelude.{slice_get, nat_le}
 use Rattle.std.proofs.lemmas.Bool.{leb-false}
 use Rattle.std.proofs.lemmas.List.{length_push}
@@ -25,24 +26,34 @@ go_on-refl entries = record { length_kept = omega arith; kept = λ k e is. is }
 
 pub go_on-chain : (first second third : List Entry) → GoOn first second → GoOn second third → GoOn first third
 go_on-chain first second third one two =
-    record { length_kept = omega (arith, one.length_kept, two.length_kept); kept = λ k e is. two.kept k e (one.kept k e is) }
+    record {
+      length_kept = omega (arith, one.length_kept, two.length_kept);
+      kept = λ k e is. two.kept k e (one.kept k e is);
+    }
 
 go_on-call : (entries : List Entry) (call : Call) → GoOn entries (after_call entries call)
 go_on-call entries (Enter entry) =
-    record { length_kept = omega (arith, length_push entries entry); kept = λ k e is. get_pushed entries entry e k is }
+    record {
+      length_kept = omega (arith, length_push entries entry);
+      kept = λ k e is. get_pushed entries entry e k is;
+    }
 go_on-call entries Look = go_on-refl entries
 
-go_on-calls : (entries : List Entry) (more : List Step) → GoOn entries (fold (λ es (s : Step). after_call es s.call) entries more)
+go_on-calls : (entries : List Entry) (more : List Step)
+    → GoOn entries (fold (λ es (s : Step). after_call es s.call) entries more)
 go_on-calls entries [] = go_on-refl entries
 go_on-calls entries (s ∷ more) =
-    go_on-chain entries (after_call entries s.call) (fold (λ es (t : Step). after_call es t.call) (after_call entries s.call) more)
+    go_on-chain entries (after_call entries s.call)
+        (fold (λ es (t : Step). after_call es t.call) (after_call entries s.call) more)
     (go_on-call entries s.call) (go_on-calls (after_call entries s.call) more)
 
 -- a longer history leaves the entries of the shorter one
-pub starts-go_on : (history first : List Step) → StartsWith history first → GoOn (entries_after first) (entries_after history)
+pub starts-go_on : (history first : List Step) → StartsWith history first
+    → GoOn (entries_after first) (entries_after history)
 starts-go_on history first (more, is) =
     subst (λ h. GoOn (entries_after first) (entries_after h)) (sym is)
-    (subst (GoOn (entries_after first)) (sym (fold-append (λ es (s : Step). after_call es s.call) [] first more))
+    ( subst (GoOn (entries_after first))
+        (sym (fold-append (λ es (s : Step). after_call es s.call) [] first more))
     (go_on-calls (entries_after first) more))
 
 -- the last call of a legal history was possible, and its reply was the length that it met
@@ -56,7 +67,8 @@ last_call entries (t ∷ before) s legal = last_call (after_call entries t.call)
 pub met : (v w : View) (call : Call) (reply : ℕ) → Extends v call reply w
     → (before : List Step) × GoOn (entries_after v.seen) (entries_after before)
     × GoOn (entries_after v.told) (entries_after before) × IsPossible (entries_after before) call
-    × (reply ≡ length (entries_after before)) × (entries_after w.seen ≡ after_call (entries_after before) call)
+    × (reply ≡ length (entries_after before))
+        × (entries_after w.seen ≡ after_call (entries_after before) call)
 met v w call reply e =
     let s : Step = record { seat = v.number; call = call; reply = reply } in
     let last = last_call [] e.before s (subst (IsLegalFrom []) e.ends e.legal) in (
@@ -69,14 +81,17 @@ met v w call reply e =
     )
 
 -- after any call a seat knows all the entries that it knew
-pub extends-go_on : (v w : View) (call : Call) (reply : ℕ) → Extends v call reply w → GoOn (entries_after v.seen) (entries_after w.seen)
+pub extends-go_on : (v w : View) (call : Call) (reply : ℕ) → Extends v call reply w
+    → GoOn (entries_after v.seen) (entries_after w.seen)
 extends-go_on v w call reply e =
     let m = met v w call reply e in
     subst (GoOn (entries_after v.seen)) (sym m.5)
-    (go_on-chain (entries_after v.seen) (entries_after m.0) (after_call (entries_after m.0) call) m.1 (go_on-call (entries_after m.0) call))
+    (go_on-chain (entries_after v.seen) (entries_after m.0) (after_call (entries_after m.0) call) m.1
+        (go_on-call (entries_after m.0) call))
 
 -- the reply is no less than the length that the seat knew
-pub reply-known : (v w : View) (call : Call) (reply : ℕ) → Extends v call reply w → length (entries_after v.seen) ≤ reply
+pub reply-known : (v w : View) (call : Call) (reply : ℕ) → Extends v call reply w
+    → length (entries_after v.seen) ≤ reply
 reply-known v w call reply e = let m = met v w call reply e in omega (arith, m.1.length_kept, m.4)
 
 -- after a look the seat knows as many entries as the reply says
@@ -92,16 +107,20 @@ pub record IsEntered (entries : List Entry) (e : Entry) (index : ℕ) : Type 0 w
 not_full : (n : ℕ) → nat_le (2 ^ 22) n ≡ false → n < 2 ^ 22
 not_full n small = leb-false (2 ^ 22) n small
 
-pub entered-there : (v w : View) (entry : Entry) (index : ℕ) → Extends v (Enter entry) index w → IsEntered (entries_after w.seen) entry index
+pub entered-there : (v w : View) (entry : Entry) (index : ℕ) → Extends v (Enter entry) index w
+    → IsEntered (entries_after w.seen) entry index
 entered-there v w entry index e =
     let m = met v w (Enter entry) index e in
     record {
-      stands = subst (λ es. slice_get es index ≡ Some entry) (sym m.5) (get_last (entries_after m.0) entry index m.4);
+      stands =
+          subst (λ es. slice_get es index ≡ Some entry) (sym m.5)
+              (get_last (entries_after m.0) entry index m.4);
       last = ap length m.5 ∙ length_push (entries_after m.0) entry ∙ ap (λ n. n + 1) (sym m.4);
       small = subst (λ n. n < 2 ^ 22) (sym m.4) (not_full (length (entries_after m.0)) m.3.0);
     }
 
 -- a seat that takes in another one knows that one's entries too
-pub joined-go_on : (v u w : View) (reply : ℕ) → Extends (told_of v u) Look reply w → GoOn (entries_after u.seen) (entries_after w.seen)
+pub joined-go_on : (v u w : View) (reply : ℕ) → Extends (told_of v u) Look reply w
+    → GoOn (entries_after u.seen) (entries_after w.seen)
 joined-go_on v u w reply e =
     let m = met (told_of v u) w Look reply e in subst (GoOn (entries_after u.seen)) (sym m.5) m.2

@@ -1,6 +1,7 @@
 -- The seats of a ledger that threads share behind a lock of tickets: what each seat knows of the one history,
 -- and the rule that each step keeps.
-use Rattle.std.specs.Prelude.{◌≡◌, ◌≢◌, ◌≤◌, ◌<◌, ◌⊎◌, ◌==◌, ◌+◌, ℕ, max, Bool, true, false, List, [], ◌∷◌, ◌++◌, length, Option, Some}
+use Rattle.std.specs.Prelude.{◌≡◌, ◌≢◌, ◌≤◌, ◌<◌, ◌⊎◌, ◌==◌, ◌+◌, ℕ, max, Bool, true, false, List, [], ◌∷◌}
+use Rattle.std.specs.Prelude.{◌++◌, length, Option, Some}
 use Rattle.std.specs.List.{filter}
 use mathlib.Core.Option.{some, none}
 use lib.ListN.{get_elem?}
@@ -123,7 +124,8 @@ pub record Knows (history : List Step) (n : ℕ) (v : View) : Type 0 where
   pub told : StartsWith history v.told
   pub own : calls_of n history ≡ v.own
 
--- the number is greater than that of the seat, than each that the seat knows to be given, and than that of each
+-- the number is greater than that of the seat, than each that the seat knows to be given, and than that of
+-- each
 -- seat whose calls it has seen
 pub record IsLater (v : View) (n : ℕ) : Type 0 where
   pub than_given : v.given ≤ n
@@ -133,11 +135,13 @@ pub record IsLater (v : View) (n : ℕ) : Type 0 where
 -- what the rule says of the seat with this number, by its stage
 abbrev pub FitsAt : Stage → List Step → ℕ → ℕ → ℕ → View → Type 0
 FitsAt Fresh history next serving n v =
-    StartsWith history v.seen × StartsWith history v.told × (v.own ≡ []) × (calls_of n history ≡ []) × IsLater v n
+    StartsWith history v.seen × StartsWith history v.told × (v.own ≡ []) × (calls_of n history ≡ [])
+        × IsLater v n
 FitsAt Idle history next serving n v = Knows history n v
 FitsAt Waiting history next serving n v = Knows history n v × (serving ≤ v.ticket) × (v.ticket < next)
 FitsAt Turn history next serving n v =
-    Knows history n v × (v.ticket ≡ serving) × (serving < next) × (v.seen ≡ history) × AreClaims v.seen v.claims
+    Knows history n v × (v.ticket ≡ serving) × (serving < next) × (v.seen ≡ history)
+        × AreClaims v.seen v.claims
     × AreApart v.claims
 FitsAt Spent history next serving n v = Unit {0}
 
@@ -177,7 +181,8 @@ Kept s = (history : List Step) × (next : ℕ) × (serving : ℕ) × IsKept hist
 -- a new seat has learned its number, which no call so far has
 abbrev pub Settled : Me Slot View → Me Slot View → Type 0
 Settled before after =
-    (n : ℕ) × (calls_of n before.0.seen ≡ []) × IsLater before.0 n × (after ≡ (with_number before.0 n, before.1))
+    (n : ℕ) × (calls_of n before.0.seen ≡ []) × IsLater before.0 n
+        × (after ≡ (with_number before.0 n, before.1))
 
 -- a new seat, which has seen what this one has, has made no call, and has a number that is later than this
 -- one's, than each that this one knows to be given, and than each that stands in what it has seen
@@ -216,8 +221,10 @@ Entered before after =
     (e : Entry) × (before.1 ≡ (0, Some (entries_after before.0.seen ++ e ∷ [])) ∷ [])
     × (after ≡ (with_call before.0 (Enter e), []))
 
--- the history after a call is legal, begins with all that the seat had seen and was told of, and ends with the
--- call and its reply; the seat's own calls are the former ones and this one, and it has no others in the history;
+-- the history after a call is legal, begins with all that the seat had seen and was told of, and ends with
+-- the
+-- call and its reply; the seat's own calls are the former ones and this one, and it has no others in the
+-- history;
 -- it knows the same numbers to be given
 pub record Extends (v : View) (call : Call) (reply : ℕ) (w : View) : Type 0 where
   pub number : w.number ≡ v.number

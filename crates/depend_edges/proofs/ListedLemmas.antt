@@ -1,5 +1,6 @@
 -- Where the dependences of each task are listed.
-use Rattle.std.proofs.Common.{◌≡◌, ◌∙◌, ℕ, ◌<◌, ◌+◌, List, length, get_or, replicate, Option, Some, None, true, false, sym, ap, subst, arith, inl, inr, set}
+use Rattle.std.proofs.Common.{◌≡◌, ◌∙◌, ℕ, ◌<◌, ◌+◌, List, length, get_or, replicate, Option, Some, None}
+use Rattle.std.proofs.Common.{true, false, sym, ap, subst, arith, inl, inr, set}
 use Rattle.std.proofs.lemmas.Bool.{cases_eq, cases_lt, cases_order, false≢true}
 use Rattle.std.proofs.lemmas.Option.{none-some, same_Some, slice_get_within, slice_get-get_or}
 use Rattle.std.proofs.lemmas.List.{length-set}
@@ -39,12 +40,24 @@ one_next rs a i k first second = elim (cases_order i k) [
   | inr (inr more) ↦ absurd (first.next k second.later more (sym second.same_thread))
 ]
 
-same_list : (rs : List Record) (a b i k task : ℕ) (items other : List Dep) → IsFreeOf rs CreatedTwice → at dependences rs i ≡ Some (task, items) → at dependences rs k ≡ Some (task, other) → AreFollowed rs a i → AreFollowed rs b k → i ≡ k
+same_list : (rs : List Record) (a b i k task : ℕ) (items other : List Dep) → IsFreeOf rs CreatedTwice
+    → at dependences rs i ≡ Some (task, items) → at dependences rs k ≡ Some (task, other) → AreFollowed rs a i
+    → AreFollowed rs b k → i ≡ k
 same_list rs a b i k task items other once lists another first second =
-    let own : first.task ≡ task = ap (λ (p : ℕ × List Dep). p.0) (same_Some (first.task, first.items) (task, items) (sym first.listed ∙ lists)) in
-    let its : second.task ≡ task = ap (λ (p : ℕ × List Dep). p.0) (same_Some (second.task, second.items) (task, other) (sym second.listed ∙ another)) in
-    let here : at made rs a ≡ Some task = at_through created_with_deps made first.task first.task rs a (with_deps_made first.task) first.is_created ∙ ap Some own in
-    let there : at made rs b ≡ Some task = at_through created_with_deps made second.task second.task rs b (with_deps_made second.task) second.is_created ∙ ap Some its in
+    let own : first.task ≡ task =
+        ap (λ (p : ℕ × List Dep). p.0)
+            (same_Some (first.task, first.items) (task, items) (sym first.listed ∙ lists)) in
+    let its : second.task ≡ task =
+        ap (λ (p : ℕ × List Dep). p.0)
+            (same_Some (second.task, second.items) (task, other) (sym second.listed ∙ another)) in
+    let here : at made rs a ≡ Some task =
+        at_through created_with_deps made first.task first.task rs a (with_deps_made first.task)
+            first.is_created
+            ∙ ap Some own in
+    let there : at made rs b ≡ Some task =
+        at_through created_with_deps made second.task second.task rs b (with_deps_made second.task)
+            second.is_created
+            ∙ ap Some its in
     let same : b ≡ a = made_once rs task b a once there here in
     let P : ℕ → Type 0 = λ c. IsNextInThread rs c k in
     one_next rs a i k first.next (subst P same second.next)
@@ -52,27 +65,49 @@ same_list rs a b i k task items other once lists another first second =
 one_list : (rs : List Record) → IsFreeOf rs CreatedTwice → IsFreeOf rs DepsPlace → AreListedOnce rs
 one_list rs once placed i k task items other lists another = elim (cases_eq i k) [
   | inl same ↦ same
-  | inr apart ↦ absurd (placed i (deps_place (stray (ap is_some lists) (λ a first. placed k (deps_place (stray (ap is_some another) (λ b second. apart (same_list rs a b i k task items other once lists another first second))))))))
+  | inr apart ↦
+      absurd
+          (placed i
+              (deps_place
+                  (stray (ap is_some lists)
+                      (λ a first.
+                          placed k
+                              (deps_place
+                                  (stray (ap is_some another)
+                                      (λ b second.
+                                          apart
+                                              (same_list rs a b i k task items other once lists another first
+                                                  second))))))))
 ]
 
 -- ---- in the tasks' own order, which has the same records
 
-listed_in_file : (rs : List Record) (own : OwnView) (number : ℕ) (list : ℕ × List Dep) → IsOwnOf rs own → IsOwn own → at dependences own.run.records number ≡ Some list → (place : ℕ) × (slice_get own.places number ≡ Some place) × (at dependences rs place ≡ Some list)
+listed_in_file : (rs : List Record) (own : OwnView) (number : ℕ) (list : ℕ × List Dep) → IsOwnOf rs own
+    → IsOwn own → at dependences own.run.records number ≡ Some list
+    → (place : ℕ) × (slice_get own.places number ≡ Some place) × (at dependences rs place ≡ Some list)
 listed_in_file rs own number list of is says =
-    let within : number < length own.places = let below = at_within dependences own.run.records number list says in rw is.places.all below in
+    let within : number < length own.places =
+        let below = at_within dependences own.run.records number list says in rw is.places.all below in
     let stands = slice_get-get_or own.places number 0 within in
-    (get_or own.places number 0, stands, ap (option_and_then (λ (r : Record). dependences r.body)) (sym (own_record rs own of number (get_or own.places number 0) stands)) ∙ says)
+    (get_or own.places number 0, stands,
+        ap (option_and_then (λ (r : Record). dependences r.body))
+            (sym (own_record rs own of number (get_or own.places number 0) stands))
+            ∙ says)
 
 -- a task has one list there too
-pub own_lists_once : (rs : List Record) (own : OwnView) → IsOwnOf rs own → IsOwn own → IsFreeOf rs CreatedTwice → IsFreeOf rs DepsPlace → AreListedOnce own.run.records
+pub own_lists_once : (rs : List Record) (own : OwnView) → IsOwnOf rs own → IsOwn own
+    → IsFreeOf rs CreatedTwice → IsFreeOf rs DepsPlace → AreListedOnce own.run.records
 own_lists_once rs own of is once placed i k task items other lists another =
     let first = listed_in_file rs own i (task, items) of is lists in
     let second = listed_in_file rs own k (task, other) of is another in
-    let same : first.0 ≡ second.0 = one_list rs once placed first.0 second.0 task items other first.2 second.2 in
+    let same : first.0 ≡ second.0 =
+        one_list rs once placed first.0 second.0 task items other first.2 second.2 in
     is.places.apart i k first.0 first.1 (second.1 ∙ ap Some (sym same))
 
 -- and none has one where the file has none
-pub own_lists_none : (rs : List Record) (own : OwnView) (lists : List (Option ℕ)) → IsOwnOf rs own → IsOwn own → ((i : ℕ) → HasNoneAt rs i) → lists ≡ replicate (length own.run.family.tasks) None → AreListed own.run.records (length own.run.records) own.run.family.tasks lists
+pub own_lists_none : (rs : List Record) (own : OwnView) (lists : List (Option ℕ)) → IsOwnOf rs own → IsOwn own
+    → ((i : ℕ) → HasNoneAt rs i) → lists ≡ replicate (length own.run.family.tasks) None
+    → AreListed own.run.records (length own.run.records) own.run.family.tasks lists
 own_lists_none rs own lists of is none are = record {
   all = slots_long (length own.run.family.tasks) lists are;
   each = λ index task i items stands below says.
@@ -81,12 +116,20 @@ own_lists_none rs own lists of is none are = record {
   only = λ index i stands.
       let within = slice_get_within lists index (Some i) stands in
       let long = slots_long (length own.run.family.tasks) lists are in
-      absurd (none-some i (same_Some None (Some i) (sym (no_slot (length own.run.family.tasks) index lists are (omega (arith, within, long))) ∙ stands)));
+      absurd
+          (none-some i
+              (same_Some None (Some i)
+                  (sym (no_slot (length own.run.family.tasks) index lists are (omega (arith, within, long)))
+                      ∙ stands)));
 }
 
 -- ---- the lists so far
 
-pub listed_more : (rs : List Record) (n own task : ℕ) (items : List Dep) (tasks : List ℕ) (lists : List (Option ℕ)) → AreApart tasks → AreListedOnce rs → at dependences rs n ≡ Some (task, items) → slice_get tasks own ≡ Some task → AreListed rs n tasks lists → AreListed rs (n + 1) tasks (set lists own (Some n))
+pub listed_more : (rs : List Record) (n own task : ℕ) (items : List Dep) (tasks : List ℕ)
+    (lists : List (Option ℕ))
+    → AreApart tasks → AreListedOnce rs → at dependences rs n ≡ Some (task, items)
+    → slice_get tasks own ≡ Some task → AreListed rs n tasks lists
+    → AreListed rs (n + 1) tasks (set lists own (Some n))
 listed_more rs n own task items tasks lists distinct once lists_here is_own are = record {
   all = length-set lists own (Some n) ∙ are.all;
   each = λ index other i list is below says. elim (cases_lt i n) [
@@ -99,17 +142,25 @@ listed_more rs n own task items tasks lists distinct once lists_here is_own are 
     ]
     | inr more ↦
         let here : n ≡ i = omega arith in
-        let its : task ≡ other = ap (λ (p : ℕ × List Dep). p.0) (same_Some (task, items) (other, list) (sym lists_here ∙ ap (at dependences rs) here ∙ says)) in
+        let its : task ≡ other =
+            ap (λ (p : ℕ × List Dep). p.0)
+                (same_Some (task, items) (other, list)
+                    (sym lists_here ∙ ap (at dependences rs) here ∙ says)) in
         let same : index ≡ own = distinct index own other is (is_own ∙ ap Some its) in
         ap (slice_get (set lists own (Some n))) same ∙ stood ∙ ap (λ k. Some (Some k)) here
   ];
   only = λ index i stands. elim (cases_eq index own) [
     | inl same ↦
-        let here : n ≡ i = same_Some n i (same_Some (Some n) (Some i) (sym stood ∙ ap (slice_get (set lists own (Some n))) (sym same) ∙ stands)) in
+        let here : n ≡ i =
+            same_Some n i
+                (same_Some (Some n) (Some i)
+                    (sym stood ∙ ap (slice_get (set lists own (Some n))) (sym same) ∙ stands)) in
         (task, items, ap (slice_get tasks) same ∙ is_own, ap (at dependences rs) (sym here) ∙ lists_here)
     | inr apart ↦ are.only index i (sym (get_set_other lists own index (Some n) apart) ∙ stands)
   ];
 }
   where
     stood : slice_get (set lists own (Some n)) own ≡ Some (Some n)
-    stood = get_set_same lists own (Some n) (let within = slice_get_within tasks own task is_own in omega (arith, within, are.all))
+    stood =
+        get_set_same lists own (Some n)
+            (let within = slice_get_within tasks own task is_own in omega (arith, within, are.all))

@@ -1,5 +1,6 @@
 -- How the greatest lengths grow, and what is read of them.
-use Rattle.std.proofs.Common.{◌≡◌, ◌≢◌, ◌∙◌, ℕ, ◌≤◌, ◌+◌, List, Option, Some, refl, sym, ap, subst, arith, inl, inr, ◌⊎◌, max}
+use Rattle.std.proofs.Common.{◌≡◌, ◌≢◌, ◌∙◌, ℕ, ◌≤◌, ◌+◌, List, Option, Some, refl, sym, ap, subst, arith}
+use Rattle.std.proofs.Common.{inl, inr, ◌⊎◌, max}
 use Rattle.std.proofs.lemmas.Bool.{cases_eq, cases_lt, false≢true}
 use Rattle.std.proofs.lemmas.Option.{same_Some}
 use Rattle.std.specs.Prelude.{slice_get, true}
@@ -43,7 +44,8 @@ awaited_in m a r first second = record {
     bound Mutexinoutset e = omega (arith, first, second)
     bound Inoutset e = omega (arith, first, second)
 
-pub awaited_out : (m : Maxima) (kind : DepKind) (a b r : ℕ) → ((other : DepKind) → conflict other kind ≡ true) → a ≡ max m.writers m.mutexes → b ≡ max a m.sets → r ≡ max b m.readers → IsAwaited m kind r
+pub awaited_out : (m : Maxima) (kind : DepKind) (a b r : ℕ) → ((other : DepKind) → conflict other kind ≡ true)
+    → a ≡ max m.writers m.mutexes → b ≡ max a m.sets → r ≡ max b m.readers → IsAwaited m kind r
 awaited_out m kind a b r all first second third = record {
   bound = λ other e. bound other;
   reached = elim (max_cases b m.readers) [
@@ -79,7 +81,8 @@ all_inout Inout = refl
 all_inout Mutexinoutset = refl
 all_inout Inoutset = refl
 
-pub awaited_mutex : (m : Maxima) (a r : ℕ) → a ≡ max m.writers m.sets → r ≡ max a m.readers → IsAwaited m Mutexinoutset r
+pub awaited_mutex : (m : Maxima) (a r : ℕ) → a ≡ max m.writers m.sets → r ≡ max a m.readers
+    → IsAwaited m Mutexinoutset r
 awaited_mutex m a r first second = record {
   bound = bound;
   reached = elim (max_cases a m.readers) [
@@ -98,7 +101,8 @@ awaited_mutex m a r first second = record {
     bound Mutexinoutset e = absurd (false≢true e)
     bound Inoutset e = omega (arith, first, second)
 
-pub awaited_set : (m : Maxima) (a r : ℕ) → a ≡ max m.writers m.mutexes → r ≡ max a m.readers → IsAwaited m Inoutset r
+pub awaited_set : (m : Maxima) (a r : ℕ) → a ≡ max m.writers m.mutexes → r ≡ max a m.readers
+    → IsAwaited m Inoutset r
 awaited_set m a r first second = record {
   bound = bound;
   reached = elim (max_cases a m.readers) [
@@ -120,36 +124,61 @@ awaited_set m a r first second = record {
 -- ---- one item more is entered
 
 -- what the map has at a location, once it was raised there
-raised_here : (old new : BTreeMap ℕ Maxima) (var : ℕ) (raised : Maxima) → Updates nat_cmp old new var (Some raised) → (kind : DepKind) → maximum_at new var kind ≡ maximum raised kind
-raised_here old new var raised updates kind = ap (λ (o : Option Maxima). option_map_or (λ (m : Maxima). maximum m kind) o 0) (updated_here old new var (Some raised) updates)
+raised_here : (old new : BTreeMap ℕ Maxima) (var : ℕ) (raised : Maxima)
+    → Updates nat_cmp old new var (Some raised) → (kind : DepKind)
+    → maximum_at new var kind ≡ maximum raised kind
+raised_here old new var raised updates kind =
+    ap (λ (o : Option Maxima). option_map_or (λ (m : Maxima). maximum m kind) o 0)
+        (updated_here old new var (Some raised) updates)
 
-raised_there : (old new : BTreeMap ℕ Maxima) (var other : ℕ) (raised : Maxima) → Updates nat_cmp old new var (Some raised) → other ≢ var → (kind : DepKind) → maximum_at new other kind ≡ maximum_at old other kind
-raised_there old new var other raised updates apart kind = ap (λ (o : Option Maxima). option_map_or (λ (m : Maxima). maximum m kind) o 0) (updated_there old new var (Some raised) updates other apart)
+raised_there : (old new : BTreeMap ℕ Maxima) (var other : ℕ) (raised : Maxima)
+    → Updates nat_cmp old new var (Some raised) → other ≢ var → (kind : DepKind)
+    → maximum_at new other kind ≡ maximum_at old other kind
+raised_there old new var other raised updates apart kind =
+    ap (λ (o : Option Maxima). option_map_or (λ (m : Maxima). maximum m kind) o 0)
+        (updated_there old new var (Some raised) updates other apart)
 
-pub entered_more : (start old new : BTreeMap ℕ Maxima) (items : List Dep) (n task_length : ℕ) (item : Dep) (was raised : Maxima) → slice_get items n ≡ Some item → ((kind : DepKind) → maximum was kind ≡ maximum_at old item.var kind) → IsRaised was raised item.kind task_length → Updates nat_cmp old new item.var (Some raised) → AreEntered start old items n task_length → AreEntered start new items (n + 1) task_length
+pub entered_more : (start old new : BTreeMap ℕ Maxima) (items : List Dep) (n task_length : ℕ) (item : Dep)
+    (was raised : Maxima)
+    → slice_get items n ≡ Some item → ((kind : DepKind) → maximum was kind ≡ maximum_at old item.var kind)
+    → IsRaised was raised item.kind task_length → Updates nat_cmp old new item.var (Some raised)
+    → AreEntered start old items n task_length → AreEntered start new items (n + 1) task_length
 entered_more start old new items n task_length item was raised here reads rise updates are = record {
-  rises = λ var kind. let before = are.rises var kind in let after = rises var kind in omega (arith, before, after);
+  rises =
+      λ var kind.
+          let before = are.rises var kind in let after = rises var kind in omega (arith, before, after);
   entered = λ k other below is. elim (cases_lt k n) [
-    | inl less ↦ let before = are.entered k other less is in let after = rises other.var other.kind in omega (arith, before, after)
+    | inl less ↦
+        let before = are.entered k other less is in
+        let after = rises other.var other.kind in omega (arith, before, after)
     | inr more ↦
         let same : n ≡ k = omega arith in
         let its : item ≡ other = same_Some item other (sym here ∙ ap (slice_get items) same ∙ is) in
         let P : Dep → Type 0 = λ d. task_length ≤ maximum_at new d.var d.kind in
-        subst P its (let entered = rise.entered in let now = raised_here old new item.var raised updates item.kind in omega (arith, entered, now))
+        subst P its
+            (let entered = rise.entered in
+             let now = raised_here old new item.var raised updates item.kind in omega (arith, entered, now))
   ];
   only = λ var kind. elim (cases_eq var item.var) [
-    | inr apart ↦ let same = raised_there old new item.var var raised updates apart kind in elim (are.only var kind) [
+    | inr apart ↦
+        let same = raised_there old new item.var var raised updates apart kind in elim (are.only var kind) [
       | inl before ↦ inl (same ∙ before)
       | inr (other, has, location, alike, is) ↦ inr (other, has, location, alike, same ∙ is)
     ]
     | inl same ↦ elim (rise.only kind) [
       | inl kept ↦
-          let now : maximum_at new var kind ≡ maximum_at old var kind = ap (λ v. maximum_at new v kind) same ∙ raised_here old new item.var raised updates kind ∙ kept ∙ reads kind ∙ ap (λ v. maximum_at old v kind) (sym same) in
+          let now : maximum_at new var kind ≡ maximum_at old var kind =
+              ap (λ v. maximum_at new v kind) same ∙ raised_here old new item.var raised updates kind ∙ kept
+                  ∙ reads kind ∙ ap (λ v. maximum_at old v kind) (sym same) in
           elim (are.only var kind) [
             | inl before ↦ inl (now ∙ before)
             | inr (other, has, location, alike, is) ↦ inr (other, has, location, alike, now ∙ is)
           ]
-      | inr (is, alike) ↦ inr (item, get_contains items item n here, sym same, alike, ap (λ v. maximum_at new v kind) same ∙ raised_here old new item.var raised updates kind ∙ is)
+      | inr (is, alike) ↦
+          inr
+              (item, get_contains items item n here, sym same, alike,
+                  ap (λ v. maximum_at new v kind) same ∙ raised_here old new item.var raised updates kind
+                      ∙ is)
     ]
   ];
 }
@@ -162,12 +191,17 @@ entered_more start old new items n task_length item was raised here reads rise u
           let before = reads kind in
           let after = raised_here old new item.var raised updates kind in
           subst P (sym same) (omega (arith, rose, before, after))
-      | inr apart ↦ let same = raised_there old new item.var var raised updates apart kind in omega (arith, same)
+      | inr apart ↦
+          let same = raised_there old new item.var var raised updates apart kind in omega (arith, same)
     ]
 
 -- ---- one item more is compared
 
-pub greatest_more : (map : BTreeMap ℕ Maxima) (items : List Dep) (n old waits new : ℕ) (item : Dep) (maxima : Maxima) → slice_get items n ≡ Some item → ((kind : DepKind) → maximum maxima kind ≡ maximum_at map item.var kind) → IsAwaited maxima item.kind waits → new ≡ max old waits → IsGreatest map items n old → IsGreatest map items (n + 1) new
+pub greatest_more : (map : BTreeMap ℕ Maxima) (items : List Dep) (n old waits new : ℕ) (item : Dep)
+    (maxima : Maxima)
+    → slice_get items n ≡ Some item → ((kind : DepKind) → maximum maxima kind ≡ maximum_at map item.var kind)
+    → IsAwaited maxima item.kind waits → new ≡ max old waits → IsGreatest map items n old
+    → IsGreatest map items (n + 1) new
 greatest_more map items n old waits new item maxima here reads awaited is are = record {
   bound = λ k other kind below stands conflicts. elim (cases_lt k n) [
     | inl less ↦ let before = are.bound k other kind less stands conflicts in omega (arith, before, is)
@@ -175,13 +209,19 @@ greatest_more map items n old waits new item maxima here reads awaited is are = 
         let same : n ≡ k = omega arith in
         let its : item ≡ other = same_Some item other (sym here ∙ ap (slice_get items) same ∙ stands) in
         let P : Dep → Type 0 = λ d. conflict kind d.kind ≡ true → maximum_at map d.var kind ≤ new in
-        subst P its (λ clash. let low = awaited.bound kind clash in let read = reads kind in omega (arith, low, read, is)) conflicts
+        subst P its
+            (λ clash.
+                let low = awaited.bound kind clash in let read = reads kind in omega (arith, low, read, is))
+            conflicts
   ];
   reached = elim (max_cases old waits) [
     | inl kept ↦ elim (are.reached) [
       | inl zero_there ↦ inl (is ∙ kept ∙ zero_there)
-      | inr (other, kind, has, conflicts, reached) ↦ inr (other, kind, has, conflicts, reached ∙ sym (is ∙ kept))
+      | inr (other, kind, has, conflicts, reached) ↦
+          inr (other, kind, has, conflicts, reached ∙ sym (is ∙ kept))
     ]
-    | inr more ↦ let top = awaited.reached in inr (item, top.0, get_contains items item n here, top.1, sym (reads top.0) ∙ top.2 ∙ sym (is ∙ more))
+    | inr more ↦
+        let top = awaited.reached in
+        inr (item, top.0, get_contains items item n here, top.1, sym (reads top.0) ∙ top.2 ∙ sym (is ∙ more))
   ];
 }

@@ -1,5 +1,6 @@
 -- The predecessors of each task.
-use Rattle.std.specs.Prelude.{ℕ, ◌≡◌, ◌<◌, ◌≤◌, ◌⊎◌, List, length, Option, Some, Contains, slice_get, slice_index}
+use Rattle.std.specs.Prelude.{ℕ, ◌≡◌, ◌<◌, ◌≤◌, ◌⊎◌, List, length, Option, Some, Contains, slice_get}
+use Rattle.std.specs.Prelude.{slice_index}
 use Rattle.ompt_events.specs.declared.records.Record.{Record}
 use Rattle.ompt_events.specs.Tree.{IsChild}
 use Rattle.ompt_events.specs.Dependences.{IsPredecessor}

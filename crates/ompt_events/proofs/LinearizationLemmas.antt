@@ -11,7 +11,8 @@ abbrev pub IsClosed : List Record → List ℕ → Type 0
 IsClosed rs standing = (b : ℕ) → Contains standing b → IsDue rs standing b
 
 -- what each step leads from stands, so all that happens before does
-pub due_from_steps : (rs : List Record) (standing : List ℕ) → IsClosed rs standing → (a b : ℕ) → HappensBefore rs a b → ((c : ℕ) → IsStep rs c b → Contains standing c) → Contains standing a
+pub due_from_steps : (rs : List Record) (standing : List ℕ) → IsClosed rs standing → (a b : ℕ)
+    → HappensBefore rs a b → ((c : ℕ) → IsStep rs c b → Contains standing c) → Contains standing a
 due_from_steps rs standing closed a b (step s) steps = steps a s
 due_from_steps rs standing closed a b (chain {b = mid} first second) steps =
     closed mid (due_from_steps rs standing closed mid b second steps) a first
@@ -21,7 +22,8 @@ pub greedy_grounded : (rs : List Record) (order : List ℕ) → IsGreedy rs orde
 greedy_grounded rs order greedy k below = (greedy k below).ready.due
 
 -- in a list in which each record has all that happens before it earlier, it is earlier
-pub grounded_rising : (rs : List Record) (order : List ℕ) → IsGrounded rs order → (a b : ℕ) → HappensBefore rs a b → Contains order b → IsEarlier order a b
+pub grounded_rising : (rs : List Record) (order : List ℕ) → IsGrounded rs order → (a b : ℕ)
+    → HappensBefore rs a b → Contains order b → IsEarlier order a b
 grounded_rising rs order grounded a b before (q, inside, is) =
     let b_stands : slice_index order q ≡ b = get_or_default order q 0 b inside ∙ is in
     let P : ℕ → Type 0 = λ j. HappensBefore rs a j in
@@ -32,6 +34,8 @@ grounded_rising rs order grounded a b before (q, inside, is) =
       second = q;
       apart = low;
       within = inside;
-      a_stands = get_or_default order earlier.0 0 a (omega arith) ∙ sym (get_or-take q order earlier.0 a low) ∙ earlier.2;
+      a_stands =
+          get_or_default order earlier.0 0 a (omega arith) ∙ sym (get_or-take q order earlier.0 a low)
+              ∙ earlier.2;
       b_stands = b_stands;
     }

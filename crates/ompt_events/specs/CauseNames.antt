@@ -1,7 +1,11 @@
 -- The order of the causes, and what each is called in a report.
 use Rattle.std.specs.Prelude.{ℕ, List, [], ◌∷◌, filter, ltb, codes}
 use Rattle.ompt_events.specs.declared.cause.Cause.{Cause}
-use Rattle.ompt_events.specs.declared.cause.Cause.TheVariants.{SeqGap, CreatedTwice, Rootless, NotCurrent, Moved, TurnGap, StatusOrder, RegionOrder, TeamShort, NestedParallel, DepsPlace, ShareWrong, EntryTwice, LengthAhead, LengthBack, NoOrder, TargetTask}
+use Rattle.ompt_events.specs.declared.cause.Cause.TheVariants.{SeqGap, CreatedTwice, Rootless, NotCurrent}
+use Rattle.ompt_events.specs.declared.cause.Cause.TheVariants.{Moved, TurnGap, StatusOrder, RegionOrder}
+use Rattle.ompt_events.specs.declared.cause.Cause.TheVariants.{TeamShort, NestedParallel, DepsPlace}
+use Rattle.ompt_events.specs.declared.cause.Cause.TheVariants.{ShareWrong, EntryTwice, LengthAhead}
+use Rattle.ompt_events.specs.declared.cause.Cause.TheVariants.{LengthBack, NoOrder, TargetTask}
 
 -- the cause's place in the order in which causes are reported; Moved and TurnGap have one number, since each
 -- occurs only in one version of the file

@@ -1,12 +1,17 @@
 -- Why no run within the model gives a list of records. Each cause is a fact about the list alone,
 -- and assumes that no lower-numbered cause occurs.
-use Rattle.std.specs.Prelude.{true, None, ℕ, ◌≡◌, ◌≢◌, ◌<◌, ◌≤◌, ◌+◌, ◌==◌, List, [], length, take, Some, Contains, count_by, slice_get, is_some, if◌then◌else◌}
+use Rattle.std.specs.Prelude.{true, None, ℕ, ◌≡◌, ◌≢◌, ◌<◌, ◌≤◌, ◌+◌, ◌==◌, List, [], length, take, Some}
+use Rattle.std.specs.Prelude.{Contains, count_by, slice_get, is_some, if◌then◌else◌}
 use Rattle.ompt_events.specs.declared.records.Record.{Record}
 use Rattle.ompt_events.specs.declared.records.Claim.{Claim}
 use Rattle.ompt_events.specs.declared.records.Turns.{Turns}
 use Rattle.ompt_events.specs.declared.records.Part.{Part}
 use Rattle.ompt_events.specs.declared.cause.Cause.{Cause}
-use Rattle.ompt_events.specs.declared.cause.Cause.TheVariants.{SeqGap, CreatedTwice, Rootless, NotCurrent, Moved, TurnGap, StatusOrder, RegionOrder, TeamShort, NestedParallel, DepsPlace, ShareWrong, EntryTwice, LengthAhead, LengthBack, NoOrder, TargetTask}
+use Rattle.ompt_events.specs.declared.cause.Cause.TheVariants.{SeqGap, CreatedTwice, Rootless, NotCurrent}
+use Rattle.ompt_events.specs.declared.cause.Cause.TheVariants.{Moved, TurnGap, StatusOrder, RegionOrder}
+use Rattle.ompt_events.specs.declared.cause.Cause.TheVariants.{TeamShort, NestedParallel, DepsPlace}
+use Rattle.ompt_events.specs.declared.cause.Cause.TheVariants.{ShareWrong, EntryTwice, LengthAhead}
+use Rattle.ompt_events.specs.declared.cause.Cause.TheVariants.{LengthBack, NoOrder, TargetTask}
 use Rattle.ompt_events.specs.declared.names.SyncKind.{SyncKind}
 use Rattle.ompt_events.specs.declared.names.Endpoint.{Endpoint}
 use Rattle.ompt_events.specs.declared.deps.Dep.{Dep}
@@ -14,7 +19,9 @@ use Rattle.ompt_events.specs.CauseNames.{cause_number}
 use Rattle.ompt_events.specs.Flags as flag
 use Rattle.ompt_events.specs.Flags.{has_flag}
 use Rattle.ompt_events.specs.declared.records.Membership.{Membership}
-use Rattle.ompt_events.specs.Records.{made, created, created_with_deps, dependences, started, told_turns, begun_turn, begun_root, finish, claim, flags, named, forked, region_named, joined, begun_initial, region}
+use Rattle.ompt_events.specs.Records.{made, created, created_with_deps, dependences, started, told_turns}
+use Rattle.ompt_events.specs.Records.{begun_turn, begun_root, finish, claim, flags, named, forked}
+use Rattle.ompt_events.specs.Records.{region_named, joined, begun_initial, region}
 use Rattle.ompt_events.specs.Places.{at, thread_at, seen_at}
 use Rattle.ompt_events.specs.Tree.{IsRoot, IsExplicit, IsRooted, HasPath, children}
 use Rattle.ompt_events.specs.Turns.{turn_at, in_own_order, own_place}
@@ -275,7 +282,8 @@ pub record IsFirstShown (rs : List Record) (cause : Cause) (i : ℕ) : Type 0 wh
   pub shown : Shows rs i cause
   pub first : (k : ℕ) → k < i → Shows rs k cause → ⊥
 
--- of the causes that are looked for the trace shows this one, which has the least number, first at this record
+-- of the causes that are looked for the trace shows this one, which has the least number, first at this
+-- record
 pub record IsShownMalformed (rs : List Record) (sought : List Cause) (i : ℕ) (cause : Cause) : Type 0 where
   pub sought_for : Contains sought cause
   pub found : IsFirstShown rs cause i

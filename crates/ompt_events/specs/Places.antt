@@ -1,5 +1,6 @@
 -- A record is spoken of by its place, a number from 0, in the list of records in file order.
-use Rattle.std.specs.Prelude.{ℕ, ◌==◌, Bool, false, List, length, filter, Option, slice_get, option_map, option_and_then}
+use Rattle.std.specs.Prelude.{ℕ, ◌==◌, Bool, false, List, length, filter, Option, slice_get, option_map}
+use Rattle.std.specs.Prelude.{option_and_then}
 use Rattle.std.specs.List.{range_with_len}
 use Rattle.std.specs.Option.{option_map_or}
 use Rattle.ompt_events.specs.declared.records.Record.{Record}

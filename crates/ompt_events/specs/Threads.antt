@@ -1,5 +1,6 @@
 -- The walk along a thread: which tasks it runs (OpenMP 5.2, 12.9: task scheduling).
-use Rattle.std.specs.Prelude.{ℕ, ◌≡◌, ◌≢◌, ◌==◌, List, [], ◌∷◌, Option, Some, None, if◌then◌else◌, filter, fold, take, drop, slice_get}
+use Rattle.std.specs.Prelude.{ℕ, ◌≡◌, ◌≢◌, ◌==◌, List, [], ◌∷◌, Option, Some, None, if◌then◌else◌, filter}
+use Rattle.std.specs.Prelude.{fold, take, drop, slice_get}
 use Rattle.ompt_events.specs.declared.records.Record.{Record}
 use Rattle.ompt_events.specs.declared.records.Body.{Body}
 use Rattle.ompt_events.specs.declared.records.Body.TheVariants.{ImplicitTask, TaskSchedule}

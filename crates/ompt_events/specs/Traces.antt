@@ -1,16 +1,20 @@
 -- What a list of records must be to be a trace.
-use Rattle.std.specs.Prelude.{ℕ, ◌≡◌, ◌==◌, ◌≤◌, ◌<◌, ◌+◌, ◌^◌, ◌⊎◌, ◌&&◌, ⊤, List, length, take, All, count_by, is_some, IfSome}
+use Rattle.std.specs.Prelude.{ℕ, ◌≡◌, ◌==◌, ◌≤◌, ◌<◌, ◌+◌, ◌^◌, ◌⊎◌, ◌&&◌, ⊤, List, length, take, All}
+use Rattle.std.specs.Prelude.{count_by, is_some, IfSome}
 use Rattle.std.specs.Int.RustNames.{bit_and}
 use Rattle.bitflags.specs.Sets.{known_bits}
 use Rattle.ompt_events.specs.declared.records.Record.{Record}
 use Rattle.ompt_events.specs.declared.records.Body.{Body}
 use Rattle.ompt_events.specs.declared.records.Claim.{Claim}
 use Rattle.ompt_events.specs.declared.records.Turns.{Turns}
-use Rattle.ompt_events.specs.declared.records.Body.TheVariants.{ThreadBegin, ThreadEnd, ParallelBegin, ParallelEnd, ImplicitTask, TaskCreate, Dependences, TaskSchedule, SyncRegion, Cancel}
+use Rattle.ompt_events.specs.declared.records.Body.TheVariants.{ThreadBegin, ThreadEnd, ParallelBegin}
+use Rattle.ompt_events.specs.declared.records.Body.TheVariants.{ParallelEnd, ImplicitTask, TaskCreate}
+use Rattle.ompt_events.specs.declared.records.Body.TheVariants.{Dependences, TaskSchedule, SyncRegion, Cancel}
 use Rattle.ompt_events.specs.declared.names.Endpoint.TheVariants.{BeginEnd}
 use Rattle.ompt_events.specs.declared.deps.Dep.{Dep}
 use Rattle.ompt_events.specs.Names.{demands_next}
-use Rattle.ompt_events.specs.Records.{made, started, claim, finish, flags, cancellation, dependences, told_turns}
+use Rattle.ompt_events.specs.Records.{made, started, claim, finish, flags, cancellation, dependences}
+use Rattle.ompt_events.specs.Records.{told_turns}
 use Rattle.ompt_events.specs.Flags.{task_flags, cancel_flags}
 use Rattle.ompt_events.specs.Limits.{max_records, max_tasks, max_threads, max_depth, max_dependences}
 

@@ -2,7 +2,8 @@
 -- turns: turn 0 from its start, or from its begin where it is a root, and one more each time that it runs on.
 -- An untied task may run on on another thread (OpenMP 5.2, 12.1 and 12.9: untied tasks, task scheduling), so
 -- its records go by turns, and not by the order in which the file has them.
-use Rattle.std.specs.Prelude.{ℕ, suc, max, ◌≡◌, ◌==◌, ◌&&◌, Bool, false, List, Option, None, if◌then◌else◌, take, slice_get, filter, fold}
+use Rattle.std.specs.Prelude.{ℕ, suc, max, ◌≡◌, ◌==◌, ◌&&◌, Bool, false, List, Option, None, if◌then◌else◌}
+use Rattle.std.specs.Prelude.{take, slice_get, filter, fold}
 use Rattle.std.specs.List.{range_with_len, filter_map, flat_map, position_or_len}
 use Rattle.std.specs.Option.{option_map_or}
 use Rattle.ompt_events.specs.declared.records.Record.{Record}

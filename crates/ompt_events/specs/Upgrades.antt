@@ -1,7 +1,10 @@
--- What a trace of version 1 is in version 2, where turns are told. They are counted along the file, so each task
--- must run on one thread alone: where an untied task runs on on another one (OpenMP 5.2, 12.1), the order of the
+-- What a trace of version 1 is in version 2, where turns are told. They are counted along the file, so each
+-- task
+-- must run on one thread alone: where an untied task runs on on another one (OpenMP 5.2, 12.1), the order of
+-- the
 -- file does not tell its turns.
-use Rattle.std.specs.Prelude.{ℕ, ◌≡◌, ◌≢◌, ◌<◌, ◌+◌, List, length, Some, take, count_by, slice_get, if◌then◌else◌}
+use Rattle.std.specs.Prelude.{ℕ, ◌≡◌, ◌≢◌, ◌<◌, ◌+◌, List, length, Some, take, count_by, slice_get}
+use Rattle.std.specs.Prelude.{if◌then◌else◌}
 use Rattle.std.specs.Option.{option_map_or}
 use Rattle.ompt_events.specs.declared.records.Record.{Record}
 use Rattle.ompt_events.specs.declared.records.Body.{Body}
@@ -42,7 +45,8 @@ abbrev pub telling : Turns → Body → Body
 telling told (TaskSchedule status turns prior next share) = TaskSchedule status (Some told) prior next share
 telling told body = body
 
--- what the record at the place says in version 2: where a task runs next, in which turn its prior task is by the
+-- what the record at the place says in version 2: where a task runs next, in which turn its prior task is by
+-- the
 -- records of its thread before it, and which turn of the next task begins
 abbrev pub body_upgraded : List Record → List Record → ℕ → Body → Body
 body_upgraded rs ss i body =

@@ -3,7 +3,9 @@ use Rattle.std.specs.Prelude.{Option, Some, None, if◌then◌else◌}
 use Rattle.ompt_events.specs.declared.names.SyncKind.{SyncKind}
 use Rattle.ompt_events.specs.declared.names.SyncKind.TheVariants.{Taskwait, Taskgroup}
 use Rattle.ompt_events.specs.declared.names.WaitKind.{WaitKind}
-use Rattle.ompt_events.specs.declared.names.WaitKind.TheVariants.{Taskwait as ForTaskwait, Taskgroup as ForTaskgroup, Barrier as ForBarrier}
+use Rattle.ompt_events.specs.declared.names.WaitKind.TheVariants.{Taskwait as ForTaskwait}
+use Rattle.ompt_events.specs.declared.names.WaitKind.TheVariants.{Taskgroup as ForTaskgroup}
+use Rattle.ompt_events.specs.declared.names.WaitKind.TheVariants.{Barrier as ForBarrier}
 use Rattle.ompt_events.specs.Regions.{is_barrier}
 
 -- a region of this kind waits for the tasks of a taskwait, of a taskgroup or of a barrier, or for none

@@ -1,5 +1,6 @@
 -- What a status that finishes a part of a task does to the task's credit.
-use Rattle.std.proofs.Common.{◌≡◌, ◌∙◌, ◌∷◌, [], ℕ, Bool, true, false, List, Option, Some, None, refl, sym, ap, subst}
+use Rattle.std.proofs.Common.{◌≡◌, ◌∙◌, ◌∷◌, [], ℕ, Bool, true, false, List, Option, Some, None, refl, sym}
+use Rattle.std.proofs.Common.{ap, subst}
 use Rattle.std.specs.Prelude.{◌&&◌, is_some, if◌then◌else◌}
 use Rattle.std.specs.Option.{option_map_or}
 use Rattle.std.proofs.lemmas.Bool.{false≢true}
@@ -10,7 +11,8 @@ use Rattle.ompt_events.specs.declared.records.Part.TheVariants.{Whole, Body, Eve
 use Rattle.ompt_events.specs.declared.names.Status.{Status}
 use Rattle.ompt_events.specs.declared.names.Status.TheVariants as status
 use Rattle.ompt_events.specs.declared.state.State.{State}
-use Rattle.ompt_events.specs.declared.state.State.TheVariants.{Created, Running, Suspended, EarlyRunning, EarlyWaiting, Detached, Done}
+use Rattle.ompt_events.specs.declared.state.State.TheVariants.{Created, Running, Suspended, EarlyRunning}
+use Rattle.ompt_events.specs.declared.state.State.TheVariants.{EarlyWaiting, Detached, Done}
 use Rattle.ompt_events.specs.Names.{status_part}
 use Rattle.ompt_events.specs.States as states
 use Rattle.ompt_events.specs.States.{may, next_state_of}
@@ -18,7 +20,8 @@ use Rattle.credit.specs.declared.share.Half.{Half}
 use Rattle.credit.specs.Shares.{finish_share, give_half, keep_half}
 use Rattle.credit.specs.Credits as credits
 use Rattle.credit.specs.Credits.{Credit, Holder, entered_credit, detached_halves}
-use Rattle.recorder.specs.Tasks.{TaskView, nature, state_moved, stopped, in_state, is_detached, share_of, credit_of, entry_of_part, entered_credit_of, MovesCredit}
+use Rattle.recorder.specs.Tasks.{TaskView, nature, state_moved, stopped, in_state, is_detached, share_of}
+use Rattle.recorder.specs.Tasks.{credit_of, entry_of_part, entered_credit_of, MovesCredit}
 use Rattle.recorder.specs.Recorders.{RecorderView}
 use Rattle.recorder.specs.Schedules.{ScheduleView, may_schedule}
 

@@ -1,5 +1,6 @@
 -- A record more in the records of one thread.
-use Rattle.std.proofs.Common.{◌≡◌, ◌∙◌, ℕ, ◌≤◌, ◌<◌, true, List, [], ◌∷◌, ◌++◌, length, take, refl, sym, ap, subst, arith, inl, inr}
+use Rattle.std.proofs.Common.{◌≡◌, ◌∙◌, ℕ, ◌≤◌, ◌<◌, true, List, [], ◌∷◌, ◌++◌, length, take, refl, sym, ap}
+use Rattle.std.proofs.Common.{subst, arith, inl, inr}
 use Rattle.std.proofs.lemmas.List.{length_push, take-append-le}
 use Rattle.std.proofs.lemmas.List.Sums.{fold_push}
 use Rattle.std.proofs.lemmas.Option.{slice_get_within}
@@ -68,7 +69,8 @@ pub log-pushed : (v : LogView) (standing next : Standing) (later : LogView) (r :
     → later.thread ≡ v.thread → later.records ≡ v.records ++ r ∷ [] → later.known ≡ known_from r.seen r.body
     → next ≡ next_standing standing r.body
     → AreRecorded later.thread later.records later.known × (next ≡ standing_of later.records)
-log-pushed v standing next later r kept few rises allowed sound in_range is_thread is_seq same is_later is_known
+log-pushed v standing next later r kept few rises allowed sound in_range is_thread is_seq same is_later
+    is_known
     is_next =
     let all = recorded-pushed v.thread v.known v.records r kept.0 few rises allowed sound in_range is_thread
     is_seq in (

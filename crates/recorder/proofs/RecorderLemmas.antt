@@ -1,5 +1,6 @@
 -- What a recorder's records say of the ledger, after one more.
-use Rattle.std.proofs.Common.{◌≡◌, ◌∙◌, ℕ, ◌≤◌, ◌<◌, ◌+◌, List, [], ◌∷◌, ◌++◌, length, Some, None, refl, sym, ap, subst, arith, inl, inr, Bool, true, false, Option, ◌^◌}
+use Rattle.std.proofs.Common.{◌≡◌, ◌∙◌, ℕ, ◌≤◌, ◌<◌, ◌+◌, List, [], ◌∷◌, ◌++◌, length, Some, None, refl, sym}
+use Rattle.std.proofs.Common.{ap, subst, arith, inl, inr, Bool, true, false, Option, ◌^◌}
 use Rattle.std.specs.Prelude.{slice_get, option_map, option_and_then, is_some, if◌then◌else◌}
 use Rattle.std.proofs.lemmas.Option.{none-some}
 use Rattle.ompt_events.specs.declared.records.Record.{Record}
@@ -12,14 +13,16 @@ use Rattle.credit_ledger.specs.declared.view.Call.{Call}
 use Rattle.credit_ledger.specs.declared.view.Call.TheVariants.{Enter, Look}
 use Rattle.credit_ledger.specs.declared.view.View.{View}
 use Rattle.credit_ledger.specs.Seats.{Extends, told_of}
-use Rattle.credit_ledger.proofs.ExtendsLemmas.{GoOn, extends-go_on, looked-length, entered-there, reply-known, joined-go_on}
+use Rattle.credit_ledger.proofs.ExtendsLemmas.{GoOn, extends-go_on, looked-length, entered-there, reply-known}
+use Rattle.credit_ledger.proofs.ExtendsLemmas.{joined-go_on}
 use Rattle.trace_ledger.specs.Entries.{claimed_entry, entry_of}
 use Rattle.recorder.specs.Logs.{LogView, IsSameLog, known_from}
 use Rattle.atomic_table.specs.Seated.{TableId}
 use Rattle.credit_ledger.specs.Entries as ledger
 use Rattle.recorder.specs.declared.fault.CallFault.{CallFault}
 use Rattle.recorder.specs.Calls.{ledger_refusal}
-use Rattle.recorder.specs.Recorders.{RecorderView, entries_of, AreEntered, IsBacked, entry_by, IsRefused, by_ledger}
+use Rattle.recorder.specs.Recorders.{RecorderView, entries_of, AreEntered, IsBacked, entry_by, IsRefused}
+use Rattle.recorder.specs.Recorders.{by_ledger}
 
 entered-pushed : (own : List Record) (r : Record) (first later : List Entry) → AreEntered own first
     → GoOn first later → ((e : Entry) → entry_of r ≡ Some e → slice_get later r.seen ≡ Some e)

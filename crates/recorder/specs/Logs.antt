@@ -1,5 +1,6 @@
 -- What one thread has recorded, and what it knows of the ledger.
-use Rattle.std.specs.Prelude.{ℕ, ◌≡◌, ◌≤◌, ◌+◌, List, length, take, fold, Some, true, is_some, slice_get, if◌then◌else◌}
+use Rattle.std.specs.Prelude.{ℕ, ◌≡◌, ◌≤◌, ◌+◌, List, length, take, fold, Some, true, is_some, slice_get}
+use Rattle.std.specs.Prelude.{if◌then◌else◌}
 use Rattle.ompt_events.specs.declared.records.Record.{Record}
 use Rattle.ompt_events.specs.declared.records.Body.{Body}
 use Rattle.ompt_events.specs.Limits.{max_records}

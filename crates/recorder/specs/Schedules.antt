@@ -1,5 +1,6 @@
 -- How tasks start, stop, are fulfilled and discarded, by calls of a recorder.
-use Rattle.std.specs.Prelude.{ℕ, ◌&&◌, ◌||◌, ◌⊎◌, ⊤, Bool, true, false, Option, Some, None, is_some, is_none, option_map, if◌then◌else◌}
+use Rattle.std.specs.Prelude.{ℕ, ◌&&◌, ◌||◌, ◌⊎◌, ⊤, Bool, true, false, Option, Some, None, is_some, is_none}
+use Rattle.std.specs.Prelude.{option_map, if◌then◌else◌}
 use Rattle.std.proofs.Common.{inl, inr}
 use Rattle.std.specs.Borrow.{MutBor}
 use Rattle.std.specs.Option.{option_map_or}
@@ -11,7 +12,8 @@ use Rattle.ompt_events.specs.declared.records.Part.{Part}
 use Rattle.ompt_events.specs.declared.records.Turns.{Turns}
 use Rattle.ompt_events.specs.declared.flags.CancelFlags.{CancelFlags}
 use Rattle.ompt_events.specs.declared.names.Status.{Status}
-use Rattle.ompt_events.specs.declared.names.Status.TheVariants.{Yield, Switch, EarlyFulfill, Detach, TaskwaitComplete}
+use Rattle.ompt_events.specs.declared.names.Status.TheVariants.{Yield, Switch, EarlyFulfill, Detach}
+use Rattle.ompt_events.specs.declared.names.Status.TheVariants.{TaskwaitComplete}
 use Rattle.ompt_events.specs.Flags as flag
 use Rattle.ompt_events.specs.Flags.{cancel_flags, are_named}
 use Rattle.ompt_events.specs.Names.{demands_next, status_part}
@@ -22,7 +24,8 @@ use Rattle.recorder.specs.declared.fault.CallFault.{CallFault}
 use Rattle.recorder.specs.declared.fault.CallFault.TheVariants.{WrongState}
 use Rattle.recorder.specs.Standing.{innermost}
 use Rattle.recorder.specs.Logs.{standing_of}
-use Rattle.recorder.specs.Tasks.{TaskView, parent_of, place_of, is_root_on, state_moved, turn_of, next_turn, stopped, entry_of_part}
+use Rattle.recorder.specs.Tasks.{TaskView, parent_of, place_of, is_root_on, state_moved, turn_of, next_turn}
+use Rattle.recorder.specs.Tasks.{stopped, entry_of_part}
 use Rattle.recorder.specs.Recorders.{RecorderView, IsObserved, IsConcluded, refusal_at}
 
 -- a task stops or is fulfilled with a status, and another one runs next, if there is one

@@ -1,6 +1,7 @@
 -- Where a thread stands while it records, and which records may come next there. A parallel region is not
 -- begun inside another one, so at most two roots of a thread are open.
-use Rattle.std.specs.Prelude.{ℕ, ◌==◌, ◌&&◌, Bool, true, false, not, Option, Some, None, option_map, is_some, if◌then◌else◌}
+use Rattle.std.specs.Prelude.{ℕ, ◌==◌, ◌&&◌, Bool, true, false, not, Option, Some, None, option_map, is_some}
+use Rattle.std.specs.Prelude.{if◌then◌else◌}
 use Rattle.std.specs.Option.{option_map_or}
 use Rattle.ompt_events.specs.declared.records.Body.{Body}
 use Rattle.ompt_events.specs.declared.records.Body.TheVariants.{ImplicitTask, TaskSchedule}
@@ -10,7 +11,8 @@ use Rattle.std.specs.Prelude.{List}
 use Rattle.ompt_events.specs.Names.{demands_next}
 use Rattle.ompt_events.specs.Flags as flag
 use Rattle.ompt_events.specs.Flags.{has_flag}
-use Rattle.ompt_events.specs.Records.{begun_initial, created_with_deps, dependences, ended_root, flags, forked, joined, made, running}
+use Rattle.ompt_events.specs.Records.{begun_initial, created_with_deps, dependences, ended_root, flags}
+use Rattle.ompt_events.specs.Records.{forked, joined, made, running}
 use Rattle.ompt_events.specs.States.{is_task}
 use Rattle.recorder.specs.declared.standing.Standing.{Standing}
 

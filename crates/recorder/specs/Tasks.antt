@@ -1,6 +1,8 @@
 -- A tool's own value of one task, and what the events of OMPT do to it and to its credit (F. Mattern,
 -- Information Processing Letters 30, 1989).
-use Rattle.std.specs.Prelude.{ℕ, ◌^◌, ◌+◌, ◌-◌, ◌==◌, ◌≡◌, ◌&&◌, Bool, true, false, List, [], ◌∷◌, ◌++◌, Option, Some, None, is_some, nat_le, nat_lt, length, slice_get, take, if◌then◌else◌}
+use Rattle.std.specs.Prelude.{ℕ, ◌^◌, ◌+◌, ◌-◌, ◌==◌, ◌≡◌, ◌&&◌, Bool, true, false, List, [], ◌∷◌, ◌++◌}
+use Rattle.std.specs.Prelude.{Option, Some, None, is_some, nat_le, nat_lt, length, slice_get, take}
+use Rattle.std.specs.Prelude.{if◌then◌else◌}
 use Rattle.std.specs.Option.{option_map_or}
 use Rattle.ompt_events.specs.declared.records.Claim.{Claim}
 use Rattle.ompt_events.specs.declared.records.Part.{Part}

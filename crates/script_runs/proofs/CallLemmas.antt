@@ -16,7 +16,8 @@ use Rattle.credit_ledger.specs.declared.entry.Entry.{Entry}
 use Rattle.credit_ledger.specs.declared.view.View.{View}
 use Rattle.recorder.specs.Tasks.{TaskView}
 use Rattle.recorder.specs.Recorders.{RecorderView, recorded, IsConcluded}
-use Rattle.recorder.specs.Schedules.{ScheduleView, schedule_body, schedule_of, discard_body, IsStopped, IsStoppedBy}
+use Rattle.recorder.specs.Schedules.{ScheduleView, schedule_body, schedule_of, discard_body, IsStopped}
+use Rattle.recorder.specs.Schedules.{IsStoppedBy}
 use Rattle.script_runs.specs.Calls.{called, recorded_calls}
 use Rattle.script_runs.specs.Parts.{IsCalled}
 

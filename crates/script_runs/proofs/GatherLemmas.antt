@@ -1,5 +1,6 @@
 -- The records of each thread in the trace that is gathered.
-use Rattle.std.proofs.Common.{ℕ, zero, suc, ◌≡◌, ◌≢◌, ◌∙◌, ◌++◌, ◌∷◌, ◌+◌, ◌⊎◌, [], List, Some, None, Option, map, refl, ap, sym, inl, inr, arith}
+use Rattle.std.proofs.Common.{ℕ, zero, suc, ◌≡◌, ◌≢◌, ◌∙◌, ◌++◌, ◌∷◌, ◌+◌, ◌⊎◌, [], List, Some, None, Option}
+use Rattle.std.proofs.Common.{map, refl, ap, sym, inl, inr, arith}
 use Rattle.std.specs.Prelude.{◌==◌, Contains, slice_get, option_map}
 use Rattle.std.specs.List.Sorted.{IsPermutation}
 use Rattle.std.proofs.lemmas.Bool.{eq-eqb, ne_eqb}
@@ -46,7 +47,8 @@ abbrev AreOwn : List BufferView → Type 0
 AreOwn buffers = (i : ℕ) (b : BufferView) → slice_get buffers i ≡ Some b → AreOrderly b.thread b.records
 
 records_more : (b : BufferView) (buffers : List BufferView) (thread : ℕ)
-    → records_of (gathered (b ∷ buffers)) thread ≡ records_of b.records thread ++ records_of (gathered buffers) thread
+    → records_of (gathered (b ∷ buffers)) thread
+        ≡ records_of b.records thread ++ records_of (gathered buffers) thread
 records_more b buffers thread =
     ap (λ rs. records_of rs thread) (flat_map-cons (λ (it : BufferView). it.records) b buffers)
     ∙ filter-append (λ (r : Record). r.thread == thread) b.records (gathered buffers)
@@ -70,7 +72,8 @@ of_nowhere : (buffers : List BufferView) (thread : ℕ) → AreOwn buffers → I
 of_nowhere [] thread own nowhere = refl
 of_nowhere (b ∷ buffers) thread own nowhere =
     records_more b buffers thread
-    ∙ ap (λ l. l ++ records_of (gathered buffers) thread) (of_another b thread (own 0 b refl) (nowhere 0 b refl))
+    ∙ ap (λ l. l ++ records_of (gathered buffers) thread)
+        (of_another b thread (own 0 b refl) (nowhere 0 b refl))
     ∙ of_nowhere buffers thread (λ i it is. own (suc i) it is) (λ i it is. nowhere (suc i) it is)
 
 -- one buffer is of the thread, and has its records; or none is, and there are none

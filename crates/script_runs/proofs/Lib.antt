@@ -1,4 +1,5 @@
--- Lemmas: CallLemmas of one call, PlaceLemmas of the steps of a thread, RunLemmas of the recorders, GatherLemmas of the gathered trace.
+-- Lemmas: CallLemmas of one call, PlaceLemmas of the steps of a thread, RunLemmas of the recorders,
+-- GatherLemmas of the gathered trace.
 pub mod CallLemmas
 pub mod PlaceLemmas
 pub mod RunLemmas

@@ -1,5 +1,6 @@
 -- The steps of one thread, one after another.
-use Rattle.std.proofs.Common.{ℕ, ◌≡◌, ◌≢◌, ◌∙◌, ◌++◌, ◌∷◌, ◌+◌, ◌≤◌, [], List, Some, None, Option, map, take, length, refl, ap, sym, subst, cond, inl, inr, arith}
+use Rattle.std.proofs.Common.{ℕ, ◌≡◌, ◌≢◌, ◌∙◌, ◌++◌, ◌∷◌, ◌+◌, ◌≤◌, [], List, Some, None, Option, map, take}
+use Rattle.std.proofs.Common.{length, refl, ap, sym, subst, cond, inl, inr, arith}
 use Rattle.std.specs.Prelude.{◌==◌, filter, slice_get, option_map}
 use Rattle.std.specs.Global.{Vec}
 use Rattle.std.proofs.lemmas.Bool.{eq-eqb, ne_eqb}
@@ -56,7 +57,8 @@ places_next steps n s before after is are added thread = elim (eqb_tells s.threa
       ap (map (call_at steps)) (subst Row same.1 added.here)
       ∙ map-append (call_at steps) (row_at before thread) (n ∷ [])
       ∙ ap (λ l. l ++ call_at steps n ∷ []) (are thread)
-      ∙ ap (λ c. map Some (calls_of (take n steps) thread) ++ c ∷ []) (ap (option_map (λ (q : Step). called q.body)) is)
+      ∙ ap (λ c. map Some (calls_of (take n steps) thread) ++ c ∷ [])
+          (ap (option_map (λ (q : Step). called q.body)) is)
       ∙ sym (map-append Some (calls_of (take n steps) thread) (called s.body ∷ []))
       ∙ ap (map Some) (sym calls)
   | inr apart ↦
@@ -98,5 +100,6 @@ taken_here steps at s old met after new is same same_thread by left left_thread 
       ∙ ap (map Some) by.calls
       ∙ map-append Some (recorded_calls met.records) (called s.body ∷ [])
       ∙ ap (λ rs. map Some (recorded_calls rs) ++ Some (called s.body) ∷ []) same
-      ∙ ap (λ c. map Some (recorded_calls old.records) ++ c ∷ []) (sym (ap (option_map (λ (q : Step). called q.body)) is));
+      ∙ ap (λ c. map Some (recorded_calls old.records) ++ c ∷ [])
+          (sym (ap (option_map (λ (q : Step). called q.body)) is));
 }

@@ -1,10 +1,12 @@
 -- The recorders of the threads, the last thread first.
-use Rattle.std.proofs.Common.{ℕ, ◌≡◌, ◌∙◌, ◌++◌, ◌∷◌, ◌+◌, ◌≤◌, ◌⊎◌, [], List, length, refl, ap, inl, inr, arith}
+use Rattle.std.proofs.Common.{ℕ, ◌≡◌, ◌∙◌, ◌++◌, ◌∷◌, ◌+◌, ◌≤◌, ◌⊎◌, [], List, length, refl, ap, inl, inr}
+use Rattle.std.proofs.Common.{arith}
 use Rattle.std.specs.Prelude.{Contains, slice_get}
 use Rattle.std.specs.Global.{Vec}
 use Rattle.std.proofs.lemmas.Bool.{cases_order}
 use Rattle.std.proofs.lemmas.Option.{slice_get_past}
-use Rattle.std.proofs.lemmas.List.Elements.{All-nil, All-cons, All-append, Contains-append_left, Contains-append_right}
+use Rattle.std.proofs.lemmas.List.Elements.{All-nil, All-cons, All-append, Contains-append_left}
+use Rattle.std.proofs.lemmas.List.Elements.{Contains-append_right}
 use Rattle.scripts.specs.declared.script.Step.{Step}
 use Rattle.task_states.specs.Rows.{row_items}
 use Rattle.recorder.specs.Recorders.{RecorderView}
@@ -13,7 +15,8 @@ use Rattle.script_runs.specs.Parts.{ArePlaces, HasRun, HaveRun, IsAmong}
 use Rattle.script_runs.proofs.PlaceLemmas.{no_places}
 
 -- past the last thread that has a step none is left
-pub no_more : (steps : List Step) (threads : List (Vec ℕ)) (first : ℕ) → ArePlaces steps (length steps) threads
+pub no_more : (steps : List Step) (threads : List (Vec ℕ)) (first : ℕ)
+    → ArePlaces steps (length steps) threads
     → length threads ≤ first → HaveRun steps first []
 no_more steps threads first are past = record {
   each = All-nil (HasRun steps);
@@ -34,7 +37,9 @@ pub one_more : (steps : List Step) (first : ℕ) (recorders : List RecorderView)
     → HasRun steps r → r.thread ≡ first → HaveRun steps (first + 1) recorders
     → HaveRun steps first (recorders ++ r ∷ [])
 one_more steps first recorders r own of run = record {
-  each = All-append (HasRun steps) recorders (r ∷ []) run.each (All-cons (HasRun steps) r [] own (All-nil (HasRun steps)));
+  each =
+      All-append (HasRun steps) recorders (r ∷ []) run.each
+          (All-cons (HasRun steps) r [] own (All-nil (HasRun steps)));
   all = λ thread from. elim (from_here first thread from) [
     | inl same ↦ inr (r, Contains-append_right recorders (r ∷ []) r (0, omega arith, refl), of ∙ same)
     | inr above ↦ further thread (run.all thread above)

@@ -6,7 +6,8 @@ use Rattle.ompt_events.specs.declared.records.Record.{Record}
 use Rattle.ompt_events.specs.declared.names.Endpoint.TheVariants.{End}
 use Rattle.scripts.specs.declared.script.Step.{Step}
 
--- the call of a record or a step, without what recorders add to it: the claim of a finished task, the turns of
+-- the call of a record or a step, without what recorders add to it: the claim of a finished task, the turns
+-- of
 -- a schedule, and at the end of an initial or implicit task the team's size, the task's number there and its
 -- flags, which are those with which it began
 abbrev pub called : Body → Body

@@ -1,7 +1,8 @@
 -- Which trace is that of a run of a script.
 use Rattle.std.specs.Prelude.{ℕ, ◌≡◌, ◌≤◌, ◌+◌, List, length}
 use Rattle.ompt_events.specs.declared.cause.Cause.TheVariants.{SeqGap, CreatedTwice, NestedParallel}
-use Rattle.ompt_events.specs.declared.cause.Cause.TheVariants.{EntryTwice, LengthAhead, LengthBack, TargetTask}
+use Rattle.ompt_events.specs.declared.cause.Cause.TheVariants.{EntryTwice, LengthAhead, LengthBack}
+use Rattle.ompt_events.specs.declared.cause.Cause.TheVariants.{TargetTask}
 use Rattle.ompt_events.specs.Causes.{IsFreeOf}
 use Rattle.ompt_events.specs.Traces.{TraceView}
 use Rattle.scripts.specs.declared.script.Step.{Step}
@@ -11,7 +12,8 @@ use Rattle.script_runs.specs.Calls.{records_of, recorded_calls, calls_of}
 use Rattle.script_runs.specs.declared.fault.RunFault.{RunFault}
 use Rattle.script_runs.specs.declared.fault.RunFault.TheVariants.{Memory, Thread, Call}
 
--- the trace is gathered from the recorders of a run of the script: the records of each thread are its steps, in
+-- the trace is gathered from the recorders of a run of the script: the records of each thread are its steps,
+-- in
 -- their order, and the finishing records pair off with the entries of the one ledger
 pub record IsRun (steps : List Step) (trace : TraceView) : Type 0 where
   pub version : trace.version ≡ 2

@@ -1,5 +1,6 @@
 -- A script with one step more.
-use Rattle.std.proofs.Common.{◌≡◌, ◌∙◌, ℕ, ◌<◌, ◌≤◌, ◌+◌, List, [], ◌∷◌, ◌++◌, length, take, Option, None, Bool, true, false, cond, refl, arith, sym, ap, subst, inl, inr}
+use Rattle.std.proofs.Common.{◌≡◌, ◌∙◌, ℕ, ◌<◌, ◌≤◌, ◌+◌, List, [], ◌∷◌, ◌++◌, length, take, Option, None}
+use Rattle.std.proofs.Common.{Bool, true, false, cond, refl, arith, sym, ap, subst, inl, inr}
 use Rattle.std.specs.Prelude.{is_some, nat_le, ◌||◌, ◌&&◌}
 use Rattle.std.proofs.lemmas.Bool.{leb-false, true≢false}
 use Rattle.std.proofs.lemmas.Option.{slice_get_within}
@@ -19,16 +20,21 @@ use Rattle.scripts.specs.Keeping.{AreLives}
 -- ---- the limits
 
 has_room : (steps : List Step) (body : Body) → is_full steps body ≡ false → length steps < max_records
-has_room steps body room = leb-false max_records (length steps) (left (nat_le max_records (length steps)) (is_some (made body) && nat_le max_tasks (tasks_of steps)) room)
+has_room steps body room =
+    leb-false max_records (length steps)
+        (left (nat_le max_records (length steps)) (is_some (made body) && nat_le max_tasks (tasks_of steps))
+            room)
   where
     left : (a b : Bool) → (a || b) ≡ false → a ≡ false
     left false b e = refl
     left true b e = e
 
-has_task_room : (steps : List Step) (body : Body) → is_full steps body ≡ false → tasks_of steps ≤ max_tasks → tasks_of steps + cond (is_some (made body)) 1 0 ≤ max_tasks
+has_task_room : (steps : List Step) (body : Body) → is_full steps body ≡ false → tasks_of steps ≤ max_tasks
+    → tasks_of steps + cond (is_some (made body)) 1 0 ≤ max_tasks
 has_task_room steps body room few = by_cases (is_some (made body)) (nat_le max_records (length steps)) room
   where
-    by_cases : (makes full : Bool) → (full || (makes && nat_le max_tasks (tasks_of steps))) ≡ false → tasks_of steps + cond makes 1 0 ≤ max_tasks
+    by_cases : (makes full : Bool) → (full || (makes && nat_le max_tasks (tasks_of steps))) ≡ false
+        → tasks_of steps + cond makes 1 0 ≤ max_tasks
     by_cases false full e = omega (arith, few)
     by_cases true false e = let less = leb-false max_tasks (tasks_of steps) e in omega (arith, less)
     by_cases true true e = absurd (true≢false e)
@@ -36,28 +42,37 @@ has_task_room steps body room few = by_cases (is_some (made body)) (nat_le max_r
 -- ---- one step more
 
 -- the steps before a place stay
-before_stays : (steps : List Step) (s : Step) (i : ℕ) → i ≤ length steps → take i (steps ++ s ∷ []) ≡ take i steps
+before_stays : (steps : List Step) (s : Step) (i : ℕ) → i ≤ length steps
+    → take i (steps ++ s ∷ []) ≡ take i steps
 before_stays steps s i low = take-append-le i steps (s ∷ []) low
 
-pub IsScript-more : (steps : List Step) (s : Step) → IsScript steps → is_full steps s.body ≡ false → s.line ≡ length steps + 2 → may_follow steps s.after s.body ≡ true → IsScript (steps ++ s ∷ [])
+pub IsScript-more : (steps : List Step) (s : Step) → IsScript steps → is_full steps s.body ≡ false
+    → s.line ≡ length steps + 2 → may_follow steps s.after s.body ≡ true → IsScript (steps ++ s ∷ [])
 IsScript-more steps s script room line follows = record {
   few_steps = omega (arith, length_push steps s, has_room steps s.body room);
   few_tasks =
-      let more : tasks_of (steps ++ s ∷ []) ≡ tasks_of steps + cond (is_some (made s.body)) 1 0 = sum_by_push (λ (x : Step). cond (is_some (made x.body)) 1 0) steps s in
+      let more : tasks_of (steps ++ s ∷ []) ≡ tasks_of steps + cond (is_some (made s.body)) 1 0 =
+          sum_by_push (λ (x : Step). cond (is_some (made x.body)) 1 0) steps s in
       omega (arith, more, has_task_room steps s.body room script.few_tasks);
   lines = λ i x is. elim (pushed_cases steps s x i is) [
     | inl old ↦ script.lines i x old
     | inr (last, same) ↦ subst (λ (y : Step). y.line ≡ i + 2) same (line ∙ ap (λ n. n + 2) (sym last))
   ];
   follows = λ i x is. elim (pushed_cases steps s x i is) [
-    | inl old ↦ ap (λ (before : List Step). may_follow before x.after x.body) (before_stays steps s i (omega (arith, slice_get_within steps i x old))) ∙ script.follows i x old
+    | inl old ↦
+        ap (λ (before : List Step). may_follow before x.after x.body)
+            (before_stays steps s i (omega (arith, slice_get_within steps i x old)))
+            ∙ script.follows i x old
     | inr (last, same) ↦
         let before : take i (steps ++ s ∷ []) ≡ steps = take_at steps (s ∷ []) i (sym last) in
-        subst (λ (y : Step). may_follow (take i (steps ++ s ∷ [])) y.after y.body ≡ true) same (ap (λ (b : List Step). may_follow b s.after s.body) before ∙ follows)
+        subst (λ (y : Step). may_follow (take i (steps ++ s ∷ [])) y.after y.body ≡ true) same
+            (ap (λ (b : List Step). may_follow b s.after s.body) before ∙ follows)
   ];
 }
 
-pub AreLives-more : (steps : List Step) (s : Step) (old new : BTreeMap ℕ Life) → AreLives steps old → ((task : ℕ) → get nat_cmp new task ≡ life_after (get nat_cmp old task) s.body task) → AreLives (steps ++ s ∷ []) new
+pub AreLives-more : (steps : List Step) (s : Step) (old new : BTreeMap ℕ Life) → AreLives steps old
+    → ((task : ℕ) → get nat_cmp new task ≡ life_after (get nat_cmp old task) s.body task)
+    → AreLives (steps ++ s ∷ []) new
 AreLives-more steps s old new are noted task =
     noted task
     ∙ ap (λ (l : Option Life). life_after l s.body task) (are task)

@@ -1,5 +1,6 @@
 -- Whether a step is named that is there.
-use Rattle.std.proofs.Common.{◌≡◌, ℕ, ◌<◌, ◌≤◌, List, [], ◌∷◌, ◌++◌, ◌+◌, length, set, get_or, Option, Some, true, false, cond, arith, refl, sym, ap, inl, inr, ◌∙◌}
+use Rattle.std.proofs.Common.{◌≡◌, ℕ, ◌<◌, ◌≤◌, List, [], ◌∷◌, ◌++◌, ◌+◌, length, set, get_or, Option, Some}
+use Rattle.std.proofs.Common.{true, false, cond, arith, refl, sym, ap, inl, inr, ◌∙◌}
 use Rattle.std.specs.Prelude.{◌==◌, ◌&&◌, Bool, None, is_some, IfSome}
 use Rattle.std.proofs.lemmas.List.Sums.{sum_by_push}
 use Rattle.std.proofs.lemmas.Bool.{cases_eq}
@@ -13,12 +14,16 @@ use Rattle.scripts.specs.Scripts.{steps_of, tasks_of, is_earlier}
 use Rattle.scripts.specs.Keeping.{IsFound}
 
 pub earlier-has : (steps : List Step) (named : Option (ℕ × ℕ)) (thread number count : ℕ)
-    → named ≡ Some (thread, number) → count ≡ steps_of steps thread → number < count → is_earlier steps named ≡ true
-earlier-has steps named thread number count is counted less = rw is (rw (← counted) (grind (arith, nat_tests)))
+    → named ≡ Some (thread, number) → count ≡ steps_of steps thread → number < count
+        → is_earlier steps named ≡ true
+earlier-has steps named thread number count is counted less =
+    rw is (rw (← counted) (grind (arith, nat_tests)))
 
 pub earlier-lacks : (steps : List Step) (named : Option (ℕ × ℕ)) (thread number count : ℕ)
-    → named ≡ Some (thread, number) → count ≡ steps_of steps thread → count ≤ number → is_earlier steps named ≡ false
-earlier-lacks steps named thread number count is counted past = rw is (rw (← counted) (grind (arith, nat_tests)))
+    → named ≡ Some (thread, number) → count ≡ steps_of steps thread → count ≤ number
+        → is_earlier steps named ≡ false
+earlier-lacks steps named thread number count is counted past =
+    rw is (rw (← counted) (grind (arith, nat_tests)))
 
 pub found-decides : (steps : List Step) (named : Option (ℕ × ℕ)) (found : Option (Option (ℕ × ℕ)))
     → IsFound steps named found → is_some found ≡ is_earlier steps named
@@ -31,7 +36,8 @@ found-same steps named None is = tt
 found-same steps named (Some step) is = is.1
 
 -- the tests of a call, its `after` last
-pub after-last : (called earlier once named : Bool) → (called && earlier && once && named) ≡ ((called && once && named) && earlier)
+pub after-last : (called earlier once named : Bool)
+    → (called && earlier && once && named) ≡ ((called && once && named) && earlier)
 after-last false earlier once named = refl
 after-last true true false named = refl
 after-last true true true false = refl
@@ -58,12 +64,16 @@ counted-more counts steps s thread at is within counted =
     elim (cases_eq at thread) [
       | inl same ↦
           let own : (s.thread == thread) ≡ true = grind (arith, nat_tests) in
-          let held : get_or counts at 0 ≡ steps_of steps thread = ap (λ (k : ℕ). get_or counts k 0) same ∙ counted in
-          get_or-set_at counts at thread (get_or counts at 0 + 1) 0 (sym same) within ∙ (ap (λ n. n + 1) held ∙ sym (more ∙ rw own refl))
+          let held : get_or counts at 0 ≡ steps_of steps thread =
+              ap (λ (k : ℕ). get_or counts k 0) same ∙ counted in
+          get_or-set_at counts at thread (get_or counts at 0 + 1) 0 (sym same) within
+              ∙ (ap (λ n. n + 1) held ∙ sym (more ∙ rw own refl))
       | inr other ↦
           let foreign : (s.thread == thread) ≡ false = grind (arith, nat_tests) in
-          get_or-set_other counts at thread (get_or counts at 0 + 1) 0 (λ e. other (sym e)) ∙ (counted ∙ sym (more ∙ rw foreign (omega arith)))
+          get_or-set_other counts at thread (get_or counts at 0 + 1) 0 (λ e. other (sym e))
+              ∙ (counted ∙ sym (more ∙ rw foreign (omega arith)))
     ]
 
-pub tasks-more : (steps : List Step) (s : Step) → tasks_of (steps ++ s ∷ []) ≡ tasks_of steps + cond (is_some (made s.body)) 1 0
+pub tasks-more : (steps : List Step) (s : Step)
+    → tasks_of (steps ++ s ∷ []) ≡ tasks_of steps + cond (is_some (made s.body)) 1 0
 tasks-more steps s = sum_by_push (λ (x : Step). cond (is_some (made x.body)) 1 0) steps s

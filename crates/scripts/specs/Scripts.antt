@@ -1,5 +1,7 @@
 -- What a script is. Its line 1 is a header; step number i, from 0, stands on line i + 2.
-use Rattle.std.specs.Prelude.{ℕ, ◌≡◌, ◌≤◌, ◌+◌, ◌==◌, ◌&&◌, ◌||◌, Bool, true, false, not, List, [], ◌∷◌, length, take, Option, Some, None, is_some, option_map, option_and_then, if◌then◌else◌, fold, count_by, slice_get, nat_lt, nat_le}
+use Rattle.std.specs.Prelude.{ℕ, ◌≡◌, ◌≤◌, ◌+◌, ◌==◌, ◌&&◌, ◌||◌, Bool, true, false, not, List, [], ◌∷◌}
+use Rattle.std.specs.Prelude.{length, take, Option, Some, None, is_some, option_map, option_and_then}
+use Rattle.std.specs.Prelude.{if◌then◌else◌, fold, count_by, slice_get, nat_lt, nat_le}
 use Rattle.std.specs.List.{list_any, list_all}
 use Rattle.std.specs.Option.{option_map_or}
 use Rattle.ompt_events.specs.declared.records.Body.{Body}

@@ -1,5 +1,6 @@
 -- How the records of each thread are counted, and when one breaks its thread's count.
-use Rattle.std.proofs.Common.{◌≡◌, ◌≢◌, ◌∙◌, ℕ, ◌<◌, ◌≤◌, ◌+◌, ◌==◌, List, length, take, get_or, set, arith, sym, ap, subst, get_or-set_other, get_or-set_same, eq-eqb, inl, inr}
+use Rattle.std.proofs.Common.{◌≡◌, ◌≢◌, ◌∙◌, ℕ, ◌<◌, ◌≤◌, ◌+◌, ◌==◌, List, length, take, get_or, set, arith}
+use Rattle.std.proofs.Common.{sym, ap, subst, get_or-set_other, get_or-set_same, eq-eqb, inl, inr}
 use Rattle.std.specs.Prelude.{count_by}
 use Rattle.std.proofs.lemmas.Bool.{cases_eq, ne_eqb}
 use Rattle.std.proofs.lemmas.List.Sums.{count_by_more_yes, count_by_more_no}
@@ -17,17 +18,23 @@ pub is_seq_gap : (rs : List Record) (i : ℕ) → HasCause rs i SeqGap → HasSe
 is_seq_gap rs i (seq_gap has) = has
 
 -- the record that was read has the number of its thread's earlier ones
-pub no_seq_gap : (rs : List Record) (i : ℕ) (r : Record) → i < length rs → r ≡ get_or rs i r → r.seq ≡ earlier rs i r.thread → HasSeqGap rs i → ⊥
+pub no_seq_gap : (rs : List Record) (i : ℕ) (r : Record) → i < length rs → r ≡ get_or rs i r
+    → r.seq ≡ earlier rs i r.thread → HasSeqGap rs i → ⊥
 no_seq_gap rs i r within read numbered (q, found, apart) =
     let same : q ≡ r = same_Some q r (sym found ∙ read_get rs i r within read) in
     apart (subst (λ (x : Record). x.seq ≡ earlier rs i x.thread) (sym same) numbered)
 
 -- one record more is counted for its own thread
-pub counted_more : (rs : List Record) (i : ℕ) (r : Record) (counts : List ℕ) → i < length rs → r ≡ get_or rs i r → r.thread < length counts → ((t : ℕ) → t < 256 → get_or counts t 0 ≡ earlier rs i t) → (t : ℕ) → t < 256 → get_or (set counts r.thread (get_or counts r.thread 0 + 1)) t 0 ≡ earlier rs (i + 1) t
+pub counted_more : (rs : List Record) (i : ℕ) (r : Record) (counts : List ℕ) → i < length rs
+    → r ≡ get_or rs i r → r.thread < length counts → ((t : ℕ) → t < 256 → get_or counts t 0 ≡ earlier rs i t)
+    → (t : ℕ) → t < 256
+    → get_or (set counts r.thread (get_or counts r.thread 0 + 1)) t 0 ≡ earlier rs (i + 1) t
 counted_more rs i r counts within read fits counted t below = elim (cases_eq t r.thread) [
   | inl same ↦
       let here : (get_or rs i r).thread ≡ t = ap (λ (q : Record). q.thread) (sym read) ∙ sym same in
-      let more : earlier rs (i + 1) t ≡ earlier rs i t + 1 = count_by_more_yes (λ (q : Record). q.thread == t) rs i r within (eq-eqb (get_or rs i r).thread t here) in
+      let more : earlier rs (i + 1) t ≡ earlier rs i t + 1 =
+          count_by_more_yes (λ (q : Record). q.thread == t) rs i r within
+              (eq-eqb (get_or rs i r).thread t here) in
       ap (λ j. get_or (set counts r.thread (get_or counts r.thread 0 + 1)) j 0) same
       ∙ get_or-set_same counts r.thread (get_or counts r.thread 0 + 1) 0 fits
       ∙ ap (λ j. get_or counts j 0 + 1) (sym same)
@@ -35,14 +42,17 @@ counted_more rs i r counts within read fits counted t below = elim (cases_eq t r
       ∙ sym more
   | inr apart ↦
       let here : (get_or rs i r).thread ≢ t = λ e. apart (sym e ∙ ap (λ (q : Record). q.thread) (sym read)) in
-      let same : earlier rs (i + 1) t ≡ earlier rs i t = count_by_more_no (λ (q : Record). q.thread == t) rs i r within (ne_eqb (get_or rs i r).thread t here) in
+      let same : earlier rs (i + 1) t ≡ earlier rs i t =
+          count_by_more_no (λ (q : Record). q.thread == t) rs i r within
+              (ne_eqb (get_or rs i r).thread t here) in
       get_or-set_other counts r.thread t (get_or counts r.thread 0 + 1) 0 apart
       ∙ counted t below
       ∙ sym same
 ]
 
 -- the first record with another number
-pub first_gap : (rs : List Record) (i : ℕ) (r : Record) → i < length rs → r ≡ get_or rs i r → r.seq ≢ earlier rs i r.thread → ((k : ℕ) → k < i → HasSeqGap rs k → ⊥) → IsFirstWith rs SeqGap i
+pub first_gap : (rs : List Record) (i : ℕ) (r : Record) → i < length rs → r ≡ get_or rs i r
+    → r.seq ≢ earlier rs i r.thread → ((k : ℕ) → k < i → HasSeqGap rs k → ⊥) → IsFirstWith rs SeqGap i
 first_gap rs i r within read apart free = record {
   within = within;
   has = seq_gap (r, read_get rs i r within read, apart);
@@ -50,7 +60,8 @@ first_gap rs i r within read apart free = record {
 }
 
 -- where no record up to the end has another number, none has
-pub free_of_gaps : (rs : List Record) (i : ℕ) → ((k : ℕ) → k < i → HasSeqGap rs k → ⊥) → length rs ≤ i → IsFreeOf rs SeqGap
+pub free_of_gaps : (rs : List Record) (i : ℕ) → ((k : ℕ) → k < i → HasSeqGap rs k → ⊥) → length rs ≤ i
+    → IsFreeOf rs SeqGap
 free_of_gaps rs i free end k has =
     let gap = is_seq_gap rs k has in
     let within : k < length rs = slice_get_within rs k gap.0 gap.1 in

@@ -1,6 +1,8 @@
--- How the open regions change from record to record, the first place in the file at which a region may not begin
+-- How the open regions change from record to record, the first place in the file at which a region may not
+-- begin
 -- or end, and where a region began.
-use Rattle.std.proofs.Common.{◌≡◌, ◌≢◌, ◌∙◌, ℕ, ◌<◌, ◌≤◌, ◌+◌, min, Bool, List, [], ◌∷◌, length, Option, Some, None, true, false, refl, sym, ap, subst, arith, inl, inr, ◌⊎◌, set}
+use Rattle.std.proofs.Common.{◌≡◌, ◌≢◌, ◌∙◌, ℕ, ◌<◌, ◌≤◌, ◌+◌, min, Bool, List, [], ◌∷◌, length, Option, Some}
+use Rattle.std.proofs.Common.{None, true, false, refl, sym, ap, subst, arith, inl, inr, ◌⊎◌, set}
 use Rattle.std.proofs.Math.Nat.{min-le_left, min-le_right, min-eq_left, min-eq_right}
 use Rattle.std.proofs.lemmas.Bool.{cases_eq, cases_lt, false≢true}
 use Rattle.std.proofs.lemmas.Option.{none-some, same_Some, slice_get_within, slice_get-get_or}
@@ -15,7 +17,8 @@ use Rattle.ompt_events.specs.declared.cause.Cause.TheVariants.{RegionOrder}
 use Rattle.ompt_events.specs.Records.{region}
 use Rattle.ompt_events.specs.Places.{at}
 use Rattle.ompt_events.specs.Tree.{IsExplicit}
-use Rattle.ompt_events.specs.Regions.{after_region, open_regions, kind_at, is_called_barrier, EndsRegion, IsRegion, ended, at_once}
+use Rattle.ompt_events.specs.Regions.{after_region, open_regions, kind_at, is_called_barrier, EndsRegion}
+use Rattle.ompt_events.specs.Regions.{IsRegion, ended, at_once}
 use Rattle.ompt_events.specs.Causes.{HasCause, region_order, barrier_order, IsFreeOf}
 use Rattle.ompt_events.proofs.RegionLemmas.{open_none, open_other, open_own, same_says}
 use Rattle.ompt_events.proofs.PlaceLemmas.{at_within}
@@ -25,89 +28,138 @@ use Rattle.task_tree.specs.OwnOrder.{AreAllPlaces}
 use Rattle.task_tree.specs.Own.{OwnView, HasCauseAt, IsFirstPlaceWith}
 use Rattle.task_tree.specs.Runs.{RunView, IsRegionEvent}
 use Rattle.task_tree.proofs.RenamedCauseLemmas.{order_within}
-use Rattle.task_states.specs.Regions.{RegionsView, AreRegions, IsLinked, IsBeginOf, below_of, top_after, IsStack, IsInnermost, IsInPlace, IsJudged, AreLinkedOrNot, IsEarliestPlace, IsEarliest}
+use Rattle.task_states.specs.Regions.{RegionsView, AreRegions, IsLinked, IsBeginOf, below_of, top_after}
+use Rattle.task_states.specs.Regions.{IsStack, IsInnermost, IsInPlace, IsJudged, AreLinkedOrNot}
+use Rattle.task_states.specs.Regions.{IsEarliestPlace, IsEarliest}
 
 -- a stack stays when one more link is written, or none
-stack_more : (links : List (Option ℕ)) (n : ℕ) (link top : Option ℕ) (stack : List ℕ) → IsStack links n top stack → IsStack (set links n link) (n + 1) top stack
+stack_more : (links : List (Option ℕ)) (n : ℕ) (link top : Option ℕ) (stack : List ℕ)
+    → IsStack links n top stack → IsStack (set links n link) (n + 1) top stack
 stack_more links n link top [] is = is
 stack_more links n link top (begin ∷ below) (is, within, rest) =
     let apart : begin ≢ n = λ e. absurd (omega (arith, within, e)) in
-    let same : below_of (set links n link) top ≡ below_of links top = ap (below_of (set links n link)) is ∙ get_or-set_other links n begin link None apart ∙ ap (below_of links) (sym is) in
+    let same : below_of (set links n link) top ≡ below_of links top =
+        ap (below_of (set links n link)) is ∙ get_or-set_other links n begin link None apart
+            ∙ ap (below_of links) (sym is) in
     (is, omega (arith, within), rw same (stack_more links n link (below_of links top) below rest))
 
-stack_still : (links : List (Option ℕ)) (n : ℕ) (top : Option ℕ) (stack : List ℕ) → IsStack links n top stack → IsStack links (n + 1) top stack
+stack_still : (links : List (Option ℕ)) (n : ℕ) (top : Option ℕ) (stack : List ℕ) → IsStack links n top stack
+    → IsStack links (n + 1) top stack
 stack_still links n top [] is = is
-stack_still links n top (begin ∷ below) (is, within, rest) = (is, omega (arith, within), stack_still links n (below_of links top) below rest)
+stack_still links n top (begin ∷ below) (is, within, rest) =
+    (is, omega (arith, within), stack_still links n (below_of links top) below rest)
 
 -- the innermost open region of the task with this index
 abbrev pub top_of : List (Option ℕ) → ℕ → Option ℕ
 top_of innermost index = slice_index_or innermost index None
 
 -- what is known of the open regions after n records
-pub record AreOpen (rs : List Record) (n : ℕ) (tasks : List ℕ) (innermost links : List (Option ℕ)) : Type 0 where
+pub record AreOpen (rs : List Record) (n : ℕ) (tasks : List ℕ) (innermost links : List (Option ℕ)) : Type 0
+    where
   pub all : length links ≡ length rs
   pub tops : length innermost ≡ length tasks
-  pub stacks : (index task : ℕ) → slice_get tasks index ≡ Some task → IsStack links n (top_of innermost index) (open_regions rs task n)
+  pub stacks : (index task : ℕ) → slice_get tasks index ≡ Some task
+      → IsStack links n (top_of innermost index) (open_regions rs task n)
   pub linked : AreLinkedOrNot rs n links
 
 -- the innermost open region of a task is at the top of its stack
-top_first : (links : List (Option ℕ)) (n : ℕ) (top : Option ℕ) (stack : List ℕ) → IsStack links n top stack → top ≡ slice_get stack 0
+top_first : (links : List (Option ℕ)) (n : ℕ) (top : Option ℕ) (stack : List ℕ) → IsStack links n top stack
+    → top ≡ slice_get stack 0
 top_first links n top [] is = is
 top_first links n top (begin ∷ below) (is, within, rest) = is
 
-pub innermost_here : (run : RunView) (n index : ℕ) (innermost links : List (Option ℕ)) (link : Option ℕ) → AreOpen run.records n run.family.tasks innermost links → link ≡ top_of innermost index → IsInnermost run n index link
-innermost_here run n index innermost links link are is_top task is = is_top ∙ top_first links n (top_of innermost index) (open_regions run.records task n) (are.stacks index task is)
+pub innermost_here : (run : RunView) (n index : ℕ) (innermost links : List (Option ℕ)) (link : Option ℕ)
+    → AreOpen run.records n run.family.tasks innermost links → link ≡ top_of innermost index
+    → IsInnermost run n index link
+innermost_here run n index innermost links link are is_top task is =
+    is_top
+        ∙ top_first links n (top_of innermost index) (open_regions run.records task n)
+            (are.stacks index task is)
 
-linked_more : (rs : List Record) (n : ℕ) (links : List (Option ℕ)) (link : Option ℕ) (misplaced : Bool) → n < length links → AreLinkedOrNot rs n links → IsJudged rs n link misplaced → AreLinkedOrNot rs (n + 1) (set links n link)
+linked_more : (rs : List Record) (n : ℕ) (links : List (Option ℕ)) (link : Option ℕ) (misplaced : Bool)
+    → n < length links → AreLinkedOrNot rs n links → IsJudged rs n link misplaced
+    → AreLinkedOrNot rs (n + 1) (set links n link)
 linked_more rs n links link misplaced low linked judged i task kind below ends = elim (cases_eq i n) [
   | inl same ↦
-      let P : ℕ → Type 0 = λ j. HasCause rs j RegionOrder ⊎ IsLinked rs j task kind (slice_get (set links n link) j) in
+      let P : ℕ → Type 0 =
+          λ j. HasCause rs j RegionOrder ⊎ IsLinked rs j task kind (slice_get (set links n link) j) in
       subst P (sym same) (here misplaced judged (ap (at region rs) (sym same) ∙ ends))
   | inr apart ↦
       let P : Option (Option ℕ) → Type 0 = λ o. HasCause rs i RegionOrder ⊎ IsLinked rs i task kind o in
-      subst P (sym (get_set_other links n i link apart)) (linked i task kind (omega (arith, below, apart)) ends)
+      subst P (sym (get_set_other links n i link apart))
+          (linked i task kind (omega (arith, below, apart)) ends)
 ]
   where
-    here : (misplaced : Bool) → IsJudged rs n link misplaced → at region rs n ≡ Some (task, kind, End) → HasCause rs n RegionOrder ⊎ IsLinked rs n task kind (slice_get (set links n link) n)
+    here : (misplaced : Bool) → IsJudged rs n link misplaced → at region rs n ≡ Some (task, kind, End)
+        → HasCause rs n RegionOrder ⊎ IsLinked rs n task kind (slice_get (set links n link) n)
     here true has ends' = inl has
     here false fine ends' =
         let P : Option (Option ℕ) → Type 0 = IsLinked rs n task kind in
         inr (subst P (sym (get_set_same links n link low)) (fine.linked task kind ends'))
 
-linked_still : (rs : List Record) (n : ℕ) (links : List (Option ℕ)) → AreLinkedOrNot rs n links → at region rs n ≡ None → AreLinkedOrNot rs (n + 1) links
+linked_still : (rs : List Record) (n : ℕ) (links : List (Option ℕ)) → AreLinkedOrNot rs n links
+    → at region rs n ≡ None → AreLinkedOrNot rs (n + 1) links
 linked_still rs n links linked none i task kind below ends = elim (cases_eq i n) [
   | inl same ↦ absurd (none-some (task, kind, End) (sym none ∙ ap (at region rs) (sym same) ∙ ends))
   | inr apart ↦ linked i task kind (omega arith) ends
 ]
 
 -- a record of no region
-pub open_more_none : (rs : List Record) (n : ℕ) (tasks : List ℕ) (innermost links : List (Option ℕ)) → AreOpen rs n tasks innermost links → at region rs n ≡ None → AreOpen rs (n + 1) tasks innermost links
+pub open_more_none : (rs : List Record) (n : ℕ) (tasks : List ℕ) (innermost links : List (Option ℕ))
+    → AreOpen rs n tasks innermost links → at region rs n ≡ None → AreOpen rs (n + 1) tasks innermost links
 open_more_none rs n tasks innermost links are none = record {
   all = are.all;
   tops = are.tops;
-  stacks = λ index task is. rw (open_none rs task n none) (stack_still links n (top_of innermost index) (open_regions rs task n) (are.stacks index task is));
+  stacks =
+      λ index task is.
+          rw (open_none rs task n none)
+              (stack_still links n (top_of innermost index) (open_regions rs task n)
+                  (are.stacks index task is));
   linked = linked_still rs n links are.linked none;
 }
 
 -- the stack of a task after its own record
-own_stack : (links : List (Option ℕ)) (n own : ℕ) (kind : SyncKind) (endpoint : Endpoint) (link : Option ℕ) (stack : List ℕ) → n < length links → IsStack links n link stack → IsStack (set links n link) (n + 1) (top_after links link n endpoint) (after_region stack n (Some (own, kind, endpoint)))
+own_stack : (links : List (Option ℕ)) (n own : ℕ) (kind : SyncKind) (endpoint : Endpoint) (link : Option ℕ)
+    (stack : List ℕ)
+    → n < length links → IsStack links n link stack
+    → IsStack (set links n link) (n + 1) (top_after links link n endpoint)
+        (after_region stack n (Some (own, kind, endpoint)))
 own_stack links n own kind Begin link stack low is =
     let here : below_of (set links n link) (Some n) ≡ link = get_or-set_same links n link None low in
     (refl, omega arith, rw here (stack_more links n link link stack is))
 own_stack links n own kind BeginEnd link stack low is = stack_more links n link link stack is
 own_stack links n own kind End link [] low is = ap (below_of links) is
-own_stack links n own kind End link (begin ∷ below) low (is, within, rest) = stack_more links n link (below_of links link) below rest
+own_stack links n own kind End link (begin ∷ below) low (is, within, rest) =
+    stack_more links n link (below_of links link) below rest
 
 -- a record that begins or ends a region
-pub open_more_own : (run : RunView) (n index : ℕ) (kind : SyncKind) (endpoint : Endpoint) (innermost links : List (Option ℕ)) (link : Option ℕ) (misplaced : Bool) → AreApart run.family.tasks → AreOpen run.records n run.family.tasks innermost links → IsRegionEvent run n index kind endpoint → link ≡ top_of innermost index → n < length run.records → IsJudged run.records n link misplaced → AreOpen run.records (n + 1) run.family.tasks (set innermost index (top_after links link n endpoint)) (set links n link)
-open_more_own run n index kind endpoint innermost links link misplaced apart_all are own is_top inside judged = record {
+pub open_more_own : (run : RunView) (n index : ℕ) (kind : SyncKind) (endpoint : Endpoint)
+    (innermost links : List (Option ℕ)) (link : Option ℕ) (misplaced : Bool)
+    → AreApart run.family.tasks → AreOpen run.records n run.family.tasks innermost links
+    → IsRegionEvent run n index kind endpoint → link ≡ top_of innermost index → n < length run.records
+    → IsJudged run.records n link misplaced
+    → AreOpen run.records (n + 1) run.family.tasks (set innermost index (top_after links link n endpoint))
+        (set links n link)
+open_more_own run n index kind endpoint innermost links link misplaced apart_all are own is_top inside judged
+        =
+    record {
   all = length-set links n link ∙ are.all;
   tops = length-set innermost index (top_after links link n endpoint) ∙ are.tops;
   stacks = λ other task is. elim (cases_eq other index) [
     | inl same ↦
-        let is_task : task ≡ own.task = same_Some task own.task (sym is ∙ ap (slice_get run.family.tasks) same ∙ own.indexed) in
-        rw (same, get_or-set_same innermost index (top_after links link n endpoint) None within, is_task, open_own run.records own.task n kind endpoint own.says) (own_stack links n own.task kind endpoint link (open_regions run.records own.task n) low own_one)
-    | inr apart ↦ rw (get_or-set_other innermost index other (top_after links link n endpoint) None apart, open_other run.records task own.task n kind endpoint own.says (λ e. apart (apart_all other index own.task (is ∙ ap Some e) own.indexed))) (stack_more links n link (top_of innermost other) (open_regions run.records task n) (are.stacks other task is))
+        let is_task : task ≡ own.task =
+            same_Some task own.task (sym is ∙ ap (slice_get run.family.tasks) same ∙ own.indexed) in
+        rw
+            (same, get_or-set_same innermost index (top_after links link n endpoint) None within, is_task,
+                open_own run.records own.task n kind endpoint own.says)
+            (own_stack links n own.task kind endpoint link (open_regions run.records own.task n) low own_one)
+    | inr apart ↦
+        rw
+            (get_or-set_other innermost index other (top_after links link n endpoint) None apart,
+                open_other run.records task own.task n kind endpoint own.says
+                    (λ e. apart (apart_all other index own.task (is ∙ ap Some e) own.indexed)))
+            (stack_more links n link (top_of innermost other) (open_regions run.records task n)
+                (are.stacks other task is))
   ];
   linked = linked_more run.records n links link misplaced low are.linked judged;
 }
@@ -116,15 +168,22 @@ open_more_own run n index kind endpoint innermost links link misplaced apart_all
     low = let all = are.all in omega (arith, all, inside)
 
     within : index < length innermost
-    within = let inside = slice_get_within run.family.tasks index own.task own.indexed in let tops = are.tops in omega (arith, inside, tops)
+    within =
+        let inside = slice_get_within run.family.tasks index own.task own.indexed in
+        let tops = are.tops in omega (arith, inside, tops)
 
     own_one : IsStack links n link (open_regions run.records own.task n)
-    own_one = let P : Option ℕ → Type 0 = λ t. IsStack links n t (open_regions run.records own.task n) in subst P (sym is_top) (are.stacks index own.task own.indexed)
+    own_one =
+        let P : Option ℕ → Type 0 = λ t. IsStack links n t (open_regions run.records own.task n) in
+        subst P (sym is_top) (are.stacks index own.task own.indexed)
 
 -- ---- the cause
 
 -- an end that misses its begin
-pub misses_here : (run : RunView) (i index : ℕ) (kind : SyncKind) (endpoint : Endpoint) (link : Option ℕ) → IsRegionEvent run i index kind endpoint → IsInnermost run i index link → (endpoint ≡ End) × ((begin : ℕ) → link ≡ Some begin → kind_at run.records begin ≢ Some kind) → HasCause run.records i RegionOrder
+pub misses_here : (run : RunView) (i index : ℕ) (kind : SyncKind) (endpoint : Endpoint) (link : Option ℕ)
+    → IsRegionEvent run i index kind endpoint → IsInnermost run i index link
+    → (endpoint ≡ End) × ((begin : ℕ) → link ≡ Some begin → kind_at run.records begin ≢ Some kind)
+    → HasCause run.records i RegionOrder
 misses_here run i index kind endpoint link own top (is_end, none) = region_order (
   own.task,
   kind,
@@ -135,14 +194,22 @@ misses_here run i index kind endpoint link own top (is_end, none) = region_order
 )
 
 -- a barrier of an explicit task
-pub barred_here : (run : RunView) (i index : ℕ) (kind : SyncKind) (endpoint : Endpoint) (own : IsRegionEvent run i index kind endpoint) → (is_called_barrier kind ≡ true) × IsExplicit run.records own.task → HasCause run.records i RegionOrder
-barred_here run i index kind endpoint own (called, explicit) = barrier_order (own.task, kind, endpoint, own.says, called, explicit)
+pub barred_here : (run : RunView) (i index : ℕ) (kind : SyncKind) (endpoint : Endpoint)
+    (own : IsRegionEvent run i index kind endpoint)
+    → (is_called_barrier kind ≡ true) × IsExplicit run.records own.task → HasCause run.records i RegionOrder
+barred_here run i index kind endpoint own (called, explicit) =
+    barrier_order (own.task, kind, endpoint, own.says, called, explicit)
 
 -- a record that has its begin, or needs none, and is no such barrier
-pub placed_here : (run : RunView) (n index : ℕ) (kind : SyncKind) (endpoint : Endpoint) (link : Option ℕ) (own : IsRegionEvent run n index kind endpoint) → IsInnermost run n index link → (endpoint ≡ End → (begin : ℕ) × (link ≡ Some begin) × (kind_at run.records begin ≡ Some kind)) → ((is_called_barrier kind ≡ true) × IsExplicit run.records own.task → ⊥) → IsInPlace run.records n link
+pub placed_here : (run : RunView) (n index : ℕ) (kind : SyncKind) (endpoint : Endpoint) (link : Option ℕ)
+    (own : IsRegionEvent run n index kind endpoint)
+    → IsInnermost run n index link
+    → (endpoint ≡ End → (begin : ℕ) × (link ≡ Some begin) × (kind_at run.records begin ≡ Some kind))
+    → ((is_called_barrier kind ≡ true) × IsExplicit run.records own.task → ⊥) → IsInPlace run.records n link
 placed_here run n index kind endpoint link own top found unbarred = record { linked = linked; free = free }
   where
-    linked : (task : ℕ) (kind' : SyncKind) → at region run.records n ≡ Some (task, kind', End) → IsLinked run.records n task kind' (Some link)
+    linked : (task : ℕ) (kind' : SyncKind) → at region run.records n ≡ Some (task, kind', End)
+        → IsLinked run.records n task kind' (Some link)
     linked task kind' ends =
         let same = same_Some (own.task, kind, endpoint) (task, kind', End) (sym own.says ∙ ends) in
         let is_end : endpoint ≡ End = ap (λ (p : ℕ × SyncKind × Endpoint). p.2) same in
@@ -153,7 +220,9 @@ placed_here run n index kind endpoint link own top found unbarred = record { lin
           ap Some h.1,
           record {
             ends = ends;
-            innermost = ap (λ t. slice_get (open_regions run.records t n) 0) (sym is_task) ∙ sym (top own.task own.indexed) ∙ h.1;
+            innermost =
+                ap (λ t. slice_get (open_regions run.records t n) 0) (sym is_task)
+                    ∙ sym (top own.task own.indexed) ∙ h.1;
             same_kind = h.2 ∙ ap Some is_kind;
           },
         )
@@ -172,18 +241,23 @@ placed_here run n index kind endpoint link own top found unbarred = record { lin
 -- a record of no region
 no_region_here : (rs : List Record) (n : ℕ) → at region rs n ≡ None → HasCause rs n RegionOrder → ⊥
 no_region_here rs n none (region_order (task, kind, h)) = none-some (task, kind, End) (sym none ∙ h.ends)
-no_region_here rs n none (barrier_order (task, kind, endpoint, says, called, explicit)) = none-some (task, kind, endpoint) (sym none ∙ says)
+no_region_here rs n none (barrier_order (task, kind, endpoint, says, called, explicit)) =
+    none-some (task, kind, endpoint) (sym none ∙ says)
 
-pub free_of_order : (rs : List Record) (n : ℕ) → ((k : ℕ) → k < n → HasCause rs k RegionOrder → ⊥) → length rs ≤ n → IsFreeOf rs RegionOrder
+pub free_of_order : (rs : List Record) (n : ℕ) → ((k : ℕ) → k < n → HasCause rs k RegionOrder → ⊥)
+    → length rs ≤ n → IsFreeOf rs RegionOrder
 free_of_order rs n free all i has = free i (let inside = order_within rs i has in omega arith) has
 
-pub judged_has : (rs : List Record) (i : ℕ) (link : Option ℕ) (misplaced : Bool) → IsJudged rs i link misplaced → IsTrue misplaced ↔ HasCause rs i RegionOrder
+pub judged_has : (rs : List Record) (i : ℕ) (link : Option ℕ) (misplaced : Bool)
+    → IsJudged rs i link misplaced → IsTrue misplaced ↔ HasCause rs i RegionOrder
 judged_has rs i link true has = (λ yes. has, λ h. refl)
 judged_has rs i link false fine = (λ never. absurd (false≢true never), λ h. absurd (fine.free h))
 
 -- ---- the earliest place
 
-earliest_still : (own : OwnView) (cause : Cause) (n : ℕ) (found : Option ℕ) → (HasCause own.run.records n cause → ⊥) → IsEarliest own cause n found → IsEarliest own cause (n + 1) found
+earliest_still : (own : OwnView) (cause : Cause) (n : ℕ) (found : Option ℕ)
+    → (HasCause own.run.records n cause → ⊥) → IsEarliest own cause n found
+    → IsEarliest own cause (n + 1) found
 earliest_still own cause n None none free = λ k below has. elim (cases_eq k n) [
   | inl same ↦ let P : ℕ → Type 0 = λ j. HasCause own.run.records j cause in none (subst P same has)
   | inr apart ↦ free k (omega (arith, below, apart)) has
@@ -191,21 +265,28 @@ earliest_still own cause n None none free = λ k below has. elim (cases_eq k n) 
 earliest_still own cause n (Some place) none is = record {
   has = is.has;
   least = λ number other below stands has. elim (cases_eq number n) [
-    | inl same ↦ let P : ℕ → Type 0 = λ j. HasCause own.run.records j cause in absurd (none (subst P same has))
+    | inl same ↦
+        let P : ℕ → Type 0 = λ j. HasCause own.run.records j cause in absurd (none (subst P same has))
     | inr apart ↦ is.least number other (omega (arith, below, apart)) stands has
   ];
 }
 
 -- a record of no region
-pub earliest_silent : (own : OwnView) (n : ℕ) (found : Option ℕ) → at region own.run.records n ≡ None → IsEarliest own RegionOrder n found → IsEarliest own RegionOrder (n + 1) found
-earliest_silent own n found none is = earliest_still own RegionOrder n found (no_region_here own.run.records n none) is
+pub earliest_silent : (own : OwnView) (n : ℕ) (found : Option ℕ) → at region own.run.records n ≡ None
+    → IsEarliest own RegionOrder n found → IsEarliest own RegionOrder (n + 1) found
+earliest_silent own n found none is =
+    earliest_still own RegionOrder n found (no_region_here own.run.records n none) is
 
 -- another one that has it
-pub earlier_other : (own : OwnView) (cause : Cause) (n before place : ℕ) → slice_get own.places n ≡ Some place → HasCause own.run.records n cause → IsEarliestPlace own cause n before → IsEarliestPlace own cause (n + 1) (min before place)
+pub earlier_other : (own : OwnView) (cause : Cause) (n before place : ℕ) → slice_get own.places n ≡ Some place
+    → HasCause own.run.records n cause → IsEarliestPlace own cause n before
+    → IsEarliestPlace own cause (n + 1) (min before place)
 earlier_other own cause n before place stands has is = record {
   has = elim (cases_lt before place) [
-    | inl low ↦ let P : ℕ → Type 0 = HasCauseAt own cause in subst P (sym (min-eq_left (omega (arith, low)))) is.has
-    | inr high ↦ let P : ℕ → Type 0 = HasCauseAt own cause in subst P (sym (min-eq_right high)) (n, stands, has)
+    | inl low ↦
+        let P : ℕ → Type 0 = HasCauseAt own cause in subst P (sym (min-eq_left (omega (arith, low)))) is.has
+    | inr high ↦
+        let P : ℕ → Type 0 = HasCauseAt own cause in subst P (sym (min-eq_right high)) (n, stands, has)
   ];
   least = λ number other below there has'. elim (cases_eq number n) [
     | inl same ↦
@@ -220,7 +301,9 @@ earlier_other own cause n before place stands has is = record {
 }
 
 -- once all records are gone over, it is the first in the file
-pub earliest_first : (own : OwnView) (cause : Cause) (n place : ℕ) → AreAllPlaces own.places (length own.run.records) → length own.run.records ≤ n → IsEarliestPlace own cause n place → IsFirstPlaceWith own cause place
+pub earliest_first : (own : OwnView) (cause : Cause) (n place : ℕ)
+    → AreAllPlaces own.places (length own.run.records) → length own.run.records ≤ n
+    → IsEarliestPlace own cause n place → IsFirstPlaceWith own cause place
 earliest_first own cause n place all last is = record {
   has = is.has;
   first = λ k below there.
@@ -233,13 +316,15 @@ earliest_first own cause n place all last is = record {
 -- ---- where a region began
 
 -- a begin and end in one began there
-pub once_begin : (rs : List Record) (i own : ℕ) (kind : SyncKind) → at region rs i ≡ Some (own, kind, BeginEnd) → IsBeginOf rs i i
+pub once_begin : (rs : List Record) (i own : ℕ) (kind : SyncKind)
+    → at region rs i ≡ Some (own, kind, BeginEnd) → IsBeginOf rs i i
 once_begin rs i own kind says task other endpoint there =
     let same = same_says rs i own task kind other BeginEnd endpoint says there in
     let P : Endpoint → Type 0 = λ e. at region rs i ≡ Some (task, other, e) in
     at_once (subst P (sym same.2) there)
 
-later_begin : (rs : List Record) (i own begin : ℕ) (kind : SyncKind) → at region rs i ≡ Some (own, kind, End) → EndsRegion rs i own kind begin → IsBeginOf rs i begin
+later_begin : (rs : List Record) (i own begin : ℕ) (kind : SyncKind) → at region rs i ≡ Some (own, kind, End)
+    → EndsRegion rs i own kind begin → IsBeginOf rs i begin
 later_begin rs i own begin kind says ends task other endpoint there =
     let same = same_says rs i own task kind other End endpoint says there in
     let P : ℕ → Type 0 = λ t. IsRegion rs i t other begin in
@@ -247,11 +332,23 @@ later_begin rs i own begin kind says ends task other endpoint there =
     subst P same.0 (subst Q same.1 (ended ends))
 
 -- the begin of an end stands in the table
-pub linked_begin : (regions : RegionsView) (i own : ℕ) (kind : SyncKind) (found : Option ℕ) → AreRegions regions → at region regions.own.run.records i ≡ Some (own, kind, End) → found ≡ slice_index_or regions.begins i None → MatchOption found ((task begin : ℕ) (other : SyncKind) → IsRegion regions.own.run.records i task other begin → ⊥) (IsBeginOf regions.own.run.records i)
+pub linked_begin : (regions : RegionsView) (i own : ℕ) (kind : SyncKind) (found : Option ℕ)
+    → AreRegions regions → at region regions.own.run.records i ≡ Some (own, kind, End)
+    → found ≡ slice_index_or regions.begins i None
+    → MatchOption found
+        ((task begin : ℕ) (other : SyncKind) → IsRegion regions.own.run.records i task other begin → ⊥)
+        (IsBeginOf regions.own.run.records i)
 linked_begin regions i own kind found are says read =
     let rs = regions.own.run.records in
     let there = are.begins i own kind (at_within region rs i (own, kind, End) says) says in
     let within = slice_get_within regions.begins i (Some there.0) there.1 in
-    let same : Some there.0 ≡ found = sym (same_Some (slice_index_or regions.begins i None) (Some there.0) (sym (slice_get-get_or regions.begins i None within) ∙ there.1)) ∙ sym read in
-    let P : Option ℕ → Type 0 = λ o. MatchOption o ((task begin : ℕ) (other : SyncKind) → IsRegion rs i task other begin → ⊥) (IsBeginOf rs i) in
+    let same : Some there.0 ≡ found =
+        sym
+            (same_Some (slice_index_or regions.begins i None) (Some there.0)
+                (sym (slice_get-get_or regions.begins i None within) ∙ there.1))
+            ∙ sym read in
+    let P : Option ℕ → Type 0 =
+        λ o.
+            MatchOption o ((task begin : ℕ) (other : SyncKind) → IsRegion rs i task other begin → ⊥)
+                (IsBeginOf rs i) in
     subst P same (later_begin rs i own there.0 kind says there.2)

@@ -11,20 +11,28 @@ pub makes_target_task : (rs : List Record) (i : ℕ) → HasCause rs i TargetTas
 makes_target_task rs i (target_task makes) = makes
 
 -- the record that was read makes no target task
-pub no_target : (rs : List Record) (i : ℕ) (r : Record) → i < length rs → r ≡ get_or rs i r → (IsTargetMade r.body → ⊥) → MakesTarget rs i → ⊥
+pub no_target : (rs : List Record) (i : ℕ) (r : Record) → i < length rs → r ≡ get_or rs i r
+    → (IsTargetMade r.body → ⊥) → MakesTarget rs i → ⊥
 no_target rs i r within read none (task, bits, makes, given, has) =
-    none (task, bits, sym (at_read made rs i r within read) ∙ makes, sym (at_read flags rs i r within read) ∙ given, has)
+    none
+        (task, bits, sym (at_read made rs i r within read) ∙ makes,
+            sym (at_read flags rs i r within read) ∙ given, has)
 
 -- the first record that makes one
-pub first_target : (rs : List Record) (i : ℕ) (r : Record) → i < length rs → r ≡ get_or rs i r → IsTargetMade r.body → ((k : ℕ) → k < i → MakesTarget rs k → ⊥) → IsFirstWith rs TargetTask i
+pub first_target : (rs : List Record) (i : ℕ) (r : Record) → i < length rs → r ≡ get_or rs i r
+    → IsTargetMade r.body → ((k : ℕ) → k < i → MakesTarget rs k → ⊥) → IsFirstWith rs TargetTask i
 first_target rs i r within read (task, bits, makes, given, has) free = record {
   within = within;
-  has = target_task (task, bits, at_read made rs i r within read ∙ makes, at_read flags rs i r within read ∙ given, has);
+  has =
+      target_task
+          (task, bits, at_read made rs i r within read ∙ makes, at_read flags rs i r within read ∙ given,
+              has);
   first = λ k below cause. free k below (makes_target_task rs k cause);
 }
 
 -- where no record up to the end makes one, none does
-pub free_of_targets : (rs : List Record) (i : ℕ) → ((k : ℕ) → k < i → MakesTarget rs k → ⊥) → length rs ≤ i → IsFreeOf rs TargetTask
+pub free_of_targets : (rs : List Record) (i : ℕ) → ((k : ℕ) → k < i → MakesTarget rs k → ⊥) → length rs ≤ i
+    → IsFreeOf rs TargetTask
 free_of_targets rs i free end k has =
     let makes = makes_target_task rs k has in
     let within : k < length rs = at_within made rs k makes.0 makes.2 in

@@ -1,5 +1,6 @@
 -- What the schedules tell: where each explicit task runs, and whether any is fulfilled early.
-use Rattle.std.specs.Prelude.{ℕ, ◌≡◌, ◌<◌, ◌==◌, Bool, List, Option, Some, None, true, false, if◌then◌else◌, length, slice_get}
+use Rattle.std.specs.Prelude.{ℕ, ◌≡◌, ◌<◌, ◌==◌, Bool, List, Option, Some, None, true, false, if◌then◌else◌}
+use Rattle.std.specs.Prelude.{length, slice_get}
 use Rattle.ompt_events.specs.declared.records.Record.{Record}
 use Rattle.ompt_events.specs.Records.{started}
 use Rattle.ompt_events.specs.Places.{at}

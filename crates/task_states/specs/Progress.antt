@@ -1,5 +1,7 @@
 -- How far each task has come while the records are gone over in passes.
-use Rattle.std.specs.Prelude.{ℕ, ◌≡◌, ◌<◌, ◌≤◌, ◌+◌, ◌++◌, ◌∷◌, ◌&&◌, ◌==◌, ltb, not, Bool, true, false, List, [], length, Option, Some, None, All, Contains, IsSomeAnd, is_some, if◌then◌else◌, filter, find, take, slice_get}
+use Rattle.std.specs.Prelude.{ℕ, ◌≡◌, ◌<◌, ◌≤◌, ◌+◌, ◌++◌, ◌∷◌, ◌&&◌, ◌==◌, ltb, not, Bool, true, false, List}
+use Rattle.std.specs.Prelude.{[], length, Option, Some, None, All, Contains, IsSomeAnd, is_some}
+use Rattle.std.specs.Prelude.{if◌then◌else◌, filter, find, take, slice_get}
 use Rattle.std.specs.List.{flat_map, range_with_len}
 use Rattle.ompt_events.specs.declared.records.Record.{Record}
 use Rattle.ompt_events.specs.declared.state.State.{State}
@@ -11,7 +13,8 @@ use Rattle.ompt_events.specs.Flags.{has_flag}
 use Rattle.ompt_events.specs.Records.{started, flags as says_flags}
 use Rattle.ompt_events.specs.Places.{at, places}
 use Rattle.ompt_events.specs.States as states
-use Rattle.ompt_events.specs.States.{is_task, is_on, is_early, home_of, has_moved, moves_at, turn_moves, nature_of, state_of}
+use Rattle.ompt_events.specs.States.{is_task, is_on, is_early, home_of, has_moved, moves_at, turn_moves}
+use Rattle.ompt_events.specs.States.{nature_of, state_of}
 use Rattle.ompt_events.specs.Names.{demands_next}
 use Rattle.ompt_events.specs.Turns.{turns_in}
 use Rattle.task_tree.specs.Runs.{RunView, IsRun, status as says_status}

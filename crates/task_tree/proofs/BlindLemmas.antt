@@ -4,7 +4,8 @@ use Rattle.std.specs.Prelude.{slice_get, option_and_then}
 use Rattle.ompt_events.specs.declared.records.Record.{Record}
 use Rattle.ompt_events.specs.declared.records.Body.{Body}
 use Rattle.ompt_events.specs.declared.records.Body.TheVariants.{TaskSchedule}
-use Rattle.ompt_events.specs.Records.{begun_root, begun_initial, joined, created, creation, dependences, running, region, finish, claim}
+use Rattle.ompt_events.specs.Records.{begun_root, begun_initial, joined, created, creation, dependences}
+use Rattle.ompt_events.specs.Records.{running, region, finish, claim}
 use Rattle.ompt_events.specs.Places.{at}
 use Rattle.task_tree.specs.Renaming.{untold, SayAlike}
 
@@ -13,14 +14,19 @@ abbrev pub IsBlind : {X : Type 0} → (Body → X) → Type 0
 IsBlind f = (body : Body) → f (untold body) ≡ f body
 
 -- the same record says the same
-pub alike_same : (rs : List Record) (i : ℕ) (ss : List Record) (j : ℕ) → slice_get rs i ≡ slice_get ss j → SayAlike rs i ss j
+pub alike_same : (rs : List Record) (i : ℕ) (ss : List Record) (j : ℕ) → slice_get rs i ≡ slice_get ss j
+    → SayAlike rs i ss j
 alike_same rs i ss j same = ap (option_and_then (λ (r : Record). Some (untold r.body))) same
 
 -- where records say alike, what is read so is the same
-pub blind_at : {X : Type 0} (f : Body → Option X) → IsBlind f → (rs : List Record) (i : ℕ) (ss : List Record) (j : ℕ) → SayAlike rs i ss j → at f rs i ≡ at f ss j
-blind_at {X} f blind rs i ss j alike = sym (through (slice_get rs i)) ∙ ap (option_and_then f) alike ∙ through (slice_get ss j)
+pub blind_at : {X : Type 0} (f : Body → Option X) → IsBlind f
+    → (rs : List Record) (i : ℕ) (ss : List Record) (j : ℕ) → SayAlike rs i ss j → at f rs i ≡ at f ss j
+blind_at {X} f blind rs i ss j alike =
+    sym (through (slice_get rs i)) ∙ ap (option_and_then f) alike ∙ through (slice_get ss j)
   where
-    through : (o : Option Record) → option_and_then f (option_and_then (λ (r : Record). Some (untold r.body)) o) ≡ option_and_then (λ (r : Record). f r.body) o
+    through : (o : Option Record)
+        → option_and_then f (option_and_then (λ (r : Record). Some (untold r.body)) o)
+            ≡ option_and_then (λ (r : Record). f r.body) o
     through None = refl
     through (Some r) = blind r.body
 

@@ -1,5 +1,6 @@
 -- The tasks' own order of a trace: as in the file, or arranged.
-use Rattle.std.proofs.Common.{◌≡◌, ◌∙◌, ℕ, ◌<◌, ◌+◌, List, [], ◌∷◌, ◌++◌, length, take, Option, Some, None, refl, sym, ap, subst, arith, inl, inr}
+use Rattle.std.proofs.Common.{◌≡◌, ◌∙◌, ℕ, ◌<◌, ◌+◌, List, [], ◌∷◌, ◌++◌, length, take, Option, Some, None}
+use Rattle.std.proofs.Common.{refl, sym, ap, subst, arith, inl, inr}
 use Rattle.std.proofs.lemmas.Option.{none-some, same_Some, slice_get_within, get_or_from_slice_get}
 use Rattle.std.proofs.lemmas.List.{take_more}
 use Rattle.std.proofs.lemmas.List.Elements.{filter_map-append}
@@ -20,34 +21,47 @@ use Rattle.task_tree.specs.Runs.{RunView, IsRun}
 use Rattle.task_tree.specs.OwnOrder.{AreAllPlaces}
 use Rattle.task_tree.specs.Own.{KeepsMembers}
 use Rattle.task_tree.specs.Families.{FamiliesView, AreFamiliesOf, AreArranged, as_in_file, by_turn}
-use Rattle.task_tree.proofs.OwnOrderLemmas.{own_all_places, own_within, own_order, own_place_of, arranged_at, arranged_length}
+use Rattle.task_tree.proofs.OwnOrderLemmas.{own_all_places, own_within, own_order, own_place_of, arranged_at}
+use Rattle.task_tree.proofs.OwnOrderLemmas.{arranged_length}
 use Rattle.task_tree.proofs.RisingLemmas.{joined_zero}
 
-within : (rs : List Record) (number place : ℕ) → slice_get (places rs) number ≡ Some place → number < length rs
-within rs number place is = rw (length-range_with_len 0 (length rs)) at (slice_get_within (places rs) number place is)
+within : (rs : List Record) (number place : ℕ) → slice_get (places rs) number ≡ Some place
+    → number < length rs
+within rs number place is =
+    rw (length-range_with_len 0 (length rs)) at (slice_get_within (places rs) number place is)
 
 -- a record of the file has its place for its number
-pub file_place : (rs : List Record) (number place : ℕ) → slice_get (places rs) number ≡ Some place → number ≡ place
-file_place rs number place is = same_Some number place (sym (range_get (length rs) number (within rs number place is)) ∙ is)
+pub file_place : (rs : List Record) (number place : ℕ) → slice_get (places rs) number ≡ Some place
+    → number ≡ place
+file_place rs number place is =
+    same_Some number place (sym (range_get (length rs) number (within rs number place is)) ∙ is)
 
 -- the places of a file are all places
 pub file_all_places : (rs : List Record) → AreAllPlaces (places rs) (length rs)
 file_all_places rs = record {
   all = length-range_with_len 0 (length rs);
-  below = λ number place is. let e = file_place rs number place is in let b = within rs number place is in omega (arith, e, b);
+  below =
+      λ number place is.
+          let e = file_place rs number place is in let b = within rs number place is in omega (arith, e, b);
   each = λ place below. (place, range_get (length rs) place below);
-  apart = λ number other place one another. file_place rs number place one ∙ sym (file_place rs other place another);
+  apart =
+      λ number other place one another.
+          file_place rs number place one ∙ sym (file_place rs other place another);
 }
 
 -- so the order of a trace has each place once
-pub file_order_all : (rs : List Record) (arranged : Option RunView) (order : List ℕ) → arranged ≡ None → AreArranged rs arranged order → AreAllPlaces order (length rs)
+pub file_order_all : (rs : List Record) (arranged : Option RunView) (order : List ℕ) → arranged ≡ None
+    → AreArranged rs arranged order → AreAllPlaces order (length rs)
 file_order_all rs arranged order none (as_in_file rise) = file_all_places rs
 file_order_all rs arranged order none (by_turn {run = run} is same) = absurd (none-some run (sym none))
 
-pub own_order_all : (rs : List Record) (arranged : Option RunView) (run : RunView) (order : List ℕ) → arranged ≡ Some run → AreArranged rs arranged order → AreAllPlaces order (length run.records)
+pub own_order_all : (rs : List Record) (arranged : Option RunView) (run : RunView) (order : List ℕ)
+    → arranged ≡ Some run → AreArranged rs arranged order → AreAllPlaces order (length run.records)
 own_order_all rs arranged run order some (as_in_file rise) = absurd (none-some run some)
 own_order_all rs arranged run order some (by_turn {run = own} is same) =
-    let long : length run.records ≡ length rs = ap (λ (r : RunView). length r.records) (sym (same_Some own run some)) ∙ ap length same ∙ arranged_length rs in
+    let long : length run.records ≡ length rs =
+        ap (λ (r : RunView). length r.records) (sym (same_Some own run some)) ∙ ap length same
+            ∙ arranged_length rs in
     let P : ℕ → Type 0 = AreAllPlaces (own_places rs) in
     subst P (sym long) (own_all_places rs)
 
@@ -64,7 +78,10 @@ arranged_members rs number other first second less one another at_first at_secon
     let zero_second = joined_zero rs second (ap is_some (said other second at_second) ∙ another) in
     let a = own_place_of rs number first at_first in
     let b = own_place_of rs other second at_second in
-    elim ((own_order rs first second (own_within rs number first at_first) (own_within rs other second at_second)).0 (omega (arith, less, a, b))) [
+    elim
+        ((own_order rs first second (own_within rs number first at_first)
+             (own_within rs other second at_second)).0
+            (omega (arith, less, a, b))) [
       | inl earlier ↦ absurd (omega (arith, earlier, zero_second))
       | inr same ↦ same.1
     ]
@@ -72,41 +89,57 @@ arranged_members rs number other first second less one another at_first at_secon
     said : (n i : ℕ) → slice_get (own_places rs) n ≡ Some i → at joined rs i ≡ at joined (in_own_order rs) n
     said n i is = ap (option_and_then (λ (r : Record). joined r.body)) (sym (arranged_at rs n i is))
 
-pub file_order_members : (rs : List Record) (arranged : Option RunView) (order : List ℕ) → arranged ≡ None → AreArranged rs arranged order → KeepsMembers rs order
+pub file_order_members : (rs : List Record) (arranged : Option RunView) (order : List ℕ) → arranged ≡ None
+    → AreArranged rs arranged order → KeepsMembers rs order
 file_order_members rs arranged order none (as_in_file rise) = file_members rs
 file_order_members rs arranged order none (by_turn {run = run} is same) = absurd (none-some run (sym none))
 
-pub own_order_members : (rs : List Record) (arranged : Option RunView) (run : RunView) (order : List ℕ) → arranged ≡ Some run → AreArranged rs arranged order → KeepsMembers run.records order
+pub own_order_members : (rs : List Record) (arranged : Option RunView) (run : RunView) (order : List ℕ)
+    → arranged ≡ Some run → AreArranged rs arranged order → KeepsMembers run.records order
 own_order_members rs arranged run order some (as_in_file rise) = absurd (none-some run some)
 own_order_members rs arranged run order some (by_turn {run = own} is same) =
     let P : List Record → Type 0 = λ records. KeepsMembers records (own_places rs) in
-    subst P (sym (ap (λ (r : RunView). r.records) (sym (same_Some own run some)) ∙ same)) (arranged_members rs)
+    subst P (sym (ap (λ (r : RunView). r.records) (sym (same_Some own run some)) ∙ same))
+        (arranged_members rs)
 
 -- ---- the families of a trace
 
-pub file_families : (rs : List Record) (families : FamiliesView) → IsFamilyOf rs families.file → TurnsRise rs → IsFreeOf rs TurnGap → families.arranged ≡ None → families.places ≡ places rs → families.gap ≡ None → AreFamiliesOf rs families
+pub file_families : (rs : List Record) (families : FamiliesView) → IsFamilyOf rs families.file → TurnsRise rs
+    → IsFreeOf rs TurnGap → families.arranged ≡ None → families.places ≡ places rs → families.gap ≡ None
+    → AreFamiliesOf rs families
 file_families rs families file rise free none order gap = record {
   file = file;
   own = rw (none, order) (as_in_file rise);
   gap = rw gap free;
 }
 
-pub arranged_families : (rs : List Record) (families : FamiliesView) (run : RunView) → IsFamilyOf rs families.file → IsRun run → run.records ≡ in_own_order rs → FindsFirst rs TurnGap families.gap → families.arranged ≡ Some run → families.places ≡ own_places rs → AreFamiliesOf rs families
+pub arranged_families : (rs : List Record) (families : FamiliesView) (run : RunView)
+    → IsFamilyOf rs families.file → IsRun run → run.records ≡ in_own_order rs
+    → FindsFirst rs TurnGap families.gap → families.arranged ≡ Some run → families.places ≡ own_places rs
+    → AreFamiliesOf rs families
 arranged_families rs families run file is records gap some order = record {
   file = file;
-  own = let P : List ℕ → Type 0 = AreArranged rs families.arranged in let Q : Option RunView → Type 0 = λ o. AreArranged rs o (own_places rs) in subst P (sym order) (subst Q (sym some) (by_turn is records));
+  own =
+      let P : List ℕ → Type 0 = AreArranged rs families.arranged in
+      let Q : Option RunView → Type 0 = λ o. AreArranged rs o (own_places rs) in
+      subst P (sym order) (subst Q (sym some) (by_turn is records));
   gap = gap;
 }
 
 -- ---- the arranged records
 
 -- one record more was copied
-pub copied_more : (rs copies pushed : List Record) (order : List ℕ) (number place : ℕ) (copy : Record) → copies ≡ filter_map (slice_get rs) (take number order) → slice_get order number ≡ Some place → slice_get rs place ≡ Some copy → pushed ≡ copies ++ copy ∷ [] → pushed ≡ filter_map (slice_get rs) (take (number + 1) order)
+pub copied_more : (rs copies pushed : List Record) (order : List ℕ) (number place : ℕ) (copy : Record)
+    → copies ≡ filter_map (slice_get rs) (take number order) → slice_get order number ≡ Some place
+    → slice_get rs place ≡ Some copy → pushed ≡ copies ++ copy ∷ []
+    → pushed ≡ filter_map (slice_get rs) (take (number + 1) order)
 copied_more rs copies pushed order number place copy are stands is more =
     more ∙ ap (λ l. l ++ copy ∷ []) are
     ∙ ap (λ l. filter_map (slice_get rs) (take number order) ++ l) (sym one)
     ∙ sym (filter_map-append (slice_get rs) (take number order) (place ∷ []))
-    ∙ ap (filter_map (slice_get rs)) (ap (λ p. take number order ++ p ∷ []) (sym (get_or_from_slice_get order number place 0 stands)) ∙ sym (take_more order number 0 (slice_get_within order number place stands)))
+    ∙ ap (filter_map (slice_get rs))
+        (ap (λ p. take number order ++ p ∷ []) (sym (get_or_from_slice_get order number place 0 stands))
+            ∙ sym (take_more order number 0 (slice_get_within order number place stands)))
   where
     one : filter_map (slice_get rs) (place ∷ []) ≡ copy ∷ []
     one = rw is refl

@@ -1,5 +1,6 @@
 -- What the tables of a family say of the tree of tasks.
-use Rattle.std.proofs.Common.{◌≡◌, ◌∙◌, ℕ, ◌<◌, List, [], ◌∷◌, ◌++◌, length, get_or, Option, Some, None, refl, sym, ap, subst, arith, inl, inr}
+use Rattle.std.proofs.Common.{◌≡◌, ◌∙◌, ℕ, ◌<◌, List, [], ◌∷◌, ◌++◌, length, get_or, Option, Some, None, refl}
+use Rattle.std.proofs.Common.{sym, ap, subst, arith, inl, inr}
 use Rattle.std.proofs.lemmas.Option.{none-some, same_Some, slice_get_within, slice_get-get_or}
 use Rattle.std.specs.Prelude.{◌↔◌, slice_get, Contains, option_map, option_and_then}
 use Rattle.ompt_events.specs.declared.records.Record.{Record}
@@ -26,25 +27,35 @@ use Rattle.task_tree.proofs.RootlessLemmas.{path_rooted}
 -- ---- where each task is made once
 
 -- a root is not created
-root_not_created : (rs : List Record) (i root parent : ℕ) → at begun_root rs i ≡ Some root → at creation rs i ≡ Some (parent, root) → ⊥
-root_not_created rs i root parent begins creates = there (slice_get rs i) begins (creation_at_created parent root rs i creates)
+root_not_created : (rs : List Record) (i root parent : ℕ) → at begun_root rs i ≡ Some root
+    → at creation rs i ≡ Some (parent, root) → ⊥
+root_not_created rs i root parent begins creates =
+    there (slice_get rs i) begins (creation_at_created parent root rs i creates)
   where
-    there : (o : Option Record) → option_and_then (λ (r : Record). begun_root r.body) o ≡ Some root → option_and_then (λ (r : Record). created r.body) o ≡ Some root → ⊥
+    there : (o : Option Record) → option_and_then (λ (r : Record). begun_root r.body) o ≡ Some root
+        → option_and_then (λ (r : Record). created r.body) o ≡ Some root → ⊥
     there None is is' = none-some root is
     there (Some r) is is' = root_or_created root root r.body is is'
 
-root_no_child : (rs : List Record) (root parent number : ℕ) → IsFreeOf rs CreatedTwice → (i : ℕ) × (at begun_root rs i ≡ Some root) → IsChild rs parent number root → ⊥
+root_no_child : (rs : List Record) (root parent number : ℕ) → IsFreeOf rs CreatedTwice
+    → (i : ℕ) × (at begun_root rs i ≡ Some root) → IsChild rs parent number root → ⊥
 root_no_child rs root parent number free (i, begins) is =
     let place = child_place rs parent (length rs) number root is in
-    let same : i ≡ place.0 = made_once rs root i place.0 free (begun_at_made root rs i begins) (creation_made rs parent root place.0 place.2) in
+    let same : i ≡ place.0 =
+        made_once rs root i place.0 free (begun_at_made root rs i begins)
+            (creation_made rs parent root place.0 place.2) in
     root_not_created rs i root parent begins (ap (at creation rs) same ∙ place.2)
 
 -- and so are its root and its path
-pub one_path : (rs : List Record) (root other task : ℕ) (path another : List ℕ) → IsFreeOf rs CreatedTwice → HasPath rs root task path → HasPath rs other task another → (root ≡ other) × (path ≡ another)
+pub one_path : (rs : List Record) (root other task : ℕ) (path another : List ℕ) → IsFreeOf rs CreatedTwice
+    → HasPath rs root task path → HasPath rs other task another → (root ≡ other) × (path ≡ another)
 one_path rs root other task path another free (top is) (top is') = (refl, refl)
-one_path rs root other task path another free (top is) (below number {parent = parent} stands child) = absurd (root_no_child rs task parent number free is child)
-one_path rs root other task path another free (below number {parent = parent} stands child) (top is) = absurd (root_no_child rs task parent number free is child)
-one_path rs root other task path another free (below number {parent = parent} {path = up} stands child) (below number' {parent = parent'} {path = up'} stands' child') =
+one_path rs root other task path another free (top is) (below number { parent = parent } stands child) =
+    absurd (root_no_child rs task parent number free is child)
+one_path rs root other task path another free (below number { parent = parent } stands child) (top is) =
+    absurd (root_no_child rs task parent number free is child)
+one_path rs root other task path another free (below number { parent = parent } { path = up } stands child)
+    (below number' { parent = parent' } { path = up' } stands' child') =
     let same = one_number rs task parent parent' number number' free child child' in
     let P : ℕ → Type 0 = λ p. HasPath rs other p up' in
     let above = one_path rs root other parent up up' free stands (subst P (sym same.0) stands') in
@@ -54,61 +65,93 @@ one_path rs root other task path another free (below number {parent = parent} {p
 
 -- the parent of a created task is named with it
 parent_named : (parent task : ℕ) (b : Body) → creation b ≡ Some (parent, task) → Contains (named b) parent
-parent_named parent task (TaskCreate deps flags own child) is = (0, omega arith, ap (λ (p : ℕ × ℕ). p.0) (same_Some (own, child) (parent, task) is))
+parent_named parent task (TaskCreate deps flags own child) is =
+    (0, omega arith, ap (λ (p : ℕ × ℕ). p.0) (same_Some (own, child) (parent, task) is))
 parent_named parent task _ is = absurd (none-some (parent, task) is)
 
 -- so it is noted
-pub parent_noted : (rs : List Record) (tasks : List ℕ) (i parent task : ℕ) → AreNoted made rs (length rs) tasks → IsFreeOf rs Rootless → at creation rs i ≡ Some (parent, task) → Contains tasks parent
+pub parent_noted : (rs : List Record) (tasks : List ℕ) (i parent task : ℕ)
+    → AreNoted made rs (length rs) tasks → IsFreeOf rs Rootless → at creation rs i ≡ Some (parent, task)
+    → Contains tasks parent
 parent_noted rs tasks i parent task noted free creates = elim (contains_or_not tasks parent) [
   | inl has ↦ has
-  | inr none ↦ absurd (free i (rootless (unmade parent (there (slice_get rs i) refl creates) (λ is_made. none (noted.each is_made.0 parent (at_within made rs is_made.0 parent is_made.1) is_made.1)))))
+  | inr none ↦
+      absurd
+          (free i
+              (rootless
+                  (unmade parent (there (slice_get rs i) refl creates)
+                      (λ is_made.
+                          none
+                              (noted.each is_made.0 parent (at_within made rs is_made.0 parent is_made.1)
+                                  is_made.1)))))
 ]
   where
-    there : (o : Option Record) → slice_get rs i ≡ o → option_and_then (λ (r : Record). creation r.body) o ≡ Some (parent, task) → (r : Record) × (slice_get rs i ≡ Some r) × Contains (named r.body) parent
+    there : (o : Option Record) → slice_get rs i ≡ o
+        → option_and_then (λ (r : Record). creation r.body) o ≡ Some (parent, task)
+        → (r : Record) × (slice_get rs i ≡ Some r) × Contains (named r.body) parent
     there None e is = absurd (none-some (parent, task) is)
     there (Some r) e is = (r, e, parent_named parent task r.body is)
 
 -- ---- the look-ups
 
 -- the link of a created task
-pub link_found : (rs : List Record) (family : FamilyView) (i parent task : ℕ) → IsFamilyOf rs family → at creation rs i ≡ Some (parent, task) → (link : Link) × IsLinkOf family task link × (slice_get family.tasks link.parent ≡ Some parent)
+pub link_found : (rs : List Record) (family : FamilyView) (i parent task : ℕ) → IsFamilyOf rs family
+    → at creation rs i ≡ Some (parent, task)
+    → (link : Link) × IsLinkOf family task link × (slice_get family.tasks link.parent ≡ Some parent)
 link_found rs family i parent task are creates =
     let within = at_within creation rs i (parent, task) creates in
-    let index = contains_get family.tasks task (are.noted.each i task within (creation_made rs parent task i creates)) in
-    let up = contains_get family.tasks parent (parent_noted rs family.tasks i parent task are.noted are.rooted creates) in
+    let index =
+        contains_get family.tasks task
+            (are.noted.each i task within (creation_made rs parent task i creates)) in
+    let up =
+        contains_get family.tasks parent
+            (parent_noted rs family.tasks i parent task are.noted are.rooted creates) in
     let found = are.links.linked i parent task index.0 up.0 within creates index.1 up.1 in
     (found.0, (index.0, index.1, found.1), ap (slice_get family.tasks) found.2 ∙ up.1)
 
 -- a link is that of a child
-pub link_child : (rs : List Record) (family : FamilyView) (task : ℕ) (link : Link) → IsFamilyOf rs family → IsLinkOf family task link → (parent : ℕ) × (slice_get family.tasks link.parent ≡ Some parent) × IsChild rs parent link.number task
+pub link_child : (rs : List Record) (family : FamilyView) (task : ℕ) (link : Link) → IsFamilyOf rs family
+    → IsLinkOf family task link
+    → (parent : ℕ) × (slice_get family.tasks link.parent ≡ Some parent) × IsChild rs parent link.number task
 link_child rs family task link are (index, is, stands) = are.links.only index task link is stands
 
-pub parent_is : (rs : List Record) (family : FamilyView) (task : ℕ) (found : Option Link) → IsFamilyOf rs family → ((link : Link) → (found ≡ Some link) ↔ IsLinkOf family task link) → (parent : ℕ) → (option_and_then (λ (l : Link). slice_get family.tasks l.parent) found ≡ Some parent) ↔ IsParent rs parent task
+pub parent_is : (rs : List Record) (family : FamilyView) (task : ℕ) (found : Option Link)
+    → IsFamilyOf rs family → ((link : Link) → (found ≡ Some link) ↔ IsLinkOf family task link) → (parent : ℕ)
+    → (option_and_then (λ (l : Link). slice_get family.tasks l.parent) found ≡ Some parent)
+        ↔ IsParent rs parent task
 parent_is rs family task found are is parent = (to found refl, from)
   where
-    to : (o : Option Link) → found ≡ o → option_and_then (λ (l : Link). slice_get family.tasks l.parent) o ≡ Some parent → IsParent rs parent task
+    to : (o : Option Link) → found ≡ o
+        → option_and_then (λ (l : Link). slice_get family.tasks l.parent) o ≡ Some parent
+        → IsParent rs parent task
     to None e says = absurd (none-some parent says)
     to (Some link) e says =
         let of = link_child rs family task link are ((is link).0 e) in
         let place = child_place rs of.0 (length rs) link.number task of.2 in
         (place.0, place.2 ∙ ap (λ p. Some (p, task)) (same_Some of.0 parent (sym of.1 ∙ says)))
 
-    from : IsParent rs parent task → option_and_then (λ (l : Link). slice_get family.tasks l.parent) found ≡ Some parent
+    from : IsParent rs parent task
+        → option_and_then (λ (l : Link). slice_get family.tasks l.parent) found ≡ Some parent
     from (i, creates) =
         let link = link_found rs family i parent task are creates in
         ap (option_and_then (λ (l : Link). slice_get family.tasks l.parent)) ((is link.0).1 link.1) ∙ link.2
 
-pub number_is : (rs : List Record) (family : FamilyView) (task : ℕ) (found : Option Link) → IsFamilyOf rs family → ((link : Link) → (found ≡ Some link) ↔ IsLinkOf family task link) → (number : ℕ) → (option_map (λ (l : Link). l.number) found ≡ Some number) ↔ ((parent : ℕ) × IsChild rs parent number task)
+pub number_is : (rs : List Record) (family : FamilyView) (task : ℕ) (found : Option Link)
+    → IsFamilyOf rs family → ((link : Link) → (found ≡ Some link) ↔ IsLinkOf family task link) → (number : ℕ)
+    → (option_map (λ (l : Link). l.number) found ≡ Some number)
+        ↔ ((parent : ℕ) × IsChild rs parent number task)
 number_is rs family task found are is number = (to found refl, from)
   where
-    to : (o : Option Link) → found ≡ o → option_map (λ (l : Link). l.number) o ≡ Some number → (parent : ℕ) × IsChild rs parent number task
+    to : (o : Option Link) → found ≡ o → option_map (λ (l : Link). l.number) o ≡ Some number
+        → (parent : ℕ) × IsChild rs parent number task
     to None e says = absurd (none-some number says)
     to (Some link) e says =
         let of = link_child rs family task link are ((is link).0 e) in
         let P : ℕ → Type 0 = λ n. IsChild rs of.0 n task in
         (of.0, subst P (same_Some link.number number says) of.2)
 
-    from : (parent : ℕ) × IsChild rs parent number task → option_map (λ (l : Link). l.number) found ≡ Some number
+    from : (parent : ℕ) × IsChild rs parent number task
+        → option_map (λ (l : Link). l.number) found ≡ Some number
     from (parent, child) =
         let place = child_place rs parent (length rs) number task child in
         let link = link_found rs family place.0 parent task are place.2 in
@@ -117,29 +160,45 @@ number_is rs family task found are is number = (to found refl, from)
         ap (option_map (λ (l : Link). l.number)) ((is link.0).1 link.1) ∙ ap Some same.1
 
 -- a task that stands below a root is noted
-pub path_noted : (rs : List Record) (tasks : List ℕ) (root task : ℕ) (path : List ℕ) → AreNoted made rs (length rs) tasks → HasPath rs root task path → Contains tasks task
+pub path_noted : (rs : List Record) (tasks : List ℕ) (root task : ℕ) (path : List ℕ)
+    → AreNoted made rs (length rs) tasks → HasPath rs root task path → Contains tasks task
 path_noted rs tasks root task path noted stands =
     let maker = rooted_made rs task (path_rooted rs root task path stands) in
     noted.each maker.0 task (at_within made rs maker.0 task maker.1) maker.1
 
 -- where a task stands is one place
-pub standing_is : (rs : List Record) (family : FamilyView) (task : ℕ) (found : Option Standing) → IsFamilyOf rs family → ((standing : Standing) → (found ≡ Some standing) ↔ IsStandingOf family task standing) → (root : ℕ) (path : List ℕ) → HasPath rs root task path → (standing : Standing) × (found ≡ Some standing) × (standing.root ≡ root) × (standing.depth ≡ length path)
+pub standing_is : (rs : List Record) (family : FamilyView) (task : ℕ) (found : Option Standing)
+    → IsFamilyOf rs family
+    → ((standing : Standing) → (found ≡ Some standing) ↔ IsStandingOf family task standing)
+    → (root : ℕ) (path : List ℕ) → HasPath rs root task path
+    → (standing : Standing) × (found ≡ Some standing) × (standing.root ≡ root)
+        × (standing.depth ≡ length path)
 standing_is rs family task found are is root path stands =
     let index = contains_get family.tasks task (path_noted rs family.tasks root task path are.noted stands) in
     let within = slice_get_within family.tasks index.0 task index.1 in
-    from index.0 index.1 (get_or family.roots index.0 None) (slice_get-get_or family.roots index.0 None (omega (arith, within, are.roots.all)))
+    from index.0 index.1 (get_or family.roots index.0 None)
+        (slice_get-get_or family.roots index.0 None (omega (arith, within, are.roots.all)))
   where
-    from : (index : ℕ) → slice_get family.tasks index ≡ Some task → (o : Option Standing) → slice_get family.roots index ≡ Some o → (standing : Standing) × (found ≡ Some standing) × (standing.root ≡ root) × (standing.depth ≡ length path)
-    from index is_task None e = absurd (are.roots.unrooted index task is_task e (path_rooted rs root task path stands))
+    from : (index : ℕ) → slice_get family.tasks index ≡ Some task → (o : Option Standing)
+        → slice_get family.roots index ≡ Some o
+        → (standing : Standing) × (found ≡ Some standing) × (standing.root ≡ root)
+            × (standing.depth ≡ length path)
+    from index is_task None e =
+        absurd (are.roots.unrooted index task is_task e (path_rooted rs root task path stands))
     from index is_task (Some standing) e =
         let known = are.roots.rooted index task standing is_task e in
         let same = one_path rs standing.root root task known.0 path are.once known.1 stands in
         (standing, (is standing).1 (index, is_task, e), same.0, sym known.2 ∙ ap length same.1)
 
-pub root_is : (rs : List Record) (family : FamilyView) (task : ℕ) (found : Option Standing) → IsFamilyOf rs family → ((standing : Standing) → (found ≡ Some standing) ↔ IsStandingOf family task standing) → (root : ℕ) → (option_map (λ (s : Standing). s.root) found ≡ Some root) ↔ ((path : List ℕ) × HasPath rs root task path)
+pub root_is : (rs : List Record) (family : FamilyView) (task : ℕ) (found : Option Standing)
+    → IsFamilyOf rs family
+    → ((standing : Standing) → (found ≡ Some standing) ↔ IsStandingOf family task standing) → (root : ℕ)
+    → (option_map (λ (s : Standing). s.root) found ≡ Some root)
+        ↔ ((path : List ℕ) × HasPath rs root task path)
 root_is rs family task found are is root = (to found refl, from)
   where
-    to : (o : Option Standing) → found ≡ o → option_map (λ (s : Standing). s.root) o ≡ Some root → (path : List ℕ) × HasPath rs root task path
+    to : (o : Option Standing) → found ≡ o → option_map (λ (s : Standing). s.root) o ≡ Some root
+        → (path : List ℕ) × HasPath rs root task path
     to None e says = absurd (none-some root says)
     to (Some standing) e says =
         let known = (is standing).0 e in
@@ -147,11 +206,15 @@ root_is rs family task found are is root = (to found refl, from)
         let P : ℕ → Type 0 = λ r. HasPath rs r task stands.0 in
         (stands.0, subst P (same_Some standing.root root says) stands.1)
 
-    from : (path : List ℕ) × HasPath rs root task path → option_map (λ (s : Standing). s.root) found ≡ Some root
-    from (path, stands) = let standing = standing_is rs family task found are is root path stands in ap (option_map (λ (s : Standing). s.root)) standing.1 ∙ ap Some standing.2
+    from : (path : List ℕ) × HasPath rs root task path
+        → option_map (λ (s : Standing). s.root) found ≡ Some root
+    from (path, stands) =
+        let standing = standing_is rs family task found are is root path stands in
+        ap (option_map (λ (s : Standing). s.root)) standing.1 ∙ ap Some standing.2
 
 -- a task that is not noted has no children
-pub no_children : (rs : List Record) (family : FamilyView) (task : ℕ) → IsFamilyOf rs family → (Contains family.tasks task → ⊥) → children rs task ≡ []
+pub no_children : (rs : List Record) (family : FamilyView) (task : ℕ) → IsFamilyOf rs family
+    → (Contains family.tasks task → ⊥) → children rs task ≡ []
 no_children rs family task are none = of (children rs task) refl
   where
     of : (l : List ℕ) → children rs task ≡ l → l ≡ []
@@ -162,19 +225,36 @@ no_children rs family task are none = of (children rs task) refl
         absurd (none (parent_noted rs family.tasks place.0 task child are.noted are.rooted place.2))
 
 -- what a table has at a task's index is what it says of the task
-pub table_at : {X : Type 0} (tasks : List ℕ) (table : List (Option X)) (task index : ℕ) (found : Option X) → ((k : ℕ) → (Some index ≡ Some k) ↔ (slice_get tasks k ≡ Some task)) → ((x : X) → (found ≡ Some x) ↔ (slice_get table index ≡ Some (Some x))) → (x : X) → (found ≡ Some x) ↔ ((k : ℕ) × (slice_get tasks k ≡ Some task) × (slice_get table k ≡ Some (Some x)))
+pub table_at : {X : Type 0} (tasks : List ℕ) (table : List (Option X)) (task index : ℕ) (found : Option X)
+    → ((k : ℕ) → (Some index ≡ Some k) ↔ (slice_get tasks k ≡ Some task))
+    → ((x : X) → (found ≡ Some x) ↔ (slice_get table index ≡ Some (Some x))) → (x : X)
+    → (found ≡ Some x) ↔ ((k : ℕ) × (slice_get tasks k ≡ Some task) × (slice_get table k ≡ Some (Some x)))
 table_at tasks table task index found is read x = (
   λ says. (index, (is index).0 refl, (read x).0 says),
   λ (k, is_task, stands). (read x).1 (ap (slice_get table) (same_Some index k ((is k).1 is_task)) ∙ stands),
 )
 
 -- where the task at an index stands
-pub standing_here : (rs : List Record) (family : FamilyView) (index task : ℕ) (found : Option Standing) → IsFamilyOf rs family → slice_get family.tasks index ≡ Some task → ((standing : Standing) → (found ≡ Some standing) ↔ (slice_get family.roots index ≡ Some (Some standing))) → (root : ℕ) (path : List ℕ) → HasPath rs root task path → (standing : Standing) × (found ≡ Some standing) × (standing.root ≡ root) × (standing.depth ≡ length path)
+pub standing_here : (rs : List Record) (family : FamilyView) (index task : ℕ) (found : Option Standing)
+    → IsFamilyOf rs family → slice_get family.tasks index ≡ Some task
+    → ((standing : Standing)
+          → (found ≡ Some standing) ↔ (slice_get family.roots index ≡ Some (Some standing)))
+    → (root : ℕ) (path : List ℕ) → HasPath rs root task path
+    → (standing : Standing) × (found ≡ Some standing) × (standing.root ≡ root)
+        × (standing.depth ≡ length path)
 standing_here rs family index task found are here read root path stands =
-    standing_is rs family task found are (table_at family.tasks family.roots task index found (λ k. (λ same. ap (slice_get family.tasks) (sym (same_Some index k same)) ∙ here, λ is. ap Some (are.makers.apart index k task here is))) read) root path stands
+    standing_is rs family task found are
+        (table_at family.tasks family.roots task index found
+            (λ k.
+                (λ same.
+                    ap (slice_get family.tasks) (sym (same_Some index k same)) ∙ here,
+                        λ is. ap Some (are.makers.apart index k task here is)))
+            read)
+        root path stands
 
 -- the tasks stand in the order in which they are made
-pub in_file_order : (rs : List Record) (tasks places : List ℕ) → AreMade rs (length rs) tasks places → IsFreeOf rs CreatedTwice → AreInFileOrder rs tasks
+pub in_file_order : (rs : List Record) (tasks places : List ℕ) → AreMade rs (length rs) tasks places
+    → IsFreeOf rs CreatedTwice → AreInFileOrder rs tasks
 in_file_order rs tasks places are once a b first second place later less at_a at_b makes_first makes_second =
     let one = are.each a first at_a in
     let other = are.each b second at_b in

@@ -1,5 +1,6 @@
 -- Records that tell rightly what they tell, each turn begun once and in order on its thread, have no gap.
-use Rattle.std.proofs.Common.{◌≡◌, ◌∙◌, ℕ, ◌<◌, ◌+◌, ◌-◌, List, length, Some, refl, ap, subst, arith, inl, inr}
+use Rattle.std.proofs.Common.{◌≡◌, ◌∙◌, ℕ, ◌<◌, ◌+◌, ◌-◌, List, length, Some, refl, ap, subst, arith, inl}
+use Rattle.std.proofs.Common.{inr}
 use Rattle.std.proofs.lemmas.Option.{slice_get_cases}
 use Rattle.std.specs.Prelude.{option_map}
 use Rattle.ompt_events.specs.declared.records.Record.{Record}
@@ -7,7 +8,8 @@ use Rattle.ompt_events.specs.declared.cause.Cause.TheVariants.{CreatedTwice, Tur
 use Rattle.ompt_events.specs.Records.{begun_turn}
 use Rattle.ompt_events.specs.Places.{at, thread_at}
 use Rattle.ompt_events.specs.Tree.{IsRoot, IsExplicit}
-use Rattle.ompt_events.specs.Causes.{HasTurnGap, other_turn, begun_again, falling, of_root, missing, BeginsTurn, runs, is_root, IsFreeOf}
+use Rattle.ompt_events.specs.Causes.{HasTurnGap, other_turn, begun_again, falling, of_root, missing}
+use Rattle.ompt_events.specs.Causes.{BeginsTurn, runs, is_root, IsFreeOf}
 use Rattle.task_tree.specs.TurnTable.{TurnsBeginInOrder}
 use Rattle.task_tree.specs.TurnRows.{BeginsAnew}
 use Rattle.task_tree.specs.Gaps.{MayBeginThere, TellsRightly}
@@ -16,7 +18,8 @@ use Rattle.task_tree.proofs.RisingPassLemmas.{explicit_not_root}
 
 -- ---- the turn that begins
 
-pub first_of_created : (rs : List Record) (task turn : ℕ) → IsFreeOf rs CreatedTwice → turn ≡ 0 → IsExplicit rs task → MayBeginThere rs task turn
+pub first_of_created : (rs : List Record) (task turn : ℕ) → IsFreeOf rs CreatedTwice → turn ≡ 0
+    → IsExplicit rs task → MayBeginThere rs task turn
 first_of_created rs task turn once first explicit = record {
   created = λ zero_turn root. explicit_not_root rs task once explicit root;
   before = λ last is. absurd (omega (arith, first, is));
@@ -25,13 +28,20 @@ first_of_created rs task turn once first explicit = record {
 pub next_of_root : (rs : List Record) (task turn : ℕ) → turn ≡ 1 → IsRoot rs task → MayBeginThere rs task turn
 next_of_root rs task turn second root = record {
   created = λ first. absurd (omega (arith, first, second));
-  before = λ last is. let zero_last : 0 ≡ last = omega (arith, is, second) in (root.0, subst (BeginsTurn rs root.0 task) zero_last (is_root root.1));
+  before =
+      λ last is.
+          let zero_last : 0 ≡ last = omega (arith, is, second) in
+          (root.0, subst (BeginsTurn rs root.0 task) zero_last (is_root root.1));
 }
 
-pub next_of_begun : (rs : List Record) (task turn k : ℕ) → 0 < turn → at begun_turn rs k ≡ Some (task, turn - 1) → MayBeginThere rs task turn
+pub next_of_begun : (rs : List Record) (task turn k : ℕ) → 0 < turn
+    → at begun_turn rs k ≡ Some (task, turn - 1) → MayBeginThere rs task turn
 next_of_begun rs task turn k later begins = record {
   created = λ first. absurd (omega (arith, first, later));
-  before = λ last is. let same : turn - 1 ≡ last = omega (arith, is) in (k, subst (BeginsTurn rs k task) same (runs begins));
+  before =
+      λ last is.
+          let same : turn - 1 ≡ last = omega (arith, is) in
+          (k, subst (BeginsTurn rs k task) same (runs begins));
 }
 
 -- ---- all records
@@ -42,7 +52,8 @@ thread_there rs i within = elim (slice_get_cases rs i).1 [
   | inr (past, stands) ↦ absurd (omega (arith, past, within))
 ]
 
-pub gap_free : (rs : List Record) → TurnsBeginInOrder rs → ((i : ℕ) → BeginsAnew rs i) → ((i : ℕ) → i < length rs → TellsRightly rs i) → IsFreeOf rs TurnGap
+pub gap_free : (rs : List Record) → TurnsBeginInOrder rs → ((i : ℕ) → BeginsAnew rs i)
+    → ((i : ℕ) → i < length rs → TellsRightly rs i) → IsFreeOf rs TurnGap
 gap_free rs order anew right = free_of_gap rs (length rs) (omega arith) none
   where
     none : (i : ℕ) → i < length rs → HasTurnGap rs i → ⊥

@@ -13,7 +13,6 @@ pub mod PathLemmas
 pub mod ClimbLemmas
 pub mod LineageLemmas
 pub mod LookupLemmas
-pub mod OwnLemmas
 pub mod NamedLemmas
 pub mod RisingListLemmas
 pub mod BlindLemmas

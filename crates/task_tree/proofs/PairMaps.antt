@@ -23,9 +23,11 @@ other_pair p q apart = by (pair_cmp p q) refl
     by Equal e = absurd (apart (sym (exact_pairs nat_cmp nat_cmp exact_unsigned exact_unsigned p q e)))
 
 -- the key has the value
-pub pair_here : {X : Type 0} (m n : BTreeMap (ℕ × ℕ) X) (k : ℕ × ℕ) (w : Option X) → Updates pair_cmp m n k w → get pair_cmp n k ≡ w
+pub pair_here : {X : Type 0} (m n : BTreeMap (ℕ × ℕ) X) (k : ℕ × ℕ) (w : Option X) → Updates pair_cmp m n k w
+    → get pair_cmp n k ≡ w
 pair_here m n k w updates = updates.0 k ∙ ap (λ b. cond b w (get pair_cmp m k)) (same_pair k)
 
 -- and any other key what it had
-pub pair_there : {X : Type 0} (m n : BTreeMap (ℕ × ℕ) X) (k : ℕ × ℕ) (w : Option X) → Updates pair_cmp m n k w → (q : ℕ × ℕ) → q ≢ k → get pair_cmp n q ≡ get pair_cmp m q
+pub pair_there : {X : Type 0} (m n : BTreeMap (ℕ × ℕ) X) (k : ℕ × ℕ) (w : Option X) → Updates pair_cmp m n k w
+    → (q : ℕ × ℕ) → q ≢ k → get pair_cmp n q ≡ get pair_cmp m q
 pair_there m n k w updates q apart = updates.2 q (other_pair k q apart)

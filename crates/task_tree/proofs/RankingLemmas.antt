@@ -1,5 +1,6 @@
 -- How ids are put in the order of their values and found there.
-use Rattle.std.proofs.Common.{◌≡◌, ◌∙◌, ℕ, zero, suc, ◌<◌, ◌≤◌, ◌+◌, ◌-◌, List, [], ◌∷◌, ◌++◌, length, Some, sym, ap, subst, arith, inl, inr}
+use Rattle.std.proofs.Common.{◌≡◌, ◌∙◌, ℕ, zero, suc, ◌<◌, ◌≤◌, ◌+◌, ◌-◌, List, [], ◌∷◌, ◌++◌, length, Some}
+use Rattle.std.proofs.Common.{sym, ap, subst, arith, inl, inr}
 use Rattle.std.proofs.lemmas.Bool.{cases_eq, cases_order}
 use Rattle.std.proofs.lemmas.Option.{same_Some, slice_get_within, slice_get-get_or}
 use Rattle.std.proofs.lemmas.List.FromFn.{length-range_with_len, get_or-range_with_len}
@@ -16,7 +17,9 @@ use Rattle.ompt_events.proofs.ListLemmas.{contains_range}
 -- one number more
 range_longer : (a n : ℕ) → range_with_len a n ++ (a + n) ∷ [] ≡ range_with_len a (n + 1)
 range_longer a zero = let e : a + 0 ≡ a = omega arith in ap (λ x. x ∷ []) e
-range_longer a (suc n) = let e : a + suc n ≡ a + 1 + n = omega arith in let f : suc n + 1 ≡ suc (n + 1) = omega arith in rw (e, f) (ap (λ l. a ∷ l) (range_longer (a + 1) n))
+range_longer a (suc n) =
+    let e : a + suc n ≡ a + 1 + n = omega arith in
+    let f : suc n + 1 ≡ suc (n + 1) = omega arith in rw (e, f) (ap (λ l. a ∷ l) (range_longer (a + 1) n))
 
 pub range_more : (n : ℕ) → range_with_len 0 n ++ n ∷ [] ≡ range_with_len 0 (n + 1)
 range_more n = let e : n ≡ 0 + n = omega arith in ap (λ k. range_with_len 0 n ++ k ∷ []) e ∙ range_longer 0 n
@@ -36,45 +39,71 @@ range_within ids rank inside =
     let same = get_or-range_with_len 0 (length ids) rank 0 low in
     omega (arith, low, same)
 
-pub permutation_within : (ids order : List ℕ) → IsPermutation (range_with_len 0 (length ids)) order → AreWithin ids order
+pub permutation_within : (ids order : List ℕ) → IsPermutation (range_with_len 0 (length ids)) order
+    → AreWithin ids order
 permutation_within ids order moved rank inside =
-    let has : Contains order (slice_index order rank) = (rank, inside, same_Some _ _ (sym (slice_get-get_or order rank (slice_index order rank) inside) ∙ slice_get-get_or order rank 0 inside)) in
-    below_range (length ids) (slice_index order rank) (Contains-permutation order (range_with_len 0 (length ids)) (slice_index order rank) (IsPermutation-sym (range_with_len 0 (length ids)) order moved) has)
+    let has : Contains order (slice_index order rank) =
+        (rank, inside,
+            same_Some _ _
+                (sym (slice_get-get_or order rank (slice_index order rank) inside)
+                    ∙ slice_get-get_or order rank 0 inside)) in
+    below_range (length ids) (slice_index order rank)
+        (Contains-permutation order (range_with_len 0 (length ids)) (slice_index order rank)
+            (IsPermutation-sym (range_with_len 0 (length ids)) order moved) has)
 
-pub range_ranked : (ids : List ℕ) → IsRising ids (range_with_len 0 (length ids)) (length (range_with_len 0 (length ids))) → IsRanked ids (range_with_len 0 (length ids))
+pub range_ranked : (ids : List ℕ)
+    → IsRising ids (range_with_len 0 (length ids)) (length (range_with_len 0 (length ids)))
+    → IsRanked ids (range_with_len 0 (length ids))
 range_ranked ids rising = record {
   known = record { within = range_within ids; rising = rising };
   all = λ index low. contains_range (length ids) index low;
 }
 
-pub permutation_ranked : (ids order : List ℕ) → IsPermutation (range_with_len 0 (length ids)) order → IsRising ids order (length order) → IsRanked ids order
+pub permutation_ranked : (ids order : List ℕ) → IsPermutation (range_with_len 0 (length ids)) order
+    → IsRising ids order (length order) → IsRanked ids order
 permutation_ranked ids order moved rising = record {
   known = record { within = permutation_within ids order moved; rising = rising };
-  all = λ index low. Contains-permutation (range_with_len 0 (length ids)) order index moved (contains_range (length ids) index low);
+  all =
+      λ index low.
+          Contains-permutation (range_with_len 0 (length ids)) order index moved
+              (contains_range (length ids) index low);
 }
 
 -- one id more is greater than the last, and so than all before it
-pub rising_more : (ids order : List ℕ) (n : ℕ) → IsRising ids order n → (0 < n → ranked_id ids order (n - 1) < ranked_id ids order n) → IsRising ids order (n + 1)
+pub rising_more : (ids order : List ℕ) (n : ℕ) → IsRising ids order n
+    → (0 < n → ranked_id ids order (n - 1) < ranked_id ids order n) → IsRising ids order (n + 1)
 rising_more ids order n rising last a b less low = elim (cases_eq b n) [
   | inr apart ↦ rising a b less (omega (arith, low, apart))
   | inl same ↦
       let next = last (omega (arith, less, same)) in
       let P : ℕ → Type 0 = λ k. ranked_id ids order a < ranked_id ids order k in
       subst P (sym same) (elim (cases_eq a (n - 1)) [
-        | inl before ↦ let Q : ℕ → Type 0 = λ k. ranked_id ids order k < ranked_id ids order n in subst Q (sym before) next
-        | inr further ↦ let below = rising a (n - 1) (omega (arith, less, same, further)) (omega (arith, less, same)) in omega (arith, below, next)
+        | inl before ↦
+            let Q : ℕ → Type 0 = λ k. ranked_id ids order k < ranked_id ids order n in
+            subst Q (sym before) next
+        | inr further ↦
+            let below = rising a (n - 1) (omega (arith, less, same, further)) (omega (arith, less, same)) in
+            omega (arith, below, next)
       ])
 ]
 
 -- ---- an order of ids that are added to
 
 -- the id at the index of a rank
-at_rank : (ids order : List ℕ) (index id rank : ℕ) → slice_index order rank ≡ index → slice_get ids index ≡ Some id → ranked_id ids order rank ≡ id
-at_rank ids order index id rank here is = ap (slice_index ids) here ∙ same_Some (slice_index ids index) id (sym (slice_get-get_or ids index 0 (slice_get_within ids index id is)) ∙ is)
+at_rank : (ids order : List ℕ) (index id rank : ℕ) → slice_index order rank ≡ index
+    → slice_get ids index ≡ Some id → ranked_id ids order rank ≡ id
+at_rank ids order index id rank here is =
+    ap (slice_index ids) here
+        ∙ same_Some (slice_index ids index) id
+            (sym (slice_get-get_or ids index 0 (slice_get_within ids index id is)) ∙ is)
 
 -- the rank of an index
-rank_of : (order : List ℕ) (index : ℕ) → Contains order index → (rank : ℕ) × (rank < length order) × (slice_index order rank ≡ index)
-rank_of order index (rank, inside, is) = (rank, inside, same_Some _ _ (sym (slice_get-get_or order rank 0 inside) ∙ slice_get-get_or order rank index inside) ∙ is)
+rank_of : (order : List ℕ) (index : ℕ) → Contains order index
+    → (rank : ℕ) × (rank < length order) × (slice_index order rank ≡ index)
+rank_of order index (rank, inside, is) =
+    (rank, inside,
+        same_Some _ _ (sym (slice_get-get_or order rank 0 inside) ∙ slice_get-get_or order rank index inside)
+            ∙ is)
 
 -- an id that is ranked stands at one index
 pub ranked_apart : (ids order : List ℕ) → IsRanked ids order → AreApart ids
@@ -85,15 +114,21 @@ ranked_apart ids order are a b id at_a at_b =
     let id_b = at_rank ids order b id second.0 second.2 at_b in
     elim (cases_order first.0 second.0) [
       | inl same ↦ sym first.2 ∙ ap (slice_index order) same ∙ second.2
-      | inr (inl less) ↦ absurd (let low = are.known.rising first.0 second.0 less second.1 in omega (arith, low, id_a, id_b))
-      | inr (inr more) ↦ absurd (let low = are.known.rising second.0 first.0 more first.1 in omega (arith, low, id_a, id_b))
+      | inr (inl less) ↦
+          absurd (let low = are.known.rising first.0 second.0 less second.1 in omega (arith, low, id_a, id_b))
+      | inr (inr more) ↦
+          absurd (let low = are.known.rising second.0 first.0 more first.1 in omega (arith, low, id_a, id_b))
     ]
 
 -- ids that are added do not change the order of the others
 pub order_kept : (ids order : List ℕ) (id : ℕ) → IsOrder ids order → IsOrder (ids ++ id ∷ []) order
 order_kept ids order id are = record {
-  within = λ rank inside. let low = are.within rank inside in let longer = length_push ids id in omega (arith, low, longer);
-  rising = λ a b less inside. rw (same a (omega (arith, less, inside)), same b inside) (are.rising a b less inside);
+  within =
+      λ rank inside.
+          let low = are.within rank inside in let longer = length_push ids id in omega (arith, low, longer);
+  rising =
+      λ a b less inside.
+          rw (same a (omega (arith, less, inside)), same b inside) (are.rising a b less inside);
 }
   where
     same : (rank : ℕ) → rank < length order → ranked_id (ids ++ id ∷ []) order rank ≡ ranked_id ids order rank

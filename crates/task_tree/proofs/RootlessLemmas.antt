@@ -1,14 +1,18 @@
 -- Which records speak of a task without a root.
-use Rattle.std.proofs.Common.{◌≡◌, ◌∙◌, ℕ, ◌<◌, ◌≤◌, ◌+◌, List, [], ◌∷◌, ◌++◌, length, get_or, Option, Some, None, refl, sym, ap, subst, arith, inl, inr}
+use Rattle.std.proofs.Common.{◌≡◌, ◌∙◌, ℕ, ◌<◌, ◌≤◌, ◌+◌, List, [], ◌∷◌, ◌++◌, length, get_or, Option, Some}
+use Rattle.std.proofs.Common.{None, refl, sym, ap, subst, arith, inl, inr}
 use Rattle.std.proofs.lemmas.Option.{none-some, same_Some, slice_get_within, slice_get-get_or}
 use Rattle.std.proofs.lemmas.Bool.{false≢true, cases_eq}
-use Rattle.std.specs.Prelude.{◌↔◌, ◌⊎◌, zero, suc, is_some, true, false, slice_get, Contains, IsSomeAnd, option_map, option_and_then, option_to_list}
+use Rattle.std.specs.Prelude.{◌↔◌, ◌⊎◌, zero, suc, is_some, true, false, slice_get, Contains, IsSomeAnd}
+use Rattle.std.specs.Prelude.{option_map, option_and_then, option_to_list}
 use Rattle.ompt_events.specs.declared.records.Record.{Record}
 use Rattle.ompt_events.specs.declared.cause.Cause.TheVariants.{Rootless}
 use Rattle.ompt_events.specs.Records.{made, named, created, claim, region_named}
 use Rattle.ompt_events.specs.Places.{at}
-use Rattle.ompt_events.specs.Tree.{IsRoot, IsRooted, root as root_rooted, child as child_rooted, HasPath, top, below}
-use Rattle.ompt_events.specs.Causes.{IsMade, IsForked, HasNoRoot, unmade, unrooted, no_region, HasCause, rootless, IsFirstWith, IsFreeOf}
+use Rattle.ompt_events.specs.Tree.{IsRoot, IsRooted, root as root_rooted, child as child_rooted, HasPath, top}
+use Rattle.ompt_events.specs.Tree.{below}
+use Rattle.ompt_events.specs.Causes.{IsMade, IsForked, HasNoRoot, unmade, unrooted, no_region, HasCause}
+use Rattle.ompt_events.specs.Causes.{rootless, IsFirstWith, IsFreeOf}
 use Rattle.ompt_events.proofs.PlaceLemmas.{read_get, at_read, at_within, some_and, and_some}
 use Rattle.ompt_events.proofs.RecordLemmas.{begun_at_made, created_at_made}
 use Rattle.ompt_events.proofs.TreeLemmas.{child_place}
@@ -18,69 +22,103 @@ use Rattle.task_tree.specs.declared.roots.Standing.{Standing}
 use Rattle.task_tree.specs.Roots.{AreRoots}
 use Rattle.std.specs.List.{Any}
 use Rattle.ompt_events.specs.declared.records.Body.{Body}
-use Rattle.ompt_events.specs.declared.records.Body.TheVariants.{ParallelBegin, ParallelEnd, ImplicitTask, TaskCreate, Dependences, TaskSchedule, SyncRegion, Cancel}
+use Rattle.ompt_events.specs.declared.records.Body.TheVariants.{ParallelBegin, ParallelEnd, ImplicitTask}
+use Rattle.ompt_events.specs.declared.records.Body.TheVariants.{TaskCreate, Dependences, TaskSchedule}
+use Rattle.ompt_events.specs.declared.records.Body.TheVariants.{SyncRegion, Cancel}
 use Rattle.ompt_events.specs.declared.records.Claim.{Claim}
 use Rattle.task_tree.specs.Numbering.{AreApart}
 use Rattle.task_tree.specs.Subjects.{subject, object, Finds, AreFound}
-use Rattle.task_tree.specs.Rootless.{AreRootsMade, CreatesUnrooted, NamesNoRegion, IsRootless, NamesKnown, AreKnown}
+use Rattle.task_tree.specs.Rootless.{AreRootsMade, CreatesUnrooted, NamesNoRegion, IsRootless, NamesKnown}
+use Rattle.task_tree.specs.Rootless.{AreKnown}
 use Rattle.task_tree.proofs.MakerLemmas.{forked_at, region_at}
 
 -- a task that stands below a root is rooted
-pub path_rooted : (rs : List Record) (root task : ℕ) (path : List ℕ) → HasPath rs root task path → IsRooted rs task
+pub path_rooted : (rs : List Record) (root task : ℕ) (path : List ℕ) → HasPath rs root task path
+    → IsRooted rs task
 path_rooted rs root task path (top is) = root_rooted is
 path_rooted rs root task path (below number {parent = parent} {path = up} stands is) =
     let place = child_place rs parent (length rs) number task is in
     child_rooted place.0 place.2 (path_rooted rs root parent up stands)
 
 -- a task is noted exactly where some record makes it, and a region where some record begins it
-made_noted : (rs : List Record) (tasks : List ℕ) (task : ℕ) → AreNoted made rs (length rs) tasks → IsMade rs task → Contains tasks task
+made_noted : (rs : List Record) (tasks : List ℕ) (task : ℕ) → AreNoted made rs (length rs) tasks
+    → IsMade rs task → Contains tasks task
 made_noted rs tasks task are (k, makes) = are.each k task (at_within made rs k task makes) makes
 
-noted_made : (rs : List Record) (tasks : List ℕ) (task : ℕ) → AreNoted made rs (length rs) tasks → Contains tasks task → IsMade rs task
+noted_made : (rs : List Record) (tasks : List ℕ) (task : ℕ) → AreNoted made rs (length rs) tasks
+    → Contains tasks task → IsMade rs task
 noted_made rs tasks task are has = let from = are.only task has in (from.0, from.2)
 
-forked_noted : (rs : List Record) (regions : List ℕ) (region : ℕ) → AreNoted forked_region rs (length rs) regions → IsForked rs region → Contains regions region
+forked_noted : (rs : List Record) (regions : List ℕ) (region : ℕ)
+    → AreNoted forked_region rs (length rs) regions → IsForked rs region → Contains regions region
 forked_noted rs regions region are (k, task, forks) =
     let says = region_at rs k task region forks in
     are.each k region (at_within forked_region rs k region says) says
 
-noted_forked : (rs : List Record) (regions : List ℕ) (region : ℕ) → AreNoted forked_region rs (length rs) regions → Contains regions region → IsForked rs region
+noted_forked : (rs : List Record) (regions : List ℕ) (region : ℕ)
+    → AreNoted forked_region rs (length rs) regions → Contains regions region → IsForked rs region
 noted_forked rs regions region are has =
     let from = are.only region has in
     let by = forked_at rs from.0 region from.2 in
     (from.0, by.0, by.1)
 
 -- what a test of the record finds is that its place has the cause
-pub rootless_here : (rs : List Record) (tasks regions : List ℕ) (roots : List (Option Standing)) (i : ℕ) (r : Record) → AreNoted made rs (length rs) tasks → AreNoted forked_region rs (length rs) regions → AreRoots rs tasks roots → i < length rs → r ≡ get_or rs i r → IsRootless tasks regions roots r.body → HasNoRoot rs i
+pub rootless_here : (rs : List Record) (tasks regions : List ℕ) (roots : List (Option Standing)) (i : ℕ)
+    (r : Record)
+    → AreNoted made rs (length rs) tasks → AreNoted forked_region rs (length rs) regions
+    → AreRoots rs tasks roots → i < length rs → r ≡ get_or rs i r → IsRootless tasks regions roots r.body
+    → HasNoRoot rs i
 rootless_here rs tasks regions roots i r noted begun are within read (inl (k, task, low, is, fresh)) =
-    unmade task (r, read_get rs i r within read, (k, low, is)) (λ is_made. fresh (made_noted rs tasks task noted is_made))
+    unmade task (r, read_get rs i r within read, (k, low, is))
+        (λ is_made. fresh (made_noted rs tasks task noted is_made))
 rootless_here rs tasks regions roots i r noted begun are within read (inr (inl h)) =
     let found = some_and (created r.body) _ h in
     let creates : at created rs i ≡ Some found.0 = at_read created rs i r within read ∙ found.1 in
-    let index = contains_get tasks found.0 (noted.each i found.0 within (created_at_made found.0 rs i creates)) in
+    let index =
+        contains_get tasks found.0 (noted.each i found.0 within (created_at_made found.0 rs i creates)) in
     unrooted found.0 creates (are.unrooted index.0 found.0 index.1 (found.2 index.0 index.1))
 rootless_here rs tasks regions roots i r noted begun are within read (inr (inr h)) =
     let found = some_and (region_named r.body) _ h in
-    no_region found.0 (at_read region_named rs i r within read ∙ found.1) (λ forks. found.2 (forked_noted rs regions found.0 begun forks))
+    no_region found.0 (at_read region_named rs i r within read ∙ found.1)
+        (λ forks. found.2 (forked_noted rs regions found.0 begun forks))
 
 -- and back
-pub here_rootless : (rs : List Record) (tasks regions : List ℕ) (roots : List (Option Standing)) (i : ℕ) (r : Record) → AreNoted made rs (length rs) tasks → AreNoted forked_region rs (length rs) regions → AreRoots rs tasks roots → i < length rs → r ≡ get_or rs i r → HasNoRoot rs i → IsRootless tasks regions roots r.body
-here_rootless rs tasks regions roots i r noted begun are within read (unmade task (other, stands, has) fresh) =
+pub here_rootless : (rs : List Record) (tasks regions : List ℕ) (roots : List (Option Standing)) (i : ℕ)
+    (r : Record)
+    → AreNoted made rs (length rs) tasks → AreNoted forked_region rs (length rs) regions
+    → AreRoots rs tasks roots → i < length rs → r ≡ get_or rs i r → HasNoRoot rs i
+    → IsRootless tasks regions roots r.body
+here_rootless rs tasks regions roots i r noted begun are within read (unmade task (other, stands, has) fresh)
+    =
     let same : other ≡ r = same_Some other r (sym stands ∙ read_get rs i r within read) in
     let P : Record → Type 0 = λ q. Contains (named q.body) task in
     let here = subst P same has in
     inl (here.0, task, here.1, here.2, λ is_noted. fresh (noted_made rs tasks task noted is_noted))
 here_rootless rs tasks regions roots i r noted begun are within read (unrooted task creates none) =
-    inr (inl (and_some (created r.body) (λ t. (index : ℕ) → slice_get tasks index ≡ Some t → slice_get roots index ≡ Some None) task (sym (at_read created rs i r within read) ∙ creates) (no_root task none)))
+    inr
+        (inl
+            (and_some (created r.body)
+                (λ t. (index : ℕ) → slice_get tasks index ≡ Some t → slice_get roots index ≡ Some None) task
+                (sym (at_read created rs i r within read) ∙ creates) (no_root task none)))
   where
-    no_root : (t : ℕ) → (IsRooted rs t → ⊥) → (index : ℕ) → slice_get tasks index ≡ Some t → slice_get roots index ≡ Some None
-    no_root t never index is = of (get_or roots index None) (slice_get-get_or roots index None (let inside = slice_get_within tasks index t is in omega (arith, inside, are.all)))
+    no_root : (t : ℕ) → (IsRooted rs t → ⊥) → (index : ℕ) → slice_get tasks index ≡ Some t
+        → slice_get roots index ≡ Some None
+    no_root t never index is =
+        of (get_or roots index None)
+            (slice_get-get_or roots index None
+                (let inside = slice_get_within tasks index t is in omega (arith, inside, are.all)))
       where
         of : (o : Option Standing) → slice_get roots index ≡ Some o → slice_get roots index ≡ Some None
         of None e = e
-        of (Some standing) e = let stands = are.rooted index t standing is e in absurd (never (path_rooted rs standing.root t stands.0 stands.1))
+        of (Some standing) e =
+            let stands = are.rooted index t standing is e in
+            absurd (never (path_rooted rs standing.root t stands.0 stands.1))
 here_rootless rs tasks regions roots i r noted begun are within read (no_region region names none) =
-    inr (inr (and_some (region_named r.body) (λ g. Contains regions g → ⊥) region (sym (at_read region_named rs i r within read) ∙ names) (λ has. none (noted_forked rs regions region begun has))))
+    inr
+        (inr
+            (and_some (region_named r.body) (λ g. Contains regions g → ⊥) region
+                (sym (at_read region_named rs i r within read) ∙ names)
+                (λ has. none (noted_forked rs regions region begun has))))
 
 pub no_root_at : (rs : List Record) (i : ℕ) → HasCause rs i Rootless → HasNoRoot rs i
 no_root_at rs i (rootless h) = h
@@ -91,14 +129,16 @@ rootless_within rs i (unmade task (r, stands, has) fresh) = slice_get_within rs 
 rootless_within rs i (unrooted task creates none) = at_within created rs i task creates
 rootless_within rs i (no_region region names none) = at_within region_named rs i region names
 
-pub first_rootless : (rs : List Record) (i : ℕ) → ((k : ℕ) → k < i → HasNoRoot rs k → ⊥) → HasNoRoot rs i → IsFirstWith rs Rootless i
+pub first_rootless : (rs : List Record) (i : ℕ) → ((k : ℕ) → k < i → HasNoRoot rs k → ⊥) → HasNoRoot rs i
+    → IsFirstWith rs Rootless i
 first_rootless rs i before here = record {
   within = rootless_within rs i here;
   has = rootless here;
   first = λ k low has. before k low (no_root_at rs k has);
 }
 
-pub free_of_rootless : (rs : List Record) (n : ℕ) → ((k : ℕ) → k < n → HasNoRoot rs k → ⊥) → length rs ≤ n → IsFreeOf rs Rootless
+pub free_of_rootless : (rs : List Record) (n : ℕ) → ((k : ℕ) → k < n → HasNoRoot rs k → ⊥) → length rs ≤ n
+    → IsFreeOf rs Rootless
 free_of_rootless rs n none all i has =
     let here = no_root_at rs i has in
     none i (let inside = rootless_within rs i here in omega arith) here
@@ -124,55 +164,86 @@ tail_any : (P : ℕ → Type 0) (x : ℕ) (xs : List ℕ) → Any P xs → Any P
 tail_any P x xs (k, y, low, is, holds) = (suc k, y, omega (arith, low), is, holds)
 
 -- one task, and up to two more
-named_parts : (P : ℕ → Type 0) (x : ℕ) (second third : Option ℕ) → Any P (x ∷ option_to_list second ++ option_to_list third) → P x ⊎ (IsSomeAnd second P ⊎ IsSomeAnd third P)
-named_parts P x None None has = elim (any_head P x [] has) [ inl first ↦ inl first | inr rest ↦ absurd (any_none P rest) ]
+named_parts : (P : ℕ → Type 0) (x : ℕ) (second third : Option ℕ)
+    → Any P (x ∷ option_to_list second ++ option_to_list third)
+    → P x ⊎ (IsSomeAnd second P ⊎ IsSomeAnd third P)
+named_parts P x None None has =
+    elim (any_head P x [] has) [inl first ↦ inl first | inr rest ↦ absurd (any_none P rest)]
 named_parts P x (Some y) None has = elim (any_head P x (y ∷ []) has) [
   | inl first ↦ inl first
-  | inr rest ↦ elim (any_head P y [] rest) [ inl second ↦ inr (inl second) | inr none ↦ absurd (any_none P none) ]
+  | inr rest ↦
+      elim (any_head P y [] rest) [inl second ↦ inr (inl second) | inr none ↦ absurd (any_none P none)]
 ]
 named_parts P x None (Some z) has = elim (any_head P x (z ∷ []) has) [
   | inl first ↦ inl first
-  | inr rest ↦ elim (any_head P z [] rest) [ inl third ↦ inr (inr third) | inr none ↦ absurd (any_none P none) ]
+  | inr rest ↦ elim (any_head P z [] rest) [inl third ↦ inr (inr third) | inr none ↦ absurd (any_none P none)]
 ]
 named_parts P x (Some y) (Some z) has = elim (any_head P x (y ∷ z ∷ []) has) [
   | inl first ↦ inl first
   | inr rest ↦ elim (any_head P y (z ∷ []) rest) [
     | inl second ↦ inr (inl second)
-    | inr more ↦ elim (any_head P z [] more) [ inl third ↦ inr (inr third) | inr none ↦ absurd (any_none P none) ]
+    | inr more ↦
+        elim (any_head P z [] more) [inl third ↦ inr (inr third) | inr none ↦ absurd (any_none P none)]
   ]
 ]
 
-parts_named : (P : ℕ → Type 0) (x : ℕ) (second third : Option ℕ) → P x ⊎ (IsSomeAnd second P ⊎ IsSomeAnd third P) → Any P (x ∷ option_to_list second ++ option_to_list third)
+parts_named : (P : ℕ → Type 0) (x : ℕ) (second third : Option ℕ)
+    → P x ⊎ (IsSomeAnd second P ⊎ IsSomeAnd third P)
+    → Any P (x ∷ option_to_list second ++ option_to_list third)
 parts_named P x second third (inl first) = head_any P x (option_to_list second ++ option_to_list third) first
-parts_named P x (Some y) third (inr (inl second)) = tail_any P x (y ∷ option_to_list third) (head_any P y (option_to_list third) second)
+parts_named P x (Some y) third (inr (inl second)) =
+    tail_any P x (y ∷ option_to_list third) (head_any P y (option_to_list third) second)
 parts_named P x None third (inr (inl second)) = absurd second
 parts_named P x second None (inr (inr third)) = absurd third
 parts_named P x None (Some z) (inr (inr third)) = tail_any P x (z ∷ []) (head_any P z [] third)
-parts_named P x (Some y) (Some z) (inr (inr third)) = tail_any P x (y ∷ z ∷ []) (tail_any P y (z ∷ []) (head_any P z [] third))
+parts_named P x (Some y) (Some z) (inr (inr third)) =
+    tail_any P x (y ∷ z ∷ []) (tail_any P y (z ∷ []) (head_any P z [] third))
 
 -- an empty slot means that no record makes the task
-missing_fresh : (tasks : List ℕ) (found slot : Option ℕ) → Finds tasks found slot → IsMissing found slot → IsSomeAnd found (λ task. Contains tasks task → ⊥)
+missing_fresh : (tasks : List ℕ) (found slot : Option ℕ) → Finds tasks found slot → IsMissing found slot
+    → IsSomeAnd found (λ task. Contains tasks task → ⊥)
 missing_fresh tasks None slot finds missing = absurd missing
 missing_fresh tasks (Some task) None finds missing = finds task refl
 missing_fresh tasks (Some task) (Some index) finds missing = absurd (none-some index (sym missing))
 
-fresh_missing : (tasks : List ℕ) (found slot : Option ℕ) → Finds tasks found slot → IsSomeAnd found (λ task. Contains tasks task → ⊥) → IsMissing found slot
+fresh_missing : (tasks : List ℕ) (found slot : Option ℕ) → Finds tasks found slot
+    → IsSomeAnd found (λ task. Contains tasks task → ⊥) → IsMissing found slot
 fresh_missing tasks None slot finds fresh = absurd fresh
 fresh_missing tasks (Some task) None finds fresh = refl
-fresh_missing tasks (Some task) (Some index) (other, is, stands) fresh = absurd (fresh (get_contains tasks task index (stands ∙ sym is)))
+fresh_missing tasks (Some task) (Some index) (other, is, stands) fresh =
+    absurd (fresh (get_contains tasks task index (stands ∙ sym is)))
 
-named_by : (P : ℕ → Type 0) (b : Body) → Any P (named b) ↔ (IsSomeAnd (subject b) P ⊎ (IsSomeAnd (object b) P ⊎ IsSomeAnd (option_map (λ (c : Claim). c.root) (claim b)) P))
-named_by P (ParallelBegin requested task parallel) = (named_parts P task None None, parts_named P task None None)
+named_by : (P : ℕ → Type 0) (b : Body)
+    → Any P (named b)
+        ↔ (IsSomeAnd (subject b) P
+              ⊎ (IsSomeAnd (object b) P ⊎ IsSomeAnd (option_map (λ (c : Claim). c.root) (claim b)) P))
+named_by P (ParallelBegin requested task parallel) =
+    (named_parts P task None None, parts_named P task None None)
 named_by P (ParallelEnd task parallel) = (named_parts P task None None, parts_named P task None None)
-named_by P (ImplicitTask endpoint actual index given parallel task) = (named_parts P task None None, parts_named P task None None)
-named_by P (TaskCreate deps given task child) = (named_parts P task (Some child) None, parts_named P task (Some child) None)
+named_by P (ImplicitTask endpoint actual index given parallel task) =
+    (named_parts P task None None, parts_named P task None None)
+named_by P (TaskCreate deps given task child) =
+    (named_parts P task (Some child) None, parts_named P task (Some child) None)
 named_by P (Dependences task list) = (named_parts P task None None, parts_named P task None None)
-named_by P (TaskSchedule status turns prior next share) = (named_parts P prior next (option_map (λ (c : Claim). c.root) share), parts_named P prior next (option_map (λ (c : Claim). c.root) share))
-named_by P (SyncRegion kind endpoint parallel task) = (named_parts P task None None, parts_named P task None None)
-named_by P (Cancel given task share) = (named_parts P task None (option_map (λ (c : Claim). c.root) share), parts_named P task None (option_map (λ (c : Claim). c.root) share))
-named_by P _ = (λ has. absurd (any_none P has), λ parts. elim parts [ inl first ↦ absurd first | inr more ↦ elim more [ inl second ↦ absurd second | inr third ↦ absurd third ] ])
+named_by P (TaskSchedule status turns prior next share) =
+    (named_parts P prior next (option_map (λ (c : Claim). c.root) share),
+        parts_named P prior next (option_map (λ (c : Claim). c.root) share))
+named_by P (SyncRegion kind endpoint parallel task) =
+    (named_parts P task None None, parts_named P task None None)
+named_by P (Cancel given task share) =
+    (named_parts P task None (option_map (λ (c : Claim). c.root) share),
+        parts_named P task None (option_map (λ (c : Claim). c.root) share))
+named_by P _ =
+    (λ has.
+        absurd (any_none P has),
+            λ parts.
+                elim parts
+                    [inl first ↦
+                        absurd first | inr more ↦
+                            elim more [inl second ↦ absurd second | inr third ↦ absurd third]])
 
-claim_root : (P : ℕ → Type 0) (share : Option Claim) → IsSomeAnd share (λ c. P c.root) ↔ IsSomeAnd (option_map (λ (c : Claim). c.root) share) P
+claim_root : (P : ℕ → Type 0) (share : Option Claim)
+    → IsSomeAnd share (λ c. P c.root) ↔ IsSomeAnd (option_map (λ (c : Claim). c.root) share) P
 claim_root P None = (λ h. h, λ h. h)
 claim_root P (Some c) = (λ h. h, λ h. h)
 
@@ -189,28 +260,46 @@ no_and None P none h = h
 no_and (Some x) P none h = none-some x (sym none)
 
 -- an empty slot alone
-pub missing_subject : (tasks regions : List ℕ) (roots : List (Option Standing)) (b : Body) (task : ℕ) (first : Option ℕ) → Finds tasks (subject b) first → subject b ≡ Some task → first ≡ None → IsRootless tasks regions roots b
+pub missing_subject : (tasks regions : List ℕ) (roots : List (Option Standing)) (b : Body) (task : ℕ)
+    (first : Option ℕ)
+    → Finds tasks (subject b) first → subject b ≡ Some task → first ≡ None → IsRootless tasks regions roots b
 missing_subject tasks regions roots b task first finds is none =
     let P : Option ℕ → Type 0 = λ o. IsMissing o first in
-    inl ((named_by (λ t. Contains tasks t → ⊥) b).1 (inl (missing_fresh tasks (subject b) first finds (subst P (sym is) none))))
+    inl
+        ((named_by (λ t. Contains tasks t → ⊥) b).1
+            (inl (missing_fresh tasks (subject b) first finds (subst P (sym is) none))))
 
-missing_object : (tasks regions : List ℕ) (roots : List (Option Standing)) (b : Body) (task : ℕ) (second : Option ℕ) → Finds tasks (object b) second → object b ≡ Some task → second ≡ None → IsRootless tasks regions roots b
+missing_object : (tasks regions : List ℕ) (roots : List (Option Standing)) (b : Body) (task : ℕ)
+    (second : Option ℕ)
+    → Finds tasks (object b) second → object b ≡ Some task → second ≡ None → IsRootless tasks regions roots b
 missing_object tasks regions roots b task second finds is none =
     let P : Option ℕ → Type 0 = λ o. IsMissing o second in
-    inl ((named_by (λ t. Contains tasks t → ⊥) b).1 (inr (inl (missing_fresh tasks (object b) second finds (subst P (sym is) none)))))
+    inl
+        ((named_by (λ t. Contains tasks t → ⊥) b).1
+            (inr (inl (missing_fresh tasks (object b) second finds (subst P (sym is) none)))))
 
-pub missing_next : (tasks regions : List ℕ) (roots : List (Option Standing)) (b : Body) (next second : Option ℕ) → Finds tasks (object b) second → object b ≡ next → is_some next ≡ true → second ≡ None → IsRootless tasks regions roots b
+pub missing_next : (tasks regions : List ℕ) (roots : List (Option Standing)) (b : Body)
+    (next second : Option ℕ)
+    → Finds tasks (object b) second → object b ≡ next → is_some next ≡ true → second ≡ None
+    → IsRootless tasks regions roots b
 missing_next tasks regions roots b None second finds is some none = absurd (false≢true some)
-missing_next tasks regions roots b (Some task) second finds is some none = missing_object tasks regions roots b task second finds is none
+missing_next tasks regions roots b (Some task) second finds is some none =
+    missing_object tasks regions roots b task second finds is none
 
 pub no_next : (next : Option ℕ) → is_some next ≡ false → next ≡ None
 no_next None none = refl
 no_next (Some task) none = absurd (false≢true (sym none))
 
 -- where no slot is empty, the rest decides
-rest_of : (tasks regions : List ℕ) (roots : List (Option Standing)) (b : Body) (first second : Option ℕ) → Finds tasks (subject b) first → Finds tasks (object b) second → (first ≡ None → ⊥) → (IsMissing (object b) second → ⊥) → IsRootless tasks regions roots b → IsSomeAnd (claim b) (λ c. Contains tasks c.root → ⊥) ⊎ (CreatesUnrooted tasks roots b ⊎ NamesNoRegion regions b)
-rest_of tasks regions roots b first second finds found full filled (inl has) = elim ((named_by (λ t. Contains tasks t → ⊥) b).0 has) [
-  | inl fresh ↦ absurd (full_missing (subject b) first full (fresh_missing tasks (subject b) first finds fresh))
+rest_of : (tasks regions : List ℕ) (roots : List (Option Standing)) (b : Body) (first second : Option ℕ)
+    → Finds tasks (subject b) first → Finds tasks (object b) second → (first ≡ None → ⊥)
+    → (IsMissing (object b) second → ⊥) → IsRootless tasks regions roots b
+    → IsSomeAnd (claim b) (λ c. Contains tasks c.root → ⊥)
+        ⊎ (CreatesUnrooted tasks roots b ⊎ NamesNoRegion regions b)
+rest_of tasks regions roots b first second finds found full filled (inl has) =
+    elim ((named_by (λ t. Contains tasks t → ⊥) b).0 has) [
+  | inl fresh ↦
+      absurd (full_missing (subject b) first full (fresh_missing tasks (subject b) first finds fresh))
   | inr more ↦ elim more [
     | inl fresh ↦ absurd (filled (fresh_missing tasks (object b) second found fresh))
     | inr fresh ↦ inl ((claim_root (λ t. Contains tasks t → ⊥) (claim b)).1 fresh)
@@ -219,75 +308,134 @@ rest_of tasks regions roots b first second finds found full filled (inl has) = e
 rest_of tasks regions roots b first second finds found full filled (inr rest) = inr rest
 
 -- a record that names one task and no region
-pub subject_left : (tasks regions : List ℕ) (roots : List (Option Standing)) (b : Body) (task : ℕ) (first second : Option ℕ) → Finds tasks (subject b) first → Finds tasks (object b) second → subject b ≡ Some task → object b ≡ None → claim b ≡ None → created b ≡ None → region_named b ≡ None → IsRootless tasks regions roots b → first ≡ None
+pub subject_left : (tasks regions : List ℕ) (roots : List (Option Standing)) (b : Body) (task : ℕ)
+    (first second : Option ℕ)
+    → Finds tasks (subject b) first → Finds tasks (object b) second → subject b ≡ Some task → object b ≡ None
+    → claim b ≡ None → created b ≡ None → region_named b ≡ None → IsRootless tasks regions roots b
+    → first ≡ None
 subject_left tasks regions roots b task None second finds found is no_object no_claim no_child none has = refl
-subject_left tasks regions roots b task (Some index) second finds found is no_object no_claim no_child none has =
-    elim (rest_of tasks regions roots b (Some index) second finds found (λ e. none-some index (sym e)) (none_missing (object b) second no_object) has) [
+subject_left tasks regions roots b task (Some index) second finds found is no_object no_claim no_child none
+    has =
+    elim
+        (rest_of tasks regions roots b (Some index) second finds found (λ e. none-some index (sym e))
+            (none_missing (object b) second no_object) has) [
       | inl claimed ↦ absurd (no_and (claim b) _ no_claim claimed)
-      | inr more ↦ elim more [ inl child ↦ absurd (no_and (created b) _ no_child child) | inr region ↦ absurd (no_and (region_named b) _ none region) ]
+      | inr more ↦
+          elim more
+              [inl child ↦
+                  absurd (no_and (created b) _ no_child child) | inr region ↦
+                      absurd (no_and (region_named b) _ none region)]
     ]
 
 -- a record that names a region too
-pub region_left : (tasks regions : List ℕ) (roots : List (Option Standing)) (b : Body) (first second : Option ℕ) → Finds tasks (subject b) first → Finds tasks (object b) second → (first ≡ None → ⊥) → object b ≡ None → claim b ≡ None → created b ≡ None → IsRootless tasks regions roots b → NamesNoRegion regions b
+pub region_left : (tasks regions : List ℕ) (roots : List (Option Standing)) (b : Body)
+    (first second : Option ℕ)
+    → Finds tasks (subject b) first → Finds tasks (object b) second → (first ≡ None → ⊥) → object b ≡ None
+    → claim b ≡ None → created b ≡ None → IsRootless tasks regions roots b → NamesNoRegion regions b
 region_left tasks regions roots b first second finds found full no_object no_claim no_child has =
-    elim (rest_of tasks regions roots b first second finds found full (none_missing (object b) second no_object) has) [
+    elim
+        (rest_of tasks regions roots b first second finds found full
+            (none_missing (object b) second no_object) has) [
       | inl claimed ↦ absurd (no_and (claim b) _ no_claim claimed)
-      | inr more ↦ elim more [ inl child ↦ absurd (no_and (created b) _ no_child child) | inr region ↦ region ]
+      | inr more ↦ elim more [inl child ↦ absurd (no_and (created b) _ no_child child) | inr region ↦ region]
     ]
 
 -- a record that may have a claim
-pub claim_left : (tasks regions : List ℕ) (roots : List (Option Standing)) (b : Body) (first second : Option ℕ) (share : Option Claim) → Finds tasks (subject b) first → Finds tasks (object b) second → (first ≡ None → ⊥) → (IsMissing (object b) second → ⊥) → claim b ≡ share → created b ≡ None → region_named b ≡ None → IsRootless tasks regions roots b → IsSomeAnd share (λ c. Contains tasks c.root → ⊥)
+pub claim_left : (tasks regions : List ℕ) (roots : List (Option Standing)) (b : Body)
+    (first second : Option ℕ) (share : Option Claim)
+    → Finds tasks (subject b) first → Finds tasks (object b) second → (first ≡ None → ⊥)
+    → (IsMissing (object b) second → ⊥) → claim b ≡ share → created b ≡ None → region_named b ≡ None
+    → IsRootless tasks regions roots b → IsSomeAnd share (λ c. Contains tasks c.root → ⊥)
 claim_left tasks regions roots b first second share finds found full filled is no_child none has =
     elim (rest_of tasks regions roots b first second finds found full filled has) [
-      | inl claimed ↦ let P : Option Claim → Type 0 = λ o. IsSomeAnd o (λ c. Contains tasks c.root → ⊥) in subst P is claimed
-      | inr more ↦ elim more [ inl child ↦ absurd (no_and (created b) _ no_child child) | inr region ↦ absurd (no_and (region_named b) _ none region) ]
+      | inl claimed ↦
+          let P : Option Claim → Type 0 = λ o. IsSomeAnd o (λ c. Contains tasks c.root → ⊥) in
+          subst P is claimed
+      | inr more ↦
+          elim more
+              [inl child ↦
+                  absurd (no_and (created b) _ no_child child) | inr region ↦
+                      absurd (no_and (region_named b) _ none region)]
     ]
 
-pub claim_rootless : (tasks regions : List ℕ) (roots : List (Option Standing)) (b : Body) (share : Option Claim) → claim b ≡ share → IsSomeAnd share (λ c. Contains tasks c.root → ⊥) → IsRootless tasks regions roots b
+pub claim_rootless : (tasks regions : List ℕ) (roots : List (Option Standing)) (b : Body)
+    (share : Option Claim)
+    → claim b ≡ share → IsSomeAnd share (λ c. Contains tasks c.root → ⊥) → IsRootless tasks regions roots b
 claim_rootless tasks regions roots b share is has =
     let P : Option Claim → Type 0 = λ o. IsSomeAnd o (λ c. Contains tasks c.root → ⊥) in
-    inl ((named_by (λ t. Contains tasks t → ⊥) b).1 (inr (inr ((claim_root (λ t. Contains tasks t → ⊥) (claim b)).0 (subst P (sym is) has)))))
+    inl
+        ((named_by (λ t. Contains tasks t → ⊥) b).1
+            (inr (inr ((claim_root (λ t. Contains tasks t → ⊥) (claim b)).0 (subst P (sym is) has)))))
 
 -- a record that creates a task
-pub child_left : (tasks regions : List ℕ) (roots : List (Option Standing)) (b : Body) (child : ℕ) (first second : Option ℕ) → Finds tasks (subject b) first → Finds tasks (object b) second → (first ≡ None → ⊥) → object b ≡ Some child → created b ≡ Some child → claim b ≡ None → region_named b ≡ None → IsRootless tasks regions roots b → (index : ℕ) → second ≡ Some index → slice_get roots index ≡ Some None
-child_left tasks regions roots b child first None finds found full names makes no_claim none has index is = absurd (none-some index is)
-child_left tasks regions roots b child first (Some at) finds found full names makes no_claim none has index is =
-    elim (rest_of tasks regions roots b first (Some at) finds found full (full_missing (object b) (Some at) (λ e. none-some at (sym e))) has) [
+pub child_left : (tasks regions : List ℕ) (roots : List (Option Standing)) (b : Body) (child : ℕ)
+    (first second : Option ℕ)
+    → Finds tasks (subject b) first → Finds tasks (object b) second → (first ≡ None → ⊥)
+    → object b ≡ Some child → created b ≡ Some child → claim b ≡ None → region_named b ≡ None
+    → IsRootless tasks regions roots b → (index : ℕ) → second ≡ Some index → slice_get roots index ≡ Some None
+child_left tasks regions roots b child first None finds found full names makes no_claim none has index is =
+    absurd (none-some index is)
+child_left tasks regions roots b child first (Some at) finds found full names makes no_claim none has index is
+    =
+    elim
+        (rest_of tasks regions roots b first (Some at) finds found full
+            (full_missing (object b) (Some at) (λ e. none-some at (sym e))) has) [
       | inl claimed ↦ absurd (no_and (claim b) _ no_claim claimed)
       | inr more ↦ elim more [
         | inl unrooted_child ↦
             let it = some_and (created b) _ unrooted_child in
-            it.2 index (ap (slice_get tasks) (sym (same_Some at index is)) ∙ found.2 ∙ sym found.1 ∙ names ∙ sym makes ∙ it.1)
+            it.2 index
+                (ap (slice_get tasks) (sym (same_Some at index is)) ∙ found.2 ∙ sym found.1 ∙ names
+                    ∙ sym makes ∙ it.1)
         | inr region ↦ absurd (no_and (region_named b) _ none region)
       ]
     ]
 
-pub child_rootless : (tasks regions : List ℕ) (roots : List (Option Standing)) (b : Body) (child : ℕ) (second : Option ℕ) → AreApart tasks → Finds tasks (object b) second → object b ≡ Some child → created b ≡ Some child → ((index : ℕ) → second ≡ Some index → slice_get roots index ≡ Some None) → IsRootless tasks regions roots b
-child_rootless tasks regions roots b child None apart finds names makes none = missing_object tasks regions roots b child None finds names refl
+pub child_rootless : (tasks regions : List ℕ) (roots : List (Option Standing)) (b : Body) (child : ℕ)
+    (second : Option ℕ)
+    → AreApart tasks → Finds tasks (object b) second → object b ≡ Some child → created b ≡ Some child
+    → ((index : ℕ) → second ≡ Some index → slice_get roots index ≡ Some None)
+    → IsRootless tasks regions roots b
+child_rootless tasks regions roots b child None apart finds names makes none =
+    missing_object tasks regions roots b child None finds names refl
 child_rootless tasks regions roots b child (Some at) apart (other, says, stands) names makes none =
     let same : other ≡ child = same_Some other child (sym says ∙ names) in
-    inr (inl (and_some (created b) (λ t. (index : ℕ) → slice_get tasks index ≡ Some t → slice_get roots index ≡ Some None) child makes (λ index is. none index (ap Some (apart at index child (stands ∙ ap Some same) is)))))
+    inr
+        (inl
+            (and_some (created b)
+                (λ t. (index : ℕ) → slice_get tasks index ≡ Some t → slice_get roots index ≡ Some None) child
+                makes (λ index is. none index (ap Some (apart at index child (stands ∙ ap Some same) is)))))
 
 -- a chain of parents ends at a root
 path_root : (rs : List Record) (root task : ℕ) (path : List ℕ) → HasPath rs root task path → IsRoot rs root
 path_root rs root task path (top is) = is
-path_root rs root task path (below number {parent = parent} {path = up} stands is) = path_root rs root parent up stands
+path_root rs root task path (below number { parent = parent } { path = up } stands is) =
+    path_root rs root parent up stands
 
 -- each root that is known is made
-pub roots_made : (rs : List Record) (tasks : List ℕ) (roots : List (Option Standing)) → AreNoted made rs (length rs) tasks → AreRoots rs tasks roots → AreRootsMade tasks roots
+pub roots_made : (rs : List Record) (tasks : List ℕ) (roots : List (Option Standing))
+    → AreNoted made rs (length rs) tasks → AreRoots rs tasks roots → AreRootsMade tasks roots
 roots_made rs tasks roots noted are index standing is =
     let low = slice_get_within roots index (Some standing) is in
-    let stands = are.rooted index (get_or tasks index 0) standing (slice_get-get_or tasks index 0 (omega (arith, low, are.all))) is in
+    let stands =
+        are.rooted index (get_or tasks index 0) standing
+            (slice_get-get_or tasks index 0 (omega (arith, low, are.all))) is in
     let top_is = path_root rs standing.root (get_or tasks index 0) stands.0 stands.1 in
     made_noted rs tasks standing.root noted (top_is.0, begun_at_made standing.root rs top_is.0 top_is.1)
 
 -- what the slot of a place holds
-pub slot_finds : (says : Body → Option ℕ) (rs : List Record) (tasks : List ℕ) (slots : List (Option ℕ)) (i : ℕ) (r : Record) (slot : Option ℕ) → AreFound says rs (length rs) tasks slots → i < length rs → r ≡ get_or rs i r → slot ≡ get_or slots i slot → Finds tasks (says r.body) slot
+pub slot_finds : (says : Body → Option ℕ) (rs : List Record) (tasks : List ℕ) (slots : List (Option ℕ))
+    (i : ℕ) (r : Record) (slot : Option ℕ)
+    → AreFound says rs (length rs) tasks slots → i < length rs → r ≡ get_or rs i r
+    → slot ≡ get_or slots i slot → Finds tasks (says r.body) slot
 slot_finds says rs tasks slots i r slot are within read here =
     let found = are.each i within in
     let P : Option ℕ → Type 0 = λ o. Finds tasks (says r.body) o in
     let Q : Option ℕ → Type 0 = λ o. Finds tasks o found.0 in
-    let same : found.0 ≡ slot = same_Some found.0 slot (sym found.1 ∙ slice_get-get_or slots i slot (omega (arith, within, are.all)) ∙ ap Some (sym here)) in
+    let same : found.0 ≡ slot =
+        same_Some found.0 slot
+            (sym found.1 ∙ slice_get-get_or slots i slot (omega (arith, within, are.all))
+                ∙ ap Some (sym here)) in
     subst P same (subst Q (at_read says rs i r within read) found.2)
 
 -- ---- where all that the records name is known
@@ -295,28 +443,49 @@ slot_finds says rs tasks slots i r slot are within read here =
 pub known_start : (rs : List Record) (tasks regions : List ℕ) → AreKnown rs 0 tasks regions
 known_start rs tasks regions i r low = absurd (omega arith)
 
-pub known_more : (rs : List Record) (n : ℕ) (tasks regions : List ℕ) (r : Record) → AreKnown rs n tasks regions → slice_get rs n ≡ Some r → NamesKnown tasks regions r.body → AreKnown rs (n + 1) tasks regions
+pub known_more : (rs : List Record) (n : ℕ) (tasks regions : List ℕ) (r : Record)
+    → AreKnown rs n tasks regions → slice_get rs n ≡ Some r → NamesKnown tasks regions r.body
+    → AreKnown rs (n + 1) tasks regions
 known_more rs n tasks regions r are here known i other low stands = elim (cases_eq i n) [
-  | inl same ↦ let P : Record → Type 0 = λ q. NamesKnown tasks regions q.body in subst P (same_Some r other (sym here ∙ ap (slice_get rs) (sym same) ∙ stands)) known
+  | inl same ↦
+      let P : Record → Type 0 = λ q. NamesKnown tasks regions q.body in
+      subst P (same_Some r other (sym here ∙ ap (slice_get rs) (sym same) ∙ stands)) known
   | inr apart ↦ are i other (omega arith) stands
 ]
 
 -- and each root too, no record is rootless
-pub known_free : (rs : List Record) (tasks regions : List ℕ) (roots : List (Option Standing)) → AreNoted made rs (length rs) tasks → AreNoted forked_region rs (length rs) regions → AreRoots rs tasks roots → AreKnown rs (length rs) tasks regions → ((index : ℕ) → slice_get roots index ≡ Some None → ⊥) → IsFreeOf rs Rootless
+pub known_free : (rs : List Record) (tasks regions : List ℕ) (roots : List (Option Standing))
+    → AreNoted made rs (length rs) tasks → AreNoted forked_region rs (length rs) regions
+    → AreRoots rs tasks roots → AreKnown rs (length rs) tasks regions
+    → ((index : ℕ) → slice_get roots index ≡ Some None → ⊥) → IsFreeOf rs Rootless
 known_free rs tasks regions roots noted begun are known full i has = never (no_root_at rs i has)
   where
-    rooted : (index task : ℕ) → slice_get tasks index ≡ Some task → (o : Option Standing) → slice_get roots index ≡ Some o → IsRooted rs task
+    rooted : (index task : ℕ) → slice_get tasks index ≡ Some task → (o : Option Standing)
+        → slice_get roots index ≡ Some o → IsRooted rs task
     rooted index task is None e = absurd (full index e)
-    rooted index task is (Some standing) e = let stands = are.rooted index task standing is e in path_rooted rs standing.root task stands.0 stands.1
+    rooted index task is (Some standing) e =
+        let stands = are.rooted index task standing is e in
+        path_rooted rs standing.root task stands.0 stands.1
 
-    named_there : (region : ℕ) → (IsForked rs region → ⊥) → i < length rs → (o : Option Record) → slice_get rs i ≡ o → option_and_then (λ (r : Record). region_named r.body) o ≡ Some region → ⊥
+    named_there : (region : ℕ) → (IsForked rs region → ⊥) → i < length rs → (o : Option Record)
+        → slice_get rs i ≡ o → option_and_then (λ (r : Record). region_named r.body) o ≡ Some region → ⊥
     named_there region none low None e is = none-some region is
-    named_there region none low (Some r) e is = (known i r low e).1 (and_some (region_named r.body) (λ g. Contains regions g → ⊥) region is (λ noted_region. none (noted_forked rs regions region begun noted_region)))
+    named_there region none low (Some r) e is =
+        (known i r low e).1
+            (and_some (region_named r.body) (λ g. Contains regions g → ⊥) region is
+                (λ noted_region. none (noted_forked rs regions region begun noted_region)))
 
     never : HasNoRoot rs i → ⊥
-    never (unmade task (r, stands, names) fresh) = (known i r (slice_get_within rs i r stands) stands).0 (names.0, task, names.1, names.2, λ is_noted. fresh (noted_made rs tasks task noted is_noted))
+    never (unmade task (r, stands, names) fresh) =
+        (known i r (slice_get_within rs i r stands) stands).0
+            (names.0, task, names.1, names.2, λ is_noted. fresh (noted_made rs tasks task noted is_noted))
     never (unrooted task creates none) =
         let low = at_within created rs i task creates in
         let index = contains_get tasks task (noted.each i task low (created_at_made task rs i creates)) in
-        none (rooted index.0 task index.1 (get_or roots index.0 None) (slice_get-get_or roots index.0 None (let inside = slice_get_within tasks index.0 task index.1 in omega (arith, inside, are.all))))
-    never (no_region region names none) = named_there region none (at_within region_named rs i region names) (slice_get rs i) refl names
+        none
+            (rooted index.0 task index.1 (get_or roots index.0 None)
+                (slice_get-get_or roots index.0 None
+                    (let inside = slice_get_within tasks index.0 task index.1 in
+                     omega (arith, inside, are.all))))
+    never (no_region region names none) =
+        named_there region none (at_within region_named rs i region names) (slice_get rs i) refl names

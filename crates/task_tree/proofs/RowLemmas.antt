@@ -1,5 +1,6 @@
 -- How the rows of children are filled.
-use Rattle.std.proofs.Common.{◌≡◌, ◌∙◌, ℕ, ◌<◌, ◌≤◌, ◌+◌, ◌-◌, zero, suc, List, [], ◌∷◌, ◌++◌, length, Option, Some, None, sym, ap, subst, arith, inl, inr, set, get_or, take, drop}
+use Rattle.std.proofs.Common.{◌≡◌, ◌∙◌, ℕ, ◌<◌, ◌≤◌, ◌+◌, ◌-◌, zero, suc, List, [], ◌∷◌, ◌++◌, length, Option}
+use Rattle.std.proofs.Common.{Some, None, sym, ap, subst, arith, inl, inr, set, get_or, take, drop}
 use Rattle.std.proofs.lemmas.Bool.{cases_eq, cases_lt}
 use Rattle.std.proofs.lemmas.Option.{none-some, same_Some, slice_get_within, slice_get-get_or}
 use Rattle.std.proofs.lemmas.List.{ext_get_or, get_or-take, get_or-drop, length-take-le, length-drop}
@@ -15,7 +16,8 @@ use Rattle.task_tree.specs.declared.links.Link.{Link}
 use Rattle.task_tree.specs.Makers.{AreNoted}
 use Rattle.task_tree.specs.Numbering.{AreApart}
 use Rattle.task_tree.specs.Links.{AreCounts, AreLinks}
-use Rattle.task_tree.specs.Rows.{RowsView, AreRising, AreWithin, AreOffsets, AreCounted, AreFitting, AreSingle, AreFilled, AreChildren}
+use Rattle.task_tree.specs.Rows.{RowsView, AreRising, AreWithin, AreOffsets, AreCounted, AreFitting}
+use Rattle.task_tree.specs.Rows.{AreSingle, AreFilled, AreChildren}
 use Rattle.task_tree.proofs.LinkLemmas.{get_set_same, get_set_other}
 use Rattle.task_tree.proofs.OnceLemmas.{creation_made, one_number}
 
@@ -35,10 +37,12 @@ read_last xs y i is =
     same_Some _ _ (sym (slice_get-get_or (xs ++ y ∷ []) i 0 inside) ∙ there)
 
 pub offsets_rise : (counts offsets : List ℕ) → AreOffsets counts offsets → AreRising offsets
-offsets_rise counts offsets are index below = let next = are.next index (omega (arith, below, are.all)) in omega (arith, next)
+offsets_rise counts offsets are index below =
+    let next = are.next index (omega (arith, below, are.all)) in omega (arith, next)
 
 -- a later row begins where an earlier one ends, or behind
-rows_rise : (offsets : List ℕ) (low more : ℕ) → AreRising offsets → low + more < length offsets → slice_index offsets low ≤ slice_index offsets (low + more)
+rows_rise : (offsets : List ℕ) (low more : ℕ) → AreRising offsets → low + more < length offsets
+    → slice_index offsets low ≤ slice_index offsets (low + more)
 rows_rise offsets low zero rise within =
     let P : ℕ → Type 0 = λ k. slice_index offsets low ≤ slice_index offsets k in
     let same : low ≡ low + 0 = omega arith in
@@ -52,40 +56,58 @@ rows_rise offsets low (suc more) rise within =
     let same : low + more + 1 ≡ low + suc more = omega arith in
     subst P same here
 
-rows_order : (offsets : List ℕ) (low high : ℕ) → AreRising offsets → low ≤ high → high < length offsets → slice_index offsets low ≤ slice_index offsets high
+rows_order : (offsets : List ℕ) (low high : ℕ) → AreRising offsets → low ≤ high → high < length offsets
+    → slice_index offsets low ≤ slice_index offsets high
 rows_order offsets low high rise below within =
     let P : ℕ → Type 0 = λ k. slice_index offsets low ≤ slice_index offsets k in
     let same : low + (high - low) ≡ high = omega (arith, below) in
     subst P same (rows_rise offsets low (high - low) rise (omega (arith, below, within)))
 
 -- so each lies within an array as long as the last one ends
-rows_within : (offsets ids : List ℕ) (last : ℕ) → AreRising offsets → length offsets ≡ last + 1 → length ids ≡ slice_index offsets last → (index : ℕ) → index < length offsets → slice_index offsets index ≤ length ids
-rows_within offsets ids last rise long all index below = let order = rows_order offsets index last rise (omega (arith, below, long)) (omega (arith, long)) in omega (arith, order, all)
+rows_within : (offsets ids : List ℕ) (last : ℕ) → AreRising offsets → length offsets ≡ last + 1
+    → length ids ≡ slice_index offsets last → (index : ℕ) → index < length offsets
+    → slice_index offsets index ≤ length ids
+rows_within offsets ids last rise long all index below =
+    let order = rows_order offsets index last rise (omega (arith, below, long)) (omega (arith, long)) in
+    omega (arith, order, all)
 
-pub offsets_within : (counts offsets ids : List ℕ) → AreOffsets counts offsets → length ids ≡ slice_index offsets (length counts) → AreWithin offsets ids
+pub offsets_within : (counts offsets ids : List ℕ) → AreOffsets counts offsets
+    → length ids ≡ slice_index offsets (length counts) → AreWithin offsets ids
 offsets_within counts offsets ids are all = record {
   rising = offsets_rise counts offsets are;
   within = rows_within offsets ids (length counts) (offsets_rise counts offsets are) are.all all;
 }
 
-pub within_same : (offsets old new : List ℕ) → AreWithin offsets old → length new ≡ length old → AreWithin offsets new
+pub within_same : (offsets old new : List ℕ) → AreWithin offsets old → length new ≡ length old
+    → AreWithin offsets new
 within_same offsets old new are same = record {
   rising = are.rising;
   within = λ index below. let inside = are.within index below in omega (arith, inside, same);
 }
 
 -- no place belongs to two rows
-same_row : (offsets : List ℕ) (one other a b : ℕ) → AreRising offsets → one + 1 < length offsets → other + 1 < length offsets → slice_index offsets one + a < slice_index offsets (one + 1) → slice_index offsets other + b < slice_index offsets (other + 1) → slice_index offsets one + a ≡ slice_index offsets other + b → one ≡ other
+same_row : (offsets : List ℕ) (one other a b : ℕ) → AreRising offsets → one + 1 < length offsets
+    → other + 1 < length offsets → slice_index offsets one + a < slice_index offsets (one + 1)
+    → slice_index offsets other + b < slice_index offsets (other + 1)
+    → slice_index offsets one + a ≡ slice_index offsets other + b → one ≡ other
 same_row offsets one other a b rise low high first second same = elim (cases_lt one other) [
-  | inl below ↦ absurd (let order = rows_order offsets (one + 1) other rise (omega (arith, below)) (omega (arith, high)) in omega (arith, order, first, same))
+  | inl below ↦
+      absurd
+          (let order = rows_order offsets (one + 1) other rise (omega (arith, below)) (omega (arith, high)) in
+           omega (arith, order, first, same))
   | inr above ↦ elim (cases_lt other one) [
-    | inl below ↦ absurd (let order = rows_order offsets (other + 1) one rise (omega (arith, below)) (omega (arith, low)) in omega (arith, order, second, same))
+    | inl below ↦
+        absurd
+            (let order =
+                 rows_order offsets (other + 1) one rise (omega (arith, below)) (omega (arith, low)) in
+             omega (arith, order, second, same))
     | inr not_above ↦ omega (arith, above, not_above)
   ]
 ]
 
 -- a number that is counted has its place
-pub counted_fit : (counts offsets : List ℕ) (links : List (Option Link)) → AreOffsets counts offsets → AreCounted counts links → AreFitting offsets links
+pub counted_fit : (counts offsets : List ℕ) (links : List (Option Link)) → AreOffsets counts offsets
+    → AreCounted counts links → AreFitting offsets links
 counted_fit counts offsets links are counted index link stands =
     let low = counted index link stands in
     let next = are.next link.parent low.0 in
@@ -93,19 +115,40 @@ counted_fit counts offsets links are counted index link stands =
 
 -- ---- how they are filled
 
-pub filled_other : (n : ℕ) (tasks : List ℕ) (links : List (Option Link)) (offsets ids : List ℕ) → AreFilled n tasks links offsets ids → slice_get links n ≡ Some None → AreFilled (n + 1) tasks links offsets ids
+pub filled_other : (n : ℕ) (tasks : List ℕ) (links : List (Option Link)) (offsets ids : List ℕ)
+    → AreFilled n tasks links offsets ids → slice_get links n ≡ Some None
+    → AreFilled (n + 1) tasks links offsets ids
 filled_other n tasks links offsets ids filled none index task link below is stands = elim (cases_eq index n) [
-  | inl same ↦ absurd (none-some link (same_Some None (Some link) (sym none ∙ ap (slice_get links) (sym same) ∙ stands)))
+  | inl same ↦
+      absurd
+          (none-some link (same_Some None (Some link) (sym none ∙ ap (slice_get links) (sym same) ∙ stands)))
   | inr apart ↦ filled index task link (omega (arith, below, apart)) is stands
 ]
 
-pub filled_more : (n task : ℕ) (link : Link) (tasks : List ℕ) (links : List (Option Link)) (offsets ids : List ℕ) → AreRising offsets → AreFitting offsets links → AreSingle links → slice_index offsets link.parent + link.number < length ids → AreFilled n tasks links offsets ids → slice_get tasks n ≡ Some task → slice_get links n ≡ Some (Some link) → AreFilled (n + 1) tasks links offsets (set ids (slice_index offsets link.parent + link.number) task)
-filled_more n task link tasks links offsets ids rise fitting single within filled is_task is_link index other found below is stands = elim (cases_eq index n) [
+pub filled_more : (n task : ℕ) (link : Link) (tasks : List ℕ) (links : List (Option Link))
+    (offsets ids : List ℕ)
+    → AreRising offsets → AreFitting offsets links → AreSingle links
+    → slice_index offsets link.parent + link.number < length ids → AreFilled n tasks links offsets ids
+    → slice_get tasks n ≡ Some task → slice_get links n ≡ Some (Some link)
+    → AreFilled (n + 1) tasks links offsets (set ids (slice_index offsets link.parent + link.number) task)
+filled_more n task link tasks links offsets ids rise fitting single within filled is_task is_link index other
+        found below is stands =
+    elim (cases_eq index n) [
   | inl same ↦
-      let same_link : link ≡ found = same_Some link found (same_Some (Some link) (Some found) (sym is_link ∙ ap (slice_get links) (sym same) ∙ stands)) in
-      ap (λ (l : Link). slice_get (set ids place task) (slice_index offsets l.parent + l.number)) (sym same_link) ∙ get_set_same ids place task within ∙ sym is_task ∙ ap (slice_get tasks) (sym same) ∙ is
+      let same_link : link ≡ found =
+          same_Some link found
+              (same_Some (Some link) (Some found) (sym is_link ∙ ap (slice_get links) (sym same) ∙ stands)) in
+      ap (λ (l : Link). slice_get (set ids place task) (slice_index offsets l.parent + l.number))
+          (sym same_link)
+          ∙ get_set_same ids place task within ∙ sym is_task ∙ ap (slice_get tasks) (sym same) ∙ is
   | inr apart ↦
-      get_set_other ids place (slice_index offsets found.parent + found.number) task (λ same. apart (single index n found stands (is_link ∙ ap (λ l. Some (Some l)) (sym (one_place found (fitting index found stands) same)))))
+      get_set_other ids place (slice_index offsets found.parent + found.number) task
+          (λ same.
+              apart
+                  (single index n found stands
+                      (is_link
+                          ∙ ap (λ l. Some (Some l))
+                              (sym (one_place found (fitting index found stands) same)))))
       ∙ filled index other found (omega (arith, below, apart)) is stands
 ]
   where
@@ -118,62 +161,93 @@ filled_more n task link tasks links offsets ids rise fitting single within fille
         let g : ℕ → Link = λ b. record { number = b; parent = link.parent } in
         ap f parents ∙ ap g numbers
 
-    one_place : (found : Link) → (found.parent + 1 < length offsets) × (slice_index offsets found.parent + found.number < slice_index offsets (found.parent + 1)) → slice_index offsets found.parent + found.number ≡ place → found ≡ link
+    one_place : (found : Link)
+        → (found.parent + 1 < length offsets)
+            × (slice_index offsets found.parent + found.number < slice_index offsets (found.parent + 1))
+        → slice_index offsets found.parent + found.number ≡ place → found ≡ link
     one_place found fits same =
         let own = fitting n link is_link in
-        let parents = same_row offsets found.parent link.parent found.number link.number rise fits.0 own.0 fits.1 own.1 same in
+        let parents =
+            same_row offsets found.parent link.parent found.number link.number rise fits.0 own.0 fits.1 own.1
+                same in
         let begins = ap (slice_index offsets) parents in
         links_same found parents (omega (arith, begins, same))
 
 -- ---- what stands in them
 
 -- a row that is filled is the list
-row_is : (ids list : List ℕ) (begin end : ℕ) → begin + length list ≡ end → end ≤ length ids → ((number child : ℕ) → slice_get list number ≡ Some child → slice_get ids (begin + number) ≡ Some child) → slice_range ids begin end ≡ list
-row_is ids list begin end ends low each = ap (λ k. take k (drop begin ids)) (omega (arith, ends)) ∙ ext_get_or 0 (take (length list) (drop begin ids)) list long entry
+row_is : (ids list : List ℕ) (begin end : ℕ) → begin + length list ≡ end → end ≤ length ids
+    → ((number child : ℕ) → slice_get list number ≡ Some child → slice_get ids (begin + number) ≡ Some child)
+    → slice_range ids begin end ≡ list
+row_is ids list begin end ends low each =
+    ap (λ k. take k (drop begin ids)) (omega (arith, ends))
+        ∙ ext_get_or 0 (take (length list) (drop begin ids)) list long entry
   where
     long : length (take (length list) (drop begin ids)) ≡ length list
-    long = length-take-le (length list) (drop begin ids) (let rest = length-drop begin ids in omega (arith, rest, low, ends))
+    long =
+        length-take-le (length list) (drop begin ids)
+            (let rest = length-drop begin ids in omega (arith, rest, low, ends))
 
-    entry : (k : ℕ) → k < length (take (length list) (drop begin ids)) → get_or (take (length list) (drop begin ids)) k 0 ≡ get_or list k 0
+    entry : (k : ℕ) → k < length (take (length list) (drop begin ids))
+        → get_or (take (length list) (drop begin ids)) k 0 ≡ get_or list k 0
     entry k below =
         let inside : k < length list = omega (arith, below, long) in
         let there = each k (get_or list k 0) (slice_get-get_or list k 0 inside) in
-        get_or-take (length list) (drop begin ids) k 0 inside ∙ get_or-drop begin ids k 0 ∙ same_Some _ _ (sym (slice_get-get_or ids (begin + k) 0 (omega (arith, inside, low, ends))) ∙ there)
+        get_or-take (length list) (drop begin ids) k 0 inside ∙ get_or-drop begin ids k 0
+            ∙ same_Some _ _
+                (sym (slice_get-get_or ids (begin + k) 0 (omega (arith, inside, low, ends))) ∙ there)
 
-pub links_counted : (rs : List Record) (tasks counts : List ℕ) (links : List (Option Link)) → AreCounts rs (length rs) tasks counts → AreLinks rs (length rs) tasks links → AreCounted counts links
+pub links_counted : (rs : List Record) (tasks counts : List ℕ) (links : List (Option Link))
+    → AreCounts rs (length rs) tasks counts → AreLinks rs (length rs) tasks links → AreCounted counts links
 links_counted rs tasks counts links are links_are index link stands =
     let within = slice_get_within links index (Some link) stands in
-    let of = links_are.only index (get_or tasks index 0) link (slice_get-get_or tasks index 0 (omega (arith, within, links_are.all))) stands in
+    let of =
+        links_are.only index (get_or tasks index 0) link
+            (slice_get-get_or tasks index 0 (omega (arith, within, links_are.all))) stands in
     let inside = slice_get_within tasks link.parent of.0 of.1 in
     let number = slice_get_within (children rs of.0) link.number (get_or tasks index 0) of.2 in
     let count = are.each link.parent of.0 of.1 in
     (omega (arith, inside, are.all), omega (arith, number, count))
 
-pub links_single : (rs : List Record) (tasks : List ℕ) (links : List (Option Link)) → AreApart tasks → AreLinks rs (length rs) tasks links → AreSingle links
+pub links_single : (rs : List Record) (tasks : List ℕ) (links : List (Option Link)) → AreApart tasks
+    → AreLinks rs (length rs) tasks links → AreSingle links
 links_single rs tasks links apart are one other link here there =
     let first = are.only one (get_or tasks one 0) link (task_at one here) here in
     let second = are.only other (get_or tasks other 0) link (task_at other there) there in
     let parents : first.0 ≡ second.0 = same_Some first.0 second.0 (sym first.1 ∙ second.1) in
-    let tasks_same : get_or tasks one 0 ≡ get_or tasks other 0 = same_Some _ _ (sym first.2 ∙ ap (λ p. slice_get (children rs p) link.number) parents ∙ second.2) in
+    let tasks_same : get_or tasks one 0 ≡ get_or tasks other 0 =
+        same_Some _ _ (sym first.2 ∙ ap (λ p. slice_get (children rs p) link.number) parents ∙ second.2) in
     apart one other (get_or tasks other 0) (task_at one here ∙ ap Some tasks_same) (task_at other there)
   where
     task_at : (k : ℕ) → slice_get links k ≡ Some (Some link) → slice_get tasks k ≡ Some (get_or tasks k 0)
-    task_at k stands = let within = slice_get_within links k (Some link) stands in slice_get-get_or tasks k 0 (omega (arith, within, are.all))
+    task_at k stands =
+        let within = slice_get_within links k (Some link) stands in
+        slice_get-get_or tasks k 0 (omega (arith, within, are.all))
 
-pub rows_children : (rs : List Record) (tasks counts : List ℕ) (links : List (Option Link)) (rows : RowsView) → AreNoted made rs (length rs) tasks → AreApart tasks → IsFreeOf rs CreatedTwice → AreCounts rs (length rs) tasks counts → AreLinks rs (length rs) tasks links → AreWithin rows.offsets rows.ids → AreOffsets counts rows.offsets → AreFilled (length tasks) tasks links rows.offsets rows.ids → AreChildren rs tasks rows
+pub rows_children : (rs : List Record) (tasks counts : List ℕ) (links : List (Option Link)) (rows : RowsView)
+    → AreNoted made rs (length rs) tasks → AreApart tasks → IsFreeOf rs CreatedTwice
+    → AreCounts rs (length rs) tasks counts → AreLinks rs (length rs) tasks links
+    → AreWithin rows.offsets rows.ids → AreOffsets counts rows.offsets
+    → AreFilled (length tasks) tasks links rows.offsets rows.ids → AreChildren rs tasks rows
 rows_children rs tasks counts links rows noted apart once are links_are inside offsets filled = record {
   all = offsets.all ∙ ap (λ k. k + 1) are.all;
   each = λ index task is.
       let low = slice_get_within tasks index task is in
       let next = offsets.next index (omega (arith, low, are.all)) in
       let count = are.each index task is in
-      row_is rows.ids (children rs task) (slice_index rows.offsets index) (slice_index rows.offsets (index + 1)) (omega (arith, next, count)) (inside.within (index + 1) (omega (arith, low, are.all, offsets.all))) (child_there index task is);
+      row_is rows.ids (children rs task) (slice_index rows.offsets index)
+          (slice_index rows.offsets (index + 1)) (omega (arith, next, count))
+          (inside.within (index + 1) (omega (arith, low, are.all, offsets.all))) (child_there index task is);
 }
   where
-    child_there : (index task : ℕ) → slice_get tasks index ≡ Some task → (number child : ℕ) → IsChild rs task number child → slice_get rows.ids (slice_index rows.offsets index + number) ≡ Some child
+    child_there : (index task : ℕ) → slice_get tasks index ≡ Some task → (number child : ℕ)
+        → IsChild rs task number child
+        → slice_get rows.ids (slice_index rows.offsets index + number) ≡ Some child
     child_there index task is number child stands =
         let place = child_place rs task (length rs) number child stands in
-        let own = contains_get tasks child (noted.each place.0 child place.1 (creation_made rs task child place.0 place.2)) in
+        let own =
+            contains_get tasks child
+                (noted.each place.0 child place.1 (creation_made rs task child place.0 place.2)) in
         let found = links_are.linked place.0 task child own.0 index place.1 place.2 own.1 is in
         let of = links_are.only own.0 child found.0 own.1 found.1 in
         let same = one_number rs child of.0 task found.0.number number once of.2 stands in

@@ -9,7 +9,8 @@ use Rattle.ompt_events.specs.Turns.{in_own_order}
 use Rattle.task_tree.specs.Family.{FamilyView, IsFamilyOf}
 use Rattle.task_tree.specs.Rising.{TurnsRise}
 use Rattle.task_tree.specs.Runs.{RunView}
-use Rattle.task_tree.specs.Families.{FamiliesView, AreFamiliesOf, AreArranged, as_in_file, by_turn, own_family}
+use Rattle.task_tree.specs.Families.{FamiliesView, AreFamiliesOf, AreArranged, as_in_file, by_turn}
+use Rattle.task_tree.specs.Families.{own_family}
 use Rattle.task_tree.specs.Paths.{ArePaths, TreeView, IsTreeOf}
 use Rattle.task_tree.proofs.RenamedPlaceLemmas.{reordered, reordered_back}
 use Rattle.task_tree.proofs.RenamedTreeLemmas.{moved_creation}
@@ -48,25 +49,37 @@ pub record HasReading (rs : List Record) (tables : FamilyView) : Type 0 where
   pub family : IsFamilyOf records tables
   pub same : HaveOneTree records (in_own_order rs)
 
-pub reading_of : (rs : List Record) (families : FamiliesView) → AreFamiliesOf rs families → HasReading rs (own_family families)
+pub reading_of : (rs : List Record) (families : FamiliesView) → AreFamiliesOf rs families
+    → HasReading rs (own_family families)
 reading_of rs families are = by families.arranged families.places are.own
   where
-    by : (arranged : Option RunView) (order : List ℕ) → AreArranged rs arranged order → HasReading rs (option_map_or (λ (run : RunView). run.family) arranged families.file)
+    by : (arranged : Option RunView) (order : List ℕ) → AreArranged rs arranged order
+        → HasReading rs (option_map_or (λ (run : RunView). run.family) arranged families.file)
     by _ _ (as_in_file rise) = record { records = rs; family = are.file; same = rising_tree rs rise }
     by _ _ (by_turn {run = run} is records) =
-        record { records = in_own_order rs; family = rw (← records) is.family; same = same_tree (in_own_order rs) }
+        record {
+          records = in_own_order rs;
+          family = rw (← records) is.family;
+          same = same_tree (in_own_order rs);
+        }
 
 -- ---- what is looked up in a tree
 
 both : {A B C : Type 0} → A ↔ B → B ↔ C → A ↔ C
 both (there, back) (on, home) = (λ a. on (there a), λ c. back (home c))
 
-pub parent_found : (rs : List Record) (tree : TreeView) (task : ℕ) (found : Option ℕ) → IsTreeOf rs tree → ((records : List Record) → IsFamilyOf records (own_family tree.families) → (parent : ℕ) → (found ≡ Some parent) ↔ IsParent records parent task) → (parent : ℕ) → (found ≡ Some parent) ↔ IsParent (in_own_order rs) parent task
+pub parent_found : (rs : List Record) (tree : TreeView) (task : ℕ) (found : Option ℕ) → IsTreeOf rs tree
+    → ((records : List Record) → IsFamilyOf records (own_family tree.families) → (parent : ℕ)
+          → (found ≡ Some parent) ↔ IsParent records parent task)
+    → (parent : ℕ) → (found ≡ Some parent) ↔ IsParent (in_own_order rs) parent task
 parent_found rs tree task found are known parent =
     let reading = reading_of rs tree.families are.families in
     both (known reading.records reading.family parent) (reading.same.parents parent task)
 
-pub number_found : (rs : List Record) (tree : TreeView) (task : ℕ) (found : Option ℕ) → IsTreeOf rs tree → ((records : List Record) → IsFamilyOf records (own_family tree.families) → (number : ℕ) → (found ≡ Some number) ↔ ((parent : ℕ) × IsChild records parent number task)) → (number : ℕ) → (found ≡ Some number) ↔ ((parent : ℕ) × IsChild (in_own_order rs) parent number task)
+pub number_found : (rs : List Record) (tree : TreeView) (task : ℕ) (found : Option ℕ) → IsTreeOf rs tree
+    → ((records : List Record) → IsFamilyOf records (own_family tree.families) → (number : ℕ)
+          → (found ≡ Some number) ↔ ((parent : ℕ) × IsChild records parent number task))
+    → (number : ℕ) → (found ≡ Some number) ↔ ((parent : ℕ) × IsChild (in_own_order rs) parent number task)
 number_found rs tree task found are known number =
     let reading = reading_of rs tree.families are.families in
     both (known reading.records reading.family number) (
@@ -74,7 +87,10 @@ number_found rs tree task found are known number =
       λ (parent, is). (parent, ap (λ l. slice_get l number) (reading.same.children parent) ∙ is),
     )
 
-pub root_found : (rs : List Record) (tree : TreeView) (task : ℕ) (found : Option ℕ) → IsTreeOf rs tree → ((records : List Record) → IsFamilyOf records (own_family tree.families) → (root : ℕ) → (found ≡ Some root) ↔ ((path : List ℕ) × HasPath records root task path)) → (root : ℕ) → (found ≡ Some root) ↔ ((path : List ℕ) × HasPath (in_own_order rs) root task path)
+pub root_found : (rs : List Record) (tree : TreeView) (task : ℕ) (found : Option ℕ) → IsTreeOf rs tree
+    → ((records : List Record) → IsFamilyOf records (own_family tree.families) → (root : ℕ)
+          → (found ≡ Some root) ↔ ((path : List ℕ) × HasPath records root task path))
+    → (root : ℕ) → (found ≡ Some root) ↔ ((path : List ℕ) × HasPath (in_own_order rs) root task path)
 root_found rs tree task found are known root =
     let reading = reading_of rs tree.families are.families in
     both (known reading.records reading.family root) (
@@ -82,16 +98,22 @@ root_found rs tree task found are known root =
       λ (path, is). (path, (reading.same.paths root task path).1 is),
     )
 
-pub children_found : (rs : List Record) (tree : TreeView) (task : ℕ) (found : List ℕ) → IsTreeOf rs tree → ((records : List Record) → IsFamilyOf records (own_family tree.families) → found ≡ children records task) → found ≡ children (in_own_order rs) task
+pub children_found : (rs : List Record) (tree : TreeView) (task : ℕ) (found : List ℕ) → IsTreeOf rs tree
+    → ((records : List Record) → IsFamilyOf records (own_family tree.families)
+          → found ≡ children records task)
+    → found ≡ children (in_own_order rs) task
 children_found rs tree task found are known =
     let reading = reading_of rs tree.families are.families in
     known reading.records reading.family ∙ reading.same.children task
 
 -- the paths are those of any records with the same tree
-pub paths_alike : (rs ss : List Record) (tasks : List ℕ) (paths : List (Vec ℕ)) → HaveOneTree rs ss → ArePaths rs tasks paths → ArePaths ss tasks paths
+pub paths_alike : (rs ss : List Record) (tasks : List ℕ) (paths : List (Vec ℕ)) → HaveOneTree rs ss
+    → ArePaths rs tasks paths → ArePaths ss tasks paths
 paths_alike rs ss tasks paths same are = record {
   all = are.all;
-  each = λ index task root path is stands. are.each index task root path is ((same.paths root task path).1 stands);
+  each =
+      λ index task root path is stands.
+          are.each index task root path is ((same.paths root task path).1 stands);
 }
 
 pub turned : {rs ss : List Record} → HaveOneTree rs ss → HaveOneTree ss rs
@@ -102,10 +124,18 @@ turned same = record {
 }
 
 -- a path, and a task that stands at none
-pub path_found : (rs : List Record) (tree : TreeView) (task : ℕ) (found : Option (List ℕ)) → IsTreeOf rs tree → ((records : List Record) → IsFamilyOf records (own_family tree.families) → ArePaths records (own_family tree.families).tasks tree.paths → (path : List ℕ) → (found ≡ Some path) ↔ ((root : ℕ) × HasPath records root task path)) → (path : List ℕ) → (found ≡ Some path) ↔ ((root : ℕ) × HasPath (in_own_order rs) root task path)
+pub path_found : (rs : List Record) (tree : TreeView) (task : ℕ) (found : Option (List ℕ)) → IsTreeOf rs tree
+    → ((records : List Record) → IsFamilyOf records (own_family tree.families)
+          → ArePaths records (own_family tree.families).tasks tree.paths → (path : List ℕ)
+          → (found ≡ Some path) ↔ ((root : ℕ) × HasPath records root task path))
+    → (path : List ℕ) → (found ≡ Some path) ↔ ((root : ℕ) × HasPath (in_own_order rs) root task path)
 path_found rs tree task found are known path =
     let reading = reading_of rs tree.families are.families in
-    both (known reading.records reading.family (paths_alike (in_own_order rs) reading.records (own_family tree.families).tasks tree.paths (turned reading.same) are.paths) path) (
+    both
+        (known reading.records reading.family
+            (paths_alike (in_own_order rs) reading.records (own_family tree.families).tasks tree.paths
+                (turned reading.same) are.paths)
+            path) (
       λ (root, is). (root, (reading.same.paths root task path).0 is),
       λ (root, is). (root, (reading.same.paths root task path).1 is),
     )

@@ -14,7 +14,8 @@ use Rattle.task_tree.specs.Rows.{RowsView, AreChildren}
 use Rattle.task_tree.specs.Roots.{AreRoots}
 
 -- what clauses see of a family: the tasks in the order in which they are made; by index of the task the
--- place of the record that makes it, the row of its children, its link to its parent and its root; and by place of the
+-- place of the record that makes it, the row of its children, its link to its parent and its root; and by
+-- place of the
 -- record the indices of the tasks that it names
 pub record FamilyView : Type 0 where
   pub tasks : List ℕ
@@ -46,7 +47,8 @@ pub record IsFamilyOf (rs : List Record) (family : FamilyView) : Type 0 where
 -- the tasks stand in the order in which the records make them
 abbrev pub AreInFileOrder : List Record → List ℕ → Type 0
 AreInFileOrder rs tasks =
-    (a b first second place later : ℕ) → a < b → slice_get tasks a ≡ Some first → slice_get tasks b ≡ Some second
+    (a b first second place later : ℕ) → a < b → slice_get tasks a ≡ Some first
+        → slice_get tasks b ≡ Some second
     → at made rs place ≡ Some first → at made rs later ≡ Some second → place < later
 
 -- what the tables say of a task

@@ -6,7 +6,8 @@ use Rattle.task_tree.specs.declared.links.Link.{Link}
 
 -- the greatest number of 32 bits stands for no parent
 abbrev pub link_of_code : ℕ → ℕ → Option Link
-link_of_code number parent = if parent == 4294967295 then None else Some (record { number = number; parent = parent })
+link_of_code number parent =
+    if parent == 4294967295 then None else Some (record { number = number; parent = parent })
 
 abbrev pub number_of : Option Link → ℕ
 number_of None = 0
@@ -27,7 +28,8 @@ code_if make number parent none =
     make (number_of link) (parent_of link)
 
 pub link_again : {X : Type 0} (make : ℕ → ℕ → X) (number parent : ℕ) → IsCode number parent
-    → make (number_of (link_of_code number parent)) (parent_of (link_of_code number parent)) ≡ make number parent
+    → make (number_of (link_of_code number parent)) (parent_of (link_of_code number parent))
+        ≡ make number parent
 link_again make number parent is_code = elim (cases_eq parent 4294967295) [
   | inl same ↦ ap (code_if make number parent) (eq-eqb parent 4294967295 same)
       ∙ ap (λ n. make n 4294967295) (sym (is_code same)) ∙ ap (make number) (sym same)

@@ -1,5 +1,6 @@
 -- How many children each task has, and the links of the created ones, by index of the task.
-use Rattle.std.specs.Prelude.{ℕ, ◌≡◌, ◌↔◌, ◌<◌, ◌≤◌, ◌+◌, List, length, sum, Option, Some, slice_get, slice_set, slice_index}
+use Rattle.std.specs.Prelude.{ℕ, ◌≡◌, ◌↔◌, ◌<◌, ◌≤◌, ◌+◌, List, length, sum, Option, Some, slice_get}
+use Rattle.std.specs.Prelude.{slice_set, slice_index}
 use Rattle.ompt_events.specs.declared.records.Record.{Record}
 use Rattle.ompt_events.specs.Records.{creation}
 use Rattle.ompt_events.specs.Places.{at}

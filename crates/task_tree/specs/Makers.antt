@@ -15,7 +15,8 @@ forked_region body = option_map (λ (p : ℕ × ℕ). p.1) (forked body)
 -- the places are some of the first n, in their order
 pub record AreInOrder (n : ℕ) (places : List ℕ) : Type 0 where
   pub below : (index place : ℕ) → slice_get places index ≡ Some place → place < n
-  pub rising : (a b place later : ℕ) → a < b → slice_get places a ≡ Some place → slice_get places b ≡ Some later
+  pub rising : (a b place later : ℕ) → a < b → slice_get places a ≡ Some place
+      → slice_get places b ≡ Some later
       → place < later
 
 -- at the index of each task stands the place of the record that makes it, of the first n records

@@ -1,5 +1,6 @@
 -- The records of a trace in the tasks' own order, and where each of them stands in the file.
-use Rattle.std.specs.Prelude.{ℕ, ◌≡◌, ◌<◌, ⊤, true, List, length, Option, Some, MatchOption, is_some, slice_get}
+use Rattle.std.specs.Prelude.{ℕ, ◌≡◌, ◌<◌, ⊤, true, List, length, Option, Some, MatchOption, is_some}
+use Rattle.std.specs.Prelude.{slice_get}
 use Rattle.ompt_events.specs.declared.records.Record.{Record}
 use Rattle.ompt_events.specs.declared.cause.Cause.{Cause}
 use Rattle.ompt_events.specs.declared.cause.Cause.TheVariants.{RegionOrder, TeamShort, ShareWrong}
@@ -11,7 +12,8 @@ use Rattle.ompt_events.specs.Causes.{HasCause, IsFreeOf}
 use Rattle.task_tree.specs.Runs.{RunView, IsRun}
 use Rattle.task_tree.specs.OwnOrder.{AreAllPlaces}
 
--- what clauses see of a run in its tasks' own order: the run, whose records stand in that order, and by number
+-- what clauses see of a run in its tasks' own order: the run, whose records stand in that order, and by
+-- number
 -- in it the place in the file
 pub record OwnView : Type 0 where
   pub run : RunView
@@ -48,7 +50,8 @@ pub record IsFirstPlaceWith (own : OwnView) (cause : Cause) (place : ℕ) : Type
 
 -- a search for the cause found its first place in the file, or that no record has it
 abbrev pub FindsFirstPlace : OwnView → Cause → Option ℕ → Type 0
-FindsFirstPlace own cause found = MatchOption found (IsFreeOf own.run.records cause) (IsFirstPlaceWith own cause)
+FindsFirstPlace own cause found =
+    MatchOption found (IsFreeOf own.run.records cause) (IsFirstPlaceWith own cause)
 
 -- the cause was found, at its first place in the file, unless memory ran out
 abbrev pub IsOwnFault : OwnView → Cause → Fault → Type 0

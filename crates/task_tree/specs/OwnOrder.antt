@@ -7,7 +7,8 @@ use Rattle.task_tree.specs.declared.own_order.Order.TheVariants.{InFile, Arrange
 -- the second list has at each place the number at which the first one has the place
 pub record AreInverse (places numbers : List ℕ) : Type 0 where
   pub all : length numbers ≡ length places
-  pub there : (place number : ℕ) → slice_get numbers place ≡ Some number → slice_get places number ≡ Some place
+  pub there : (place number : ℕ) → slice_get numbers place ≡ Some number
+      → slice_get places number ≡ Some place
   pub back : (place number : ℕ) → slice_get places number ≡ Some place → slice_get numbers place ≡ Some number
 
 -- the places, the earliest in the tasks' own order first

@@ -1,5 +1,6 @@
 -- The root of each task, by index of the task, while the tree is gone down from its roots.
-use Rattle.std.specs.Prelude.{◌≤◌, ◌+◌, ℕ, zero, suc, ◌≡◌, ◌<◌, ◌++◌, ◌∷◌, [], List, length, Option, Some, None, Contains, slice_get, slice_set}
+use Rattle.std.specs.Prelude.{◌≤◌, ◌+◌, ℕ, zero, suc, ◌≡◌, ◌<◌, ◌++◌, ◌∷◌, [], List, length, Option, Some}
+use Rattle.std.specs.Prelude.{None, Contains, slice_get, slice_set}
 use Rattle.ompt_events.specs.declared.records.Record.{Record}
 use Rattle.ompt_events.specs.Records.{begun_root}
 use Rattle.ompt_events.specs.Places.{at}

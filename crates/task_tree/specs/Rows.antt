@@ -1,5 +1,6 @@
 -- The children of all tasks in one array, those of each task in a row.
-use Rattle.std.specs.Prelude.{ℕ, ◌≡◌, ◌<◌, ◌≤◌, ◌+◌, List, length, Option, Some, slice_get, slice_index, slice_range}
+use Rattle.std.specs.Prelude.{ℕ, ◌≡◌, ◌<◌, ◌≤◌, ◌+◌, List, length, Option, Some, slice_get, slice_index}
+use Rattle.std.specs.Prelude.{slice_range}
 use Rattle.ompt_events.specs.declared.records.Record.{Record}
 use Rattle.ompt_events.specs.Tree.{children}
 use Rattle.task_tree.specs.declared.links.Link.{Link}

@@ -8,7 +8,8 @@ use Rattle.ompt_events.specs.declared.names.SyncKind.{SyncKind}
 use Rattle.ompt_events.specs.declared.names.Endpoint.{Endpoint}
 use Rattle.ompt_events.specs.declared.names.WaitKind.{WaitKind}
 use Rattle.ompt_events.specs.declared.deps.Dep.{Dep}
-use Rattle.ompt_events.specs.Records.{begun_root, creation, dependences, ended_root, finish, forked, region, running, schedule}
+use Rattle.ompt_events.specs.Records.{begun_root, creation, dependences, ended_root, finish, forked, region}
+use Rattle.ompt_events.specs.Records.{running, schedule}
 use Rattle.ompt_events.specs.Places.{at}
 use Rattle.ompt_events.specs.Traces.{IsTrace, IsTraceOf}
 use Rattle.ompt_events.specs.Waits.{wait_kind}

@@ -12,9 +12,11 @@ code_of_index None = 4294967295
 code_of_index (Some index) = index
 
 -- each number is the code of what it stands for
-pub code_again : {X : Type 0} (make : ℕ → X) (code : ℕ) → make (code_of_index (index_of_code code)) ≡ make code
+pub code_again : {X : Type 0} (make : ℕ → X) (code : ℕ)
+    → make (code_of_index (index_of_code code)) ≡ make code
 code_again make code = elim (cases_eq code 4294967295) [
-  | inl same ↦ ap (λ (b : Bool). make (code_of_index (if b then None else Some code))) (eq-eqb code 4294967295 same)
+  | inl same ↦
+      ap (λ (b : Bool). make (code_of_index (if b then None else Some code))) (eq-eqb code 4294967295 same)
       ∙ ap make (sym same)
   | inr apart ↦
       ap (λ (b : Bool). make (code_of_index (if b then None else Some code))) (ne_eqb code 4294967295 apart)

@@ -14,6 +14,7 @@ content_of None = Nothing
 content_of (Some standing) = Stands standing.depth standing.root
 
 -- each content is that of what it stands for
-pub content_again : {X : Type 0} (make : Content → X) (content : Content) → make (content_of (standing_in content)) ≡ make content
+pub content_again : {X : Type 0} (make : Content → X) (content : Content)
+    → make (content_of (standing_in content)) ≡ make content
 content_again make Nothing = refl
 content_again make (Stands depth root) = refl

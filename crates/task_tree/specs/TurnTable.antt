@@ -1,5 +1,6 @@
 -- The turn of each record, and what is kept of turns while the records are gone over thread by thread.
-use Rattle.std.specs.Prelude.{ℕ, ◌≡◌, ◌<◌, ◌≤◌, ◌⊎◌, ◌==◌, Bool, true, List, Some, if◌then◌else◌, length, take, filter, map, slice_get}
+use Rattle.std.specs.Prelude.{ℕ, ◌≡◌, ◌<◌, ◌≤◌, ◌⊎◌, ◌==◌, Bool, true, List, Some, if◌then◌else◌, length}
+use Rattle.std.specs.Prelude.{take, filter, map, slice_get}
 use Rattle.ompt_events.specs.declared.records.Record.{Record}
 use Rattle.ompt_events.specs.Records.{begun_turn}
 use Rattle.ompt_events.specs.Places.{at, thread_at, places}

@@ -1,5 +1,6 @@
 -- The seats of the members of a team.
-use Rattle.std.proofs.Common.{◌≡◌, ◌≢◌, ◌∙◌, ℕ, zero, suc, ◌<◌, ◌≤◌, ◌+◌, List, [], ◌∷◌, ◌++◌, length, get_or, Option, Some, None, refl, sym, ap, subst, arith, inl, inr, ◌⊎◌}
+use Rattle.std.proofs.Common.{◌≡◌, ◌≢◌, ◌∙◌, ℕ, zero, suc, ◌<◌, ◌≤◌, ◌+◌, List, [], ◌∷◌, ◌++◌, length, get_or}
+use Rattle.std.proofs.Common.{Option, Some, None, refl, sym, ap, subst, arith, inl, inr, ◌⊎◌}
 use Rattle.std.proofs.lemmas.Bool.{cases_eq, cases_lt, cases_order}
 use Rattle.std.proofs.lemmas.Option.{none-some, same_Some, slice_get_within, slice_get-get_or}
 use Rattle.std.proofs.lemmas.List.{length_push, length-set, length-replicate, get_or-replicate}
@@ -20,39 +21,50 @@ use Rattle.task_tree.specs.Numbering.{AreApart}
 use Rattle.task_tree.proofs.LinkLemmas.{get_set_same, get_set_other}
 use Rattle.task_tree.proofs.OnceLemmas.{made_once}
 use Rattle.teams.specs.Members.{IsLead, IsLeadAt, AreSizes}
-use Rattle.teams.specs.Seats.{empty_seats, IsSeatOf, AreSeats, AreSeated, AreFirstSeats, own_seat, empty, AreFirstRosters, Fits, HasSeat, LacksNothing, IsWholeBefore}
-use Rattle.teams.proofs.MemberLemmas.{never_of, joined_at_made, initial_at_made, joined_once, own_lead, members_pushed, members_same, member_place, place_member, lead_one, lead_other}
+use Rattle.teams.specs.Seats.{empty_seats, IsSeatOf, AreSeats, AreSeated, AreFirstSeats, own_seat, empty}
+use Rattle.teams.specs.Seats.{AreFirstRosters, Fits, HasSeat, LacksNothing, IsWholeBefore}
+use Rattle.teams.proofs.MemberLemmas.{never_of, joined_at_made, initial_at_made, joined_once, own_lead}
+use Rattle.teams.proofs.MemberLemmas.{members_pushed, members_same, member_place, place_member, lead_one}
+use Rattle.teams.proofs.MemberLemmas.{lead_other}
 
 -- ---- empty seats
 
-empty_set : (seats : List (Option ℕ)) (number index : ℕ) → slice_get seats number ≡ Some None → empty_seats (set seats number (Some index)) + 1 ≡ empty_seats seats
+empty_set : (seats : List (Option ℕ)) (number index : ℕ) → slice_get seats number ≡ Some None
+    → empty_seats (set seats number (Some index)) + 1 ≡ empty_seats seats
 empty_set [] number index is = absurd (none-some None is)
 empty_set (None ∷ seats) zero index is = omega arith
 empty_set (Some other ∷ seats) zero index is = absurd (none-some other (sym (same_Some (Some other) None is)))
 empty_set (None ∷ seats) (suc k) index is = let rest = empty_set seats k index is in omega (arith, rest)
 empty_set (Some other ∷ seats) (suc k) index is = empty_set seats k index is
 
-empty_all : (seats : List (Option ℕ)) → ((number index : ℕ) → slice_get seats number ≡ Some (Some index) → ⊥) → empty_seats seats ≡ length seats
+empty_all : (seats : List (Option ℕ)) → ((number index : ℕ) → slice_get seats number ≡ Some (Some index) → ⊥)
+    → empty_seats seats ≡ length seats
 empty_all [] none = refl
-empty_all (None ∷ seats) none = let rest = empty_all seats (λ number index is. none (suc number) index is) in omega (arith, rest)
+empty_all (None ∷ seats) none =
+    let rest = empty_all seats (λ number index is. none (suc number) index is) in omega (arith, rest)
 empty_all (Some other ∷ seats) none = absurd (none zero other refl)
 
-empty_none : (seats : List (Option ℕ)) (number : ℕ) → empty_seats seats ≡ 0 → slice_get seats number ≡ Some None → ⊥
+empty_none : (seats : List (Option ℕ)) (number : ℕ) → empty_seats seats ≡ 0
+    → slice_get seats number ≡ Some None → ⊥
 empty_none [] number none_left is = none-some None is
 empty_none (None ∷ seats) number none_left is = omega (arith, none_left)
 empty_none (Some other ∷ seats) zero none_left is = none-some other (sym (same_Some (Some other) None is))
 empty_none (Some other ∷ seats) (suc k) none_left is = empty_none seats k none_left is
 
-pub all_taken : (seats : List (Option ℕ)) (number : ℕ) → empty_seats seats ≡ 0 → number < length seats → (index : ℕ) × (slice_get seats number ≡ Some (Some index))
-all_taken seats number none_left within = of (get_or seats number None) (slice_get-get_or seats number None within)
+pub all_taken : (seats : List (Option ℕ)) (number : ℕ) → empty_seats seats ≡ 0 → number < length seats
+    → (index : ℕ) × (slice_get seats number ≡ Some (Some index))
+all_taken seats number none_left within =
+    of (get_or seats number None) (slice_get-get_or seats number None within)
   where
-    of : (slot : Option ℕ) → slice_get seats number ≡ Some slot → (index : ℕ) × (slice_get seats number ≡ Some (Some index))
+    of : (slot : Option ℕ) → slice_get seats number ≡ Some slot
+        → (index : ℕ) × (slice_get seats number ≡ Some (Some index))
     of None is = absurd (empty_none seats number none_left is)
     of (Some index) is = (index, is)
 
 -- ---- a record that lets a member in
 
-seat_later : (rs : List Record) (n : ℕ) (tasks : List ℕ) (parallel number index : ℕ) → IsSeatOf rs n tasks parallel number index → IsSeatOf rs (n + 1) tasks parallel number index
+seat_later : (rs : List Record) (n : ℕ) (tasks : List ℕ) (parallel number index : ℕ)
+    → IsSeatOf rs n tasks parallel number index → IsSeatOf rs (n + 1) tasks parallel number index
 seat_later rs n tasks parallel number index is = record {
   place = is.place;
   m = is.m;
@@ -63,7 +75,9 @@ seat_later rs n tasks parallel number index is = record {
   here = is.here;
 }
 
-seats_same : (rs : List Record) (n : ℕ) (tasks : List ℕ) (parallel : ℕ) (seats : List (Option ℕ)) → ((m : Membership) → at joined rs n ≡ Some m → m.parallel ≡ parallel → ⊥) → AreSeats rs n tasks parallel seats → AreSeats rs (n + 1) tasks parallel seats
+seats_same : (rs : List Record) (n : ℕ) (tasks : List ℕ) (parallel : ℕ) (seats : List (Option ℕ))
+    → ((m : Membership) → at joined rs n ≡ Some m → m.parallel ≡ parallel → ⊥)
+    → AreSeats rs n tasks parallel seats → AreSeats rs (n + 1) tasks parallel seats
 seats_same rs n tasks parallel seats never are = record {
   long = are.long;
   rest = ap (λ l. empty_seats seats + length l) (members_same rs parallel n never) ∙ are.rest;
@@ -74,23 +88,34 @@ seats_same rs n tasks parallel seats never are = record {
   only = λ number index is. seat_later rs n tasks parallel number index (are.only number index is);
 }
 
-seats_more : (rs : List Record) (n : ℕ) (tasks : List ℕ) (m : Membership) (own : ℕ) (seats : List (Option ℕ)) → AreApart tasks → at joined rs n ≡ Some m → slice_get tasks own ≡ Some m.member → slice_get seats m.index ≡ Some None → AreSeats rs n tasks m.parallel seats → AreSeats rs (n + 1) tasks m.parallel (set seats m.index (Some own))
+seats_more : (rs : List Record) (n : ℕ) (tasks : List ℕ) (m : Membership) (own : ℕ) (seats : List (Option ℕ))
+    → AreApart tasks → at joined rs n ≡ Some m → slice_get tasks own ≡ Some m.member
+    → slice_get seats m.index ≡ Some None → AreSeats rs n tasks m.parallel seats
+    → AreSeats rs (n + 1) tasks m.parallel (set seats m.index (Some own))
 seats_more rs n tasks m own seats apart joins is_own free are = record {
   long = length-set seats m.index (Some own) ∙ are.long;
   rest =
       let fewer = empty_set seats m.index own free in
-      let more = ap length (members_pushed rs m.parallel n m joins refl) ∙ length_push (members_before rs m.parallel n) m in
+      let more =
+          ap length (members_pushed rs m.parallel n m joins refl)
+              ∙ length_push (members_before rs m.parallel n) m in
       let long = length-set seats m.index (Some own) in
       let before = are.rest in
       omega (arith, fewer, more, long, before);
   seated = λ k index e below joins' same is. elim (cases_eq k n) [
     | inl last ↦
         let is_m : m ≡ e = same_Some m e (sym joins ∙ ap (at joined rs) (sym last) ∙ joins') in
-        let one : own ≡ index = apart own index e.member (is_own ∙ ap (λ (x : Membership). Some x.member) is_m) is in
-        ap (slice_get (set seats m.index (Some own))) (ap (λ (x : Membership). x.index) (sym is_m)) ∙ get_set_same seats m.index (Some own) within ∙ ap (λ x. Some (Some x)) one
+        let one : own ≡ index =
+            apart own index e.member (is_own ∙ ap (λ (x : Membership). Some x.member) is_m) is in
+        ap (slice_get (set seats m.index (Some own))) (ap (λ (x : Membership). x.index) (sym is_m))
+            ∙ get_set_same seats m.index (Some own) within ∙ ap (λ x. Some (Some x)) one
     | inr earlier ↦
         let old = are.seated k index e (omega (arith, below, earlier)) joins' same is in
-        get_set_other seats m.index e.index (Some own) (λ one. none-some index (same_Some None (Some index) (sym free ∙ ap (slice_get seats) (sym one) ∙ old))) ∙ old
+        get_set_other seats m.index e.index (Some own)
+            (λ one.
+                none-some index
+                    (same_Some None (Some index) (sym free ∙ ap (slice_get seats) (sym one) ∙ old)))
+            ∙ old
   ];
   only = λ number index stands. elim (cases_eq number m.index) [
     | inl one ↦ record {
@@ -100,47 +125,81 @@ seats_more rs n tasks m own seats apart joins is_own free are = record {
       joins = joins;
       same = refl;
       numbered = sym one;
-      here = ap (slice_get tasks) (same_Some index own (same_Some (Some index) (Some own) (sym stands ∙ ap (slice_get (set seats m.index (Some own))) one ∙ get_set_same seats m.index (Some own) within))) ∙ is_own;
+      here =
+          ap (slice_get tasks)
+              (same_Some index own
+                  (same_Some (Some index) (Some own)
+                      (sym stands ∙ ap (slice_get (set seats m.index (Some own))) one
+                          ∙ get_set_same seats m.index (Some own) within)))
+              ∙ is_own;
     }
-    | inr different ↦ seat_later rs n tasks m.parallel number index (are.only number index (sym (get_set_other seats m.index number (Some own) different) ∙ stands))
+    | inr different ↦
+        seat_later rs n tasks m.parallel number index
+            (are.only number index (sym (get_set_other seats m.index number (Some own) different) ∙ stands))
   ];
 }
   where
     within : m.index < length seats
     within = slice_get_within seats m.index None free
 
-pub seated_same : (rs : List Record) (n : ℕ) (tasks : List ℕ) (rosters : List (Vec (Option ℕ))) → AreSeated rs n tasks rosters → at joined rs n ≡ None → AreSeated rs (n + 1) tasks rosters
+pub seated_same : (rs : List Record) (n : ℕ) (tasks : List ℕ) (rosters : List (Vec (Option ℕ)))
+    → AreSeated rs n tasks rosters → at joined rs n ≡ None → AreSeated rs (n + 1) tasks rosters
 seated_same rs n tasks rosters are none = record {
   all = are.all;
-  each = λ parallel lead roster leads stands. seats_same rs n tasks parallel roster.items (λ m joins same. never_of (at joined rs n) m none joins) (are.each parallel lead roster leads stands);
+  each =
+      λ parallel lead roster leads stands.
+          seats_same rs n tasks parallel roster.items (λ m joins same. never_of (at joined rs n) m none joins)
+              (are.each parallel lead roster leads stands);
   own = are.own;
   other = are.other;
 }
 
-pub seated_more : (rs : List Record) (n : ℕ) (tasks : List ℕ) (rosters : List (Vec (Option ℕ))) (m : Membership) (lead own : ℕ) (old new : Vec (Option ℕ)) → IsFreeOf rs CreatedTwice → AreApart tasks → AreSeated rs n tasks rosters → at joined rs n ≡ Some m → IsLead rs tasks m.parallel lead → slice_get tasks own ≡ Some m.member → slice_get rosters lead ≡ Some old → slice_get old.items m.index ≡ Some None → new.items ≡ set old.items m.index (Some own) → AreSeated rs (n + 1) tasks (set rosters lead new)
-seated_more rs n tasks rosters m lead own old new free apart are joins leads is_own stands_old is_free is_new = record {
+pub seated_more : (rs : List Record) (n : ℕ) (tasks : List ℕ) (rosters : List (Vec (Option ℕ)))
+    (m : Membership) (lead own : ℕ) (old new : Vec (Option ℕ))
+    → IsFreeOf rs CreatedTwice → AreApart tasks → AreSeated rs n tasks rosters → at joined rs n ≡ Some m
+    → IsLead rs tasks m.parallel lead → slice_get tasks own ≡ Some m.member
+    → slice_get rosters lead ≡ Some old → slice_get old.items m.index ≡ Some None
+    → new.items ≡ set old.items m.index (Some own) → AreSeated rs (n + 1) tasks (set rosters lead new)
+seated_more rs n tasks rosters m lead own old new free apart are joins leads is_own stands_old is_free is_new
+        =
+    record {
   all = length-set rosters lead new ∙ are.all;
   each = λ parallel index roster leads' stands. elim (cases_eq index lead) [
     | inl same ↦
         let P : ℕ → Type 0 = IsLead rs tasks parallel in
-        let is_parallel : m.parallel ≡ parallel = lead_other rs tasks m.parallel parallel lead free leads (subst P same leads') in
-        let is_roster : new ≡ roster = same_Some new roster (sym (get_set_same rosters lead new (slice_get_within rosters lead old stands_old)) ∙ ap (slice_get (set rosters lead new)) (sym same) ∙ stands) in
+        let is_parallel : m.parallel ≡ parallel =
+            lead_other rs tasks m.parallel parallel lead free leads (subst P same leads') in
+        let is_roster : new ≡ roster =
+            same_Some new roster
+                (sym (get_set_same rosters lead new (slice_get_within rosters lead old stands_old))
+                    ∙ ap (slice_get (set rosters lead new)) (sym same) ∙ stands) in
         let Q : ℕ → Type 0 = λ p. AreSeats rs (n + 1) tasks p roster.items in
         let R : List (Option ℕ) → Type 0 = AreSeats rs (n + 1) tasks m.parallel in
-        subst Q is_parallel (subst R (sym is_new ∙ ap (λ (v : Vec (Option ℕ)). v.items) is_roster) (seats_more rs n tasks m own old.items apart joins is_own is_free (are.each m.parallel lead old leads stands_old)))
+        subst Q is_parallel
+            (subst R (sym is_new ∙ ap (λ (v : Vec (Option ℕ)). v.items) is_roster)
+                (seats_more rs n tasks m own old.items apart joins is_own is_free
+                    (are.each m.parallel lead old leads stands_old)))
     | inr different ↦
         seats_same rs n tasks parallel roster.items
         (λ e joins' same.
         let is_m : m ≡ e = same_Some m e (sym joins ∙ joins') in
         let P : ℕ → Type 0 = λ p. IsLead rs tasks p lead in
-        different (lead_one rs tasks parallel index lead apart leads' (subst P (ap (λ (x : Membership). x.parallel) is_m ∙ same) leads)))
-        (are.each parallel index roster leads' (sym (get_set_other rosters lead index new different) ∙ stands))
+        different
+            (lead_one rs tasks parallel index lead apart leads'
+                (subst P (ap (λ (x : Membership). x.parallel) is_m ∙ same) leads)))
+        (are.each parallel index roster leads'
+            (sym (get_set_other rosters lead index new different) ∙ stands))
   ];
   own = λ index task roster is_task initial stands.
-      let different : index ≢ lead = λ same. own_lead rs tasks initial.0 m.parallel task index lead free is_task initial.1 leads (sym same) in
-      are.own index task roster is_task initial (sym (get_set_other rosters lead index new different) ∙ stands);
+      let different : index ≢ lead =
+          λ same.
+              own_lead rs tasks initial.0 m.parallel task index lead free is_task initial.1 leads
+                  (sym same) in
+      are.own index task roster is_task initial
+          (sym (get_set_other rosters lead index new different) ∙ stands);
   other = λ index roster stands. elim (cases_eq index lead) [
-    | inl same ↦ let P : ℕ → Type 0 = IsLead rs tasks m.parallel in inr (inl (m.parallel, subst P (sym same) leads))
+    | inl same ↦
+        let P : ℕ → Type 0 = IsLead rs tasks m.parallel in inr (inl (m.parallel, subst P (sym same) leads))
     | inr different ↦ are.other index roster (sym (get_set_other rosters lead index new different) ∙ stands)
   ];
 }
@@ -148,30 +207,56 @@ seated_more rs n tasks rosters m lead own old new free apart are joins leads is_
 -- ---- whether a member fits
 
 -- before the first record that shows a lack, each member says the same size as the first
-pub says_other : (rs : List Record) (i : ℕ) (tasks : List ℕ) (lead : ℕ) (m : Membership) (leads : IsLead rs tasks m.parallel lead) → at joined rs i ≡ Some m → (leads.first.actual ≡ m.actual → ⊥) → IsShort rs i
+pub says_other : (rs : List Record) (i : ℕ) (tasks : List ℕ) (lead : ℕ) (m : Membership)
+    (leads : IsLead rs tasks m.parallel lead)
+    → at joined rs i ≡ Some m → (leads.first.actual ≡ m.actual → ⊥) → IsShort rs i
 says_other rs i tasks lead m leads joins different = elim (cases_order leads.place i) [
-  | inl same ↦ absurd (different (ap (λ (x : Membership). x.actual) (same_Some leads.first m (sym leads.joins ∙ ap (at joined rs) same ∙ joins))))
-  | inr (inl less) ↦ other_size m leads.first joins (place_member rs m.parallel i leads.place leads.first less leads.joins leads.same) different
+  | inl same ↦
+      absurd
+          (different
+              (ap (λ (x : Membership). x.actual)
+                  (same_Some leads.first m (sym leads.joins ∙ ap (at joined rs) same ∙ joins))))
+  | inr (inl less) ↦
+      other_size m leads.first joins
+          (place_member rs m.parallel i leads.place leads.first less leads.joins leads.same) different
   | inr (inr more) ↦ absurd (leads.earliest i m more joins refl)
 ]
 
-one_size : (rs : List Record) (i : ℕ) (tasks : List ℕ) (lead : ℕ) (m e : Membership) (leads : IsLead rs tasks m.parallel lead) → IsWholeBefore rs i → Contains (members_before rs m.parallel i) e → e.actual ≡ leads.first.actual
+one_size : (rs : List Record) (i : ℕ) (tasks : List ℕ) (lead : ℕ) (m e : Membership)
+    (leads : IsLead rs tasks m.parallel lead)
+    → IsWholeBefore rs i → Contains (members_before rs m.parallel i) e → e.actual ≡ leads.first.actual
 one_size rs i tasks lead m e leads whole has =
     let place = member_place rs m.parallel i e has in
     let P : ℕ → Type 0 = λ p. IsLead rs tasks p lead in
     elim (cases_eq leads.first.actual e.actual) [
       | inl same ↦ sym same
-      | inr different ↦ absurd (whole place.place place.before (ap is_some place.joins) (elim (cases_order leads.place place.place) [
-        | inl same ↦ absurd (different (ap (λ (x : Membership). x.actual) (same_Some leads.first e (sym leads.joins ∙ ap (at joined rs) same ∙ place.joins))))
-        | inr (inl less) ↦ other_size e leads.first place.joins (place_member rs e.parallel place.place leads.place leads.first less leads.joins (leads.same ∙ sym place.same)) different
+      | inr different ↦
+          absurd ( whole place.place place.before (ap is_some place.joins) (
+              elim (cases_order leads.place place.place) [
+        | inl same ↦
+            absurd
+                (different
+                    (ap (λ (x : Membership). x.actual)
+                        (same_Some leads.first e (sym leads.joins ∙ ap (at joined rs) same ∙ place.joins))))
+        | inr (inl less) ↦
+            other_size e leads.first place.joins
+                (place_member rs e.parallel place.place leads.place leads.first less leads.joins
+                    (leads.same ∙ sym place.same))
+                different
         | inr (inr more) ↦ absurd (leads.earliest place.place e more place.joins place.same)
       ]))
     ]
 
-pub too_small : (rs : List Record) (i : ℕ) (tasks sizes : List ℕ) (lead size : ℕ) (m : Membership) → AreSizes rs (length rs) tasks sizes → at joined rs i ≡ Some m → IsLead rs tasks m.parallel lead → slice_get sizes lead ≡ Some size → size < m.actual → IsShort rs i
-too_small rs i tasks sizes lead size m are joins leads stands less = few m joins (let is = are.each m.parallel lead size leads stands in omega (arith, is, less))
+pub too_small : (rs : List Record) (i : ℕ) (tasks sizes : List ℕ) (lead size : ℕ) (m : Membership)
+    → AreSizes rs (length rs) tasks sizes → at joined rs i ≡ Some m → IsLead rs tasks m.parallel lead
+    → slice_get sizes lead ≡ Some size → size < m.actual → IsShort rs i
+too_small rs i tasks sizes lead size m are joins leads stands less =
+    few m joins (let is = are.each m.parallel lead size leads stands in omega (arith, is, less))
 
-pub fits_there : (rs : List Record) (i : ℕ) (tasks sizes : List ℕ) (lead size : ℕ) (m : Membership) (leads : IsLead rs tasks m.parallel lead) → AreSizes rs (length rs) tasks sizes → IsWholeBefore rs i → slice_get sizes lead ≡ Some size → m.actual ≤ size → m.index < m.actual → leads.first.actual ≡ m.actual → Fits rs i m
+pub fits_there : (rs : List Record) (i : ℕ) (tasks sizes : List ℕ) (lead size : ℕ) (m : Membership)
+    (leads : IsLead rs tasks m.parallel lead)
+    → AreSizes rs (length rs) tasks sizes → IsWholeBefore rs i → slice_get sizes lead ≡ Some size
+    → m.actual ≤ size → m.index < m.actual → leads.first.actual ≡ m.actual → Fits rs i m
 fits_there rs i tasks sizes lead size m leads are whole stands enough inside same = record {
   inside = inside;
   enough = let is = are.each m.parallel lead size leads stands in omega (arith, is, enough);
@@ -180,15 +265,24 @@ fits_there rs i tasks sizes lead size m leads are whole stands enough inside sam
 
 -- ---- whether its seat is empty
 
-pub seat_within : (rs : List Record) (i : ℕ) (tasks : List ℕ) (m : Membership) (seats : List (Option ℕ)) → Fits rs i m → AreSeats rs i tasks m.parallel seats → m.index < length seats
-seat_within rs i tasks m seats fits are = let inside = fits.inside in let enough = fits.enough in let long = are.long in omega (arith, inside, enough, long)
+pub seat_within : (rs : List Record) (i : ℕ) (tasks : List ℕ) (m : Membership) (seats : List (Option ℕ))
+    → Fits rs i m → AreSeats rs i tasks m.parallel seats → m.index < length seats
+seat_within rs i tasks m seats fits are =
+    let inside = fits.inside in
+    let enough = fits.enough in let long = are.long in omega (arith, inside, enough, long)
 
-pub seat_taken : (rs : List Record) (i : ℕ) (tasks : List ℕ) (m : Membership) (seats : List (Option ℕ)) (other : ℕ) → at joined rs i ≡ Some m → AreSeats rs i tasks m.parallel seats → slice_get seats m.index ≡ Some (Some other) → IsShort rs i
+pub seat_taken : (rs : List Record) (i : ℕ) (tasks : List ℕ) (m : Membership) (seats : List (Option ℕ))
+    (other : ℕ)
+    → at joined rs i ≡ Some m → AreSeats rs i tasks m.parallel seats
+    → slice_get seats m.index ≡ Some (Some other) → IsShort rs i
 seat_taken rs i tasks m seats other joins are stands =
     let seat = are.only m.index other stands in
-    same_index m seat.m joins (place_member rs m.parallel i seat.place seat.m seat.before seat.joins seat.same) seat.numbered
+    same_index m seat.m joins
+        (place_member rs m.parallel i seat.place seat.m seat.before seat.joins seat.same) seat.numbered
 
-pub seat_free : (rs : List Record) (i : ℕ) (tasks : List ℕ) (m : Membership) (seats : List (Option ℕ)) → AreNoted made rs (length rs) tasks → at joined rs i ≡ Some m → Fits rs i m → AreSeats rs i tasks m.parallel seats → slice_get seats m.index ≡ Some None → LacksNothing rs i
+pub seat_free : (rs : List Record) (i : ℕ) (tasks : List ℕ) (m : Membership) (seats : List (Option ℕ))
+    → AreNoted made rs (length rs) tasks → at joined rs i ≡ Some m → Fits rs i m
+    → AreSeats rs i tasks m.parallel seats → slice_get seats m.index ≡ Some None → LacksNothing rs i
 seat_free rs i tasks m seats noted joins fits are free = λ x joins'.
     let is_x : m ≡ x = same_Some m x (sym joins ∙ joins') in
     let P : Membership → Type 0 = HasSeat rs i in
@@ -196,9 +290,13 @@ seat_free rs i tasks m seats noted joins fits are free = λ x joins'.
       fits = fits;
       alone = λ e has same.
           let place = member_place rs m.parallel i e has in
-          let index = contains_get tasks e.member (noted.each place.place e.member (at_within joined rs place.place e place.joins) (joined_at_made rs place.place e place.joins)) in
+          let index =
+              contains_get tasks e.member
+                  (noted.each place.place e.member (at_within joined rs place.place e place.joins)
+                      (joined_at_made rs place.place e place.joins)) in
           let stands = are.seated place.place index.0 e place.before place.joins place.same index.1 in
-          none-some index.0 (same_Some None (Some index.0) (sym free ∙ ap (slice_get seats) (sym same) ∙ stands));
+          none-some index.0
+              (same_Some None (Some index.0) (sym free ∙ ap (slice_get seats) (sym same) ∙ stands));
     })
 
 pub lacks_none : (rs : List Record) (i : ℕ) → at joined rs i ≡ None → LacksNothing rs i
@@ -206,38 +304,58 @@ lacks_none rs i none = λ m joins. absurd (never_of (at joined rs i) m none join
 
 -- ---- before the first record
 
-none_in : (size number index : ℕ) (seats : List (Option ℕ)) → seats ≡ replicate size None → slice_get seats number ≡ Some (Some index) → ⊥
+none_in : (size number index : ℕ) (seats : List (Option ℕ)) → seats ≡ replicate size None
+    → slice_get seats number ≡ Some (Some index) → ⊥
 none_in size number index seats is stands =
     let nothing : Option ℕ = None in
     let long : length seats ≡ size = ap length is ∙ length-replicate size nothing in
     let inside = slice_get_within seats number (Some index) stands in
     let within : number < size = omega (arith, inside, long) in
-    let none : slice_get seats number ≡ Some None = ap (λ l. slice_get l number) is ∙ slice_get-get_or (replicate size None) number None (rw (length-replicate size nothing) within) ∙ ap Some (get_or-replicate size number None None within) in
+    let none : slice_get seats number ≡ Some None =
+        ap (λ l. slice_get l number) is
+            ∙ slice_get-get_or (replicate size None) number None (rw (length-replicate size nothing) within)
+            ∙ ap Some (get_or-replicate size number None None within) in
     none-some index (same_Some None (Some index) (sym none ∙ stands))
 
-first_seats : (rs : List Record) (tasks sizes : List ℕ) (parallel lead : ℕ) (seats : List (Option ℕ)) → IsFreeOf rs CreatedTwice → AreSizes rs (length rs) tasks sizes → IsLead rs tasks parallel lead → AreFirstSeats rs tasks sizes lead seats → AreSeats rs 0 tasks parallel seats
-first_seats rs tasks sizes parallel lead seats free are leads (own_seat task is_task initial is) = absurd (own_lead rs tasks initial.0 parallel task lead lead free is_task initial.1 leads refl)
-first_seats rs tasks sizes parallel lead seats free are leads (empty task size is_task not_initial is_size is) =
+first_seats : (rs : List Record) (tasks sizes : List ℕ) (parallel lead : ℕ) (seats : List (Option ℕ))
+    → IsFreeOf rs CreatedTwice → AreSizes rs (length rs) tasks sizes → IsLead rs tasks parallel lead
+    → AreFirstSeats rs tasks sizes lead seats → AreSeats rs 0 tasks parallel seats
+first_seats rs tasks sizes parallel lead seats free are leads (own_seat task is_task initial is) =
+    absurd (own_lead rs tasks initial.0 parallel task lead lead free is_task initial.1 leads refl)
+first_seats rs tasks sizes parallel lead seats free are leads (empty task size is_task not_initial is_size is)
+    =
     let nothing : Option ℕ = None in
     let long : length seats ≡ size = ap length is ∙ length-replicate size nothing in
     record {
       long = long ∙ are.each parallel lead size leads is_size;
-      rest = let all = empty_all seats (λ number index. none_in size number index seats is) in omega (arith, all);
+      rest =
+          let all = empty_all seats (λ number index. none_in size number index seats is) in
+          omega (arith, all);
       seated = λ k index m below. absurd (omega (arith, below));
       only = λ number index stands. absurd (none_in size number index seats is stands);
     }
 
-first_own : (rs : List Record) (tasks sizes : List ℕ) (index task : ℕ) (seats : List (Option ℕ)) → slice_get tasks index ≡ Some task → IsInitial rs task → AreFirstSeats rs tasks sizes index seats → seats ≡ Some index ∷ []
+first_own : (rs : List Record) (tasks sizes : List ℕ) (index task : ℕ) (seats : List (Option ℕ))
+    → slice_get tasks index ≡ Some task → IsInitial rs task → AreFirstSeats rs tasks sizes index seats
+    → seats ≡ Some index ∷ []
 first_own rs tasks sizes index task seats is_task initial (own_seat other is_other initial' is) = is
-first_own rs tasks sizes index task seats is_task initial (empty other size is_other not_initial is_size is) = let P : ℕ → Type 0 = IsInitial rs in absurd (not_initial (subst P (same_Some task other (sym is_task ∙ is_other)) initial))
+first_own rs tasks sizes index task seats is_task initial (empty other size is_other not_initial is_size is) =
+    let P : ℕ → Type 0 = IsInitial rs in
+    absurd (not_initial (subst P (same_Some task other (sym is_task ∙ is_other)) initial))
 
 no_length : {X : Type 0} (xs : List X) → length xs ≡ 0 → xs ≡ []
 no_length [] is = refl
 no_length (x ∷ xs) is = absurd (omega (arith, is))
 
-first_other : (rs : List Record) (tasks sizes : List ℕ) (index : ℕ) (seats : List (Option ℕ)) → AreSizes rs (length rs) tasks sizes → AreFirstSeats rs tasks sizes index seats → (seats ≡ []) ⊎ (((parallel : ℕ) × IsLead rs tasks parallel index) ⊎ ((task : ℕ) × (slice_get tasks index ≡ Some task) × IsInitial rs task))
-first_other rs tasks sizes index seats are (own_seat task is_task initial is) = inr (inr (task, is_task, initial))
-first_other rs tasks sizes index seats are (empty task size is_task not_initial is_size is) = elim (cases_lt 0 size) [
+first_other : (rs : List Record) (tasks sizes : List ℕ) (index : ℕ) (seats : List (Option ℕ))
+    → AreSizes rs (length rs) tasks sizes → AreFirstSeats rs tasks sizes index seats
+    → (seats ≡ [])
+        ⊎ (((parallel : ℕ) × IsLead rs tasks parallel index)
+              ⊎ ((task : ℕ) × (slice_get tasks index ≡ Some task) × IsInitial rs task))
+first_other rs tasks sizes index seats are (own_seat task is_task initial is) =
+    inr (inr (task, is_task, initial))
+first_other rs tasks sizes index seats are (empty task size is_task not_initial is_size is) =
+    elim (cases_lt 0 size) [
   | inl some ↦ inr (inl (are.only index size is_size some))
   | inr none ↦
       let nothing : Option ℕ = None in
@@ -245,7 +363,10 @@ first_other rs tasks sizes index seats are (empty task size is_task not_initial 
       inl (no_length seats (omega (arith, long, none)))
 ]
 
-pub rosters_more : (rs : List Record) (tasks sizes : List ℕ) (n : ℕ) (rosters : List (Vec (Option ℕ))) (last : Vec (Option ℕ)) → AreFirstRosters rs tasks sizes n rosters → AreFirstSeats rs tasks sizes n last.items → AreFirstRosters rs tasks sizes (n + 1) (rosters ++ last ∷ [])
+pub rosters_more : (rs : List Record) (tasks sizes : List ℕ) (n : ℕ) (rosters : List (Vec (Option ℕ)))
+    (last : Vec (Option ℕ))
+    → AreFirstRosters rs tasks sizes n rosters → AreFirstSeats rs tasks sizes n last.items
+    → AreFirstRosters rs tasks sizes (n + 1) (rosters ++ last ∷ [])
 rosters_more rs tasks sizes n rosters last are here = record {
   all = length_push rosters last ∙ ap (λ k. k + 1) are.all;
   each = λ index roster stands. elim (pushed_cases rosters last roster index stands) [
@@ -257,30 +378,54 @@ rosters_more rs tasks sizes n rosters last are here = record {
   ];
 }
 
-pub rosters_seated : (rs : List Record) (tasks sizes : List ℕ) (n : ℕ) (rosters : List (Vec (Option ℕ))) → IsFreeOf rs CreatedTwice → AreSizes rs (length rs) tasks sizes → n ≡ length sizes → AreFirstRosters rs tasks sizes n rosters → AreSeated rs 0 tasks rosters
+pub rosters_seated : (rs : List Record) (tasks sizes : List ℕ) (n : ℕ) (rosters : List (Vec (Option ℕ)))
+    → IsFreeOf rs CreatedTwice → AreSizes rs (length rs) tasks sizes → n ≡ length sizes
+    → AreFirstRosters rs tasks sizes n rosters → AreSeated rs 0 tasks rosters
 rosters_seated rs tasks sizes n rosters free sizes_are all are = record {
   all = are.all ∙ all ∙ sizes_are.all;
-  each = λ parallel lead roster leads stands. first_seats rs tasks sizes parallel lead roster.items free sizes_are leads (are.each lead roster stands);
-  own = λ index task roster is_task initial stands. first_own rs tasks sizes index task roster.items is_task initial (are.each index roster stands);
-  other = λ index roster stands. first_other rs tasks sizes index roster.items sizes_are (are.each index roster stands);
+  each =
+      λ parallel lead roster leads stands.
+          first_seats rs tasks sizes parallel lead roster.items free sizes_are leads
+              (are.each lead roster stands);
+  own =
+      λ index task roster is_task initial stands.
+          first_own rs tasks sizes index task roster.items is_task initial (are.each index roster stands);
+  other =
+      λ index roster stands.
+          first_other rs tasks sizes index roster.items sizes_are (are.each index roster stands);
 }
 
 -- an initial task begins by the record that makes it
-pub not_initial_there : (rs : List Record) (place task : ℕ) → IsFreeOf rs CreatedTwice → at made rs place ≡ Some task → at begun_initial rs place ≡ None → IsInitial rs task → ⊥
+pub not_initial_there : (rs : List Record) (place task : ℕ) → IsFreeOf rs CreatedTwice
+    → at made rs place ≡ Some task → at begun_initial rs place ≡ None → IsInitial rs task → ⊥
 not_initial_there rs place task free is_made none initial =
-    let same : initial.0 ≡ place = made_once rs task initial.0 place free (initial_at_made rs initial.0 task initial.1) is_made in
+    let same : initial.0 ≡ place =
+        made_once rs task initial.0 place free (initial_at_made rs initial.0 task initial.1) is_made in
     never_of (at begun_initial rs place) task none (ap (at begun_initial rs) (sym same) ∙ initial.1)
 
-pub initial_there : (rs : List Record) (place task other : ℕ) → at made rs place ≡ Some task → at begun_initial rs place ≡ Some other → IsInitial rs task
+pub initial_there : (rs : List Record) (place task other : ℕ) → at made rs place ≡ Some task
+    → at begun_initial rs place ≡ Some other → IsInitial rs task
 initial_there rs place task other is_made is = (place, is ∙ sym (initial_at_made rs place other is) ∙ is_made)
 
 -- ---- the member that begins there
 
-pub lead_of_member : (rs : List Record) (tasks : List ℕ) (i lead : ℕ) (m : Membership) → IsLeadAt rs tasks i lead → at joined rs i ≡ Some m → IsLead rs tasks m.parallel lead
-lead_of_member rs tasks i lead m is joins = let P : Membership → Type 0 = λ x. IsLead rs tasks x.parallel lead in subst P (same_Some is.member m (sym is.joins ∙ joins)) is.leads
+pub lead_of_member : (rs : List Record) (tasks : List ℕ) (i lead : ℕ) (m : Membership)
+    → IsLeadAt rs tasks i lead → at joined rs i ≡ Some m → IsLead rs tasks m.parallel lead
+lead_of_member rs tasks i lead m is joins =
+    let P : Membership → Type 0 = λ x. IsLead rs tasks x.parallel lead in
+    subst P (same_Some is.member m (sym is.joins ∙ joins)) is.leads
 
-pub same_first : (rs : List Record) (tasks : List ℕ) (lead place there : ℕ) (first found : Membership) → IsFreeOf rs CreatedTwice → at made rs there ≡ slice_get tasks lead → at joined rs there ≡ Some found → at joined rs place ≡ Some first → slice_get tasks lead ≡ Some first.member → found ≡ first
-same_first rs tasks lead place there first found free is_made joins' joins is = (joined_once rs there place found first free joins' joins (same_Some found.member first.member (sym (joined_at_made rs there found joins') ∙ is_made ∙ is))).1
+pub same_first : (rs : List Record) (tasks : List ℕ) (lead place there : ℕ) (first found : Membership)
+    → IsFreeOf rs CreatedTwice → at made rs there ≡ slice_get tasks lead → at joined rs there ≡ Some found
+    → at joined rs place ≡ Some first → slice_get tasks lead ≡ Some first.member → found ≡ first
+same_first rs tasks lead place there first found free is_made joins' joins is =
+    (joined_once rs there place found first free joins' joins
+        (same_Some found.member first.member (sym (joined_at_made rs there found joins') ∙ is_made ∙ is))).1
 
-pub first_joins : (rs : List Record) (tasks : List ℕ) (lead place there : ℕ) (first : Membership) → IsFreeOf rs CreatedTwice → at made rs there ≡ slice_get tasks lead → at joined rs place ≡ Some first → slice_get tasks lead ≡ Some first.member → at joined rs there ≡ Some first
-first_joins rs tasks lead place there first free is_made joins is = ap (at joined rs) (made_once rs first.member there place free (is_made ∙ is) (joined_at_made rs place first joins)) ∙ joins
+pub first_joins : (rs : List Record) (tasks : List ℕ) (lead place there : ℕ) (first : Membership)
+    → IsFreeOf rs CreatedTwice → at made rs there ≡ slice_get tasks lead → at joined rs place ≡ Some first
+    → slice_get tasks lead ≡ Some first.member → at joined rs there ≡ Some first
+first_joins rs tasks lead place there first free is_made joins is =
+    ap (at joined rs)
+        (made_once rs first.member there place free (is_made ∙ is) (joined_at_made rs place first joins))
+        ∙ joins

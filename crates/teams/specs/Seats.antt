@@ -1,5 +1,6 @@
 -- The seats of the members of a team, by their numbers, while the records are gone over.
-use Rattle.std.specs.Prelude.{ℕ, zero, suc, ◌≡◌, ◌<◌, ◌≤◌, ◌+◌, ◌⊎◌, ◌∷◌, [], List, length, Bool, true, false, Option, Some, None, Contains, is_some, slice_get, slice_set, replicate}
+use Rattle.std.specs.Prelude.{ℕ, zero, suc, ◌≡◌, ◌<◌, ◌≤◌, ◌+◌, ◌⊎◌, ◌∷◌, [], List, length, Bool, true, false}
+use Rattle.std.specs.Prelude.{Option, Some, None, Contains, is_some, slice_get, slice_set, replicate}
 use Rattle.std.specs.Global.{Vec}
 use Rattle.ompt_events.specs.declared.records.Record.{Record}
 use Rattle.ompt_events.specs.declared.records.Membership.{Membership}

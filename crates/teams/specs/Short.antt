@@ -1,5 +1,6 @@
 -- The search for the first place in the file at which a record shows a team or a barrier that lacks a member.
-use Rattle.std.specs.Prelude.{ℕ, ◌≡◌, ◌<◌, true, List, length, Option, Some, None, MatchOption, is_some, slice_get}
+use Rattle.std.specs.Prelude.{ℕ, ◌≡◌, ◌<◌, true, List, length, Option, Some, None, MatchOption, is_some}
+use Rattle.std.specs.Prelude.{slice_get}
 use Rattle.std.specs.Global.{Vec}
 use Rattle.ompt_events.specs.declared.cause.Cause.TheVariants.{TeamShort}
 use Rattle.ompt_events.specs.Records.{joined}

@@ -1,5 +1,6 @@
 -- Whether the entries below a length finish a task, and which half of a detached task is missing.
-use Rattle.std.proofs.Common.{◌≡◌, ◌≢◌, ◌∙◌, ℕ, zero, suc, ◌<◌, true, List, ◌∷◌, length, Option, Some, None, refl, ap, subst, arith, inl, inr, ◌⊎◌}
+use Rattle.std.proofs.Common.{◌≡◌, ◌≢◌, ◌∙◌, ℕ, zero, suc, ◌<◌, true, List, ◌∷◌, length, Option, Some, None}
+use Rattle.std.proofs.Common.{refl, ap, subst, arith, inl, inr, ◌⊎◌}
 use Rattle.std.proofs.lemmas.Bool.{false≢true, cases_eq, cases_lt}
 use Rattle.std.proofs.lemmas.Option.{none-some, same_Some}
 use Rattle.ompt_events.specs.declared.records.Record.{Record}
@@ -28,7 +29,8 @@ same_part Body Event = inr (λ e. cc)
 same_part Event Whole = inr (λ e. cc)
 same_part Event Body = inr (λ e. cc)
 
-finishes_it : (task : ℕ) (part : Part) (o : Option (ℕ × Part)) → (o ≡ Some (task, part)) ⊎ (o ≢ Some (task, part))
+finishes_it : (task : ℕ) (part : Part) (o : Option (ℕ × Part))
+    → (o ≡ Some (task, part)) ⊎ (o ≢ Some (task, part))
 finishes_it task part None = inr (none-some (task, part))
 finishes_it task part (Some (own, p)) = elim (cases_eq own task) [
   | inl same ↦ elim (same_part p part) [
@@ -42,7 +44,8 @@ finishes_it task part (Some (own, p)) = elim (cases_eq own task) [
 abbrev Finishes : List Record → ℕ → ℕ → Part → ℕ → Type 0
 Finishes rs n task part k = (at finish rs k ≡ Some (task, part)) × (seen_at rs k < n)
 
-finishes_there : (rs : List Record) (n task : ℕ) (part : Part) (k : ℕ) → Finishes rs n task part k ⊎ (Finishes rs n task part k → ⊥)
+finishes_there : (rs : List Record) (n task : ℕ) (part : Part) (k : ℕ)
+    → Finishes rs n task part k ⊎ (Finishes rs n task part k → ⊥)
 finishes_there rs n task part k = elim (finishes_it task part (at finish rs k)) [
   | inr other ↦ inr (λ (is, seen). other is)
   | inl same ↦ elim (cases_lt (seen_at rs k) n) [
@@ -51,7 +54,8 @@ finishes_there rs n task part k = elim (finishes_it task part (at finish rs k)) 
   ]
 ]
 
-among_first : (rs : List Record) (n task : ℕ) (part : Part) (bound : ℕ) → ((k : ℕ) × Finishes rs n task part k) ⊎ ((k : ℕ) → k < bound → Finishes rs n task part k → ⊥)
+among_first : (rs : List Record) (n task : ℕ) (part : Part) (bound : ℕ)
+    → ((k : ℕ) × Finishes rs n task part k) ⊎ ((k : ℕ) → k < bound → Finishes rs n task part k → ⊥)
 among_first rs n task part zero = inr (λ k less here. omega (arith, less))
 among_first rs n task part (suc bound) = elim (among_first rs n task part bound) [
   | inl found ↦ inl found
@@ -67,7 +71,9 @@ among_first rs n task part (suc bound) = elim (among_first rs n task part bound)
   ]
 ]
 
-pub part_or_not : (rs : List Record) (n task : ℕ) (part : Part) → IsPartFinished rs (λ k. seen_at rs k < n) task part ⊎ (IsPartFinished rs (λ k. seen_at rs k < n) task part → ⊥)
+pub part_or_not : (rs : List Record) (n task : ℕ) (part : Part)
+    → IsPartFinished rs (λ k. seen_at rs k < n) task part
+        ⊎ (IsPartFinished rs (λ k. seen_at rs k < n) task part → ⊥)
 part_or_not rs n task part = elim (among_first rs n task part (length rs)) [
   | inl found ↦ inl (found.0, found.1.0, found.1.1)
   | inr none ↦ inr (λ (k, is, seen). none k (at_within finish rs k (task, part) is) (is, seen))
@@ -90,9 +96,12 @@ done_or_not rs n task = elim (part_or_not rs n task Whole) [
 
 -- no part of the task is finished that has this half
 abbrev IsMissing : List Record → ℕ → ℕ → Half → Type 0
-IsMissing rs n task h = (part : Part) (z : List Half) → begins_with (h ∷ z) (part_halves part) ≡ true → IsPartFinished rs (λ k. seen_at rs k < n) task part → ⊥
+IsMissing rs n task h =
+    (part : Part) (z : List Half) → begins_with (h ∷ z) (part_halves part) ≡ true
+        → IsPartFinished rs (λ k. seen_at rs k < n) task part → ⊥
 
-pub missing_half : (rs : List Record) (n task : ℕ) → (IsDone rs n task → ⊥) → (h : Half) × IsMissing rs n task h
+pub missing_half : (rs : List Record) (n task : ℕ) → (IsDone rs n task → ⊥)
+    → (h : Half) × IsMissing rs n task h
 missing_half rs n task not_done = elim (part_or_not rs n task Body) [
   | inr no_body ↦ (Keep, without_body no_body)
   | inl body ↦ (Give, without_event body)

@@ -1,9 +1,11 @@
 -- How the ledger of a trace grows, and why no entry is refused.
-use Rattle.std.proofs.Common.{◌≡◌, ◌∙◌, ℕ, ◌<◌, ◌≤◌, ◌+◌, ◌^◌, false, List, [], ◌∷◌, ◌++◌, length, get_or, Option, Some, refl, sym, ap, subst, arith, inl, inr}
+use Rattle.std.proofs.Common.{◌≡◌, ◌∙◌, ℕ, ◌<◌, ◌≤◌, ◌+◌, ◌^◌, false, List, [], ◌∷◌, ◌++◌, length, get_or}
+use Rattle.std.proofs.Common.{Option, Some, refl, sym, ap, subst, arith, inl, inr}
 use Rattle.std.specs.Prelude.{is_some, slice_get}
 use Rattle.std.specs.Option.{option_and_then, option_map_or}
 use Rattle.std.proofs.lemmas.Bool.{cases_lt, cond-false, lt-leb}
-use Rattle.std.proofs.lemmas.Option.{none-some, same_Some, slice_get_within, slice_get_read, slice_get-get_or, get_or_from_slice_get}
+use Rattle.std.proofs.lemmas.Option.{none-some, same_Some, slice_get_within, slice_get_read, slice_get-get_or}
+use Rattle.std.proofs.lemmas.Option.{get_or_from_slice_get}
 use Rattle.std.proofs.lemmas.List.Folds.{list_any_none}
 use Rattle.std.proofs.lemmas.List.Sums.{count_by-le-length}
 use Rattle.std.proofs.lemmas.List.{length_push}
@@ -77,7 +79,9 @@ maker_below rs list makers n index i slot whole are long within read is =
     omega (arith, below, same)
 
 -- and that record makes the entry
-pub maker_makes : (rs list : List Record) (makers : List (Option ℕ)) (n index i : ℕ) (slot : Option ℕ) (r : Record) → IsTrace rs
+pub maker_makes : (rs list : List Record) (makers : List (Option ℕ)) (n index i : ℕ) (slot : Option ℕ)
+    (r : Record)
+    → IsTrace rs
     → list ≡ rs → AreMakers rs (length rs) makers → n ≡ length makers
     → index < n → slot ≡ get_or makers index slot → slot ≡ Some i
     → r ≡ get_or list i r → Makes rs i index r

@@ -1,5 +1,6 @@
 -- How the table of the records that make entries grows, and that it is full at the end.
-use Rattle.std.proofs.Common.{◌≡◌, ◌∙◌, ℕ, zero, suc, ◌<◌, ◌+◌, false, List, [], ◌∷◌, length, get_or, take, Option, Some, None, refl, sym, ap, subst, arith, inl, inr}
+use Rattle.std.proofs.Common.{◌≡◌, ◌∙◌, ℕ, zero, suc, ◌<◌, ◌+◌, false, List, [], ◌∷◌, length, get_or, take}
+use Rattle.std.proofs.Common.{Option, Some, None, refl, sym, ap, subst, arith, inl, inr}
 use Rattle.std.specs.Prelude.{is_some, slice_get, replicate}
 use Rattle.std.proofs.Math.ListN.{set}
 use Rattle.std.proofs.lemmas.Bool.{cases_eq, cases_lt}
@@ -61,7 +62,8 @@ entries_more rs n within finishes =
 
 -- ---- the table
 
-maker_later : (rs : List Record) (n index place : ℕ) → IsMaker rs n index place → IsMaker rs (n + 1) index place
+maker_later : (rs : List Record) (n index place : ℕ) → IsMaker rs n index place
+    → IsMaker rs (n + 1) index place
 maker_later rs n index place (below, finishes, seen) = (omega (arith, below), finishes, seen)
 
 pub makers_start : (rs : List Record) (makers : List (Option ℕ)) → makers ≡ replicate (entries_in rs) None
@@ -79,7 +81,8 @@ pub makers_same : (rs : List Record) (n : ℕ) (makers : List (Option ℕ)) → 
 makers_same rs n makers within none are = record {
   entries = are.entries;
   makes = λ index place is. maker_later rs n index place (are.makes index place is);
-  all = λ apart ahead. ap (λ k. free_entries makers + k) (entries_same rs n within none) ∙ are.all apart ahead;
+  all =
+      λ apart ahead. ap (λ k. free_entries makers + k) (entries_same rs n within none) ∙ are.all apart ahead;
 }
 
 -- a finishing record names an entry of the table, which no earlier one names

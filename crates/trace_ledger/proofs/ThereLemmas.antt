@@ -1,5 +1,6 @@
 -- Each trace with right entries has a ledger.
-use Rattle.std.proofs.Common.{◌≡◌, ℕ, zero, suc, ◌<◌, ◌≤◌, Bool, true, false, List, [], ◌∷◌, ◌++◌, length, get_or, Option, Some, None, refl, subst, arith}
+use Rattle.std.proofs.Common.{◌≡◌, ℕ, zero, suc, ◌<◌, ◌≤◌, Bool, true, false, List, [], ◌∷◌, ◌++◌, length}
+use Rattle.std.proofs.Common.{get_or, Option, Some, None, refl, subst, arith}
 use Rattle.std.specs.Prelude.{is_some, slice_get, replicate}
 use Rattle.std.proofs.Math.ListN.{set}
 use Rattle.std.proofs.lemmas.Option.{slice_get-get_or}
@@ -18,7 +19,8 @@ use Rattle.trace_ledger.proofs.LedgerLemmas.{made_by, none_entered, one_entered,
 
 -- a table of the records that make entries
 makers_there : (rs : List Record) (n : ℕ) → n ≤ length rs → (makers : List (Option ℕ)) × AreMakers rs n makers
-makers_there rs zero low = (replicate (entries_in rs) None, makers_start rs (replicate (entries_in rs) None) refl)
+makers_there rs zero low =
+    (replicate (entries_in rs) None, makers_start rs (replicate (entries_in rs) None) refl)
 makers_there rs (suc n) low = of (is_some (at finish rs n)) refl (makers_there rs n (omega (arith, low)))
   where
     of : (b : Bool) → is_some (at finish rs n) ≡ b → (makers : List (Option ℕ)) × AreMakers rs n makers
@@ -26,11 +28,13 @@ makers_there rs (suc n) low = of (is_some (at finish rs n)) refl (makers_there r
     of true finishes (makers, are) = (
       set makers (seen_at rs n) (Some n),
       subst (λ k. AreMakers rs k (set makers (seen_at rs n) (Some n))) (omega arith)
-          (makers_more rs n makers (set makers (seen_at rs n) (Some n)) (omega (arith, low)) finishes refl are),
+          (makers_more rs n makers (set makers (seen_at rs n) (Some n)) (omega (arith, low)) finishes refl
+              are),
     )
     of false none (makers, are) = (
       makers,
-      subst (λ k. AreMakers rs k makers) (omega arith) (makers_same rs n makers (omega (arith, low)) none are),
+      subst (λ k. AreMakers rs k makers) (omega arith)
+          (makers_same rs n makers (omega (arith, low)) none are),
     )
 
 -- the entries with the first n indices
@@ -56,7 +60,8 @@ entered_there rs makers (suc n) trace right are low =
         let makes = made_by rs makers n i r trace are is here in
         (i, makes.entry, makes.there)
 
-pub ledger_there : (rs : List Record) → IsTrace rs → HasRightEntries rs → (entries : List Entry) × IsLedgerOf rs entries
+pub ledger_there : (rs : List Record) → IsTrace rs → HasRightEntries rs
+    → (entries : List Entry) × IsLedgerOf rs entries
 ledger_there rs trace right =
     let (makers, are) = makers_there rs (length rs) (omega arith) in
     let (entries, entered) = entered_there rs makers (entries_in rs) trace right are (omega arith) in

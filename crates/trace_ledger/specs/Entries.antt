@@ -9,7 +9,8 @@ use Rattle.ompt_events.specs.Records.{finish, claim}
 use Rattle.ompt_events.specs.Places.{at, seen_at}
 use Rattle.ompt_events.specs.Completion.{IsFinished}
 use Rattle.ompt_events.specs.declared.cause.Cause.{Cause}
-use Rattle.ompt_events.specs.declared.cause.Cause.TheVariants.{CreatedTwice, ShareWrong, EntryTwice, LengthAhead}
+use Rattle.ompt_events.specs.declared.cause.Cause.TheVariants.{CreatedTwice, ShareWrong, EntryTwice}
+use Rattle.ompt_events.specs.declared.cause.Cause.TheVariants.{LengthAhead}
 use Rattle.ompt_events.specs.CauseNames.{cause_number}
 use Rattle.ompt_events.specs.Causes.{IsFreeOf, ShowsNowhere}
 use Rattle.credit_ledger.specs.declared.entry.Entry.{Entry}

@@ -24,44 +24,65 @@ use Rattle.wait_coverage.proofs.OpenLemmas.{EndsWaitAt, covers_at}
 
 -- ---- finished tasks
 
-own_seen : (rs : List Record) (own : OwnView) → IsOwnOf rs own → (number place : ℕ) → slice_get own.places number ≡ Some place → seen_at own.run.records number ≡ seen_at rs place
-own_seen rs own of number place stands = ap (λ (o : Option Record). option_map_or (λ (r : Record). r.seen) o 0) (own_record rs own of number place stands)
+own_seen : (rs : List Record) (own : OwnView) → IsOwnOf rs own → (number place : ℕ)
+    → slice_get own.places number ≡ Some place → seen_at own.run.records number ≡ seen_at rs place
+own_seen rs own of number place stands =
+    ap (λ (o : Option Record). option_map_or (λ (r : Record). r.seen) o 0)
+        (own_record rs own of number place stands)
 
-part_in_file : (rs : List Record) (own : OwnView) (n task : ℕ) (part : Part) → IsOwnOf rs own → IsOwn own → IsPartFinished own.run.records (λ k. seen_at own.run.records k < n) task part → IsPartFinished rs (λ k. seen_at rs k < n) task part
+part_in_file : (rs : List Record) (own : OwnView) (n task : ℕ) (part : Part) → IsOwnOf rs own → IsOwn own
+    → IsPartFinished own.run.records (λ k. seen_at own.run.records k < n) task part
+    → IsPartFinished rs (λ k. seen_at rs k < n) task part
 part_in_file rs own n task part of is (k, says, seen) =
     let there = place_of_number rs own is.places k (at_within finish own.run.records k (task, part) says) in
     let P : ℕ → Type 0 = λ s. s < n in
-    (there.0, sym (own_says finish rs own of k there.0 there.1) ∙ says, subst P (own_seen rs own of k there.0 there.1) seen)
+    (there.0, sym (own_says finish rs own of k there.0 there.1) ∙ says,
+        subst P (own_seen rs own of k there.0 there.1) seen)
 
-part_in_own : (rs : List Record) (own : OwnView) (n task : ℕ) (part : Part) → IsOwnOf rs own → IsOwn own → IsPartFinished rs (λ k. seen_at rs k < n) task part → IsPartFinished own.run.records (λ k. seen_at own.run.records k < n) task part
+part_in_own : (rs : List Record) (own : OwnView) (n task : ℕ) (part : Part) → IsOwnOf rs own → IsOwn own
+    → IsPartFinished rs (λ k. seen_at rs k < n) task part
+    → IsPartFinished own.run.records (λ k. seen_at own.run.records k < n) task part
 part_in_own rs own n task part of is (place, says, seen) =
     let there = number_of_place rs own of is.places place (at_within finish rs place (task, part) says) in
     let P : ℕ → Type 0 = λ s. s < n in
-    (there.0, own_says finish rs own of there.0 place there.1 ∙ says, subst P (sym (own_seen rs own of there.0 place there.1)) seen)
+    (there.0, own_says finish rs own of there.0 place there.1 ∙ says,
+        subst P (sym (own_seen rs own of there.0 place there.1)) seen)
 
 -- the entries below a length finish the same tasks
-pub own_done : (rs : List Record) (own : OwnView) (n task : ℕ) → IsOwnOf rs own → IsOwn own → IsDone own.run.records n task ↔ IsDone rs n task
+pub own_done : (rs : List Record) (own : OwnView) (n task : ℕ) → IsOwnOf rs own → IsOwn own
+    → IsDone own.run.records n task ↔ IsDone rs n task
 own_done rs own n task of is = (there, back)
   where
     there : IsDone own.run.records n task → IsDone rs n task
     there (inl whole) = inl (part_in_file rs own n task Whole of is whole)
-    there (inr both) = inr (part_in_file rs own n task Body of is both.0, part_in_file rs own n task Event of is both.1)
+    there (inr both) =
+        inr (part_in_file rs own n task Body of is both.0, part_in_file rs own n task Event of is both.1)
 
     back : IsDone rs n task → IsDone own.run.records n task
     back (inl whole) = inl (part_in_own rs own n task Whole of is whole)
-    back (inr both) = inr (part_in_own rs own n task Body of is both.0, part_in_own rs own n task Event of is both.1)
+    back (inr both) =
+        inr (part_in_own rs own n task Body of is both.0, part_in_own rs own n task Event of is both.1)
 
 -- at the end of a region the same tasks are complete
-pub own_complete : (rs : List Record) (own : OwnView) (number place task covered : ℕ) → IsOwnOf rs own → IsOwn own → slice_get own.places number ≡ Some place → Covers own.run.records number covered → IsCompleteAt own.run.records task number ↔ IsCompleteAt rs task place
+pub own_complete : (rs : List Record) (own : OwnView) (number place task covered : ℕ) → IsOwnOf rs own
+    → IsOwn own → slice_get own.places number ≡ Some place → Covers own.run.records number covered
+    → IsCompleteAt own.run.records task number ↔ IsCompleteAt rs task place
 own_complete rs own number place task covered of is stands covers = (
   λ complete.
-      let done = (own_done rs own (seen_at own.run.records number) task of is).0 (done_there own.run.records number ends.task task ends.kind at_end.endpoint at_end.says complete) in
+      let done =
+          (own_done rs own (seen_at own.run.records number) task of is).0
+              (done_there own.run.records number ends.task task ends.kind at_end.endpoint at_end.says
+                  complete) in
       let P : ℕ → Type 0 = λ n. IsDone rs n task in
       complete_there rs place task (subst P (own_seen rs own of number place stands) done),
   λ complete.
-      let done = done_there rs place ends.task task ends.kind at_end.endpoint (sym (own_says region rs own of number place stands) ∙ at_end.says) complete in
+      let done =
+          done_there rs place ends.task task ends.kind at_end.endpoint
+              (sym (own_says region rs own of number place stands) ∙ at_end.says) complete in
       let P : ℕ → Type 0 = λ n. IsDone rs n task in
-      complete_there own.run.records number task ((own_done rs own (seen_at own.run.records number) task of is).1 (subst P (sym (own_seen rs own of number place stands)) done)),
+      complete_there own.run.records number task
+          ((own_done rs own (seen_at own.run.records number) task of is).1
+              (subst P (sym (own_seen rs own of number place stands)) done)),
 )
   where
     ends : EndsWaitAt own.run.records number
@@ -73,37 +94,54 @@ own_complete rs own number place task covered of is stands covers = (
 -- ---- open ends
 
 -- an end at a place is open there where its record is in the tasks' own order
-pub own_open : (rs : List Record) (own : OwnView) (number place task : ℕ) → IsOwnOf rs own → IsOwn own → slice_get own.places number ≡ Some place → IsOpen own.run.records number task ↔ IsOpenShown rs place task
+pub own_open : (rs : List Record) (own : OwnView) (number place task : ℕ) → IsOwnOf rs own → IsOwn own
+    → slice_get own.places number ≡ Some place
+    → IsOpen own.run.records number task ↔ IsOpenShown rs place task
 own_open rs own number place task of is stands = (
   λ opened. record {
     covered = (own_covers rs own of number place stands task).0 opened.covered;
-    incomplete = λ complete. opened.incomplete ((own_complete rs own number place task task of is stands opened.covered).1 complete);
+    incomplete =
+        λ complete.
+            opened.incomplete
+                ((own_complete rs own number place task task of is stands opened.covered).1 complete);
   },
   λ opened.
       let covered = (own_covers rs own of number place stands task).1 opened.covered in
       record {
         covered = covered;
-        incomplete = λ complete. opened.incomplete ((own_complete rs own number place task task of is stands covered).0 complete);
+        incomplete =
+            λ complete.
+                opened.incomplete
+                    ((own_complete rs own number place task task of is stands covered).0 complete);
       },
 )
 
-pub all_shown : (rs : List Record) (own : OwnView) (number place : ℕ) → IsOwnOf rs own → IsOwn own → slice_get own.places number ≡ Some place → IsCoverComplete own.run.records number → IsCompleteShown rs place
+pub all_shown : (rs : List Record) (own : OwnView) (number place : ℕ) → IsOwnOf rs own → IsOwn own
+    → slice_get own.places number ≡ Some place → IsCoverComplete own.run.records number
+    → IsCompleteShown rs place
 all_shown rs own number place of is stands all task covers =
     let covered = (own_covers rs own of number place stands task).1 covers in
     (own_complete rs own number place task task of is stands covered).0 (all task covered)
 
-first_shown : (rs : List Record) (own : OwnView) (number place task : ℕ) → IsOwnOf rs own → IsOwn own → slice_get own.places number ≡ Some place → IsFirstOpen own number task → IsFirstOpenShown rs place task
+first_shown : (rs : List Record) (own : OwnView) (number place task : ℕ) → IsOwnOf rs own → IsOwn own
+    → slice_get own.places number ≡ Some place → IsFirstOpen own number task → IsFirstOpenShown rs place task
 first_shown rs own number place task of is stands first = record {
   open_there = (own_open rs own number place task of is stands).0 first.is_open;
   creation = first.creation;
-  is_created = let made = first.is_created in sym (own_says created rs own of made.0 first.creation made.1) ∙ made.2;
+  is_created =
+      let made = first.is_created in sym (own_says created rs own of made.0 first.creation made.1) ∙ made.2;
   created_first = λ k other less makes opened.
       let there = number_of_place rs own of is.places k (at_within created rs k other makes) in
-      first.created_first k other less (there.0, there.1, own_says created rs own of there.0 k there.1 ∙ makes)
+      first.created_first k other less
+          (there.0, there.1, own_says created rs own of there.0 k there.1 ∙ makes)
       ((own_open rs own number place other of is stands).1 opened);
 }
 
 -- so what a search in the tasks' own order finds is what the trace shows
-pub open_shown : (rs : List Record) (own : OwnView) (number place : ℕ) (found : Option ℕ) → IsOwnOf rs own → IsOwn own → slice_get own.places number ≡ Some place → MatchOption found (IsCoverComplete own.run.records number) (IsFirstOpen own number) → MatchOption found (IsCompleteShown rs place) (IsFirstOpenShown rs place)
+pub open_shown : (rs : List Record) (own : OwnView) (number place : ℕ) (found : Option ℕ) → IsOwnOf rs own
+    → IsOwn own → slice_get own.places number ≡ Some place
+    → MatchOption found (IsCoverComplete own.run.records number) (IsFirstOpen own number)
+    → MatchOption found (IsCompleteShown rs place) (IsFirstOpenShown rs place)
 open_shown rs own number place None of is stands all = all_shown rs own number place of is stands all
-open_shown rs own number place (Some task) of is stands first = first_shown rs own number place task of is stands first
+open_shown rs own number place (Some task) of is stands first =
+    first_shown rs own number place task of is stands first

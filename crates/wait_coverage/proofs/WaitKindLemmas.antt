@@ -1,7 +1,10 @@
 -- Which kinds of region wait for the tasks of a taskwait, of a taskgroup or of a barrier, or for none.
 use Rattle.std.proofs.Common.{◌≡◌, None, false, refl}
 use Rattle.ompt_events.specs.declared.names.SyncKind.{SyncKind}
-use Rattle.ompt_events.specs.declared.names.SyncKind.TheVariants.{Barrier, BarrierImplicit, BarrierExplicit, BarrierImplementation, Taskwait, Taskgroup, Reduction, BarrierImplicitWorkshare, BarrierImplicitParallel, BarrierTeams}
+use Rattle.ompt_events.specs.declared.names.SyncKind.TheVariants.{Barrier, BarrierImplicit, BarrierExplicit}
+use Rattle.ompt_events.specs.declared.names.SyncKind.TheVariants.{BarrierImplementation, Taskwait, Taskgroup}
+use Rattle.ompt_events.specs.declared.names.SyncKind.TheVariants.{Reduction, BarrierImplicitWorkshare}
+use Rattle.ompt_events.specs.declared.names.SyncKind.TheVariants.{BarrierImplicitParallel, BarrierTeams}
 use Rattle.ompt_events.specs.Regions.{waits_for_tasks}
 use Rattle.ompt_events.specs.Waits.{wait_kind}
 

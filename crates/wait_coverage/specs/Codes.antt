@@ -14,9 +14,11 @@ code_of_length length = if length == 4294967296 then 4294967295 else length
 pub code_again : {X : Type 0} (make : ℕ → X) (code : ℕ) → code ≤ 4294967295
     → make (code_of_length (length_of_code code)) ≡ make code
 code_again make code small = elim (cases_eq code 4294967295) [
-  | inl same ↦ ap (λ (b : Bool). make (code_of_length (if b then 4294967296 else code))) (eq-eqb code 4294967295 same)
+  | inl same ↦
+      ap (λ (b : Bool). make (code_of_length (if b then 4294967296 else code))) (eq-eqb code 4294967295 same)
       ∙ ap make (sym same)
   | inr apart ↦
       ap (λ (b : Bool). make (code_of_length (if b then 4294967296 else code))) (ne_eqb code 4294967295 apart)
-      ∙ ap (λ (b : Bool). make (if b then 4294967295 else code)) (ne_eqb code 4294967296 (λ same. omega (arith, small, same)))
+      ∙ ap (λ (b : Bool). make (if b then 4294967295 else code))
+          (ne_eqb code 4294967296 (λ same. omega (arith, small, same)))
 ]

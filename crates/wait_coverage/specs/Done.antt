@@ -1,5 +1,6 @@
 -- From which ledger length on a task is finished, and from which one on its descendants are too.
-use Rattle.std.specs.Prelude.{ℕ, ◌≡◌, ◌<◌, ◌≤◌, ◌^◌, ◌↔◌, List, length, Some, Contains, max, slice_get, slice_set, slice_index}
+use Rattle.std.specs.Prelude.{ℕ, ◌≡◌, ◌<◌, ◌≤◌, ◌^◌, ◌↔◌, List, length, Some, Contains, max, slice_get}
+use Rattle.std.specs.Prelude.{slice_set, slice_index}
 use Rattle.std.specs.Option.{option_map_or}
 use Rattle.ompt_events.specs.declared.records.Record.{Record}
 use Rattle.ompt_events.specs.Tree.{IsExplicit}
@@ -81,7 +82,8 @@ pub record AreRanked (family : FamilyView) (n : ℕ) (ranked : List (ℕ × ℕ)
 -- the parent of the task at the index has at least what the task has
 abbrev pub raised : FamilyView → ℕ → List ℕ → List ℕ
 raised family index limits = option_map_or
-    (λ up. slice_set limits up (max (slice_index limits up) (slice_index limits index))) (parent_index family index) limits
+    (λ up. slice_set limits up (max (slice_index limits up) (slice_index limits index)))
+        (parent_index family index) limits
 
 -- the first index is that of the second's parent, of the parent's parent, and so on, or the second itself
 pub data IsAbove (family : FamilyView) (top : ℕ) : ℕ → Type 0 where

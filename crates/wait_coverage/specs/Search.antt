@@ -1,5 +1,6 @@
 -- A search for the tasks that the end of a region waits for.
-use Rattle.std.specs.Prelude.{ℕ, ◌≡◌, ◌<◌, ◌↔◌, Bool, false, IsTrue, List, length, Some, slice_get, slice_index_or}
+use Rattle.std.specs.Prelude.{ℕ, ◌≡◌, ◌<◌, ◌↔◌, Bool, false, IsTrue, List, length, Some, slice_get}
+use Rattle.std.specs.Prelude.{slice_index_or}
 use Rattle.task_tree.specs.Lineage.{parent_index}
 use Rattle.teams.specs.Teams.{TeamsView, IsTeams}
 use Rattle.wait_coverage.specs.Waits.{IsAwaited, waiting}

@@ -1,6 +1,7 @@
 -- What the end of a region waits for, by the records that create tasks, and what of it is unfinished. Records
 -- are named by their numbers in the tasks' own order.
-use Rattle.std.specs.Prelude.{ℕ, ◌≡◌, ◌<◌, ◌≤◌, ◌↔◌, Bool, false, true, IsTrue, List, length, Some, slice_get, slice_index_or}
+use Rattle.std.specs.Prelude.{ℕ, ◌≡◌, ◌<◌, ◌≤◌, ◌↔◌, Bool, false, true, IsTrue, List, length, Some, slice_get}
+use Rattle.std.specs.Prelude.{slice_index_or}
 use Rattle.ompt_events.specs.declared.records.Record.{Record}
 use Rattle.ompt_events.specs.declared.names.SyncKind.{SyncKind}
 use Rattle.ompt_events.specs.declared.names.SyncKind.TheVariants.{Taskwait, Taskgroup}
@@ -16,7 +17,9 @@ use Rattle.credit_ledger.specs.declared.entry.Cover.{Cover}
 use Rattle.credit_ledger.specs.declared.entry.Cover.TheVariants.{Children, Descendants}
 use Rattle.wait_coverage.specs.Done.{DoneView, records_of, tasks_of, IsEarly}
 use Rattle.wait_coverage.specs.declared.waits.Wait.{Wait}
-use Rattle.wait_coverage.specs.declared.waits.Wait.TheVariants.{Taskwait as ForTaskwait, Taskgroup as ForTaskgroup, Barrier as ForBarrier}
+use Rattle.wait_coverage.specs.declared.waits.Wait.TheVariants.{Taskwait as ForTaskwait}
+use Rattle.wait_coverage.specs.declared.waits.Wait.TheVariants.{Taskgroup as ForTaskgroup}
+use Rattle.wait_coverage.specs.declared.waits.Wait.TheVariants.{Barrier as ForBarrier}
 
 -- ---- what a wait is for
 

@@ -10,7 +10,8 @@ abbrev pub invariant-pieces : goal.invariant-pieces
 invariant-pieces l = record {
   bytes : List ℕ;
   judged : AreJudged l.kept.version (into_iter_items l.rest) bytes;
-  joins : (all : List ℕ) → AreJudged l.fn.kept.version l.fn.pieces.items all → Joins l.fn.line l.fn.kept all l.line l.kept (into_iter_items l.rest);
+  joins : (all : List ℕ) → AreJudged l.fn.kept.version l.fn.pieces.items all
+      → Joins l.fn.line l.fn.kept all l.line l.kept (into_iter_items l.rest);
   later : l.fn.line ≤ l.line;
   last : l.line ≤ max_records + 2;
   counted : IsCounted l.line l.kept;

@@ -23,6 +23,8 @@ turns-preserved g c =
       bytes = Keeps-both _ _ _ now.bytes call.bytes;
       later = omega (arith, now.later);
       within = omega arith;
-      counted = (rw c.in-Err-Again.field-0-is at call.agains) ∙ ap next_count now.counted ∙ count_more-next _ _ _ now.later;
+      counted =
+          (rw c.in-Err-Again.field-0-is at call.agains) ∙ ap next_count now.counted
+              ∙ count_more-next _ _ _ now.later;
       breaks = (rw c.in-Err-Again.field-0-is at call.breaks) ∙ now.breaks;
     }

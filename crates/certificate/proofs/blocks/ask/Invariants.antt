@@ -7,7 +7,8 @@ use Rattle.certificate.proofs.blocks.ask.Given as goal
 abbrev pub invariant-turns : goal.invariant-turns
 invariant-turns g l = record {
   block : l.block ≡ l.fn.block;
-  bytes : Keeps (prepend_known l.fn.block.waiting (g.S.Source.remaining l.fn.source)) (prepend_known l.block.waiting (g.S.Source.remaining l.source));
+  bytes : Keeps (prepend_known l.fn.block.waiting (g.S.Source.remaining l.fn.source))
+      (prepend_known l.block.waiting (g.S.Source.remaining l.source));
   later : l.fn.turns ≤ l.turns;
   within : l.turns ≤ max_turns + 1;
   counted : g.S.Source.agains l.source ≡ count_more (g.S.Source.agains l.fn.source) (l.turns - l.fn.turns);

@@ -7,7 +7,8 @@ use Rattle.certificate.proofs.blocks.fill.Given as goal
 
 abbrev pub invariant-asks : goal.invariant-asks
 invariant-asks g l = record {
-  bytes : Keeps (prepend_known l.fn.block.waiting (g.S.Source.remaining l.fn.source)) (prepend_known l.block.waiting (g.S.Source.remaining l.source));
+  bytes : Keeps (prepend_known l.fn.block.waiting (g.S.Source.remaining l.fn.source))
+      (prepend_known l.block.waiting (g.S.Source.remaining l.source));
   limit : l.block.limit ≡ l.fn.block.limit;
   turns : TakesTurns None l.fn.turns l.turns (g.S.Source.agains l.fn.source) (g.S.Source.agains l.source);
   left : l.turns ≤ max_turns;

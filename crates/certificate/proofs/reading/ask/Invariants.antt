@@ -7,7 +7,8 @@ use Rattle.certificate.proofs.reading.ask.Given as goal
 abbrev pub invariant-turns : goal.invariant-turns
 invariant-turns g l = record {
   window : l.window ≡ l.fn.window;
-  bytes : Keeps (prepend_known l.fn.window (g.S.Source.remaining l.fn.source)) (prepend_known l.window (g.S.Source.remaining l.source));
+  bytes : Keeps (prepend_known l.fn.window (g.S.Source.remaining l.fn.source))
+      (prepend_known l.window (g.S.Source.remaining l.source));
   later : l.fn.turns ≤ l.turns;
   within : l.turns ≤ max_turns + 1;
   counted : g.S.Source.agains l.source ≡ count_more (g.S.Source.agains l.fn.source) (l.turns - l.fn.turns);

@@ -7,7 +7,8 @@ use Rattle.certificate.proofs.reading.next_line.Given as goal
 
 abbrev pub invariant-search : goal.invariant-search
 invariant-search g l = record {
-  bytes : Keeps (prepend_known l.fn.window (g.S.Source.remaining l.fn.source)) (prepend_known l.window (g.S.Source.remaining l.source));
+  bytes : Keeps (prepend_known l.fn.window (g.S.Source.remaining l.fn.source))
+      (prepend_known l.window (g.S.Source.remaining l.source));
   turns : TakesTurns None l.fn.turns l.turns (g.S.Source.agains l.fn.source) (g.S.Source.agains l.source);
   left : l.turns ≤ max_turns;
   breaks : g.S.Source.breaks l.source ≡ g.S.Source.breaks l.fn.source;

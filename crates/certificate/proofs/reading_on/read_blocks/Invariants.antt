@@ -6,9 +6,11 @@ use Rattle.certificate.proofs.reading_on.read_blocks.Given as goal
 abbrev pub invariant-rounds : goal.invariant-rounds
 invariant-rounds g l = record {
   ready : IsReady l.front l.ahead;
-  waits : Waits (g.S.Source.remaining l.fn.source) (g.S.Source.remaining l.source) (room_of l.fn.workers l.fn.block) l.front.waiting l.ahead;
+  waits : Waits (g.S.Source.remaining l.fn.source) (g.S.Source.remaining l.source)
+      (room_of l.fn.workers l.fn.block) l.front.waiting l.ahead;
   room : l.front.limit + l.front.limit ≤ room_of l.fn.workers l.fn.block;
-  met : HasMet l.ahead 0 (g.S.Source.agains l.fn.source) (g.S.Source.breaks l.fn.source) (g.S.Source.agains l.source) (g.S.Source.breaks l.source);
+  met : HasMet l.ahead 0 (g.S.Source.agains l.fn.source) (g.S.Source.breaks l.fn.source)
+      (g.S.Source.agains l.source) (g.S.Source.breaks l.source);
 }
 
 abbrev pub decreases-rounds : goal.decreases-rounds

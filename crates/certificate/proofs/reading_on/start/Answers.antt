@@ -12,10 +12,21 @@ returns-in_err-part-clause-after g c =
     let fill = c.fill-ahead.ensures in
     let old = c.args.ahead.now in
     let first = c.requires.first in
-    let filled : Ahead = record { line = old.line; kept = old.kept; pieces = old.pieces; block = old.block; turns = c.fill-ahead.new.turns; filled = c.fill-ahead.result; asks = old.asks } in
+    let filled : Ahead = record {
+      line = old.line;
+      kept = old.kept;
+      pieces = old.pieces;
+      block = old.block;
+      turns = c.fill-ahead.new.turns;
+      filled = c.fill-ahead.result;
+      asks = old.asks;
+    } in
     let front = c.fill-ahead.new.block.waiting in
     rw (p.1, p.2) (λ room all.
-    rw (c.in_err-part.ensures.fault, c.in_err-part.ensures.lines.line) (waits_memory known left room front filled (start_waits known left room front filled first.line first.kept first.pieces first.waiting (rw c.requires.empty at fill.bytes) (omega (arith, fill.few, fill.limit, all)) fill.end)))
+    rw (c.in_err-part.ensures.fault, c.in_err-part.ensures.lines.line)
+        (waits_memory known left room front filled
+            (start_waits known left room front filled first.line first.kept first.pieces first.waiting
+                (rw c.requires.empty at fill.bytes) (omega (arith, fill.few, fill.limit, all)) fill.end)))
 
 pub returns-clause-after : goal.returns-clause-after
 returns-clause-after g c =
@@ -24,10 +35,20 @@ returns-clause-after g c =
     let fill = c.fill-ahead.ensures in
     let old = c.args.ahead.now in
     let first = c.requires.first in
-    let filled : Ahead = record { line = old.line; kept = old.kept; pieces = old.pieces; block = old.block; turns = c.fill-ahead.new.turns; filled = c.fill-ahead.result; asks = old.asks } in
+    let filled : Ahead = record {
+      line = old.line;
+      kept = old.kept;
+      pieces = old.pieces;
+      block = old.block;
+      turns = c.fill-ahead.new.turns;
+      filled = c.fill-ahead.result;
+      asks = old.asks;
+    } in
     let front = c.fill-ahead.new.block.waiting in
     let part = c.in_ok-part.ensures in
     λ room all.
     c.begin.ensures.after known left room
-    (waits_parted known left room front c.part.new.front.waiting filled c.part.new.self first.waiting part.parts part.lines part.source.1
-    (start_waits known left room front filled first.line first.kept first.pieces first.waiting (rw c.requires.empty at fill.bytes) (omega (arith, fill.few, fill.limit, all)) fill.end))
+    ( waits_parted known left room front c.part.new.front.waiting filled c.part.new.self first.waiting
+        part.parts part.lines part.source.1
+    (start_waits known left room front filled first.line first.kept first.pieces first.waiting
+        (rw c.requires.empty at fill.bytes) (omega (arith, fill.few, fill.limit, all)) fill.end))

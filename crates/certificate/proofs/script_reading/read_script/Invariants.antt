@@ -10,7 +10,8 @@ abbrev pub invariant-lines : goal.invariant-lines
 invariant-lines g l = record {
   low : 1 ≤ l.line;
   first : l.line ≡ 1 → l.script ≡ [];
-  between : IsBetween scripts (g.S.Source.remaining l.fn.source) l.line l.script l.window (g.S.Source.remaining l.source);
+  between : IsBetween scripts (g.S.Source.remaining l.fn.source) l.line l.script l.window
+      (g.S.Source.remaining l.source);
   turns : TakesTurns None 0 l.turns (g.S.Source.agains l.fn.source) (g.S.Source.agains l.source);
   breaks : g.S.Source.breaks l.source ≡ g.S.Source.breaks l.fn.source;
   counted : length l.script ≡ l.line - 2;

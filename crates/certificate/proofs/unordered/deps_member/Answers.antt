@@ -5,4 +5,11 @@ use Rattle.certificate.proofs.unordered.deps_member.Goals as goal
 
 pub returns : goal.returns
 unfolding escape_byte
-returns c = record { name = member.deps; value = _; plain_name = refl; plain = tt; takes = c.in_ok-deps.ensures; added = refl }
+returns c = record {
+  name = member.deps;
+  value = _;
+  plain_name = refl;
+  plain = tt;
+  takes = c.in_ok-deps.ensures;
+  added = refl;
+}

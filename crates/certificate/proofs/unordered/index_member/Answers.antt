@@ -5,4 +5,11 @@ use Rattle.certificate.proofs.unordered.index_member.Goals as goal
 
 pub returns : goal.returns
 unfolding escape_byte
-returns c = record { name = member.index; value = _; plain_name = refl; plain = search rules; takes = c.in_ok-index.ensures; added = refl }
+returns c = record {
+  name = member.index;
+  value = _;
+  plain_name = refl;
+  plain = search rules;
+  takes = c.in_ok-index.ensures;
+  added = refl;
+}

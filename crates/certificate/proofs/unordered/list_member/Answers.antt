@@ -9,4 +9,11 @@ pub returns : goal.returns
 unfolding escape_byte
 returns c =
     let wide : All (λ d. d.var < 2 ^ 64) c.in_ok-list.list = search rules in
-    record { name = member.list; value = _; plain_name = refl; plain = plain-deps c.in_ok-list.list wide; takes = c.in_ok-list.ensures; added = refl }
+    record {
+      name = member.list;
+      value = _;
+      plain_name = refl;
+      plain = plain-deps c.in_ok-list.list wide;
+      takes = c.in_ok-list.ensures;
+      added = refl;
+    }

@@ -9,4 +9,13 @@ pub returns : goal.returns
 unfolding escape_byte
 returns c =
     let short : All (λ n. n < 2 ^ 32) c.in_ok-path.path = search rules in
-    record { name = member.path; value = _; plain_name = refl; plain = ArePlain-wholes c.in_ok-path.path 1 (AllByRecursion-from _ c.in_ok-path.path (λ k d l. omega (arith, short k d l))); takes = c.in_ok-path.ensures; added = refl }
+    record {
+      name = member.path;
+      value = _;
+      plain_name = refl;
+      plain =
+          ArePlain-wholes c.in_ok-path.path 1
+              (AllByRecursion-from _ c.in_ok-path.path (λ k d l. omega (arith, short k d l)));
+      takes = c.in_ok-path.ensures;
+      added = refl;
+    }

@@ -5,4 +5,11 @@ use Rattle.certificate.proofs.unordered.seen_member.Goals as goal
 
 pub returns : goal.returns
 unfolding escape_byte
-returns c = record { name = member.seen; value = _; plain_name = refl; plain = search rules; takes = c.in_ok-seen.ensures; added = refl }
+returns c = record {
+  name = member.seen;
+  value = _;
+  plain_name = refl;
+  plain = search rules;
+  takes = c.in_ok-seen.ensures;
+  added = refl;
+}

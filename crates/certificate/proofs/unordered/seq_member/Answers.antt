@@ -5,4 +5,11 @@ use Rattle.certificate.proofs.unordered.seq_member.Goals as goal
 
 pub returns : goal.returns
 unfolding escape_byte
-returns c = record { name = member.seq; value = _; plain_name = refl; plain = search rules; takes = c.in_ok-seq.ensures; added = refl }
+returns c = record {
+  name = member.seq;
+  value = _;
+  plain_name = refl;
+  plain = search rules;
+  takes = c.in_ok-seq.ensures;
+  added = refl;
+}

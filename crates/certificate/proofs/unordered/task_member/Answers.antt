@@ -5,4 +5,11 @@ use Rattle.certificate.proofs.unordered.task_member.Goals as goal
 
 pub returns : goal.returns
 unfolding escape_byte
-returns c = record { name = member.task; value = _; plain_name = refl; plain = search rules; takes = c.in_ok-task.ensures; added = refl }
+returns c = record {
+  name = member.task;
+  value = _;
+  plain_name = refl;
+  plain = search rules;
+  takes = c.in_ok-task.ensures;
+  added = refl;
+}

@@ -22,7 +22,10 @@ returns-then-turns-gt-MAX_TURNS-clause-ended g c =
       c.bytes.turns + 1,
       record {
         within = omega arith;
-        counted = stalls-none _ _ _ _ _ _ (omega (arith, c.bytes-test.true, length-drop c.bytes.at c.args.bytes.now)) (c.bytes.invariant.counted start is) c.in_ok-taken.ensures.stalls c.if-taken-eq0.true;
+        counted =
+            stalls-none _ _ _ _ _ _
+                (omega (arith, c.bytes-test.true, length-drop c.bytes.at c.args.bytes.now))
+                (c.bytes.invariant.counted start is) c.in_ok-taken.ensures.stalls c.if-taken-eq0.true;
         spent = ((λ _. last), (λ _. refl));
       },
     )
@@ -31,22 +34,33 @@ pub bytes-preserved : goal.bytes-preserved
 bytes-preserved g c =
     let now = c.bytes.invariant in
     let call = c.in_ok-taken.ensures in
-    let sent = Appends-more _ _ _ c.args.bytes.now c.bytes.at c.in_ok-taken.taken now.sent (rw take_rest at call.bytes) in
+    let sent =
+        Appends-more _ _ _ c.args.bytes.now c.bytes.at c.in_ok-taken.taken now.sent
+            (rw take_rest at call.bytes) in
     let bound = rw take_rest at call.bound in
-    let within : c.bytes.at + c.in_ok-taken.taken ≤ length c.args.bytes.now = omega (arith, bound, now.within, length-drop c.bytes.at c.args.bytes.now) in
+    let within : c.bytes.at + c.in_ok-taken.taken ≤ length c.args.bytes.now =
+        omega (arith, bound, now.within, length-drop c.bytes.at c.args.bytes.now) in
     elim c.if-taken-eq0.branch [
       | then-taken-eq0+else-turns-gt-MAX_TURNS w ↦ record {
         sent = sent;
         within = within;
         few = omega arith;
-        counted = λ start is. rw w.turns-is (stalls-none _ _ _ _ _ _ (omega (arith, c.bytes-test.true, length-drop c.bytes.at c.args.bytes.now)) (now.counted start is) call.stalls w.if-taken-eq0.true);
+        counted =
+            λ start is.
+                rw w.turns-is
+                    (stalls-none _ _ _ _ _ _
+                        (omega (arith, c.bytes-test.true, length-drop c.bytes.at c.args.bytes.now))
+                        (now.counted start is) call.stalls w.if-taken-eq0.true);
         breaks = call.breaks ∙ now.breaks;
       }
       | else-taken-eq0 w ↦ record {
         sent = sent;
         within = within;
         few = omega (arith, now.few);
-        counted = λ start is. rw w.turns-is (stalls-some _ _ _ _ _ _ (now.counted start is) call.stalls w.if-taken-eq0.false);
+        counted =
+            λ start is.
+                rw w.turns-is
+                    (stalls-some _ _ _ _ _ _ (now.counted start is) call.stalls w.if-taken-eq0.false);
         breaks = call.breaks ∙ now.breaks;
       }
     ]

@@ -9,7 +9,8 @@ invariant-bytes g l = record {
   sent : Appends (g.S.Sink.contents l.fn.sink) (g.S.Sink.contents l.sink) (take l.at l.bytes);
   within : l.at ≤ length l.bytes;
   few : l.turns ≤ max_turns;
-  counted : (start : ℕ) → g.S.Sink.stalls l.fn.sink ≡ count_more start l.fn.before → g.S.Sink.stalls l.sink ≡ count_more start l.turns;
+  counted : (start : ℕ) → g.S.Sink.stalls l.fn.sink ≡ count_more start l.fn.before
+      → g.S.Sink.stalls l.sink ≡ count_more start l.turns;
   breaks : g.S.Sink.breaks l.sink ≡ g.S.Sink.breaks l.fn.sink;
 }
 

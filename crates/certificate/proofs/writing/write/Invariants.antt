@@ -10,7 +10,8 @@ abbrev pub invariant-records : goal.invariant-records
 invariant-records g l = record {
   sent : List ℕ;
   out : Appends (g.S.Sink.contents l.fn.sink) (g.S.Sink.contents l.sink) sent;
-  text : sent ++ l.block.items ≡ ended (header_line l.trace.version ∷ map line_of (take l.event-index l.trace.records));
+  text : sent ++ l.block.items
+      ≡ ended (header_line l.trace.version ∷ map line_of (take l.event-index l.trace.records));
   few : l.turns ≤ max_turns;
   counted : g.S.Sink.stalls l.sink ≡ count_more (g.S.Sink.stalls l.fn.sink) l.turns;
   breaks : g.S.Sink.breaks l.sink ≡ g.S.Sink.breaks l.fn.sink;

@@ -1,4 +1,5 @@
-use Rattle.checker.proofs.UpgradeVerdictLemmas.{IsUpgradeOfFirst, kept_verdict, given_verdict, kept_counter, given_counter}
+use Rattle.checker.proofs.UpgradeVerdictLemmas.{IsUpgradeOfFirst, kept_verdict, given_verdict, kept_counter}
+use Rattle.checker.proofs.UpgradeVerdictLemmas.{given_counter}
 use Rattle.checker.proofs.laws.an_upgrade_keeps_the_verdict.Goals as goal
 
 pub returns-clause-verdict : goal.returns-clause-verdict

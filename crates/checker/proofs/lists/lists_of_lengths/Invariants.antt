@@ -9,6 +9,7 @@ invariant-loop-step l =
     let rs = l.makers.run.records in
     record {
       keys : length l.lists.firsts.items ≡ length l.makers.places + 1;
-      lists : (from : ℕ) → from + l.step ≡ length rs → AreLists (length_of rs) (length rs) from l.lists.firsts.items l.lists.nexts.items;
+      lists : (from : ℕ) → from + l.step ≡ length rs
+          → AreLists (length_of rs) (length rs) from l.lists.firsts.items l.lists.nexts.items;
       rising : IsRising (length rs) l.lists.nexts.items;
     }

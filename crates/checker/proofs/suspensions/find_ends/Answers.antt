@@ -9,10 +9,16 @@ loop-at-init c =
     let rows = c.args.rows.now in
     let some = c.requires.some in
     let total = slice_index rows (length rows - 1) in
-    let within : (index : ℕ) → slice_index rows index ≤ total = rows_within rows (length rows - 1) total c.requires.rows (omega (arith, some)) refl in
+    let within : (index : ℕ) → slice_index rows index ≤ total =
+        rows_within rows (length rows - 1) total c.requires.rows (omega (arith, some)) refl in
     record {
-      within = λ index. let low = within index in rw (c.in_ok-places.ensures, length-replicate total (length c.args.run.now.records)) low;
-      ends = rw c.in_ok-places.ensures (ends_start c.args.run.now.records c.args.run.now.family.tasks rows total within);
+      within =
+          λ index.
+              let low = within index in
+              rw (c.in_ok-places.ensures, length-replicate total (length c.args.run.now.records)) low;
+      ends =
+          rw c.in_ok-places.ensures
+              (ends_start c.args.run.now.records c.args.run.now.family.tasks rows total within);
     }
 
 pub returns-clause-ends : goal.returns-clause-ends

@@ -11,7 +11,9 @@ overflow_cast-at c =
 pub index_mut-requires : goal.index_mut-requires
 index_mut-requires c =
     let behind = c.in-Some.ensures in
-    let low = slot_within c.args.rows.now behind.index (behind.turn + 1) (length c.args.places.now.items) behind.has c.requires.within in
+    let low =
+        slot_within c.args.rows.now behind.index (behind.turn + 1) (length c.args.places.now.items) behind.has
+            c.requires.within in
     let is = behind.is in
     let inside : c.in-Some.slot < length c.args.places.now.items = omega (arith, low, is) in
     search (rules, inside)
@@ -19,9 +21,15 @@ index_mut-requires c =
 pub returns-in-Some-clause-more : goal.returns-in-Some-clause-more
 returns-in-Some-clause-more c =
     let behind = c.in-Some.ensures in
-    let low = slot_within c.args.rows.now behind.index (behind.turn + 1) (length c.args.places.now.items) behind.has c.requires.within in
+    let low =
+        slot_within c.args.rows.now behind.index (behind.turn + 1) (length c.args.places.now.items) behind.has
+            c.requires.within in
     let is = behind.is in
-    ends_more c.args.run.now.records c.args.at c.in-Some.slot c.args.run.now.family.tasks c.args.rows.now c.args.places.now.items c.requires.at c.requires.is_run.family.makers.apart c.requires.rows (omega (arith, low, is)) behind c.requires.before
+    ends_more c.args.run.now.records c.args.at c.in-Some.slot c.args.run.now.family.tasks c.args.rows.now
+        c.args.places.now.items c.requires.at c.requires.is_run.family.makers.apart c.requires.rows
+        (omega (arith, low, is)) behind c.requires.before
 
 pub returns-in_default-clause-more : goal.returns-in_default-clause-more
-returns-in_default-clause-more c = ends_other c.args.run.now.records c.args.at c.args.run.now.family.tasks c.args.rows.now c.args.places.now.items c.in_default.ensures c.requires.before
+returns-in_default-clause-more c =
+    ends_other c.args.run.now.records c.args.at c.args.run.now.family.tasks c.args.rows.now
+        c.args.places.now.items c.in_default.ensures c.requires.before

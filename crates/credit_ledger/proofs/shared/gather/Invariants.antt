@@ -13,6 +13,7 @@ invariant-seats l = record {
   stage : l.place.me.0.stage ≡ Turn;
   slots : l.place.me.1 ≡ l.initial.place.me.1;
   seen : l.place.me.0.seen ≡ l.initial.place.me.0.seen;
-  claims : map (λ seat. claim_of seat.place.me.0) l.seats.items ++ l.place.me.0.claims ≡ map (λ seat. claim_of seat.place.me.0) l.initial.seats.items;
+  claims : map (λ seat. claim_of seat.place.me.0) l.seats.items ++ l.place.me.0.claims
+      ≡ map (λ seat. claim_of seat.place.me.0) l.initial.seats.items;
   tables : All (λ seat. seat.place.table_id ≡ l.board.shared.table_id) l.seats.items;
 }

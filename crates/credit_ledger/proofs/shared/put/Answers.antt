@@ -8,6 +8,7 @@ slot_mut-requires c = (
   c.requires.place,
   (
     Some (entries_after c.args.place.now.me.0.seen),
-    c.requires.ledger ∙ ap (λ xs. (0, Some (entries_after c.args.place.now.me.0.seen)) ∷ rest xs) (sym c.requires.ledger),
+    c.requires.ledger
+        ∙ ap (λ xs. (0, Some (entries_after c.args.place.now.me.0.seen)) ∷ rest xs) (sym c.requires.ledger),
   ),
 )

@@ -9,6 +9,9 @@ loop-at-preserved c =
     let at = c.loop-at.at in
     let some = c.index-steps-at.result in
     record {
-      places = places_next steps at (get_or steps at some) c.loop-at.threads.items c.note_place.new.threads.items (slice_get-get_or steps at some c.loop-at-test.true) c.loop-at.invariant.places c.in_ok-note_place.ensures.added;
+      places =
+          places_next steps at (get_or steps at some) c.loop-at.threads.items c.note_place.new.threads.items
+              (slice_get-get_or steps at some c.loop-at-test.true) c.loop-at.invariant.places
+              c.in_ok-note_place.ensures.added;
       few = c.in_ok-note_place.ensures.few;
     }

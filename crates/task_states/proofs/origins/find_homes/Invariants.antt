@@ -9,5 +9,9 @@ use Rattle.task_states.proofs.origins.find_homes.Given as goal
 abbrev pub invariant-loop-index : goal.invariant-loop-index
 invariant-loop-index l = record {
   count : l.count ≡ length l.schedules.family.tasks;
-  filled : IsFilled (λ (i : ℕ) (home : Home). (task : ℕ) → slice_get l.schedules.family.tasks i ≡ Some task → home ≡ home_at l.schedules.records task) l.index l.homes.items;
+  filled : IsFilled
+      (λ (i : ℕ) (home : Home).
+          (task : ℕ) → slice_get l.schedules.family.tasks i ≡ Some task
+              → home ≡ home_at l.schedules.records task)
+      l.index l.homes.items;
 }

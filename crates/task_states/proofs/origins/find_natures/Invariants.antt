@@ -10,5 +10,9 @@ use Rattle.task_states.proofs.origins.find_natures.Given as goal
 abbrev pub invariant-loop-index : goal.invariant-loop-index
 invariant-loop-index l = record {
   count : l.count ≡ length l.run.family.tasks;
-  filled : IsFilled (λ (i : ℕ) (nature : Nature). (task : ℕ) → slice_get l.run.family.tasks i ≡ Some task → the_nature nature ≡ nature_of l.run.records task) l.index l.natures.items;
+  filled : IsFilled
+      (λ (i : ℕ) (nature : Nature).
+          (task : ℕ) → slice_get l.run.family.tasks i ≡ Some task
+              → the_nature nature ≡ nature_of l.run.records task)
+      l.index l.natures.items;
 }

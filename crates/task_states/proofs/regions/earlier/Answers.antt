@@ -11,4 +11,6 @@ returns-in-Some c = λ cause has_it is.
     let yes : c.args.has ≡ true = search rules in
     let P : Option ℕ → Type 0 = IsEarliest own cause n in
     let Q : ℕ → Type 0 = IsEarliestPlace own cause (n + 1) in
-    subst Q (sym c.min.ensures) (earlier_other own cause n before c.place-place.result c.place-place.ensures.value (has_it.0 yes) (subst P c.in-Some.is is))
+    subst Q (sym c.min.ensures)
+        (earlier_other own cause n before c.place-place.result c.place-place.ensures.value (has_it.0 yes)
+            (subst P c.in-Some.is is))

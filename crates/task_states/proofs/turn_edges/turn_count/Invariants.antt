@@ -7,4 +7,7 @@ use Rattle.task_states.proofs.turn_edges.turn_count.Given as goal
 
 -- the greatest turn so far
 abbrev pub invariant-loop-event : goal.invariant-loop-event
-invariant-loop-event l = l.most ≡ fold (λ most (r : Record). max most (option_map_or (λ (b : ℕ × ℕ). b.1) (begun_turn r.body) 0)) 0 (take l.event-index l.event-items)
+invariant-loop-event l =
+    l.most
+        ≡ fold (λ most (r : Record). max most (option_map_or (λ (b : ℕ × ℕ). b.1) (begun_turn r.body) 0)) 0
+            (take l.event-index l.event-items)

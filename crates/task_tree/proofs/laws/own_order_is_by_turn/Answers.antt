@@ -1,4 +1,5 @@
-use Rattle.task_tree.proofs.OwnOrderLemmas.{own_permuted, own_length, arranged_length, own_place_iff, own_get, arranged_get, own_place_of, own_order}
+use Rattle.task_tree.proofs.OwnOrderLemmas.{own_permuted, own_length, arranged_length, own_place_iff, own_get}
+use Rattle.task_tree.proofs.OwnOrderLemmas.{arranged_get, own_place_of, own_order}
 use Rattle.task_tree.proofs.laws.own_order_is_by_turn.Goals as goal
 
 pub returns-clause-permuted : goal.returns-clause-permuted

@@ -1,4 +1,5 @@
-use Rattle.task_tree.proofs.RenamingLemmas.{renamed_children, renamed_path, renamed_covers, renamed_predecessor, renamed_order, renamed_short, renamed_share}
+use Rattle.task_tree.proofs.RenamingLemmas.{renamed_children, renamed_path, renamed_covers}
+use Rattle.task_tree.proofs.RenamingLemmas.{renamed_predecessor, renamed_order, renamed_short, renamed_share}
 use Rattle.task_tree.proofs.laws.renamed_records_say_the_same.Goals as goal
 
 pub returns-clause-children : goal.returns-clause-children

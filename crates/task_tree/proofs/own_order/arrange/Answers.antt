@@ -5,11 +5,19 @@ use Rattle.task_tree.proofs.ArrangeLemmas.{turns_length, sorted_is_own, own_apar
 use Rattle.task_tree.proofs.own_order.arrange.Goals as goal
 
 pub keys_of-requires : goal.keys_of-requires
-keys_of-requires c = record { few = let long = turns_length c.args.records.now c.args.turns.now c.requires.turns in omega (arith, long, c.requires.few) }
+keys_of-requires c = record {
+  few =
+      let long = turns_length c.args.records.now c.args.turns.now c.requires.turns in
+      omega (arith, long, c.requires.few);
+}
 
 -- the places that were read of the sorted keys
 own : (c : goal.After-deref-2) → c.in_ok-places.places.items ≡ own_places c.args.records.now
-own c = sorted_is_own c.args.records.now c.args.turns.now c.in_ok-keys.keys.items c.sort_unstable.new.self.items c.in_ok-places.places.items c.requires.turns c.in_ok-keys.ensures c.sort_unstable.ensures.permutation c.sort_unstable.ensures.sorted (c.in_ok-places.ensures ∙ ap (map (λ (key : ℕ × ℕ). key.1)) c.deref.ensures.value)
+own c =
+    sorted_is_own c.args.records.now c.args.turns.now c.in_ok-keys.keys.items c.sort_unstable.new.self.items
+        c.in_ok-places.places.items c.requires.turns c.in_ok-keys.ensures c.sort_unstable.ensures.permutation
+        c.sort_unstable.ensures.sorted
+        (c.in_ok-places.ensures ∙ ap (map (λ (key : ℕ × ℕ). key.1)) c.deref.ensures.value)
 
 pub numbers_of-requires-clause-few : goal.numbers_of-requires-clause-few
 numbers_of-requires-clause-few c =
@@ -17,12 +25,23 @@ numbers_of-requires-clause-few c =
     omega (arith, long, c.requires.few)
 
 pub numbers_of-requires-clause-apart : goal.numbers_of-requires-clause-apart
-numbers_of-requires-clause-apart c = own_apart c.args.records.now c.deref-2.result.now (c.deref-2.ensures.value ∙ own c)
+numbers_of-requires-clause-apart c =
+    own_apart c.args.records.now c.deref-2.result.now (c.deref-2.ensures.value ∙ own c)
 
 pub arranged-requires : goal.arranged-requires
 arranged-requires c =
-    let is : c.in_ok-places.places.items ≡ own_places c.args.records.now = sorted_is_own c.args.records.now c.args.turns.now c.in_ok-keys.keys.items c.sort_unstable.new.self.items c.in_ok-places.places.items c.requires.turns c.in_ok-keys.ensures c.sort_unstable.ensures.permutation c.sort_unstable.ensures.sorted (c.in_ok-places.ensures ∙ ap (map (λ (key : ℕ × ℕ). key.1)) c.deref.ensures.value) in
-    are_inverse c.args.records.now c.in_ok-places.places.items c.in_ok-numbers.numbers.items is (rw c.deref-2.ensures.value at c.in_ok-numbers.ensures)
+    let is : c.in_ok-places.places.items ≡ own_places c.args.records.now =
+        sorted_is_own c.args.records.now c.args.turns.now c.in_ok-keys.keys.items
+            c.sort_unstable.new.self.items c.in_ok-places.places.items c.requires.turns c.in_ok-keys.ensures
+            c.sort_unstable.ensures.permutation c.sort_unstable.ensures.sorted
+            (c.in_ok-places.ensures ∙ ap (map (λ (key : ℕ × ℕ). key.1)) c.deref.ensures.value) in
+    are_inverse c.args.records.now c.in_ok-places.places.items c.in_ok-numbers.numbers.items is
+        (rw c.deref-2.ensures.value at c.in_ok-numbers.ensures)
 
 pub returns : goal.returns
-returns c = c.arranged.ensures ∙ sorted_is_own c.args.records.now c.args.turns.now c.in_ok-keys.keys.items c.sort_unstable.new.self.items c.in_ok-places.places.items c.requires.turns c.in_ok-keys.ensures c.sort_unstable.ensures.permutation c.sort_unstable.ensures.sorted (c.in_ok-places.ensures ∙ ap (map (λ (key : ℕ × ℕ). key.1)) c.deref.ensures.value)
+returns c =
+    c.arranged.ensures
+        ∙ sorted_is_own c.args.records.now c.args.turns.now c.in_ok-keys.keys.items
+            c.sort_unstable.new.self.items c.in_ok-places.places.items c.requires.turns c.in_ok-keys.ensures
+            c.sort_unstable.ensures.permutation c.sort_unstable.ensures.sorted
+            (c.in_ok-places.ensures ∙ ap (map (λ (key : ℕ × ℕ). key.1)) c.deref.ensures.value)

@@ -6,4 +6,6 @@ use Rattle.task_tree.proofs.paths.find_paths.Given as goal
 
 -- the paths of the tasks so far
 abbrev pub invariant-loop-index : goal.invariant-loop-index
-invariant-loop-index l = (records : List Record) → IsFamilyOf records l.family → ArePaths records (take l.index l.family.tasks) l.paths.items
+invariant-loop-index l =
+    (records : List Record) → IsFamilyOf records l.family
+        → ArePaths records (take l.index l.family.tasks) l.paths.items

@@ -8,4 +8,7 @@ use Rattle.task_tree.proofs.paths.path_of.Given as goal
 
 -- so many steps are climbed
 abbrev pub invariant-loop-step : goal.invariant-loop-step
-invariant-loop-step l = (records : List Record) → IsFamilyOf records l.family → (root task : ℕ) (path : List ℕ) → slice_get l.family.tasks l.index ≡ Some task → HasPath records root task path → IsClimbed records l.family.tasks root path l._step l.current l.numbers.items
+invariant-loop-step l =
+    (records : List Record) → IsFamilyOf records l.family → (root task : ℕ) (path : List ℕ)
+        → slice_get l.family.tasks l.index ≡ Some task → HasPath records root task path
+        → IsClimbed records l.family.tasks root path l._step l.current l.numbers.items

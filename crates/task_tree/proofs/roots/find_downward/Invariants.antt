@@ -11,7 +11,8 @@ abbrev pub invariant-reached : goal.invariant-reached
 invariant-reached l = record {
   reach : IsSeeded l.records (length l.records) l.tasks l.roots.items l.order.items;
   next : l.next ≤ length l.order.items;
-  closed : (k task child index : ℕ) (entry : Reached) → k < l.next → slice_get l.order.items k ≡ Some entry → slice_get l.tasks entry.index ≡ Some task
+  closed : (k task child index : ℕ) (entry : Reached) → k < l.next → slice_get l.order.items k ≡ Some entry
+      → slice_get l.tasks entry.index ≡ Some task
       → Contains (children l.records task) child → slice_get l.tasks index ≡ Some child
       → (standing : Standing) × (slice_get l.roots.items index ≡ Some (Some standing));
 }

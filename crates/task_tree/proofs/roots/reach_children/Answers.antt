@@ -8,10 +8,18 @@ pub loop-child-init : goal.loop-child-init
 loop-child-init c = none
 
 pub reach-requires : goal.reach-requires
-reach-requires c = (spreads_keeps c.args.tasks.now c.args.standing c.args.roots.now.items c.args.order.now.items (take c.loop-child.child-index c.args.children.now) c.loop-child.roots.items c.loop-child.order.items c.loop-child.invariant).same_length ∙ c.requires
+reach-requires c =
+    (spreads_keeps c.args.tasks.now c.args.standing c.args.roots.now.items c.args.order.now.items
+        (take c.loop-child.child-index c.args.children.now) c.loop-child.roots.items c.loop-child.order.items
+        c.loop-child.invariant).same_length
+        ∙ c.requires
 
 pub loop-child-preserved : goal.loop-child-preserved
-loop-child-preserved c = rw (take_more c.args.children.now c.loop-child.child-index 0 c.loop-child-test.true) (more _ c.loop-child.invariant c.in_ok-near.ensures)
+loop-child-preserved c =
+    rw (take_more c.args.children.now c.loop-child.child-index 0 c.loop-child-test.true)
+        (more _ c.loop-child.invariant c.in_ok-near.ensures)
 
 pub returns : goal.returns
-returns c = rw (take_all c.loop-child.child-index c.args.children.now (omega (arith, c.loop-child-test.false))) at c.loop-child.invariant
+returns c =
+    rw (take_all c.loop-child.child-index c.args.children.now (omega (arith, c.loop-child-test.false)))
+        at c.loop-child.invariant

@@ -2,10 +2,13 @@ use Rattle.task_tree.proofs.SubjectLemmas.{index_small, finds_index, index_conta
 use Rattle.task_tree.proofs.subjects.slot_near.Goals as goal
 
 pub checked-requires : goal.checked-requires
-checked-requires c = index_small c.args.tasks.now c.args.task c.index_near.result c.index_near.ensures c.requires.few
+checked-requires c =
+    index_small c.args.tasks.now c.args.task c.index_near.result c.index_near.ensures c.requires.few
 
 pub returns-clause-found : goal.returns-clause-found
-returns-clause-found c = rw c.checked.ensures.slot (finds_index c.args.tasks.now c.args.task c.index_near.result c.index_near.ensures)
+returns-clause-found c =
+    rw c.checked.ensures.slot
+        (finds_index c.args.tasks.now c.args.task c.index_near.result c.index_near.ensures)
 
 pub returns-clause-known : goal.returns-clause-known
 returns-clause-known c = λ yes.

@@ -6,15 +6,19 @@ use Rattle.task_tree.specs.Runs.{RunView}
 use Rattle.task_tree.specs.Subjects.{Calls}
 use Rattle.teams.proofs.CallLemmas.{call_same, read_at}
 use Rattle.teams.proofs.MemberLemmas.{joined_at_root, never_of, lead_there, lead_within}
-use Rattle.teams.proofs.SeatLemmas.{lacks_none, seated_same, seated_more, seat_within, seat_taken, seat_free, lead_of_member}
+use Rattle.teams.proofs.SeatLemmas.{lacks_none, seated_same, seated_more, seat_within, seat_taken, seat_free}
+use Rattle.teams.proofs.SeatLemmas.{lead_of_member}
 use Rattle.teams.proofs.seats.lacks_member.Goals as goal
 
 pub returns-in_default : goal.returns-in_default
 returns-in_default c =
     let tables = c.args.tables.now in
     let P : RunView → Type 0 = λ r. c.joined.result ≡ at joined r.records c.args.at in
-    let none : at joined tables.run.records c.args.at ≡ None = sym (subst P c.run-run.ensures.value c.joined.ensures) ∙ c.in_default.is in
-    (lacks_none tables.run.records c.args.at none, seated_same tables.run.records c.args.at tables.run.family.tasks c.args.rosters.now.items c.requires.seated none)
+    let none : at joined tables.run.records c.args.at ≡ None =
+        sym (subst P c.run-run.ensures.value c.joined.ensures) ∙ c.in_default.is in
+    (lacks_none tables.run.records c.args.at none,
+        seated_same tables.run.records c.args.at tables.run.family.tasks c.args.rosters.now.items
+            c.requires.seated none)
 
 pub team-requires : goal.team-requires
 team-requires c =
@@ -25,9 +29,14 @@ team-requires c =
     let m = c.in-Some.member in
     let index = c.in-Some-begun_root.index in
     let P : RunView → Type 0 = λ r. c.joined.result ≡ at joined r.records c.args.at in
-    let Q : RunView → Type 0 = λ r. Calls r.family.tasks (at begun_root r.records c.args.at) c.begun_root.result in
-    let joins : at joined rs c.args.at ≡ Some m = sym (subst P c.run-run.ensures.value c.joined.ensures) ∙ c.in-Some.is in
-    let is = call_same tasks (at begun_root rs c.args.at) c.begun_root.result index m.member (subst Q c.run-run.ensures.value c.begun_root.ensures) c.in-Some-begun_root.is (joined_at_root rs c.args.at m joins) in
+    let Q : RunView → Type 0 =
+        λ r. Calls r.family.tasks (at begun_root r.records c.args.at) c.begun_root.result in
+    let joins : at joined rs c.args.at ≡ Some m =
+        sym (subst P c.run-run.ensures.value c.joined.ensures) ∙ c.in-Some.is in
+    let is =
+        call_same tasks (at begun_root rs c.args.at) c.begun_root.result index m.member
+            (subst Q c.run-run.ensures.value c.begun_root.ensures) c.in-Some-begun_root.is
+            (joined_at_root rs c.args.at m joins) in
     let inside = slice_get_within tasks index m.member is in
     let all = are.teams.all in
     omega (arith, inside, all)
@@ -41,10 +50,17 @@ returns-in_default-team c =
     let m = c.in-Some.member in
     let index = c.in-Some-begun_root.index in
     let P : RunView → Type 0 = λ r. c.joined.result ≡ at joined r.records c.args.at in
-    let Q : RunView → Type 0 = λ r. Calls r.family.tasks (at begun_root r.records c.args.at) c.begun_root.result in
-    let joins : at joined rs c.args.at ≡ Some m = sym (subst P c.run-run.ensures.value c.joined.ensures) ∙ c.in-Some.is in
-    let is = call_same tasks (at begun_root rs c.args.at) c.begun_root.result index m.member (subst Q c.run-run.ensures.value c.begun_root.ensures) c.in-Some-begun_root.is (joined_at_root rs c.args.at m joins) in
-    let none = lead_there rs tasks tables.teams c.args.at index m None are.run.family.once are.teams joins is (c.team.ensures ∙ ap Some c.in_default-team.is) in
+    let Q : RunView → Type 0 =
+        λ r. Calls r.family.tasks (at begun_root r.records c.args.at) c.begun_root.result in
+    let joins : at joined rs c.args.at ≡ Some m =
+        sym (subst P c.run-run.ensures.value c.joined.ensures) ∙ c.in-Some.is in
+    let is =
+        call_same tasks (at begun_root rs c.args.at) c.begun_root.result index m.member
+            (subst Q c.run-run.ensures.value c.begun_root.ensures) c.in-Some-begun_root.is
+            (joined_at_root rs c.args.at m joins) in
+    let none =
+        lead_there rs tasks tables.teams c.args.at index m None are.run.family.once are.teams joins is
+            (c.team.ensures ∙ ap Some c.in_default-team.is) in
     absurd (never_of (at joined rs c.args.at) m none joins)
 
 pub fits-requires-clause-joins : goal.fits-requires-clause-joins
@@ -56,11 +72,18 @@ fits-requires-clause-joins c =
     let m = c.in-Some.member in
     let index = c.in-Some-begun_root.index in
     let P : RunView → Type 0 = λ r. c.joined.result ≡ at joined r.records c.args.at in
-    let Q : RunView → Type 0 = λ r. Calls r.family.tasks (at begun_root r.records c.args.at) c.begun_root.result in
-    let joins : at joined rs c.args.at ≡ Some m = sym (subst P c.run-run.ensures.value c.joined.ensures) ∙ c.in-Some.is in
-    let is = call_same tasks (at begun_root rs c.args.at) c.begun_root.result index m.member (subst Q c.run-run.ensures.value c.begun_root.ensures) c.in-Some-begun_root.is (joined_at_root rs c.args.at m joins) in
+    let Q : RunView → Type 0 =
+        λ r. Calls r.family.tasks (at begun_root r.records c.args.at) c.begun_root.result in
+    let joins : at joined rs c.args.at ≡ Some m =
+        sym (subst P c.run-run.ensures.value c.joined.ensures) ∙ c.in-Some.is in
+    let is =
+        call_same tasks (at begun_root rs c.args.at) c.begun_root.result index m.member
+            (subst Q c.run-run.ensures.value c.begun_root.ensures) c.in-Some-begun_root.is
+            (joined_at_root rs c.args.at m joins) in
     let lead = c.in-Some-team.lead in
-    let there = lead_there rs tasks tables.teams c.args.at index m (Some lead) are.run.family.once are.teams joins is (c.team.ensures ∙ ap Some c.in-Some-team.is) in
+    let there =
+        lead_there rs tasks tables.teams c.args.at index m (Some lead) are.run.family.once are.teams joins is
+            (c.team.ensures ∙ ap Some c.in-Some-team.is) in
     let leads = lead_of_member rs tasks c.args.at lead m there joins in
     record { joins = joins; leads = leads }
 
@@ -73,13 +96,21 @@ index_mut-requires c =
     let m = c.in-Some.member in
     let index = c.in-Some-begun_root.index in
     let P : RunView → Type 0 = λ r. c.joined.result ≡ at joined r.records c.args.at in
-    let Q : RunView → Type 0 = λ r. Calls r.family.tasks (at begun_root r.records c.args.at) c.begun_root.result in
-    let joins : at joined rs c.args.at ≡ Some m = sym (subst P c.run-run.ensures.value c.joined.ensures) ∙ c.in-Some.is in
-    let is = call_same tasks (at begun_root rs c.args.at) c.begun_root.result index m.member (subst Q c.run-run.ensures.value c.begun_root.ensures) c.in-Some-begun_root.is (joined_at_root rs c.args.at m joins) in
+    let Q : RunView → Type 0 =
+        λ r. Calls r.family.tasks (at begun_root r.records c.args.at) c.begun_root.result in
+    let joins : at joined rs c.args.at ≡ Some m =
+        sym (subst P c.run-run.ensures.value c.joined.ensures) ∙ c.in-Some.is in
+    let is =
+        call_same tasks (at begun_root rs c.args.at) c.begun_root.result index m.member
+            (subst Q c.run-run.ensures.value c.begun_root.ensures) c.in-Some-begun_root.is
+            (joined_at_root rs c.args.at m joins) in
     let lead = c.in-Some-team.lead in
-    let there = lead_there rs tasks tables.teams c.args.at index m (Some lead) are.run.family.once are.teams joins is (c.team.ensures ∙ ap Some c.in-Some-team.is) in
+    let there =
+        lead_there rs tasks tables.teams c.args.at index m (Some lead) are.run.family.once are.teams joins is
+            (c.team.ensures ∙ ap Some c.in-Some-team.is) in
     let leads = lead_of_member rs tasks c.args.at lead m there joins in
-    let within : lead < length c.args.rosters.now.items = lead_within rs tasks c.args.rosters.now.items m.parallel lead leads c.requires.seated.all in
+    let within : lead < length c.args.rosters.now.items =
+        lead_within rs tasks c.args.rosters.now.items m.parallel lead leads c.requires.seated.all in
     search rules
 
 pub take_seat-requires-clause-inside : goal.take_seat-requires-clause-inside
@@ -91,11 +122,18 @@ take_seat-requires-clause-inside c =
     let m = c.in-Some.member in
     let index = c.in-Some-begun_root.index in
     let P : RunView → Type 0 = λ r. c.joined.result ≡ at joined r.records c.args.at in
-    let Q : RunView → Type 0 = λ r. Calls r.family.tasks (at begun_root r.records c.args.at) c.begun_root.result in
-    let joins : at joined rs c.args.at ≡ Some m = sym (subst P c.run-run.ensures.value c.joined.ensures) ∙ c.in-Some.is in
-    let is = call_same tasks (at begun_root rs c.args.at) c.begun_root.result index m.member (subst Q c.run-run.ensures.value c.begun_root.ensures) c.in-Some-begun_root.is (joined_at_root rs c.args.at m joins) in
+    let Q : RunView → Type 0 =
+        λ r. Calls r.family.tasks (at begun_root r.records c.args.at) c.begun_root.result in
+    let joins : at joined rs c.args.at ≡ Some m =
+        sym (subst P c.run-run.ensures.value c.joined.ensures) ∙ c.in-Some.is in
+    let is =
+        call_same tasks (at begun_root rs c.args.at) c.begun_root.result index m.member
+            (subst Q c.run-run.ensures.value c.begun_root.ensures) c.in-Some-begun_root.is
+            (joined_at_root rs c.args.at m joins) in
     let lead = c.in-Some-team.lead in
-    let there = lead_there rs tasks tables.teams c.args.at index m (Some lead) are.run.family.once are.teams joins is (c.team.ensures ∙ ap Some c.in-Some-team.is) in
+    let there =
+        lead_there rs tasks tables.teams c.args.at index m (Some lead) are.run.family.once are.teams joins is
+            (c.team.ensures ∙ ap Some c.in-Some-team.is) in
     let leads = lead_of_member rs tasks c.args.at lead m there joins in
     let old = c.index_mut.result.now in
     let within = lead_within rs tasks c.args.rosters.now.items m.parallel lead leads c.requires.seated.all in
@@ -112,9 +150,14 @@ take_seat-requires-clause-small c =
     let m = c.in-Some.member in
     let index = c.in-Some-begun_root.index in
     let P : RunView → Type 0 = λ r. c.joined.result ≡ at joined r.records c.args.at in
-    let Q : RunView → Type 0 = λ r. Calls r.family.tasks (at begun_root r.records c.args.at) c.begun_root.result in
-    let joins : at joined rs c.args.at ≡ Some m = sym (subst P c.run-run.ensures.value c.joined.ensures) ∙ c.in-Some.is in
-    let is = call_same tasks (at begun_root rs c.args.at) c.begun_root.result index m.member (subst Q c.run-run.ensures.value c.begun_root.ensures) c.in-Some-begun_root.is (joined_at_root rs c.args.at m joins) in
+    let Q : RunView → Type 0 =
+        λ r. Calls r.family.tasks (at begun_root r.records c.args.at) c.begun_root.result in
+    let joins : at joined rs c.args.at ≡ Some m =
+        sym (subst P c.run-run.ensures.value c.joined.ensures) ∙ c.in-Some.is in
+    let is =
+        call_same tasks (at begun_root rs c.args.at) c.begun_root.result index m.member
+            (subst Q c.run-run.ensures.value c.begun_root.ensures) c.in-Some-begun_root.is
+            (joined_at_root rs c.args.at m joins) in
     let inside = slice_get_within tasks index m.member is in
     let few = are.run.family.makers.few in
     let many = are.run.trace.few_records in
@@ -129,24 +172,35 @@ returns-then-take_seat c =
     let m = c.in-Some.member in
     let index = c.in-Some-begun_root.index in
     let P : RunView → Type 0 = λ r. c.joined.result ≡ at joined r.records c.args.at in
-    let Q : RunView → Type 0 = λ r. Calls r.family.tasks (at begun_root r.records c.args.at) c.begun_root.result in
-    let joins : at joined rs c.args.at ≡ Some m = sym (subst P c.run-run.ensures.value c.joined.ensures) ∙ c.in-Some.is in
-    let is = call_same tasks (at begun_root rs c.args.at) c.begun_root.result index m.member (subst Q c.run-run.ensures.value c.begun_root.ensures) c.in-Some-begun_root.is (joined_at_root rs c.args.at m joins) in
+    let Q : RunView → Type 0 =
+        λ r. Calls r.family.tasks (at begun_root r.records c.args.at) c.begun_root.result in
+    let joins : at joined rs c.args.at ≡ Some m =
+        sym (subst P c.run-run.ensures.value c.joined.ensures) ∙ c.in-Some.is in
+    let is =
+        call_same tasks (at begun_root rs c.args.at) c.begun_root.result index m.member
+            (subst Q c.run-run.ensures.value c.begun_root.ensures) c.in-Some-begun_root.is
+            (joined_at_root rs c.args.at m joins) in
     let lead = c.in-Some-team.lead in
-    let there = lead_there rs tasks tables.teams c.args.at index m (Some lead) are.run.family.once are.teams joins is (c.team.ensures ∙ ap Some c.in-Some-team.is) in
+    let there =
+        lead_there rs tasks tables.teams c.args.at index m (Some lead) are.run.family.once are.teams joins is
+            (c.team.ensures ∙ ap Some c.in-Some-team.is) in
     let leads = lead_of_member rs tasks c.args.at lead m there joins in
     let old = c.index_mut.result.now in
     let within = lead_within rs tasks c.args.rosters.now.items m.parallel lead leads c.requires.seated.all in
     let stands = read_at c.args.rosters.now.items lead old within c.index_mut.ensures.value in
     let seats = c.requires.seated.each m.parallel lead old leads stands in (
-      seat_free rs c.args.at tasks m old.items are.run.family.noted joins c.if-not-fits.ensures seats c.if-take_seat.ensures.0,
-      seated_more rs c.args.at tasks c.args.rosters.now.items m lead index old c.take_seat.new.roster are.run.family.once are.run.family.makers.apart c.requires.seated joins leads is stands c.if-take_seat.ensures.0 c.if-take_seat.ensures.1,
+      seat_free rs c.args.at tasks m old.items are.run.family.noted joins c.if-not-fits.ensures seats
+          c.if-take_seat.ensures.0,
+      seated_more rs c.args.at tasks c.args.rosters.now.items m lead index old c.take_seat.new.roster
+          are.run.family.once are.run.family.makers.apart c.requires.seated joins leads is stands
+          c.if-take_seat.ensures.0 c.if-take_seat.ensures.1,
     )
 
 pub returns-then-not-fits : goal.returns-then-not-fits
 returns-then-not-fits c =
     let P : RunView → Type 0 = λ r. c.joined.result ≡ at joined r.records c.args.at in
-    let joins : at joined c.args.tables.now.run.records c.args.at ≡ Some c.in-Some.member = sym (subst P c.run-run.ensures.value c.joined.ensures) ∙ c.in-Some.is in
+    let joins : at joined c.args.tables.now.run.records c.args.at ≡ Some c.in-Some.member =
+        sym (subst P c.run-run.ensures.value c.joined.ensures) ∙ c.in-Some.is in
     (ap is_some joins, c.if-not-fits.ensures)
 
 pub returns : goal.returns
@@ -158,14 +212,23 @@ returns c =
     let m = c.in-Some.member in
     let index = c.in-Some-begun_root.index in
     let P : RunView → Type 0 = λ r. c.joined.result ≡ at joined r.records c.args.at in
-    let Q : RunView → Type 0 = λ r. Calls r.family.tasks (at begun_root r.records c.args.at) c.begun_root.result in
-    let joins : at joined rs c.args.at ≡ Some m = sym (subst P c.run-run.ensures.value c.joined.ensures) ∙ c.in-Some.is in
-    let is = call_same tasks (at begun_root rs c.args.at) c.begun_root.result index m.member (subst Q c.run-run.ensures.value c.begun_root.ensures) c.in-Some-begun_root.is (joined_at_root rs c.args.at m joins) in
+    let Q : RunView → Type 0 =
+        λ r. Calls r.family.tasks (at begun_root r.records c.args.at) c.begun_root.result in
+    let joins : at joined rs c.args.at ≡ Some m =
+        sym (subst P c.run-run.ensures.value c.joined.ensures) ∙ c.in-Some.is in
+    let is =
+        call_same tasks (at begun_root rs c.args.at) c.begun_root.result index m.member
+            (subst Q c.run-run.ensures.value c.begun_root.ensures) c.in-Some-begun_root.is
+            (joined_at_root rs c.args.at m joins) in
     let lead = c.in-Some-team.lead in
-    let there = lead_there rs tasks tables.teams c.args.at index m (Some lead) are.run.family.once are.teams joins is (c.team.ensures ∙ ap Some c.in-Some-team.is) in
+    let there =
+        lead_there rs tasks tables.teams c.args.at index m (Some lead) are.run.family.once are.teams joins is
+            (c.team.ensures ∙ ap Some c.in-Some-team.is) in
     let leads = lead_of_member rs tasks c.args.at lead m there joins in
     let old = c.index_mut.result.now in
     let within = lead_within rs tasks c.args.rosters.now.items m.parallel lead leads c.requires.seated.all in
     let stands = read_at c.args.rosters.now.items lead old within c.index_mut.ensures.value in
     let seats = c.requires.seated.each m.parallel lead old leads stands in
-    (ap is_some joins, seat_taken rs c.args.at tasks m old.items c.if-take_seat.ensures.0 joins seats c.if-take_seat.ensures.1)
+    (ap is_some joins,
+        seat_taken rs c.args.at tasks m old.items c.if-take_seat.ensures.0 joins seats
+            c.if-take_seat.ensures.1)

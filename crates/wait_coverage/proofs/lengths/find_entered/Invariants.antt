@@ -7,5 +7,6 @@ use Rattle.wait_coverage.proofs.lengths.find_entered.Given as goal
 abbrev pub invariant-loop-index : goal.invariant-loop-index
 invariant-loop-index l = record {
   all : length l.table.items ≡ length l.run.family.tasks;
-  lengths : IsLedgerOf l.run.records l.ledger → AreLengthsBelow l.run.records l.index l.run.family.tasks l.table.items;
+  lengths : IsLedgerOf l.run.records l.ledger
+      → AreLengthsBelow l.run.records l.index l.run.family.tasks l.table.items;
 }

@@ -8,4 +8,5 @@ returns c =
     let P : RunView → Type 0 = λ r. c.len-at-end.result ≡ length r.records in
     let all = subst P c.run.ensures.value c.len-at-end.ensures.value in
     let past = c.loop-at-test.false in
-    added_all c.args.done.now c.loop-at.at c.loop-at.nodes.items c.loop-at.invariant (omega (arith, past, all))
+    added_all c.args.done.now c.loop-at.at c.loop-at.nodes.items c.loop-at.invariant
+        (omega (arith, past, all))

@@ -4,7 +4,8 @@ use Rattle.wait_coverage.proofs.meetings.raise.Given as goal
 
 -- the limits stay as they are
 abbrev pub invariant-room : goal.invariant-room
-invariant-room l = (k old : ℕ) → slice_get l.initial.limits.items k ≡ Some old → slice_get l.limits.items k ≡ Some old
+invariant-room l =
+    (k old : ℕ) → slice_get l.initial.limits.items k ≡ Some old → slice_get l.limits.items k ≡ Some old
 
 abbrev pub decreases-room : goal.decreases-room
 decreases-room l = l.number + 1 - length l.limits.items

@@ -11,4 +11,7 @@ returns c =
     let P : TeamsView → Type 0 = λ t. IsTrue (is_some c.wait_at.result) ↔ IsEnd t.run.records c.args.number in
     let teams = c.teams.result.now in
     let same = c.teams.ensures.value ∙ ap (λ (d : DoneView). d.teams) c.done.ensures.value in
-    rw c.is_some.ensures (subst P same (ends_told teams.run.records teams.run.family.tasks c.args.number c.wait_at.result c.wait_at.ensures))
+    rw c.is_some.ensures
+        (subst P same
+            (ends_told teams.run.records teams.run.family.tasks c.args.number c.wait_at.result
+                c.wait_at.ensures))

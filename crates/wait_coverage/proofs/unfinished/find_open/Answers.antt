@@ -4,7 +4,8 @@ use Rattle.wait_coverage.proofs.HeldLemmas.{held_children_done, own_children_don
 use Rattle.wait_coverage.proofs.unfinished.find_open.Goals as goal
 
 pub returns-clause-first : goal.returns-clause-first
-returns-clause-first c = λ are. c.in_ok-open_at.ensures (own_children_done c.args.known.now.done c.done-done.ensures.is_done are)
+returns-clause-first c =
+    λ are. c.in_ok-open_at.ensures (own_children_done c.args.known.now.done c.done-done.ensures.is_done are)
 
 pub returns-clause-first_by_credit : goal.returns-clause-first_by_credit
 returns-clause-first_by_credit c = λ right credit.

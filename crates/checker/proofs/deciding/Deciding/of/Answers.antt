@@ -3,7 +3,9 @@ use Rattle.ompt_events.specs.declared.cause.Cause.TheVariants.{EntryTwice, Lengt
 use Rattle.checker.proofs.deciding.Deciding.of.Goals as goal
 
 pub of-requires-clause-once : goal.of-requires-clause-once
-of-requires-clause-once c = rw c.sound.ensures.run (c.sound.ensures.is_clear.well_formed EntryTwice (12, omega arith, refl))
+of-requires-clause-once c =
+    rw c.sound.ensures.run (c.sound.ensures.is_clear.well_formed EntryTwice (12, omega arith, refl))
 
 pub of-requires-clause-reached : goal.of-requires-clause-reached
-of-requires-clause-reached c = rw c.sound.ensures.run (c.sound.ensures.is_clear.well_formed LengthAhead (13, omega arith, refl))
+of-requires-clause-reached c =
+    rw c.sound.ensures.run (c.sound.ensures.is_clear.well_formed LengthAhead (13, omega arith, refl))

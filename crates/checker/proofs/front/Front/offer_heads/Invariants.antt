@@ -7,5 +7,7 @@ use Rattle.checker.proofs.front.Front.offer_heads.Given as goal
 abbrev pub invariant-loop-head : goal.invariant-loop-head
 invariant-loop-head l = record {
   more : AreMore l.self.run.now.records l.self.placed.now l.initial.ready l.ready;
-  offered : (t : ℕ) → t < l.head-index → MayFollow l.self.run.now.records l.self.placed.now (slice_index l.self.heads.now t) → Contains l.ready (slice_index l.self.heads.now t);
+  offered : (t : ℕ) → t < l.head-index
+      → MayFollow l.self.run.now.records l.self.placed.now (slice_index l.self.heads.now t)
+      → Contains l.ready (slice_index l.self.heads.now t);
 }

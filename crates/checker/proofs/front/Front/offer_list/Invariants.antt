@@ -8,8 +8,10 @@ use Rattle.checker.proofs.front.Front.offer_list.Given as goal
 abbrev pub invariant-list : goal.invariant-list
 invariant-list l = record {
   more : AreMore l.self.run.now.records l.self.placed.now l.initial.ready l.ready;
-  offered : (of : ℕ → Option ℕ) → AreLists of (length l.self.run.now.records) 0 l.lists.firsts.items l.lists.nexts.items
-      → ((i : ℕ) → i < l.place → of i ≡ Some l.key → MayFollow l.self.run.now.records l.self.placed.now i → Contains l.ready i)
+  offered : (of : ℕ → Option ℕ)
+      → AreLists of (length l.self.run.now.records) 0 l.lists.firsts.items l.lists.nexts.items
+      → ((i : ℕ) → i < l.place → of i ≡ Some l.key → MayFollow l.self.run.now.records l.self.placed.now i
+            → Contains l.ready i)
       × (l.place < length l.self.run.now.records → of l.place ≡ Some l.key);
 }
 

@@ -8,6 +8,8 @@ use Rattle.checker.proofs.front.Front.offer_lists.Given as goal
 abbrev pub invariant-loop-key : goal.invariant-loop-key
 invariant-loop-key l = record {
   more : AreMore l.self.run.now.records l.self.placed.now l.initial.ready l.ready;
-  offered : (of : ℕ → Option ℕ) → AreLists of (length l.self.run.now.records) 0 l.lists.firsts.items l.lists.nexts.items
-      → (i k : ℕ) → l.from ≤ k → k < l.key → of i ≡ Some k → MayFollow l.self.run.now.records l.self.placed.now i → Contains l.ready i;
+  offered : (of : ℕ → Option ℕ)
+      → AreLists of (length l.self.run.now.records) 0 l.lists.firsts.items l.lists.nexts.items
+      → (i k : ℕ) → l.from ≤ k → k < l.key → of i ≡ Some k
+          → MayFollow l.self.run.now.records l.self.placed.now i → Contains l.ready i;
 }

@@ -3,4 +3,5 @@ use Rattle.std.proofs.lemmas.List.FromFn.{length-range_with_len}
 use Rattle.checker.proofs.verdict.Order.len.Goals as goal
 
 pub returns-in-InFile : goal.returns-in-InFile
-returns-in-InFile c = rw (← c.self.view_is, c.in-InFile.is) (sym (length-range_with_len 0 c.in-InFile.records))
+returns-in-InFile c =
+    rw (← c.self.view_is, c.in-InFile.is) (sym (length-range_with_len 0 c.in-InFile.records))

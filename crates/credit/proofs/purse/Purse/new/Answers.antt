@@ -6,5 +6,6 @@ use Rattle.credit.proofs.purse.Purse.new.Goals as goal
 pub invariant_of-result : goal.invariant_of-result
 invariant_of-result c = (
   c.new-2.ensures.linked,
-  subst (λ shares. IsKnown shares (progress_at c.new-2.result)) (sym c.new.ensures.items) (IsKnown-empty (progress_at c.new-2.result) c.new-2.ensures.empty),
+  subst (λ shares. IsKnown shares (progress_at c.new-2.result)) (sym c.new.ensures.items)
+      (IsKnown-empty (progress_at c.new-2.result) c.new-2.ensures.empty),
 )

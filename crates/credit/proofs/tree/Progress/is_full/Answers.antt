@@ -7,9 +7,11 @@ use Rattle.credit.specs.Trees.{IsFull, full}
 use Rattle.credit.proofs.KnownLemmas.{same_some}
 use Rattle.credit.proofs.tree.Progress.is_full.Goals as goal
 
-test_of : (progress : Progress) (run : Run) → progress.run ≡ Some run → IsFull progress → nat_eq progress.held_children run.keeps ≡ true
+test_of : (progress : Progress) (run : Run) → progress.run ≡ Some run → IsFull progress
+    → nat_eq progress.held_children run.keeps ≡ true
 test_of progress run e (full other f count) =
-    eq-eqb progress.held_children run.keeps (count ∙ ap (λ (r : Run). r.keeps) (same_some other run (sym f ∙ e)))
+    eq-eqb progress.held_children run.keeps
+        (count ∙ ap (λ (r : Run). r.keeps) (same_some other run (sym f ∙ e)))
 
 pub returns-in-Some : goal.returns-in-Some
 returns-in-Some c = (

@@ -11,5 +11,6 @@ invariant-runs l = record {
   place : place (child l.self) (reverse (take l.depth l.runs)) ≡ Some l.index;
   within : l.index < length l.self.nodes.items;
   depth : l.depth ≤ length l.runs;
-  spot : l.depth < length l.runs → spot_of l.self.links.items l.index (slice_index l.runs l.depth) ≡ Missing l.at l.side;
+  spot : l.depth < length l.runs
+      → spot_of l.self.links.items l.index (slice_index l.runs l.depth) ≡ Missing l.at l.side;
 }

@@ -8,5 +8,6 @@ join_seat-requires g c = (
   c.requires.other,
   c.args.other.empty,
   omega (arith, c.args.self.now.counts.0),
-  tells c.args.seat.now.place.id c.args.other.place.id c.args.seat.now.place.me.0 c.args.other.place.me.0 c.args.seat.now.stage c.args.other.stage,
+  tells c.args.seat.now.place.id c.args.other.place.id c.args.seat.now.place.me.0 c.args.other.place.me.0
+      c.args.seat.now.stage c.args.other.stage,
 )

@@ -4,4 +4,5 @@ use Rattle.task_states.proofs.progress.Progress.read_early.Given as goal
 
 -- the records so far that the pass reads were gone over
 abbrev pub invariant-loop-at : goal.invariant-loop-at
-invariant-loop-at l = HasCome l.origins.records l.origins.family.tasks (moves_before Early l.origins.records l.at) l.self
+invariant-loop-at l =
+    HasCome l.origins.records l.origins.family.tasks (moves_before Early l.origins.records l.at) l.self

@@ -10,4 +10,7 @@ returns c = λ records are task is.
     let inside = slice_get_within c.self.inside.tasks c.args.index task is_own in
     let aligned = c.self.invariant in
     let within : c.args.index < length c.self.inside.links.items = omega (arith, inside, aligned) in
-    rw (c.is_some.ensures, c.get.ensures) (explicit_is records _ c.args.index task c.index.result.now own is_own (slice_get_read c.self.inside.links.items (length c.self.inside.links.items) c.args.index c.index.result.now refl within c.index.ensures))
+    rw (c.is_some.ensures, c.get.ensures)
+        (explicit_is records _ c.args.index task c.index.result.now own is_own
+            (slice_get_read c.self.inside.links.items (length c.self.inside.links.items) c.args.index
+                c.index.result.now refl within c.index.ensures))

@@ -11,5 +11,7 @@ returns-clause-tree c =
     let paths = rw c.own_family.ensures at c.in_ok-paths.ensures in
     record {
       families = families;
-      paths = paths_alike reading.records (in_own_order rs) (own_family c.in_ok-families.families).tasks c.in_ok-paths.paths.items reading.same (paths reading.records reading.family);
+      paths =
+          paths_alike reading.records (in_own_order rs) (own_family c.in_ok-families.families).tasks
+              c.in_ok-paths.paths.items reading.same (paths reading.records reading.family);
     }

@@ -5,7 +5,8 @@ use Rattle.wait_coverage.proofs.CoverageLemmas.{one_number_of, open_first}
 use Rattle.wait_coverage.proofs.coverage.Coverage.first_open.Goals as goal
 
 pub returns-then-branch-clause-first : goal.returns-then-branch-clause-first
-returns-then-branch-clause-first c = λ ledger right. c.in_ok-is_end_held.ensures.held ledger right c.if-branch.true
+returns-then-branch-clause-first c =
+    λ ledger right. c.in_ok-is_end_held.ensures.held ledger right c.if-branch.true
 
 pub returns-clause-first : goal.returns-clause-first
 returns-clause-first c = λ ledger right end here.
@@ -14,4 +15,6 @@ returns-clause-first c = λ ledger right end here.
     open_first c.args.self.now.teams c.in_ok-known.known.done c.end.result end c.in_ok-open_at.field-0
     (known.teams ∙ c.teams.ensures.value) c.done-done.ensures.is_done
     (known.done (subst P (sym c.teams.ensures.value) ledger))
-    (one_number_of c.args.self.now c.args.index c.end.result end c.teams.ensures.is_coverage c.end.ensures.value here) c.in_ok-open_at.ensures
+    (one_number_of c.args.self.now c.args.index c.end.result end c.teams.ensures.is_coverage
+        c.end.ensures.value here)
+        c.in_ok-open_at.ensures

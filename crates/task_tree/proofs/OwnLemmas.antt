@@ -1,1 +1,0 @@
--- Places in an order of records.
